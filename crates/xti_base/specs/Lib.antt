@@ -1,0 +1,5 @@
+pub mod Errno
+pub mod Kinds
+pub mod Limit
+pub mod Room
+pub mod Options

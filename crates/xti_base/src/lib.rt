@@ -1,0 +1,16 @@
+//! Names, numbers and small lists of the X/Open Transport Interface.
+#![tactic(auto)]
+
+mod errno;
+mod items;
+mod kinds;
+mod limit;
+mod octets;
+mod room;
+
+pub use errno::Errno;
+pub use items::{Calls, Items, Numbers, Parts, Sizes};
+pub use kinds::{Event, Fd, Prov, Seq, ServType, State};
+pub use limit::{Info, Limit};
+pub use octets::Octets;
+pub use room::Room;

@@ -1,0 +1,350 @@
+//! The calls of XTI as plain data.
+
+ghost use Rattle.std.specs.Prelude.{◌≡◌, IfOk};
+
+use std::alloc::AllocError;
+use xti_base::{Fd, Octets, Parts, Prov, Seq, Sizes};
+
+/// A call (XNS, one variant a function). A limit of 0 for a returned field means that the caller doesn't take it.
+#[derive(Drop)]
+pub enum Call {
+    /// t_open: an endpoint of the provider, with O_NONBLOCK or without.
+    TOpen {
+        prov: Prov,
+        nonblock: bool,
+    },
+    /// t_close.
+    TClose {
+        fd: Fd,
+    },
+    /// t_bind: an address, empty for the provider's choice, a queue length, and the most bytes of address that the caller takes.
+    TBind {
+        fd: Fd,
+        addr: Octets,
+        qlen: u32,
+        amax: u32,
+    },
+    /// t_unbind.
+    TUnbind {
+        fd: Fd,
+    },
+    /// t_connect: the address, options and data of the request, and the most bytes that the caller takes of each of the answer.
+    TConnect {
+        fd: Fd,
+        addr: Octets,
+        opt: Octets,
+        udata: Octets,
+        amax: u32,
+        omax: u32,
+        umax: u32,
+    },
+    /// t_rcvconnect.
+    TRcvConnect {
+        fd: Fd,
+        amax: u32,
+        omax: u32,
+        umax: u32,
+    },
+    /// t_listen.
+    TListen {
+        fd: Fd,
+        amax: u32,
+        omax: u32,
+        umax: u32,
+    },
+    /// t_accept: the listener, the accepting endpoint, the indication, options and data.
+    TAccept {
+        fd: Fd,
+        resfd: Fd,
+        seq: Seq,
+        opt: Octets,
+        udata: Octets,
+    },
+    /// t_snd, with the flags T_MORE 1 and T_EXPEDITED 2.
+    TSnd {
+        fd: Fd,
+        bytes: Octets,
+        flags: u32,
+    },
+    /// t_sndv: the parts are sent joined.
+    TSndV {
+        fd: Fd,
+        parts: Parts,
+        flags: u32,
+    },
+    /// t_rcv of at most `max` bytes.
+    TRcv {
+        fd: Fd,
+        max: u32,
+    },
+    /// t_rcvv into buffers of these sizes.
+    TRcvV {
+        fd: Fd,
+        sizes: Sizes,
+    },
+    /// t_snddis; the sequence number counts in T_INCON alone.
+    TSndDis {
+        fd: Fd,
+        seq: Seq,
+        udata: Octets,
+    },
+    /// t_rcvdis.
+    TRcvDis {
+        fd: Fd,
+        umax: u32,
+    },
+    /// t_sndrel.
+    TSndRel {
+        fd: Fd,
+    },
+    /// t_rcvrel.
+    TRcvRel {
+        fd: Fd,
+    },
+    /// t_sndudata: destination, options and data of a datagram.
+    TSndUData {
+        fd: Fd,
+        addr: Octets,
+        opt: Octets,
+        bytes: Octets,
+    },
+    /// t_sndvudata: the parts are sent joined.
+    TSndVUData {
+        fd: Fd,
+        addr: Octets,
+        opt: Octets,
+        parts: Parts,
+    },
+    /// t_rcvudata of at most `max` bytes, and the most bytes of address and options that the caller takes.
+    TRcvUData {
+        fd: Fd,
+        max: u32,
+        amax: u32,
+        omax: u32,
+    },
+    /// t_rcvvudata into buffers of these sizes.
+    TRcvVUData {
+        fd: Fd,
+        sizes: Sizes,
+        amax: u32,
+        omax: u32,
+    },
+    /// t_rcvuderr.
+    TRcvUDErr {
+        fd: Fd,
+        amax: u32,
+        omax: u32,
+    },
+    /// t_look.
+    TLookAt {
+        fd: Fd,
+    },
+    /// t_getstate.
+    TGetState {
+        fd: Fd,
+    },
+    /// t_sync.
+    TSync {
+        fd: Fd,
+    },
+    /// t_getinfo.
+    TGetInfo {
+        fd: Fd,
+    },
+    /// t_getprotaddr, with the most bytes of each address that the caller takes.
+    TGetProtAddr {
+        fd: Fd,
+        amax: u32,
+        pmax: u32,
+    },
+    /// t_optmgmt: an action, and options in their encoded form.
+    TOptMgmt {
+        fd: Fd,
+        action: u32,
+        opt: Octets,
+        omax: u32,
+    },
+    /// fcntl with or without O_NONBLOCK.
+    SetMode {
+        fd: Fd,
+        nonblock: bool,
+    },
+}
+
+impl Call {
+    /// The same call once more.
+    pub fn copy(&self) -> Result<Call, AllocError>
+        ensures { IfOk result (λ copy. copy ≡ self.now) }
+    {
+        match self {
+            Call::TOpen { prov, nonblock } => Ok(Call::TOpen {
+                prov: *prov,
+                nonblock: *nonblock,
+            }),
+            Call::TClose { fd } => Ok(Call::TClose { fd: *fd }),
+            Call::TBind {
+                fd,
+                addr,
+                qlen,
+                amax,
+            } => Ok(Call::TBind {
+                fd: *fd,
+                addr: addr.copy()?,
+                qlen: *qlen,
+                amax: *amax,
+            }),
+            Call::TUnbind { fd } => Ok(Call::TUnbind { fd: *fd }),
+            Call::TConnect {
+                fd,
+                addr,
+                opt,
+                udata,
+                amax,
+                omax,
+                umax,
+            } => Ok(Call::TConnect {
+                fd: *fd,
+                addr: addr.copy()?,
+                opt: opt.copy()?,
+                udata: udata.copy()?,
+                amax: *amax,
+                omax: *omax,
+                umax: *umax,
+            }),
+            Call::TRcvConnect {
+                fd,
+                amax,
+                omax,
+                umax,
+            } => Ok(Call::TRcvConnect {
+                fd: *fd,
+                amax: *amax,
+                omax: *omax,
+                umax: *umax,
+            }),
+            Call::TListen {
+                fd,
+                amax,
+                omax,
+                umax,
+            } => Ok(Call::TListen {
+                fd: *fd,
+                amax: *amax,
+                omax: *omax,
+                umax: *umax,
+            }),
+            Call::TAccept {
+                fd,
+                resfd,
+                seq,
+                opt,
+                udata,
+            } => Ok(Call::TAccept {
+                fd: *fd,
+                resfd: *resfd,
+                seq: *seq,
+                opt: opt.copy()?,
+                udata: udata.copy()?,
+            }),
+            Call::TSnd { fd, bytes, flags } => Ok(Call::TSnd {
+                fd: *fd,
+                bytes: bytes.copy()?,
+                flags: *flags,
+            }),
+            Call::TSndV { fd, parts, flags } => Ok(Call::TSndV {
+                fd: *fd,
+                parts: parts.copy()?,
+                flags: *flags,
+            }),
+            Call::TRcv { fd, max } => Ok(Call::TRcv { fd: *fd, max: *max }),
+            Call::TRcvV { fd, sizes } => Ok(Call::TRcvV {
+                fd: *fd,
+                sizes: sizes.copy()?,
+            }),
+            Call::TSndDis { fd, seq, udata } => Ok(Call::TSndDis {
+                fd: *fd,
+                seq: *seq,
+                udata: udata.copy()?,
+            }),
+            Call::TRcvDis { fd, umax } => Ok(Call::TRcvDis {
+                fd: *fd,
+                umax: *umax,
+            }),
+            Call::TSndRel { fd } => Ok(Call::TSndRel { fd: *fd }),
+            Call::TRcvRel { fd } => Ok(Call::TRcvRel { fd: *fd }),
+            Call::TSndUData {
+                fd,
+                addr,
+                opt,
+                bytes,
+            } => Ok(Call::TSndUData {
+                fd: *fd,
+                addr: addr.copy()?,
+                opt: opt.copy()?,
+                bytes: bytes.copy()?,
+            }),
+            Call::TSndVUData {
+                fd,
+                addr,
+                opt,
+                parts,
+            } => Ok(Call::TSndVUData {
+                fd: *fd,
+                addr: addr.copy()?,
+                opt: opt.copy()?,
+                parts: parts.copy()?,
+            }),
+            Call::TRcvUData {
+                fd,
+                max,
+                amax,
+                omax,
+            } => Ok(Call::TRcvUData {
+                fd: *fd,
+                max: *max,
+                amax: *amax,
+                omax: *omax,
+            }),
+            Call::TRcvVUData {
+                fd,
+                sizes,
+                amax,
+                omax,
+            } => Ok(Call::TRcvVUData {
+                fd: *fd,
+                sizes: sizes.copy()?,
+                amax: *amax,
+                omax: *omax,
+            }),
+            Call::TRcvUDErr { fd, amax, omax } => Ok(Call::TRcvUDErr {
+                fd: *fd,
+                amax: *amax,
+                omax: *omax,
+            }),
+            Call::TLookAt { fd } => Ok(Call::TLookAt { fd: *fd }),
+            Call::TGetState { fd } => Ok(Call::TGetState { fd: *fd }),
+            Call::TSync { fd } => Ok(Call::TSync { fd: *fd }),
+            Call::TGetInfo { fd } => Ok(Call::TGetInfo { fd: *fd }),
+            Call::TGetProtAddr { fd, amax, pmax } => Ok(Call::TGetProtAddr {
+                fd: *fd,
+                amax: *amax,
+                pmax: *pmax,
+            }),
+            Call::TOptMgmt {
+                fd,
+                action,
+                opt,
+                omax,
+            } => Ok(Call::TOptMgmt {
+                fd: *fd,
+                action: *action,
+                opt: opt.copy()?,
+                omax: *omax,
+            }),
+            Call::SetMode { fd, nonblock } => Ok(Call::SetMode {
+                fd: *fd,
+                nonblock: *nonblock,
+            }),
+        }
+    }
+}

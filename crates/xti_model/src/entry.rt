@@ -1,0 +1,260 @@
+//! Replies, outcomes and the entries of a history.
+
+ghost use Rattle.std.specs.Prelude.{◌≡◌, IfOk};
+
+use crate::call::Call;
+use std::alloc::AllocError;
+use xti_base::{Errno, Event, Fd, Info, Items, Octets, Seq, State};
+
+/// What a call answers.
+#[derive(Drop)]
+pub enum Reply {
+    /// Done, with nothing to tell.
+    Plain,
+    /// The descriptor of the endpoint that t_open made.
+    Opened {
+        fd: Fd,
+    },
+    /// The address that t_bind gave, and the queue length.
+    Bound {
+        addr: Octets,
+        qlen: u32,
+    },
+    /// Address, options and data of the answer to a request.
+    Connected {
+        addr: Octets,
+        opt: Octets,
+        udata: Octets,
+    },
+    /// An indication.
+    Listened {
+        seq: Seq,
+        addr: Octets,
+        opt: Octets,
+        udata: Octets,
+    },
+    /// So many bytes were taken.
+    Sent {
+        n: u32,
+    },
+    /// Bytes of a connection, with the flags T_MORE and T_EXPEDITED.
+    Got {
+        bytes: Octets,
+        flags: u32,
+    },
+    /// A disconnect: its reason, the indication that it takes back or 0, and data.
+    Discon {
+        reason: u32,
+        seq: Seq,
+        udata: Octets,
+    },
+    /// A datagram or a part of one, with the flag T_MORE.
+    UData {
+        addr: Octets,
+        opt: Octets,
+        bytes: Octets,
+        flags: u32,
+    },
+    /// A datagram that could not be delivered.
+    UDErr {
+        addr: Octets,
+        opt: Octets,
+        code: u32,
+    },
+    /// The first event that is pending.
+    Seen {
+        event: Option<Event>,
+    },
+    /// The state.
+    Stands {
+        state: State,
+    },
+    /// What the provider offers.
+    Limits {
+        info: Info,
+    },
+    /// The endpoint's address and its peer's.
+    Addresses {
+        local: Octets,
+        peer: Octets,
+    },
+    /// The overall result of a negotiation, and the answered options.
+    Options {
+        result: u32,
+        opt: Octets,
+    },
+    /// An error other than TLOOK and TBUFOVFLW.
+    Refused {
+        errno: Errno,
+    },
+    /// TLOOK: this event is pending.
+    Look {
+        event: Event,
+    },
+    /// TBUFOVFLW: a returned field is too long; the sequence number of t_listen, else 0.
+    Overflow {
+        seq: Seq,
+    },
+}
+
+impl Reply {
+    /// The same reply once more.
+    pub fn copy(&self) -> Result<Reply, AllocError>
+        ensures { IfOk result (λ copy. copy ≡ self.now) }
+    {
+        match self {
+            Reply::Plain => Ok(Reply::Plain),
+            Reply::Opened { fd } => Ok(Reply::Opened { fd: *fd }),
+            Reply::Bound { addr, qlen } => Ok(Reply::Bound {
+                addr: addr.copy()?,
+                qlen: *qlen,
+            }),
+            Reply::Connected { addr, opt, udata } => Ok(Reply::Connected {
+                addr: addr.copy()?,
+                opt: opt.copy()?,
+                udata: udata.copy()?,
+            }),
+            Reply::Listened {
+                seq,
+                addr,
+                opt,
+                udata,
+            } => Ok(Reply::Listened {
+                seq: *seq,
+                addr: addr.copy()?,
+                opt: opt.copy()?,
+                udata: udata.copy()?,
+            }),
+            Reply::Sent { n } => Ok(Reply::Sent { n: *n }),
+            Reply::Got { bytes, flags } => Ok(Reply::Got {
+                bytes: bytes.copy()?,
+                flags: *flags,
+            }),
+            Reply::Discon { reason, seq, udata } => Ok(Reply::Discon {
+                reason: *reason,
+                seq: *seq,
+                udata: udata.copy()?,
+            }),
+            Reply::UData {
+                addr,
+                opt,
+                bytes,
+                flags,
+            } => Ok(Reply::UData {
+                addr: addr.copy()?,
+                opt: opt.copy()?,
+                bytes: bytes.copy()?,
+                flags: *flags,
+            }),
+            Reply::UDErr { addr, opt, code } => Ok(Reply::UDErr {
+                addr: addr.copy()?,
+                opt: opt.copy()?,
+                code: *code,
+            }),
+            Reply::Seen { event } => Ok(Reply::Seen { event: *event }),
+            Reply::Stands { state } => Ok(Reply::Stands { state: *state }),
+            Reply::Limits { info } => Ok(Reply::Limits { info: *info }),
+            Reply::Addresses { local, peer } => Ok(Reply::Addresses {
+                local: local.copy()?,
+                peer: peer.copy()?,
+            }),
+            Reply::Options { result, opt } => Ok(Reply::Options {
+                result: *result,
+                opt: opt.copy()?,
+            }),
+            Reply::Refused { errno } => Ok(Reply::Refused { errno: *errno }),
+            Reply::Look { event } => Ok(Reply::Look { event: *event }),
+            Reply::Overflow { seq } => Ok(Reply::Overflow { seq: *seq }),
+        }
+    }
+}
+
+/// What an entry does: a call begins, or the next part of an unfinished one is made.
+#[derive(Drop)]
+pub enum Act {
+    /// The call begins.
+    Begin(Call),
+    /// The worker's unfinished call goes on.
+    More,
+}
+
+impl Act {
+    /// The same act once more.
+    pub fn copy(&self) -> Result<Act, AllocError>
+        ensures { IfOk result (λ copy. copy ≡ self.now) }
+    {
+        match self {
+            Act::Begin(call) => Ok(Act::Begin(call.copy()?)),
+            Act::More => Ok(Act::More),
+        }
+    }
+}
+
+/// How far a call has come before a step.
+#[derive(Clone, Copy, Debug, PartialEq, Eq)]
+pub enum Go {
+    /// It begins.
+    Begin,
+    /// It goes on, with so many bytes taken.
+    More(u32),
+}
+
+/// What a step answers.
+#[derive(Drop)]
+pub enum Outcome {
+    /// The call is done.
+    Done(Reply),
+    /// A part of the call is made; so many of its bytes are taken.
+    Part { taken: u32 },
+}
+
+impl Outcome {
+    /// The same outcome once more.
+    pub fn copy(&self) -> Result<Outcome, AllocError>
+        ensures { IfOk result (λ copy. copy ≡ self.now) }
+    {
+        match self {
+            Outcome::Done(reply) => Ok(Outcome::Done(reply.copy()?)),
+            Outcome::Part { taken } => Ok(Outcome::Part { taken: *taken }),
+        }
+    }
+}
+
+/// A step of a history.
+#[derive(Drop)]
+pub struct Entry {
+    /// The worker that made it.
+    pub worker: u32,
+    /// What it did.
+    pub act: Act,
+    /// What it answered.
+    pub outcome: Outcome,
+    /// The state of the call's endpoint after it; T_UNINIT where that is not open.
+    pub after: State,
+}
+
+impl Entry {
+    /// The same entry once more.
+    pub fn copy(&self) -> Result<Entry, AllocError>
+        ensures { IfOk result (λ copy. copy ≡ self.now) }
+    {
+        Ok(Entry {
+            worker: self.worker,
+            act: self.act.copy()?,
+            outcome: self.outcome.copy()?,
+            after: self.after,
+        })
+    }
+}
+
+/// A history.
+pub type Entries = Items<Entry>;
+
+/// What applying a step gives.
+#[derive(Drop)]
+pub enum Applied {
+    /// The step was made.
+    Step { outcome: Outcome, after: State },
+    /// It would have to wait.
+    Blocked,
+}

@@ -1,0 +1,12 @@
+//! Calls, replies, scripts and histories as plain data, and what they mean.
+#![tactic(auto)]
+
+mod call;
+mod entry;
+mod profile;
+mod script;
+
+pub use call::Call;
+pub use entry::{Act, Applied, Entries, Entry, Go, Outcome, Reply};
+pub use profile::{Profile, Providers};
+pub use script::{Journal, Line, Lines, Name, NamedCall, Script, StallLine, Stalls};
