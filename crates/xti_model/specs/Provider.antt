@@ -1,0 +1,71 @@
+-- What a provider offers.
+use Rattle.std.specs.Prelude.{ℕ, zero, suc, Bool, true, false, not, if◌then◌else◌, Option, Some, None}
+use Rattle.xti_base.specs.Kinds.{same_service}
+use Rattle.xti_base.specs.declared.limit.Info.{Info}
+use Rattle.xti_base.specs.declared.kinds.Prov.{Prov}
+use Rattle.xti_base.specs.declared.kinds.Prov.TheVariants.{Ticots, Ticotsord, Ticlts, Other}
+use Rattle.xti_base.specs.declared.kinds.ServType.{ServType}
+use Rattle.xti_base.specs.declared.kinds.ServType.TheVariants.{T_COTS, T_COTS_ORD, T_CLTS}
+use Rattle.xti_base.specs.declared.limit.Limit.{Limit}
+use Rattle.xti_base.specs.declared.limit.Limit.TheVariants.{At, Invalid}
+use Rattle.xti_model.specs.declared.profile.Profile.{Profile}
+use Rattle.xti_model.specs.declared.profile.Providers.{Providers}
+
+abbrev pub profile : Providers → Prov → Profile
+profile p Ticots = p.ticots
+profile p Ticotsord = p.ticotsord
+profile p Ticlts = p.ticlts
+profile p Other = p.ticots
+
+abbrev pub service : Prov → ServType
+service Ticots = T_COTS
+service Ticotsord = T_COTS_ORD
+service Ticlts = T_CLTS
+service Other = T_COTS
+
+abbrev pub is_provider : Prov → Bool
+is_provider Other = false
+is_provider prov = true
+
+abbrev pub has_datagrams : Prov → Bool
+has_datagrams prov = same_service (service prov) T_CLTS
+
+abbrev pub has_connections : Prov → Bool
+has_connections prov = not (has_datagrams prov)
+
+abbrev pub has_release : Prov → Bool
+has_release prov = same_service (service prov) T_COTS_ORD
+
+-- the most bytes of one message, where that is a number over 0
+abbrev pub limit_over_zero : Limit → Option ℕ
+limit_over_zero (At zero) = None
+limit_over_zero (At (suc n)) = Some (suc n)
+limit_over_zero other = None
+
+-- whether normal data are a stream of bytes, without ends
+abbrev pub is_stream_limit : Limit → Bool
+is_stream_limit (At zero) = true
+is_stream_limit other = false
+
+abbrev pub is_stream : Providers → Prov → Bool
+is_stream p prov = is_stream_limit (profile p prov).tsdu
+
+abbrev pub expedited_limit : Prov → Limit
+expedited_limit Ticlts = Invalid
+expedited_limit prov = At 128
+
+abbrev pub connection_limit : Prov → Limit
+connection_limit Ticlts = Invalid
+connection_limit prov = At 64
+
+abbrev pub info : Providers → Prov → Info
+info p prov = record {
+  addr = At 64;
+  options = At 256;
+  tsdu = (profile p prov).tsdu;
+  etsdu = expedited_limit prov;
+  connect = connection_limit prov;
+  discon = connection_limit prov;
+  servtype = service prov;
+  flags = if (profile p prov).sendzero then 1 else 0;
+}
