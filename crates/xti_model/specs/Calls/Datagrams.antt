@@ -45,17 +45,27 @@ with_datagram d e = record e { datagrams = e.datagrams ++ d ∷ [] }
 abbrev pub with_error : DatagramError → Endpoint → Endpoint
 with_error d e = record e { datagram_errors = e.datagram_errors ++ d ∷ [] }
 
--- it waits where the address is bound, and where nobody is bound an error waits at the sender
-abbrev pub deliver : ℕ → Option ℕ → Datagram → DatagramError → Change
-deliver fd None d err = at_endpoint fd (with_error err)
-deliver fd (Some to) d err = at_endpoint to (with_datagram d)
+-- the sender's flow mark is cleared; where nobody is bound, an error waits at the sender
+abbrev pub with_error_unmarked : DatagramError → Endpoint → Endpoint
+with_error_unmarked d e = mark_flow None (with_error d e)
+
+-- a datagram waits where the address is bound, and else an error at the sender
+abbrev pub deliver : ℕ → Option ℕ → Datagram → DatagramError → List Change
+deliver fd None d err = at_endpoint fd (with_error_unmarked err) ∷ []
+deliver fd (Some to) d err = at_endpoint to (with_datagram d) ∷ at_endpoint fd (mark_flow None) ∷ []
+
+-- the code of a datagram that nobody was there to take
+abbrev pub undeliverable : ℕ
+undeliverable = 1
+
+abbrev pub datagram_from : Endpoint → List ℕ → List ℕ → Datagram
+datagram_from e options bytes = record { source = address_of e; options = options; bytes = bytes }
+
+abbrev pub error_to : List ℕ → List ℕ → DatagramError
+error_to address options = record { destination = address; options = options; code = undeliverable }
 
 abbrev pub send_changes : ℕ → List ℕ → List ℕ → List ℕ → Option ℕ → Endpoint → List Change
-send_changes fd address options bytes to e =
-    at_endpoint fd (mark_flow None) ∷
-    deliver fd to
-    (record { source = address_of e; options = options; bytes = bytes })
-    (record { destination = address; options = options; code = 1 }) ∷ []
+send_changes fd address options bytes to e = deliver fd to (datagram_from e options bytes) (error_to address options)
 
 abbrev pub send_to : Providers → World → ℕ → List ℕ → List ℕ → ℕ → List ℕ → Endpoint → Option ℕ → Plan
 send_to p w fd address options parts bytes e to =
