@@ -36,6 +36,14 @@ impl<T: Drop> Items<T> {
         Items { members }
     }
 
+    /// The members, given back. Takes no memory.
+    pub fn into_vec(self) -> Vec<T>
+        ensures { result.items ≡ self }
+    {
+        let Items { members } = self;
+        members
+    }
+
     /// Adds a member at the end; after want of memory the list is as before.
     pub fn push(&mut self, member: T) -> Result<(), AllocError>
         ensures ok { OnOk result (self.new ≡ self.old ++ member ∷ []) }
@@ -94,6 +102,21 @@ impl<T: Copy> Numbers<T> {
         Numbers {
             members: Vec::new(alloc),
         }
+    }
+
+    /// The list of these members. Takes no memory.
+    pub fn from_vec(members: Vec<T>) -> Numbers<T>
+        ensures { result ≡ members.items }
+    {
+        Numbers { members }
+    }
+
+    /// The members, given back. Takes no memory.
+    pub fn into_vec(self) -> Vec<T>
+        ensures { result.items ≡ self }
+    {
+        let Numbers { members } = self;
+        members
     }
 
     /// Adds a member at the end; after want of memory the list is as before.

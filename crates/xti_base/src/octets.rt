@@ -43,6 +43,14 @@ impl Octets {
         Octets { bytes }
     }
 
+    /// The bytes, given back. Takes no memory.
+    pub fn into_vec(self) -> Vec<u8>
+        ensures { result.items ≡ self }
+    {
+        let Octets { bytes } = self;
+        bytes
+    }
+
     /// The same bytes once more.
     pub fn copy(&self) -> Result<Octets, AllocError>
         ensures { IfOk result (λ o. o ≡ self.now) }

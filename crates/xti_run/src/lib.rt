@@ -1,0 +1,4 @@
+//! Runs of scripts.
+#![tactic(auto)]
+
+mod endpoint;
