@@ -401,7 +401,7 @@ impl Endpoint {
 }
 
 impl Endpoint {
-    ghost use Rattle.xti_run.specs.Received.{IsReceivedWhole};
+    ghost use Rattle.xti_run.specs.Received.{IsReceived, IsReceivedWhole};
 
     /// All that is left of the first datagram, which is gone then. Takes no memory.
     fn receive_whole(&mut self, alloc: Global) -> Received
@@ -413,6 +413,20 @@ impl Endpoint {
         let first = self.datagrams.remove(0);
         self.begun = false;
         first.into_received(alloc, begun)
+    }
+
+    /// The next `max` bytes of the first datagram, which is gone where none are left; after want of memory all is as before.
+    pub(crate) fn receive(&mut self, alloc: Global, max: u32) -> Result<Received, AllocError>
+        requires { IsTrue (some_wait self.old.datagrams) }
+        ensures got { IfOk result (IsReceived max (told self.old)) }
+        ensures left { OnOk result (self.new ≡ received max self.old) }
+        ensures err { OnErr result (self.new ≡ self.old) }
+    {
+        if self.has_rest(max) {
+            self.receive_part(alloc, max)
+        } else {
+            Ok(self.receive_whole(alloc))
+        }
     }
 }
 
