@@ -187,6 +187,7 @@ pub(crate) struct Endpoint {
     nonblock: bool,
     state: State,
     address: Option<Octets>,
+    qlen: u32,
     datagrams: Vec<Datagram>,
     begun: bool,
     errors: Vec<DatagramError>,
@@ -207,7 +208,7 @@ impl Model for Endpoint {
             nonblock = e.nonblock;
             state = e.state;
             address = e.address;
-            qlen = 0;
+            qlen = e.qlen;
             last_number = 0;
             pending = [];
             outstanding = [];
@@ -244,6 +245,7 @@ impl Endpoint {
             nonblock,
             state: State::T_UNBND,
             address: None,
+            qlen: 0,
             datagrams: Vec::new(alloc),
             begun: false,
             errors: Vec::new(alloc),
@@ -305,12 +307,13 @@ impl Endpoint {
         !self.errors.is_empty()
     }
 
-    /// The endpoint is bound to the address, with no queue of indications. Takes no memory.
-    pub(crate) fn bind(&mut self, address: Octets)
-        ensures { self.new ≡ bound_to address 0 self.old }
+    /// The endpoint is bound to the address, with a queue of `qlen` indications. Takes no memory.
+    pub(crate) fn bind(&mut self, address: Octets, qlen: u32)
+        ensures { self.new ≡ bound_to address qlen self.old }
     {
         self.state = State::T_IDLE;
         self.address = Some(address);
+        self.qlen = qlen;
     }
 
     /// Sets the datagram flow mark, or clears it. Takes no memory.

@@ -3,8 +3,9 @@
 ghost use Rattle.std.specs.Prelude.{◌≡◌, ◌<◌, ◌≤◌, ◌+◌, ◌*◌, ◌/◌, ◌%◌, ◌^◌, [], ◌∷◌, ◌++◌, Some, None, IfOk, OnOk, OnErr, IfSome, length, position, find, is_some, option_map, drop, slice_get, map};
 ghost use Rattle.std.specs.Option.{option_copied};
 ghost use Rattle.xti_model.specs.World.{opening, endpoint, the_switch};
-ghost use Rattle.xti_model.specs.Switch.{free_place};
-ghost use Rattle.xti_run.specs.Cells.{is_free_slot};
+ghost use Rattle.std.specs.List.{list_any};
+ghost use Rattle.xti_model.specs.Switch.{free_place, is_bound, is_listening, less, least, numbered_address, free_address, bound, chosen, has_listener};
+ghost use Rattle.xti_run.specs.Cells.{is_free_slot, bound_descriptors, switch_with};
 
 use crate::endpoint::Endpoint;
 use std::alloc::{AllocError, Global};
@@ -116,4 +117,70 @@ impl World {
     {
         least_free(&self.slots)
     }
+}
+
+/// Whether the address is bound here.
+fn is_bound(b: &Binding, prov: Prov, address: &[u8]) -> bool
+    ensures { result ≡ is_bound prov address.now b.now }
+{
+    b.prov.is(prov) && b.address.as_slice() == address
+}
+
+/// Whether an endpoint with a queue is bound here.
+fn is_listening(b: &Binding, prov: Prov, address: &[u8]) -> bool
+    ensures { result ≡ is_listening prov address.now b.now }
+{
+    is_bound(b, prov, address) && b.listening
+}
+
+fn has_listener(bindings: &[Binding], prov: Prov, address: &[u8]) -> bool
+    ensures { result ≡ list_any (is_listening prov address.now) bindings.now }
+{
+    bindings.iter().any(|b| is_listening(b, prov, address))
+}
+
+/// The lesser of a number and another, where there is one.
+fn less(n: u32, other: Option<u32>) -> Option<u32>
+    ensures { result ≡ less n other }
+{
+    match other {
+        None => Some(n),
+        Some(m) => Some(n.min(m)),
+    }
+}
+
+/// The least descriptor that is bound to the address.
+fn least_bound(bindings: &[Binding], prov: Prov, address: &[u8]) -> Option<u32>
+    ensures { result ≡ least (bound_descriptors prov address.now bindings.now) }
+{
+    let mut least = None;
+    for b in bindings {
+        if is_bound(b, prov, address) {
+            least = less(b.fd.0, least);
+        }
+    }
+    least
+}
+
+/// `#` and a number.
+fn numbered_address(alloc: Global, n: usize) -> Result<Octets, AllocError>
+    ensures { IfOk result (λ address. address ≡ numbered_address n) }
+{
+    let text = format!(in alloc; "#{n}")?;
+    Ok(Octets::from_vec(text.into_bytes()))
+}
+
+/// The first address `#n` that no endpoint of the provider is bound to.
+fn free_address(alloc: Global, bindings: &[Binding], prov: Prov) -> Result<Octets, AllocError>
+    ensures { IfOk result (λ address. address ≡ free_address (switch_with bindings.now) prov 0 (length bindings.now)) }
+{
+    let mut n = 0usize;
+    while n < bindings.len() {
+        let address = numbered_address(alloc, n)?;
+        if least_bound(bindings, prov, address.as_slice()).is_none() {
+            return Ok(address);
+        }
+        n += 1;
+    }
+    numbered_address(alloc, n)
 }
