@@ -1,3 +1,4 @@
 pub mod Lookups
 pub mod Places
 pub mod Addresses
+pub mod Changes

@@ -6,7 +6,7 @@ use Rattle.std.proofs.lemmas.Bool.{ne_eqb, eq-eqb}
 use Rattle.std.proofs.lemmas.List.{get_or-map, length-map}
 use Rattle.xti_model.specs.declared.profile.Providers.{Providers}
 use Rattle.xti_model.specs.Endpoint.{Endpoint}
-use Rattle.xti_model.specs.World.{World, Cell, switch_cell, Binding, Switch, cell_at, endpoint, endpoint_in, the_switch, switch_or_empty}
+use Rattle.xti_model.specs.World.{World, Cell, Place, closed_place, switch_cell, Binding, Switch, cell_at, endpoint, endpoint_in, the_switch, switch_or_empty}
 use Rattle.xti_model.specs.Switch.{is_free, free_place}
 use Rattle.xti_run.specs.declared.world.Slot.{Slot}
 use Rattle.xti_run.specs.Cells.{cell_of, known_of, cells_of, switch_of, is_free_slot}
@@ -26,6 +26,11 @@ cell_at-switch slots bindings n e =
 
 pub the_switch-is : (p : Providers) (slots : List Slot) (bindings : List Binding) → length slots ≡ 64 → the_switch p (cells_of slots bindings) ≡ switch_of slots bindings
 the_switch-is p slots bindings e = rw (cell_at-switch slots bindings 64 (sym e)) refl
+
+pub endpoint-is : (p : Providers) (slots : List Slot) (bindings : List Binding) (fd : ℕ) (s : Slot) → length slots ≡ 64 → s ≡ get_or slots (fd % 64) s → endpoint p (cells_of slots bindings) fd ≡ endpoint_in (fd / 64) (cell_of s)
+endpoint-is p slots bindings fd s e h =
+    let lt : fd % 64 < length slots = omega arith in
+    rw (cell_at-place slots bindings (fd % 64) s lt h) refl
 
 pub endpoint-here : (p : Providers) (slots : List Slot) (bindings : List Binding) (fd : ℕ) (s : Slot) → length slots ≡ 64 → s ≡ get_or slots (fd % 64) s → s.generation ≡ fd / 64 → endpoint p (cells_of slots bindings) fd ≡ s.body
 endpoint-here p slots bindings fd s e h g =
@@ -55,3 +60,6 @@ same_place p (s ∷ slots) = rw (same_test p s, same_place p slots) refl
 
 pub free_place-is : (p : Providers) (slots : List Slot) (bindings : List Binding) → length slots ≡ 64 → position is_free_slot slots ≡ free_place p (the_switch p (cells_of slots bindings))
 free_place-is p slots bindings e = rw (the_switch-is p slots bindings e, same_place p slots, ← length-map slots known_of) refl
+
+pub generation-is : (slots : List Slot) (i : ℕ) (s : Slot) → i < length slots → s ≡ get_or slots i s → s.generation ≡ (get_or (map known_of slots) i closed_place).generation
+generation-is slots i s lt e = ap (λ (t : Slot). t.generation) e ∙ sym (ap (λ (k : Place). k.generation) (get_or-map known_of slots i s closed_place lt))

@@ -1,13 +1,13 @@
 //! All cells, for one thread.
 
-ghost use Rattle.std.specs.Prelude.{◌≡◌, ◌<◌, ◌≤◌, ◌+◌, ◌*◌, ◌/◌, ◌%◌, ◌^◌, [], ◌∷◌, ◌++◌, Some, None, IfOk, OnOk, OnErr, IfSome, length, position, find, is_some, option_map, drop, slice_get, map};
+ghost use Rattle.std.specs.Prelude.{◌≡◌, ◌<◌, ◌≤◌, ◌+◌, ◌*◌, ◌/◌, ◌%◌, ◌^◌, nat_lt, true, [], ◌∷◌, ◌++◌, Some, None, IfOk, OnOk, OnErr, IfSome, IsSomeAnd, length, position, find, is_some, option_map, drop, slice_get, map};
 ghost use Rattle.std.specs.Option.{option_copied};
 ghost use Rattle.xti_model.specs.World.{opening, endpoint, the_switch};
 ghost use Rattle.std.specs.List.{list_any};
-ghost use Rattle.xti_model.specs.Switch.{free_place, is_bound, is_listening, less, least, numbered_address, free_address, bound, chosen, has_listener};
+ghost use Rattle.xti_model.specs.Switch.{free_place, is_bound, is_listening, less, least, place_at, numbered_address, free_address, bound, chosen, has_listener};
 ghost use Rattle.xti_run.specs.Cells.{is_free_slot, bound_descriptors, switch_with};
 
-use crate::endpoint::Endpoint;
+use crate::endpoint::{Datagram, DatagramError, Endpoint, Received};
 use std::alloc::{AllocError, Global};
 use std::marker::Model;
 use xti_base::{Fd, Octets, Prov, State};
@@ -38,6 +38,107 @@ impl Model for Binding {
 pub(crate) struct Slot {
     generation: u32,
     body: Option<Endpoint>,
+}
+
+impl Slot {
+    ghost use Rattle.xti_model.specs.World.{open_cell, change_endpoint};
+    ghost use Rattle.xti_model.specs.Calls.Bind.{bound_to};
+    ghost use Rattle.xti_model.specs.Calls.Datagrams.{mark_flow, with_datagram, with_error_unmarked, received, dropped};
+    ghost use Rattle.xti_model.specs.World.{endpoint_in};
+    ghost use Rattle.xti_run.specs.Cells.{cell_of, known_of};
+    ghost use Rattle.xti_run.specs.Received.{IsReceivedOf, HasDatagram};
+
+    /// The endpoint opens here, where the place is closed.
+    fn open(&mut self, endpoint: Endpoint)
+        ensures cell { cell_of self.new ≡ open_cell endpoint (cell_of self.old) }
+        ensures known { known_of self.new ≡ record (known_of self.old) { is_open = true } }
+    {
+        if self.body.is_none() {
+            self.body = Some(endpoint);
+        }
+    }
+
+    /// The endpoint of this generation, where it is open.
+    fn bind(&mut self, generation: u32, address: Octets, qlen: u32)
+        ensures cell { cell_of self.new ≡ change_endpoint generation (bound_to address qlen) (cell_of self.old) }
+        ensures known { known_of self.new ≡ known_of self.old }
+    {
+        if self.generation == generation {
+            if let Some(e) = &mut self.body {
+                e.bind(address, qlen);
+            }
+        }
+    }
+
+    fn mark_flow(&mut self, generation: u32, to: Option<Octets>)
+        ensures cell { cell_of self.new ≡ change_endpoint generation (mark_flow to) (cell_of self.old) }
+        ensures known { known_of self.new ≡ known_of self.old }
+    {
+        if self.generation == generation {
+            if let Some(e) = &mut self.body {
+                e.mark_flow(to);
+            }
+        }
+    }
+
+    fn push_datagram(&mut self, generation: u32, d: Datagram) -> Result<(), AllocError>
+        ensures cell { OnOk result (cell_of self.new ≡ change_endpoint generation (with_datagram d) (cell_of self.old)) }
+        ensures known { known_of self.new ≡ known_of self.old }
+        ensures err { OnErr result (self.new ≡ self.old) }
+    {
+        if self.generation == generation {
+            if let Some(e) = &mut self.body {
+                e.push_datagram(d)?;
+            }
+        }
+        Ok(())
+    }
+
+    fn push_error(&mut self, generation: u32, d: DatagramError) -> Result<(), AllocError>
+        ensures cell { OnOk result (cell_of self.new ≡ change_endpoint generation (with_error_unmarked d) (cell_of self.old)) }
+        ensures known { known_of self.new ≡ known_of self.old }
+        ensures err { OnErr result (self.new ≡ self.old) }
+    {
+        if self.generation == generation {
+            if let Some(e) = &mut self.body {
+                e.push_error(d)?;
+                e.mark_flow(None);
+            }
+        }
+        Ok(())
+    }
+
+    fn receive(
+        &mut self,
+        alloc: Global,
+        generation: u32,
+        max: u32,
+    ) -> Result<Received, AllocError>
+        requires { IsSomeAnd (endpoint_in generation (cell_of self.old)) HasDatagram }
+        ensures got { IfOk result (IsReceivedOf max (endpoint_in generation (cell_of self.old))) }
+        ensures cell { OnOk result (cell_of self.new ≡ change_endpoint generation (received max) (cell_of self.old)) }
+        ensures known { known_of self.new ≡ known_of self.old }
+        ensures err { OnErr result (self.new ≡ self.old) }
+    {
+        match &mut self.body {
+            Some(e) => {
+                let received = e.receive(alloc, max)?;
+                Ok(received)
+            }
+            None => unreachable!(),
+        }
+    }
+
+    fn drop_datagram(&mut self, generation: u32)
+        ensures cell { cell_of self.new ≡ change_endpoint generation dropped (cell_of self.old) }
+        ensures known { known_of self.new ≡ known_of self.old }
+    {
+        if self.generation == generation {
+            if let Some(e) = &mut self.body {
+                e.drop_datagram();
+            }
+        }
+    }
 }
 
 /// All cells, for one thread: a cell for each place, and the switch's with the bindings.
@@ -183,4 +284,137 @@ fn free_address(alloc: Global, bindings: &[Binding], prov: Prov) -> Result<Octet
         n += 1;
     }
     numbered_address(alloc, n)
+}
+
+impl World {
+    ghost use Rattle.xti_model.specs.World.{opens_place, at_endpoint, at_switch, changed};
+    ghost use Rattle.xti_model.specs.Switch.{mark_open, give_address};
+    ghost use Rattle.xti_model.specs.Calls.Bind.{bound_to};
+    ghost use Rattle.xti_model.specs.Calls.Datagrams.{mark_flow, with_datagram, with_error_unmarked, received, dropped};
+    ghost use Rattle.xti_run.specs.Received.{IsReceivedOf, HasDatagram};
+
+    /// The least descriptor that is bound to the address.
+    pub(crate) fn bound(&self, prov: Prov, address: &[u8]) -> Option<u32>
+        ensures { result ≡ bound (the_switch self.now.providers self.now.cells) prov address.now }
+    {
+        least_bound(&self.bindings, prov, address)
+    }
+
+    /// Whether an endpoint with a queue is bound to the address.
+    pub(crate) fn has_listener(&self, prov: Prov, address: &[u8]) -> bool
+        ensures { result ≡ has_listener (the_switch self.now.providers self.now.cells) prov address.now }
+    {
+        has_listener(&self.bindings, prov, address)
+    }
+
+    /// A copy of the address, or the provider's choice where it is empty.
+    pub(crate) fn chosen(
+        &self,
+        alloc: Global,
+        prov: Prov,
+        address: &[u8],
+    ) -> Result<Octets, AllocError>
+        ensures { IfOk result (λ a. a ≡ chosen (the_switch self.now.providers self.now.cells) prov address.now) }
+    {
+        match address {
+            [] => {
+                let free = free_address(alloc, &self.bindings, prov)?;
+                Ok(free)
+            }
+            [..] => Octets::copy_of(alloc, address),
+        }
+    }
+
+    /// The generation of a place.
+    pub(crate) fn generation(&self, place: usize) -> u32
+        requires { place < 64 }
+        ensures generation { result ≡ (place_at (the_switch self.now.providers self.now.cells) place).generation }
+        ensures again { result < 2 ^ 26 }
+    {
+        self.slots[place].generation
+    }
+
+    /// The endpoint opens at the place, where that is closed. Takes no memory.
+    pub(crate) fn open(&mut self, place: usize, endpoint: Endpoint)
+        requires { place < 64 }
+        ensures cells { self.new.cells ≡ changed self.old.providers self.old.cells (opens_place place endpoint ∷ at_switch (mark_open place) ∷ []) }
+        ensures providers { self.new.providers ≡ self.old.providers }
+    {
+        self.slots[place].open(endpoint);
+    }
+
+    /// The endpoint is bound to the address, where it is open; after want of memory all is as before.
+    pub(crate) fn bind(
+        &mut self,
+        fd: Fd,
+        prov: Prov,
+        address: Octets,
+        qlen: u32,
+    ) -> Result<(), AllocError>
+        ensures ok { OnOk result (self.new.cells ≡ changed self.old.providers self.old.cells (at_endpoint fd.0 (bound_to address qlen) ∷ at_switch (give_address prov address fd.0 (nat_lt 0 qlen)) ∷ [])) }
+        ensures providers { self.new.providers ≡ self.old.providers }
+        ensures err { OnErr result (self.new ≡ self.old) }
+    {
+        self.bindings.push(Binding {
+            prov,
+            address: address.copy()?,
+            fd,
+            listening: qlen > 0,
+        })?;
+        self.slots[fd.0 as usize % PLACES].bind(fd.0 / 64, address, qlen);
+        Ok(())
+    }
+
+    /// Sets the datagram flow mark, where the endpoint is open. Takes no memory.
+    pub(crate) fn mark_flow(&mut self, fd: Fd, to: Option<Octets>)
+        ensures cells { self.new.cells ≡ changed self.old.providers self.old.cells (at_endpoint fd.0 (mark_flow to) ∷ []) }
+        ensures providers { self.new.providers ≡ self.old.providers }
+    {
+        self.slots[fd.0 as usize % PLACES].mark_flow(fd.0 / 64, to);
+    }
+
+    /// A datagram waits at an endpoint, where that is open; after want of memory all is as before.
+    pub(crate) fn push_datagram(&mut self, to: Fd, d: Datagram) -> Result<(), AllocError>
+        ensures ok { OnOk result (self.new.cells ≡ changed self.old.providers self.old.cells (at_endpoint to.0 (with_datagram d) ∷ [])) }
+        ensures providers { self.new.providers ≡ self.old.providers }
+        ensures err { OnErr result (self.new ≡ self.old) }
+    {
+        self.slots[to.0 as usize % PLACES].push_datagram(to.0 / 64, d)?;
+        Ok(())
+    }
+
+    /// A datagram error waits at an endpoint, where that is open, and its flow mark is cleared; after want of memory all is as before.
+    pub(crate) fn push_error(&mut self, fd: Fd, d: DatagramError) -> Result<(), AllocError>
+        ensures ok { OnOk result (self.new.cells ≡ changed self.old.providers self.old.cells (at_endpoint fd.0 (with_error_unmarked d) ∷ [])) }
+        ensures providers { self.new.providers ≡ self.old.providers }
+        ensures err { OnErr result (self.new ≡ self.old) }
+    {
+        self.slots[fd.0 as usize % PLACES].push_error(fd.0 / 64, d)?;
+        Ok(())
+    }
+
+    /// The first datagram is gone, where the endpoint is open. Takes no memory.
+    pub(crate) fn drop_datagram(&mut self, fd: Fd)
+        ensures cells { self.new.cells ≡ changed self.old.providers self.old.cells (at_endpoint fd.0 dropped ∷ []) }
+        ensures providers { self.new.providers ≡ self.old.providers }
+    {
+        self.slots[fd.0 as usize % PLACES].drop_datagram(fd.0 / 64);
+    }
+
+    /// The next `max` bytes of the first datagram of an open endpoint at which one waits; after want of memory all is as before.
+    pub(crate) fn receive(
+        &mut self,
+        alloc: Global,
+        fd: Fd,
+        max: u32,
+    ) -> Result<Received, AllocError>
+        requires { IsSomeAnd (endpoint self.old.providers self.old.cells fd.0) HasDatagram }
+        ensures got { IfOk result (IsReceivedOf max (endpoint self.old.providers self.old.cells fd.0)) }
+        ensures ok { OnOk result (self.new.cells ≡ changed self.old.providers self.old.cells (at_endpoint fd.0 (received max) ∷ [])) }
+        ensures providers { self.new.providers ≡ self.old.providers }
+        ensures err { OnErr result (self.new ≡ self.old) }
+    {
+        let received = self.slots[fd.0 as usize % PLACES].receive(alloc, fd.0 / 64, max)?;
+        Ok(received)
+    }
 }
