@@ -2,3 +2,4 @@ pub mod Lookups
 pub mod Places
 pub mod Addresses
 pub mod Changes
+pub mod Binds

@@ -1,2 +1,3 @@
 pub mod Received
 pub mod Cells
+pub mod Taken

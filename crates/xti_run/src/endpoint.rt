@@ -11,6 +11,7 @@ ghost use Rattle.xti_model.specs.Calls.Datagrams.{mark_flow, with_datagram, with
 ghost use Rattle.std.specs.List.{list_any};
 ghost use Rattle.xti_model.specs.Plan.{field, is_too_long};
 
+use crate::answers::is_too_long;
 use std::alloc::{AllocError, Global};
 use std::marker::Model;
 use xti_base::{Octets, Prov, State};
@@ -442,11 +443,4 @@ fn told(alloc: Global, field: &[u8], begun: bool) -> Result<Octets, AllocError>
     } else {
         Octets::copy_of(alloc, field)
     }
-}
-
-/// Whether the bytes are more than a caller takes who takes at most `max`, or none where that is 0.
-fn is_too_long(bytes: &[u8], max: u32) -> bool
-    ensures { result ≡ is_too_long (field bytes.now max) }
-{
-    max != 0 && bytes.len() > max as usize
 }

@@ -2,7 +2,7 @@
 
 ghost use Rattle.std.specs.Prelude.{◌≡◌, ◌<◌, ◌≤◌, ◌+◌, ◌*◌, ◌/◌, ◌%◌, ◌^◌, nat_lt, true, [], ◌∷◌, ◌++◌, Some, None, IfOk, OnOk, OnErr, IfSome, IsSomeAnd, length, position, find, is_some, option_map, drop, slice_get, map};
 ghost use Rattle.std.specs.Option.{option_copied};
-ghost use Rattle.xti_model.specs.World.{opening, endpoint, the_switch};
+ghost use Rattle.xti_model.specs.World.{opening, endpoint, state_of, the_switch};
 ghost use Rattle.std.specs.List.{list_any};
 ghost use Rattle.xti_model.specs.Switch.{free_place, is_bound, is_listening, less, least, place_at, numbered_address, free_address, bound, chosen, has_listener};
 ghost use Rattle.xti_run.specs.Cells.{is_free_slot, bound_descriptors, switch_with};
@@ -208,6 +208,16 @@ impl World {
             slot.body.as_ref()
         } else {
             None
+        }
+    }
+
+    /// The state of the endpoint with this descriptor; T_UNINIT where it is not open.
+    pub(crate) fn state(&self, fd: Fd) -> State
+        ensures { result ≡ state_of (endpoint self.now.providers self.now.cells fd.0) }
+    {
+        match self.endpoint(fd) {
+            Some(e) => e.state(),
+            None => State::T_UNINIT,
         }
     }
 
