@@ -2,14 +2,14 @@
 
 ghost use Rattle.std.specs.Prelude.{◌≡◌, Some, IfOk, [], if◌then◌else◌, ◌==◌};
 ghost use Rattle.xti_model.specs.Plan.{field, is_too_long, trimmed};
-ghost use Rattle.xti_model.specs.Provider.{has_datagrams, is_provider};
+ghost use Rattle.xti_model.specs.Provider.{has_datagrams, is_provider, profile};
 ghost use Rattle.xti_model.specs.Step.{made};
 ghost use Rattle.xti_run.specs.Taken.{taken};
 
 use crate::world::World;
 use std::alloc::{AllocError, Global};
 use xti_base::{Errno, Fd, Octets, Prov, Seq};
-use xti_model::{Applied, Outcome, Reply};
+use xti_model::{Applied, Outcome, Profile, Providers, Reply};
 
 /// A call that is done.
 pub(crate) fn done(w: &World, fd: Fd, reply: Reply) -> Applied
@@ -42,6 +42,17 @@ pub(crate) fn is_provider(prov: Prov) -> bool
     match prov {
         Prov::Ticots | Prov::Ticotsord | Prov::Ticlts => true,
         Prov::Other => false,
+    }
+}
+
+/// The provider's values.
+pub(crate) fn profile(p: &Providers, prov: Prov) -> &Profile
+    ensures { result.now ≡ profile p.now prov }
+{
+    match prov {
+        Prov::Ticotsord => &p.ticotsord,
+        Prov::Ticlts => &p.ticlts,
+        Prov::Ticots | Prov::Other => &p.ticots,
     }
 }
 

@@ -8,15 +8,33 @@ ghost use Rattle.xti_model.specs.Calls.Open as Open;
 ghost use Rattle.xti_model.specs.Calls.Bind as Bind;
 ghost use Rattle.xti_run.specs.Taken.{taken, bound};
 
-use crate::answers::{done, has_datagrams, is_provider, is_too_long, overflow, refused, trimmed};
+use crate::answers::{done, has_datagrams, is_provider, is_too_long, overflow, profile, refused, trimmed};
 use crate::endpoint::Endpoint;
 use crate::world::World;
 use std::alloc::{AllocError, Global};
 use xti_base::{Errno, Fd, Octets, Prov, State};
-use xti_model::{Applied, Profile, Providers, Reply};
+use xti_model::{Applied, Reply};
 
-/// The descriptor of an open that failed.
+/// The descriptor whose state a refused open shows: that of no endpoint.
 const NO_FD: Fd = Fd(4_294_967_295);
+
+pub(crate) fn open(alloc: Global, w: &mut World, prov: Prov, nonblock: bool) -> Applied
+    ensures step { taken result w.new.cells ≡ step_of w.old.providers w.old.cells (Open.plan w.old.providers w.old.cells prov nonblock) }
+    ensures providers { w.new.providers ≡ w.old.providers }
+{
+    if !is_provider(prov) {
+        return refused(w, NO_FD, Errno::TBADNAME);
+    }
+    match w.free_place() {
+        None => refused(w, NO_FD, Errno::TSYSERR),
+        Some(place) => {
+            let fd = Fd(64 * w.generation(place) + place as u32);
+            let e = Endpoint::opened(alloc, profile(w.providers(), prov), prov, nonblock);
+            w.open(place, e);
+            done(w, fd, Reply::Opened { fd })
+        }
+    }
+}
 
 pub(crate) fn bind(
     alloc: Global,

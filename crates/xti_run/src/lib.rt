@@ -3,5 +3,6 @@
 
 mod answers;
 mod bind;
+mod datagrams;
 mod endpoint;
 mod world;

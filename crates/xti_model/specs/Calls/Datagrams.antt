@@ -4,6 +4,7 @@ use Rattle.xti_base.specs.declared.limit.Limit.{Limit}
 use Rattle.xti_base.specs.declared.limit.Limit.TheVariants.{At, Infinite, Invalid}
 use Rattle.xti_base.specs.declared.kinds.State.TheVariants.{T_IDLE}
 use Rattle.xti_base.specs.declared.errno.Errno.TheVariants.{TBADDATA, TFLOW, TNODATA, TNOUDERR}
+use Rattle.xti_model.specs.declared.profile.Profile.{Profile}
 use Rattle.xti_model.specs.declared.profile.Providers.{Providers}
 use Rattle.xti_model.specs.declared.entry.Outcome.TheVariants.{Done}
 use Rattle.xti_model.specs.declared.entry.Reply.{Reply}
@@ -22,8 +23,9 @@ is_over (At limit) n = nat_lt limit n
 is_over Infinite n = false
 is_over Invalid n = true
 
-abbrev pub is_bad_data : Providers → List ℕ → Endpoint → Bool
-is_bad_data p bytes e = is_over (profile p e.prov).tsdu (length bytes) || ((length bytes == 0) && not (profile p e.prov).sendzero)
+-- bytes that the provider does not send as one datagram
+abbrev pub is_bad_datagram : Profile → List ℕ → Bool
+is_bad_datagram profile bytes = is_over profile.tsdu (length bytes) || ((length bytes == 0) && not profile.sendzero)
 
 abbrev pub mark_flow : Option (List ℕ) → Endpoint → Endpoint
 mark_flow to e = record e { flow_datagram = to }
@@ -35,7 +37,7 @@ send_rows p address options parts bytes there e =
     bad_address address ∷
     bad_options options ∷
     refuses (is_too_many parts) TBADDATA ∷
-    refuses (is_bad_data p bytes e) TBADDATA ∷
+    refuses (is_bad_datagram (profile p e.prov) bytes) TBADDATA ∷
     looks looks_datagrams e ∷
     not_ready (not (takes_datagram there)) TFLOW ∷ []
 
@@ -67,12 +69,16 @@ error_to address options = record { destination = address; options = options; co
 abbrev pub send_changes : ℕ → List ℕ → List ℕ → List ℕ → Option ℕ → Endpoint → List Change
 send_changes fd address options bytes to e = deliver fd to (datagram_from e options bytes) (error_to address options)
 
-abbrev pub send_to : Providers → World → ℕ → List ℕ → List ℕ → ℕ → List ℕ → Endpoint → Option ℕ → Plan
-send_to p w fd address options parts bytes e to =
-    record (plan_of fd e (send_rows p address options parts bytes (option_and_then (endpoint p w) to) e) (send_changes fd address options bytes to e) (Done Plain)) { marks = at_endpoint fd (mark_flow (Some address)) ∷ [] }
+-- where it is not ready and does not wait, the sender is marked with the address
+abbrev pub send_to : Providers → ℕ → List ℕ → List ℕ → ℕ → List ℕ → Endpoint → Option ℕ → Option Endpoint → Plan
+send_to p fd address options parts bytes e to there =
+    record (plan_of fd e (send_rows p address options parts bytes there e) (send_changes fd address options bytes to e) (Done Plain)) { marks = at_endpoint fd (mark_flow (Some address)) ∷ [] }
+
+abbrev pub send_from : Providers → World → ℕ → List ℕ → List ℕ → ℕ → List ℕ → Endpoint → Option ℕ → Plan
+send_from p w fd address options parts bytes e to = send_to p fd address options parts bytes e to (option_and_then (endpoint p w) to)
 
 abbrev pub send_plan : Providers → World → ℕ → List ℕ → List ℕ → ℕ → List ℕ → Plan
-send_plan p w fd address options parts bytes = on_open p w fd (λ e. send_to p w fd address options parts bytes e (bound (the_switch p w) e.prov address))
+send_plan p w fd address options parts bytes = on_open p w fd (λ e. send_from p w fd address options parts bytes e (bound (the_switch p w) e.prov address))
 
 abbrev pub datagram_or : Option Datagram → Datagram
 datagram_or None = record { source = []; options = []; bytes = [] }
