@@ -1,0 +1,12 @@
+//! Sources and sinks of bytes, which count their faults.
+#![tactic(auto)]
+
+mod sink;
+mod source;
+mod standard;
+mod sure;
+
+pub use sink::{Sink, WriteEnd, write_all};
+pub use source::{Failed, ReadEnd, Source, read_all};
+pub use standard::{StdSink, StdSource};
+pub use sure::{SureSink, SureSource};
