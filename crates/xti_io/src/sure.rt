@@ -1,6 +1,6 @@
 //! A source and a sink in memory that never fail.
 
-ghost use Rattle.std.specs.Prelude.{◌≡◌, ◌<◌, ◌≤◌, ℕ, List, Option, Some, Ok, [], IfOk, IsOk, length, min, true};
+ghost use Rattle.std.specs.Prelude.{◌≡◌, ◌<◌, ◌≤◌, ℕ, List, Option, Some, Ok, [], IfOk, IsOk, length, min, take, drop};
 ghost use Rattle.xti_io.specs.Faults.{HasCause};
 ghost use Rattle.xti_io.specs.Source.{Reads};
 ghost use Rattle.xti_io.specs.Sink.{Writes};
@@ -35,6 +35,21 @@ impl SureSource {
     {
         SureSource { bytes, place: 0 }
     }
+
+    // Gives the next bytes, at most so many, in the front of the buffer.
+    pub(crate) fn give(&mut self, buf: &mut [u8], most: usize) -> usize
+        ensures count { result ≡ min most (min (length buf.old) (length self.old)) }
+        ensures bytes { take result buf.new ≡ take result self.old }
+        ensures rest { self.new ≡ drop result self.old }
+    {
+        let (_, rest) = self.bytes.as_slice().split_at(self.place);
+        let count = most.min(buf.len().min(rest.len()));
+        let (front, _) = rest.split_at(count);
+        let (target, _) = buf.split_at_mut(count);
+        target.copy_from_slice(front);
+        self.place += count;
+        count
+    }
 }
 
 impl Source for SureSource {
@@ -50,13 +65,8 @@ impl Source for SureSource {
         ensures sure { IsOk result }
         ensures count { IfOk result (λ n. n ≡ min (length buf.old) (length self.old)) }
     {
-        let (_, rest) = self.bytes.as_slice().split_at(self.place);
-        let count = rest.len().min(buf.len());
-        let (front, _) = rest.split_at(count);
-        let (target, _) = buf.split_at_mut(count);
-        target.copy_from_slice(front);
-        self.place += count;
-        Ok(count)
+        let most = buf.len();
+        Ok(self.give(buf, most))
     }
 }
 
