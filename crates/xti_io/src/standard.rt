@@ -1,6 +1,10 @@
 //! Sources and sinks over readers and writers, as standard input and output.
 
-ghost use Rattle.std.specs.Prelude.{None};
+ghost use Rattle.std.specs.Prelude.{◌≡◌, ◌<◌, None, is_err, length};
+ghost use Rattle.std.specs.Io.KnownBytes.{ReadConsumes, WriteAppends};
+ghost use Rattle.xti_io.specs.Faults.{HasCause, counted};
+ghost use Rattle.xti_io.specs.Source.{Reads};
+ghost use Rattle.xti_io.specs.Sink.{Writes};
 
 use crate::sink::Sink;
 use crate::source::{Failed, Source};
@@ -15,7 +19,10 @@ pub struct StdSource<R: Read> {
 
 impl<R: Read> StdSource<R> {
     /// A source over this reader.
-    pub fn new(reader: R) -> StdSource<R> {
+    pub fn new(reader: R) -> StdSource<R>
+        ensures reader { result.reader ≡ reader }
+        ensures faults { result.faults ≡ 0 }
+    {
         StdSource { reader, faults: 0 }
     }
 }
@@ -25,7 +32,14 @@ impl<R: Read> Source for StdSource<R> {
 
     ghost faults = { λ s. s.faults };
 
-    fn read(&mut self, buf: &mut [u8]) -> Result<usize, Failed> {
+    /// One read of the reader; an error of it is a fault.
+    fn read(&mut self, buf: &mut [u8]) -> Result<usize, Failed>
+        requires { 0 < length buf.old }
+        ensures bytes { Reads None None result buf.new }
+        ensures cause { HasCause self.old.faults self.new.faults result }
+        ensures count { self.new.faults ≡ counted self.old.faults (is_err result) }
+        ensures reader { ReadConsumes (R.remaining self.old.reader) (R.remaining self.new.reader) result buf.new }
+    {
         match self.reader.read(buf) {
             Ok(count) => Ok(count),
             Err(_) => {
@@ -45,7 +59,10 @@ pub struct StdSink<W: Write> {
 
 impl<W: Write> StdSink<W> {
     /// A sink over this writer. The sink never flushes it.
-    pub fn new(writer: W) -> StdSink<W> {
+    pub fn new(writer: W) -> StdSink<W>
+        ensures writer { result.writer ≡ writer }
+        ensures faults { result.faults ≡ 0 }
+    {
         StdSink { writer, faults: 0 }
     }
 }
@@ -55,8 +72,14 @@ impl<W: Write> Sink for StdSink<W> {
 
     ghost faults = { λ s. s.faults };
 
-    /// A write that takes nothing is a fault too.
-    fn write(&mut self, piece: &[u8]) -> Result<usize, Failed> {
+    /// One write of the writer; an error of it is a fault, and so is a write that takes nothing.
+    fn write(&mut self, piece: &[u8]) -> Result<usize, Failed>
+        requires { 0 < length piece.now }
+        ensures bytes { Writes None None result piece.now }
+        ensures cause { HasCause self.old.faults self.new.faults result }
+        ensures count { self.new.faults ≡ counted self.old.faults (is_err result) }
+        ensures writer { WriteAppends (W.contents self.old.writer) (W.contents self.new.writer) result piece.now }
+    {
         match self.writer.write(piece) {
             Ok(0) | Err(_) => {
                 self.faults = self.faults.saturating_add(1);
