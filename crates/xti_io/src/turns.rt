@@ -36,6 +36,7 @@ impl Turns {
         requires { is_listed (2 ^ 64 - 1) fails ≡ false }
         ensures { result ≡ first_turn fails }
     {
+        // A list in memory has fewer than 2 ^ 64 - 1 members, which the proof sees at its slice.
         let _ = fails.as_slice();
         Turns {
             fails,
