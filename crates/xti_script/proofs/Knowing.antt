@@ -1,5 +1,5 @@
 -- What a draft knows after one more line.
-use Rattle.std.proofs.Common.{◌≡◌, ℕ, ◌+◌, Bool, true, false, cond, ◌||◌, List, [], ◌∷◌, ◌++◌, refl, sym, ap, ◌∙◌, arith}
+use Rattle.std.proofs.Common.{◌≡◌, ℕ, ◌+◌, ◌<◌, Bool, true, false, cond, ◌||◌, List, [], ◌∷◌, ◌++◌, length, refl, sym, ap, ◌∙◌, arith}
 use Rattle.std.specs.Prelude.{Vec, count_by}
 use Rattle.std.specs.declared.alloc.Global.{Global}
 use Rattle.std.specs.declared.cmp.Ordering.{Ordering}
@@ -12,11 +12,12 @@ use Rattle.std.specs.Str.{bytes_eq}
 use Rattle.std.proofs.lemmas.List.Folds.{list_any-append}
 use Rattle.std.proofs.lemmas.Map.Lookups.{exact_bytes}
 use Rattle.std.proofs.lemmas.Map.Text.{is_eq-slice_cmp}
-use Rattle.std.proofs.lemmas.List.Sums.{sum_by_push}
+use Rattle.std.proofs.lemmas.List.Sums.{sum_by_push, count_by-le-length}
 use Rattle.std.proofs.lemmas.Slice.Eq.{bytes_eq-Decides}
 use Rattle.xti_model.specs.declared.script.Line.{Line}
 use Rattle.xti_script.specs.Grammar.{is_open, is_send, opens_name, binds_name, binds_address, opens, sends, defines, binds, binds_to, some_line}
-use Rattle.xti_script.specs.Known.{Texts, has, Knows}
+use Rattle.xti_script.specs.Known.{Texts, has, Knows, Adds}
+use Rattle.xti_script.specs.declared.draft.Known.{Known}
 
 abbrev pub vec_cmp : Vec ℕ Global → Vec ℕ Global → Ordering
 vec_cmp x y = slice_cmp nat_cmp x.items y.items
@@ -76,16 +77,19 @@ any_more test lines line = list_any-append test lines (line ∷ []) ∙ ap (λ (
 count_more : (test : Line → Bool) (lines : List Line) (line : Line) → count_by test (lines ++ line ∷ []) ≡ count_by test lines + cond (test line) 1 0
 count_more test lines line = sum_by_push (λ x. cond (test x) 1 0) lines line
 
-pub knows_more : (lines : List Line) (line : Line) (names bound addresses names' bound' addresses' : Texts) (o s o' s' : ℕ) → Knows lines names bound addresses o s
-    → ((name : List ℕ) → has names' name ≡ (has names name || opens_name name line.call))
-    → ((name : List ℕ) → has bound' name ≡ (has bound name || binds_name name line.call))
-    → ((address : List ℕ) → has addresses' address ≡ (has addresses address || binds_address address line.call))
-    → o' ≡ o + cond (is_open line.call) 1 0 → s' ≡ s + cond (is_send line.call) 1 0
-    → Knows (lines ++ line ∷ []) names' bound' addresses' o' s'
-knows_more lines line names bound addresses names' bound' addresses' o s o' s' k n b a p q = record {
-  defined = λ name. n name ∙ ap (λ (t : Bool). t || opens_name name line.call) (k.defined name) ∙ sym (any_more (defines name) lines line);
-  bound_once = λ name. b name ∙ ap (λ (t : Bool). t || binds_name name line.call) (k.bound_once name) ∙ sym (any_more (binds name) lines line);
-  bound_to = λ address. a address ∙ ap (λ (t : Bool). t || binds_address address line.call) (k.bound_to address) ∙ sym (any_more (binds_to address) lines line);
-  opened = p ∙ ap (λ (n : ℕ). n + cond (is_open line.call) 1 0) k.opened ∙ sym (count_more opens lines line);
-  sent = q ∙ ap (λ (n : ℕ). n + cond (is_send line.call) 1 0) k.sent ∙ sym (count_more sends lines line);
+-- what is known of lines and one more
+pub knows_more : (lines : List Line) (line : Line) (old new : Known) → Knows lines old → Adds line.call old new → Knows (lines ++ line ∷ []) new
+knows_more lines line old new k a = record {
+  defined = λ name. a.defined name ∙ ap (λ (t : Bool). t || opens_name name line.call) (k.defined name) ∙ sym (any_more (defines name) lines line);
+  bound = λ name. a.bound name ∙ ap (λ (t : Bool). t || binds_name name line.call) (k.bound name) ∙ sym (any_more (binds name) lines line);
+  bound_to = λ address. a.bound_to address ∙ ap (λ (t : Bool). t || binds_address address line.call) (k.bound_to address) ∙ sym (any_more (binds_to address) lines line);
+  opened = a.opened ∙ ap (λ (n : ℕ). n + cond (is_open line.call) 1 0) k.opened ∙ sym (count_more opens lines line);
+  sent = a.sent ∙ ap (λ (n : ℕ). n + cond (is_send line.call) 1 0) k.sent ∙ sym (count_more sends lines line);
 }
+
+-- no more lines open, and none more send, than there are
+pub few_opens : (lines : List Line) (known : Known) → Knows lines known → length lines < 100000 → known.open_count < 100000
+few_opens lines known k lt = omega (arith, k.opened, count_by-le-length opens lines)
+
+pub few_sends : (lines : List Line) (known : Known) → Knows lines known → length lines < 100000 → known.send_count < 100000
+few_sends lines known k lt = omega (arith, k.sent, count_by-le-length sends lines)

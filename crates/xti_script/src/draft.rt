@@ -1,9 +1,9 @@
 //! The lines that are read so far, and what they say together.
 
-ghost use Rattle.std.specs.Prelude.{◌≡◌, ◌<◌, ◌||◌, ◌++◌, ◌+◌, ◌∷◌, [], ℕ, if◌then◌else◌, List, length, count_by, IfOk};
+ghost use Rattle.std.specs.Prelude.{◌≡◌, ◌<◌, ◌||◌, ◌++◌, ◌+◌, ◌∷◌, [], ℕ, if◌then◌else◌, List, length, count_by, IfOk, OnOk};
 ghost use Rattle.std.specs.Str.{bytes_eq};
 ghost use Rattle.xti_script.specs.Grammar.{is_open, is_send, opens_name, binds_name, binds_address, opens, sends, defines, binds, binds_to, some_line};
-ghost use Rattle.xti_script.specs.Known.{has};
+ghost use Rattle.xti_script.specs.Known.{has, Knows, Adds};
 
 use std::alloc::{AllocError, Global};
 use std::collections::BTreeSet;
@@ -18,41 +18,37 @@ fn has(texts: &Texts, bytes: &[u8]) -> bool
     texts.contains(bytes)
 }
 
-/// The texts and this one.
-fn with_text(alloc: Global, mut texts: Texts, text: &[u8]) -> Result<Texts, AllocError>
-    ensures { IfOk result (λ more. (other : List ℕ) → has more other ≡ (has texts other || bytes_eq text.now other)) }
+fn add_text(alloc: Global, texts: &mut Texts, text: &[u8]) -> Result<(), AllocError>
+    ensures { OnOk result ((other : List ℕ) → has texts.new other ≡ (has texts.old other || bytes_eq text.now other)) }
 {
     texts.insert(Vec::from_slice(alloc, text)?)?;
-    Ok(texts)
+    Ok(())
 }
 
-/// The names that lines define, and that which the call defines.
-fn names_with(alloc: Global, names: Texts, call: &NamedCall) -> Result<Texts, AllocError>
-    ensures { IfOk result (λ more. (name : List ℕ) → has more name ≡ (has names name || opens_name name call.now)) }
+fn add_name(alloc: Global, names: &mut Texts, call: &NamedCall) -> Result<(), AllocError>
+    ensures { OnOk result ((name : List ℕ) → has names.new name ≡ (has names.old name || opens_name name call.now)) }
 {
     match call {
-        NamedCall::TOpen { name, .. } => with_text(alloc, names, name.as_slice()),
-        _ => Ok(names),
+        NamedCall::TOpen { name, .. } => add_text(alloc, names, name.as_slice()),
+        _ => Ok(()),
     }
 }
 
-/// The names that lines bind, and that which the call binds.
-fn bound_with(alloc: Global, bound: Texts, call: &NamedCall) -> Result<Texts, AllocError>
-    ensures { IfOk result (λ more. (name : List ℕ) → has more name ≡ (has bound name || binds_name name call.now)) }
+fn add_bound(alloc: Global, bound: &mut Texts, call: &NamedCall) -> Result<(), AllocError>
+    ensures { OnOk result ((name : List ℕ) → has bound.new name ≡ (has bound.old name || binds_name name call.now)) }
 {
     match call {
-        NamedCall::TBind { fd, .. } => with_text(alloc, bound, fd.as_slice()),
-        _ => Ok(bound),
+        NamedCall::TBind { fd, .. } => add_text(alloc, bound, fd.as_slice()),
+        _ => Ok(()),
     }
 }
 
-/// The addresses of binds, and that of the call.
-fn addresses_with(alloc: Global, addresses: Texts, call: &NamedCall) -> Result<Texts, AllocError>
-    ensures { IfOk result (λ more. (address : List ℕ) → has more address ≡ (has addresses address || binds_address address call.now)) }
+fn add_address(alloc: Global, addresses: &mut Texts, call: &NamedCall) -> Result<(), AllocError>
+    ensures { OnOk result ((address : List ℕ) → has addresses.new address ≡ (has addresses.old address || binds_address address call.now)) }
 {
     match call {
-        NamedCall::TBind { addr, .. } => with_text(alloc, addresses, addr.as_slice()),
-        _ => Ok(addresses),
+        NamedCall::TBind { addr, .. } => add_text(alloc, addresses, addr.as_slice()),
+        _ => Ok(()),
     }
 }
 
@@ -76,22 +72,53 @@ fn sends_with(count: usize, call: &NamedCall) -> usize
     }
 }
 
-fn lines_with(mut lines: Lines, line: Line) -> Result<Lines, AllocError>
-    ensures { IfOk result (λ more. more ≡ lines ++ line ∷ []) }
-{
-    lines.push(line)?;
-    Ok(lines)
+/// What lines say together, so that none of them is searched.
+#[derive(Drop)]
+struct Known {
+    /// The names that they define.
+    names: BTreeSet<Vec<u8>>,
+    /// The names of the endpoints that they bind.
+    bound: BTreeSet<Vec<u8>>,
+    /// The addresses of their binds.
+    addresses: BTreeSet<Vec<u8>>,
+    /// How many of them are open lines.
+    open_count: usize,
+    /// How many of them are sndudata lines.
+    send_count: usize,
 }
 
-/// Lines, with the names and addresses that they know, so that no line is searched for.
+impl Known {
+    fn new(alloc: Global) -> Known
+        ensures { Knows [] result }
+    {
+        Known {
+            names: BTreeSet::new(alloc),
+            bound: BTreeSet::new(alloc),
+            addresses: BTreeSet::new(alloc),
+            open_count: 0,
+            send_count: 0,
+        }
+    }
+
+    fn add(&mut self, alloc: Global, call: &NamedCall) -> Result<(), AllocError>
+        requires opens { self.old.open_count < 100000 }
+        requires sends { self.old.send_count < 100000 }
+        ensures { OnOk result (Adds call.now self.old self.new) }
+    {
+        add_name(alloc, &mut self.names, call)?;
+        add_bound(alloc, &mut self.bound, call)?;
+        add_address(alloc, &mut self.addresses, call)?;
+        self.open_count = opens_with(self.open_count, call);
+        self.send_count = sends_with(self.send_count, call);
+        Ok(())
+    }
+}
+
+/// The lines that are read so far.
 #[derive(Drop)]
 pub(crate) struct Draft {
     lines: Lines,
-    names: BTreeSet<Vec<u8>>,
-    bound: BTreeSet<Vec<u8>>,
-    addresses: BTreeSet<Vec<u8>>,
-    open_count: usize,
-    send_count: usize,
+    known: Known,
 }
 
 impl Model for Draft {
@@ -103,7 +130,7 @@ impl Model for Draft {
 
     ghost view = { λ d. d.lines };
 
-    ghost invariant = { λ d. Knows d.lines d.names d.bound d.addresses d.open_count d.send_count };
+    ghost invariant = { λ d. Knows d.lines d.known };
 }
 
 impl Draft {
@@ -113,11 +140,7 @@ impl Draft {
     {
         Draft {
             lines: Lines::new(alloc),
-            names: BTreeSet::new(alloc),
-            bound: BTreeSet::new(alloc),
-            addresses: BTreeSet::new(alloc),
-            open_count: 0,
-            send_count: 0,
+            known: Known::new(alloc),
         }
     }
 
@@ -127,21 +150,12 @@ impl Draft {
         ensures { IfOk result (λ draft. draft ≡ self ++ line ∷ []) }
     {
         let Draft {
-            lines,
-            names,
-            bound,
-            addresses,
-            open_count,
-            send_count,
+            mut lines,
+            mut known,
         } = self;
-        Ok(Draft {
-            names: names_with(alloc, names, &line.call)?,
-            bound: bound_with(alloc, bound, &line.call)?,
-            addresses: addresses_with(alloc, addresses, &line.call)?,
-            open_count: opens_with(open_count, &line.call),
-            send_count: sends_with(send_count, &line.call),
-            lines: lines_with(lines, line)?,
-        })
+        known.add(alloc, &line.call)?;
+        lines.push(line)?;
+        Ok(Draft { lines, known })
     }
 
     /// The lines. Takes no memory.
@@ -163,34 +177,34 @@ impl Draft {
     pub(crate) fn defines(&self, name: &[u8]) -> bool
         ensures { result ≡ some_line (defines name.now) self.now }
     {
-        has(&self.names, name)
+        has(&self.known.names, name)
     }
 
     /// Whether a line binds the endpoint.
     pub(crate) fn binds(&self, name: &[u8]) -> bool
         ensures { result ≡ some_line (binds name.now) self.now }
     {
-        has(&self.bound, name)
+        has(&self.known.bound, name)
     }
 
     /// Whether a line is a bind to the address.
     pub(crate) fn binds_to(&self, address: &[u8]) -> bool
         ensures { result ≡ some_line (binds_to address.now) self.now }
     {
-        has(&self.addresses, address)
+        has(&self.known.addresses, address)
     }
 
     /// How many lines are open lines.
     pub(crate) fn open_count(&self) -> usize
         ensures { result ≡ count_by opens self.now }
     {
-        self.open_count
+        self.known.open_count
     }
 
     /// How many lines are sndudata lines.
     pub(crate) fn send_count(&self) -> usize
         ensures { result ≡ count_by sends self.now }
     {
-        self.send_count
+        self.known.send_count
     }
 }
