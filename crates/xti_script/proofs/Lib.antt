@@ -1,0 +1,6 @@
+pub mod Lines
+pub mod Loop
+pub mod Grammar
+pub mod Least
+pub mod Scripts
+pub mod Knowing

@@ -1,0 +1,31 @@
+-- Reading lines one after the other, as a loop does.
+use Rattle.std.proofs.Common.{◌≡◌, ℕ, ◌+◌, List, [], ◌∷◌, ◌++◌, length, Option, Some, None, Result, Ok, Err, Bool, true, false, eqb, refl, sym, ◌∙◌}
+use Rattle.std.proofs.lemmas.Bool.{eqb-true}
+use Rattle.std.proofs.lemmas.List.{nil_from_length}
+use Rattle.xti_model.specs.declared.script.Line.{Line}
+use Rattle.xti_script.specs.Texts.{lines_of, words_of}
+use Rattle.xti_script.specs.Reading.{line_of, lines_from}
+
+pub goes_on : (n : ℕ) (earlier : List Line) (rest first later : List ℕ) (answer : Option Line) (line : Line) (total : Result (List Line) ℕ) → lines_of rest ≡ first ∷ lines_of later → answer ≡ line_of earlier (words_of first) → answer ≡ Some line
+    → lines_from n earlier (lines_of rest) ≡ total → lines_from (n + 1) (earlier ++ line ∷ []) (lines_of later) ≡ total
+unfolding lines_from
+goes_on n earlier rest first later answer line total e a s so_far =
+    let h : line_of earlier (words_of first) ≡ Some line = sym a ∙ s in
+    let one : lines_from n earlier (lines_of rest) ≡ lines_from (n + 1) (earlier ++ line ∷ []) (lines_of later) = rw (e, h) refl in
+    sym one ∙ so_far
+
+pub stops : (n : ℕ) (earlier : List Line) (rest first later : List ℕ) (answer : Option Line) (total : Result (List Line) ℕ) → lines_of rest ≡ first ∷ lines_of later → answer ≡ line_of earlier (words_of first) → answer ≡ None
+    → lines_from n earlier (lines_of rest) ≡ total → total ≡ Err n
+unfolding lines_from
+stops n earlier rest first later answer total e a s so_far =
+    let h : line_of earlier (words_of first) ≡ None = sym a ∙ s in
+    let one : lines_from n earlier (lines_of rest) ≡ Err n = rw (e, h) refl in
+    sym so_far ∙ one
+
+pub ends : (n : ℕ) (earlier : List Line) (rest : List ℕ) (total : Result (List Line) ℕ) (empty : Bool) → empty ≡ true → empty ≡ eqb (length rest) 0 → lines_from n earlier (lines_of rest) ≡ total → total ≡ Ok earlier
+unfolding lines_from
+ends n earlier rest total false t h so_far = absurd cc
+ends n earlier rest total true t h so_far =
+    let e : rest ≡ [] = nil_from_length rest (eqb-true _ _ (sym h)) in
+    let one : lines_from n earlier (lines_of rest) ≡ Ok earlier = rw e refl in
+    sym so_far ∙ one

@@ -1,0 +1,8 @@
+use Rattle.xti_script.proofs.Lines.{lines_found, lines_none}
+use Rattle.xti_script.proofs.texts.first_line.Goals as goal
+
+pub returns-in-Some-clause-lines : goal.returns-in-Some-clause-lines
+returns-in-Some-clause-lines c = rw (c.split_at.ensures.front, c.split_at-in-Some.ensures.back, c.split_at.ensures.back) (lines_found _ _ c.in-Some.ensures)
+
+pub returns-in-None-clause-lines : goal.returns-in-None-clause-lines
+returns-in-None-clause-lines c = lines_none c.args.text.now c.requires c.in-None.ensures

@@ -1,0 +1,13 @@
+-- What a reader of the code gives, against what reading gives.
+use Rattle.std.specs.Prelude.{◌≡◌, ℕ, Result, Ok, Err}
+use Rattle.xti_script.specs.declared.script_text.ScriptFail.{ScriptFail}
+use Rattle.xti_script.specs.declared.script_text.ScriptFail.TheVariants.{Bad, OutOfMemory}
+
+abbrev pub Fails : {A : Type 0} → ScriptFail → Result A ℕ → Type 0
+Fails (Bad line) read = read ≡ Err line
+Fails OutOfMemory read = Unit {0}
+
+-- the same value, the same wrong line, or want of memory
+abbrev pub Gives : {A : Type 0} → Result A ScriptFail → Result A ℕ → Type 0
+Gives (Ok value) read = read ≡ Ok value
+Gives (Err e) read = Fails e read

@@ -1,0 +1,121 @@
+//! Lines, words, names and short texts.
+
+ghost use Rattle.std.specs.Prelude.{◌≡◌, ◌∷◌, ◌<◌, ◌==◌, ◌&&◌, position, map, length, nat_le, IfOk};
+ghost use Rattle.std.specs.List.{list_all};
+ghost use Rattle.std.specs.Option.{option_copied};
+ghost use Rattle.xti_script.specs.Texts.{lines_of, words_of, is_lower, is_upper, is_digit, is_name_byte, is_name, is_text_byte, is_plain_text};
+ghost use Rattle.xti_script.specs.Reading.{is_text, text_value};
+
+use std::alloc::{AllocError, Global};
+
+fn line_end(text: &[u8]) -> Option<usize>
+    ensures { result ≡ position (λ c. c == 10) text.now }
+{
+    text.iter().position(|c| *c == b'\n')
+}
+
+/// The first line, and what is behind its end.
+pub(crate) fn first_line(text: &[u8]) -> (&[u8], &[u8])
+    requires { 0 < length text.now }
+    ensures lines { lines_of text.now ≡ result.0.now ∷ lines_of result.1.now }
+    ensures shorter { length result.1.now < length text.now }
+{
+    match line_end(text) {
+        Some(end) => {
+            let (line, behind) = text.split_at(end);
+            let (_, rest) = behind.split_at(1);
+            (line, rest)
+        }
+        None => (text, &[]),
+    }
+}
+
+/// The words of a line.
+pub(crate) fn words_of(alloc: Global, line: &[u8]) -> Result<Vec<&[u8]>, AllocError>
+    ensures { IfOk result (λ words. map (λ w. w.now) words.items ≡ words_of line.now) }
+{
+    line.split(|c| *c == b' ').collect(alloc)
+}
+
+fn is_lower(c: u8) -> bool
+    ensures { result ≡ is_lower c }
+{
+    b'a' <= c && c <= b'z'
+}
+
+fn is_upper(c: u8) -> bool
+    ensures { result ≡ is_upper c }
+{
+    b'A' <= c && c <= b'Z'
+}
+
+fn is_digit(c: u8) -> bool
+    ensures { result ≡ is_digit c }
+{
+    b'0' <= c && c <= b'9'
+}
+
+fn is_name_byte(c: u8) -> bool
+    ensures { result ≡ is_name_byte c }
+{
+    is_lower(c) || is_digit(c) || c == b'_'
+}
+
+fn are_name_bytes(text: &[u8]) -> bool
+    ensures { result ≡ list_all is_name_byte text.now }
+{
+    text.iter().all(|c| is_name_byte(*c))
+}
+
+/// Whether the text can be a name.
+pub(crate) fn is_name(text: &[u8]) -> bool
+    ensures { result ≡ is_name text.now }
+{
+    match text {
+        [] => false,
+        [first, rest @ ..] => is_lower(*first) && rest.len() <= 15 && are_name_bytes(rest),
+    }
+}
+
+fn is_text_byte(c: u8) -> bool
+    ensures { result ≡ is_text_byte c }
+{
+    is_lower(c) || is_upper(c) || is_digit(c) || c == b'_' || c == b'.' || c == b'-'
+}
+
+fn are_text_bytes(text: &[u8]) -> bool
+    ensures { result ≡ list_all is_text_byte text.now }
+{
+    text.iter().all(|c| is_text_byte(*c))
+}
+
+fn is_plain_text(bytes: &[u8]) -> bool
+    ensures { result ≡ is_plain_text bytes.now }
+{
+    match bytes {
+        [] => false,
+        _ => are_text_bytes(bytes),
+    }
+}
+
+fn is_text(most: usize, bytes: &[u8]) -> bool
+    ensures { result ≡ is_text most bytes.now }
+{
+    is_plain_text(bytes) && bytes.len() <= most
+}
+
+/// The text behind the key, at most so many bytes; `None` where the word is none of this form.
+#[tactic(auto, unfolding(crate::specs::Reading::text_value))]
+pub(crate) fn text_value<'a>(key: &[u8], most: usize, word: &'a [u8]) -> Option<&'a [u8]>
+    ensures { option_copied result ≡ text_value key.now most word.now }
+{
+    if !word.starts_with(key) {
+        return None;
+    }
+    let (_, bytes) = word.split_at(key.len());
+    if is_text(most, bytes) {
+        Some(bytes)
+    } else {
+        None
+    }
+}
