@@ -1,7 +1,8 @@
 //! The words of a journal's lines, each written behind the text that parts it from the word before.
 
-ghost use Rattle.std.specs.Prelude.{◌≡◌, ◌++◌, ◌<◌, OnOk, decimal};
-ghost use Rattle.xti_journal.specs.JournalText.{number_word, hex_digit, octets_word, bit_word, mode_word, limit_word, parts_word, sizes_word, most_words};
+ghost use Rattle.std.specs.Prelude.{◌≡◌, ◌*◌, ◌++◌, ◌<◌, OnOk, length};
+ghost use Rattle.std.specs.List.{flat_map};
+ghost use Rattle.xti_journal.specs.JournalText.{number_word, hex_digit, hex_pair, octets_word, bit_word, mode_word, limit_word, parts_word, sizes_word, most_words};
 
 use itoa::Buffer;
 use std::alloc::AllocError;
@@ -47,11 +48,32 @@ fn put_hex(out: &mut Vec<u8>, key: &str, bytes: &[u8]) -> Result<(), AllocError>
 {
     put_text(out, key)?;
     put_text(out, "x:")?;
-    for b in bytes {
-        let pair = [hex_digit(*b / 16), hex_digit(*b % 16)];
-        out.extend_from_slice(&pair)?;
-    }
+    put_pairs(out, bytes)
+}
+
+fn put_pairs(out: &mut Vec<u8>, bytes: &[u8]) -> Result<(), AllocError>
+    ensures { OnOk result (out.new.items ≡ out.old.items ++ flat_map hex_pair bytes.now) }
+{
+    let start = out.len();
+    let Some(end) = start.checked_add(2 * bytes.len()) else {
+        return Err(AllocError);
+    };
+    out.resize(end, 0)?;
+    let (_, pairs) = out.as_mut_slice().split_at_mut(start);
+    fill_pairs(pairs, bytes);
     Ok(())
+}
+
+// Two digits for each byte. Without a table, so that several bytes are turned at once.
+fn fill_pairs(out: &mut [u8], bytes: &[u8])
+    requires { length out.old ≡ 2 * length bytes.now }
+    ensures { out.new ≡ flat_map hex_pair bytes.now }
+{
+    for i in 0..bytes.len() {
+        let b = bytes[i];
+        out[2 * i] = hex_digit(b / 16);
+        out[2 * i + 1] = hex_digit(b % 16);
+    }
 }
 
 pub(crate) fn put_bit(out: &mut Vec<u8>, key: &str, b: bool) -> Result<(), AllocError>
