@@ -1,6 +1,6 @@
 //! The words of a journal's lines, each written behind the text that parts it from the word before.
 
-ghost use Rattle.std.specs.Prelude.{◌≡◌, ◌*◌, ◌++◌, ◌<◌, OnOk, length};
+ghost use Rattle.std.specs.Prelude.{◌≡◌, ◌*◌, ◌++◌, ◌<◌, OnOk, length, decimal};
 ghost use Rattle.std.specs.List.{flat_map};
 ghost use Rattle.xti_journal.specs.JournalText.{number_word, hex_digit, hex_pair, octets_word, bit_word, mode_word, limit_word, parts_word, sizes_word, most_words};
 
@@ -8,17 +8,31 @@ use itoa::Buffer;
 use std::alloc::AllocError;
 use xti_base::{Limit, Octets};
 
+#[inline(always)]
 pub(crate) fn put_text(out: &mut Vec<u8>, text: &str) -> Result<(), AllocError>
     ensures { OnOk result (out.new.items ≡ out.old.items ++ text.now) }
 {
     out.extend_from_slice(text.as_bytes())
 }
 
+// A key is short and known where it is written: it is copied there, and not by a call.
+#[inline(always)]
 pub(crate) fn put_number(out: &mut Vec<u8>, key: &str, n: u64) -> Result<(), AllocError>
     ensures { OnOk result (out.new.items ≡ out.old.items ++ number_word key.now n) }
 {
-    let mut buffer = Buffer::new();
     put_text(out, key)?;
+    put_decimal(out, n)
+}
+
+#[tactic(auto, using(std::proofs::lemmas::Fmt::decimal_digit))]
+fn put_decimal(out: &mut Vec<u8>, n: u64) -> Result<(), AllocError>
+    ensures { OnOk result (out.new.items ≡ out.old.items ++ decimal n) }
+{
+    if n < 10 {
+        let digit = b'0' + n as u8;
+        return out.extend_from_slice(&[digit]);
+    }
+    let mut buffer = Buffer::new();
     put_text(out, buffer.format(n))
 }
 
@@ -37,18 +51,13 @@ fn hex_digit(d: u8) -> u8
     if d < 10 { b'0' + d } else { b'a' + (d - 10) }
 }
 
+#[inline(always)]
 pub(crate) fn put_octets(out: &mut Vec<u8>, key: &str, o: &Octets) -> Result<(), AllocError>
     ensures { OnOk result (out.new.items ≡ out.old.items ++ octets_word key.now o.now) }
 {
-    put_hex(out, key, o.as_slice())
-}
-
-fn put_hex(out: &mut Vec<u8>, key: &str, bytes: &[u8]) -> Result<(), AllocError>
-    ensures { OnOk result (out.new.items ≡ out.old.items ++ octets_word key.now bytes.now) }
-{
     put_text(out, key)?;
     put_text(out, "x:")?;
-    put_pairs(out, bytes)
+    put_pairs(out, o.as_slice())
 }
 
 fn put_pairs(out: &mut Vec<u8>, bytes: &[u8]) -> Result<(), AllocError>
