@@ -1,0 +1,190 @@
+//! Calls with their numbers.
+
+ghost use Rattle.std.specs.Prelude.{◌≡◌, ◌++◌, OnOk};
+ghost use Rattle.xti_journal.specs.JournalText.{call_text, act_text};
+
+use crate::words::{put_mode, put_most, put_number, put_octets, put_parts, put_sizes, put_text};
+use std::alloc::AllocError;
+use xti_model::{Act, Call};
+
+fn put_call(out: &mut Vec<u8>, call: &Call) -> Result<(), AllocError>
+    ensures { OnOk result (out.new.items ≡ out.old.items ++ call_text call.now) }
+{
+    match call {
+        Call::TOpen { prov, nonblock } => {
+            put_text(out, "open ")?;
+            put_text(out, prov.name())?;
+            put_mode(out, " ", *nonblock)
+        }
+        Call::TClose { fd } => put_number(out, "close ", fd.0 as u64),
+        Call::TBind {
+            fd,
+            addr,
+            qlen,
+            amax,
+        } => {
+            put_number(out, "bind ", fd.0 as u64)?;
+            put_octets(out, " addr=", addr)?;
+            put_number(out, " qlen=", *qlen as u64)?;
+            put_number(out, " amax=", *amax as u64)
+        }
+        Call::TUnbind { fd } => put_number(out, "unbind ", fd.0 as u64),
+        Call::TConnect {
+            fd,
+            addr,
+            opt,
+            udata,
+            amax,
+            omax,
+            umax,
+        } => {
+            put_number(out, "connect ", fd.0 as u64)?;
+            put_octets(out, " addr=", addr)?;
+            put_octets(out, " opt=", opt)?;
+            put_octets(out, " udata=", udata)?;
+            put_most(out, *amax, *omax, *umax)
+        }
+        Call::TRcvConnect {
+            fd,
+            amax,
+            omax,
+            umax,
+        } => {
+            put_number(out, "rcvconnect ", fd.0 as u64)?;
+            put_most(out, *amax, *omax, *umax)
+        }
+        Call::TListen {
+            fd,
+            amax,
+            omax,
+            umax,
+        } => {
+            put_number(out, "listen ", fd.0 as u64)?;
+            put_most(out, *amax, *omax, *umax)
+        }
+        Call::TAccept {
+            fd,
+            resfd,
+            seq,
+            opt,
+            udata,
+        } => {
+            put_number(out, "accept ", fd.0 as u64)?;
+            put_number(out, " ", resfd.0 as u64)?;
+            put_number(out, " ", seq.0 as u64)?;
+            put_octets(out, " opt=", opt)?;
+            put_octets(out, " udata=", udata)
+        }
+        Call::TSnd { fd, bytes, flags } => {
+            put_number(out, "snd ", fd.0 as u64)?;
+            put_octets(out, " data=", bytes)?;
+            put_number(out, " flags=", *flags as u64)
+        }
+        Call::TSndV { fd, parts, flags } => {
+            put_number(out, "sndv ", fd.0 as u64)?;
+            put_parts(out, " parts=", parts.as_slice())?;
+            put_number(out, " flags=", *flags as u64)
+        }
+        Call::TRcv { fd, max } => {
+            put_number(out, "rcv ", fd.0 as u64)?;
+            put_number(out, " max=", *max as u64)
+        }
+        Call::TRcvV { fd, sizes } => {
+            put_number(out, "rcvv ", fd.0 as u64)?;
+            put_sizes(out, " sizes=", sizes.as_slice())
+        }
+        Call::TSndDis { fd, seq, udata } => {
+            put_number(out, "snddis ", fd.0 as u64)?;
+            put_number(out, " ", seq.0 as u64)?;
+            put_octets(out, " udata=", udata)
+        }
+        Call::TRcvDis { fd, umax } => {
+            put_number(out, "rcvdis ", fd.0 as u64)?;
+            put_number(out, " umax=", *umax as u64)
+        }
+        Call::TSndRel { fd } => put_number(out, "sndrel ", fd.0 as u64),
+        Call::TRcvRel { fd } => put_number(out, "rcvrel ", fd.0 as u64),
+        Call::TSndUData {
+            fd,
+            addr,
+            opt,
+            bytes,
+        } => {
+            put_number(out, "sndudata ", fd.0 as u64)?;
+            put_octets(out, " addr=", addr)?;
+            put_octets(out, " opt=", opt)?;
+            put_octets(out, " data=", bytes)
+        }
+        Call::TSndVUData {
+            fd,
+            addr,
+            opt,
+            parts,
+        } => {
+            put_number(out, "sndvudata ", fd.0 as u64)?;
+            put_octets(out, " addr=", addr)?;
+            put_octets(out, " opt=", opt)?;
+            put_parts(out, " parts=", parts.as_slice())
+        }
+        Call::TRcvUData {
+            fd,
+            max,
+            amax,
+            omax,
+        } => {
+            put_number(out, "rcvudata ", fd.0 as u64)?;
+            put_number(out, " max=", *max as u64)?;
+            put_number(out, " amax=", *amax as u64)?;
+            put_number(out, " omax=", *omax as u64)
+        }
+        Call::TRcvVUData {
+            fd,
+            sizes,
+            amax,
+            omax,
+        } => {
+            put_number(out, "rcvvudata ", fd.0 as u64)?;
+            put_sizes(out, " sizes=", sizes.as_slice())?;
+            put_number(out, " amax=", *amax as u64)?;
+            put_number(out, " omax=", *omax as u64)
+        }
+        Call::TRcvUDErr { fd, amax, omax } => {
+            put_number(out, "rcvuderr ", fd.0 as u64)?;
+            put_number(out, " amax=", *amax as u64)?;
+            put_number(out, " omax=", *omax as u64)
+        }
+        Call::TLookAt { fd } => put_number(out, "look ", fd.0 as u64),
+        Call::TGetState { fd } => put_number(out, "getstate ", fd.0 as u64),
+        Call::TSync { fd } => put_number(out, "sync ", fd.0 as u64),
+        Call::TGetInfo { fd } => put_number(out, "getinfo ", fd.0 as u64),
+        Call::TGetProtAddr { fd, amax, pmax } => {
+            put_number(out, "getprotaddr ", fd.0 as u64)?;
+            put_number(out, " amax=", *amax as u64)?;
+            put_number(out, " pmax=", *pmax as u64)
+        }
+        Call::TOptMgmt {
+            fd,
+            action,
+            opt,
+            omax,
+        } => {
+            put_number(out, "optmgmt ", fd.0 as u64)?;
+            put_number(out, " ", *action as u64)?;
+            put_octets(out, " opt=", opt)?;
+            put_number(out, " omax=", *omax as u64)
+        }
+        Call::SetMode { fd, nonblock } => {
+            put_number(out, "mode ", fd.0 as u64)?;
+            put_mode(out, " ", *nonblock)
+        }
+    }
+}
+
+pub(crate) fn put_act(out: &mut Vec<u8>, act: &Act) -> Result<(), AllocError>
+    ensures { OnOk result (out.new.items ≡ out.old.items ++ act_text act.now) }
+{
+    match act {
+        Act::Begin(call) => put_call(out, call),
+        Act::More => put_text(out, "more"),
+    }
+}

@@ -1,0 +1,10 @@
+//! The text of journals, and writing it.
+#![tactic(auto)]
+
+mod calls;
+mod journal;
+mod replies;
+mod words;
+
+pub use journal::{write_entry, write_journal};
+pub use xti_model::{Entries, Entry, Journal, StallLine, Stalls};

@@ -1,0 +1,130 @@
+//! What calls answered.
+
+ghost use Rattle.std.specs.Prelude.{◌≡◌, ◌++◌, OnOk};
+ghost use Rattle.xti_journal.specs.JournalText.{event_text, sizes_text, info_text, reply_text, outcome_text};
+
+use crate::words::{put_limit, put_number, put_octets, put_text};
+use std::alloc::AllocError;
+use xti_base::{Event, Info};
+use xti_model::{Outcome, Reply};
+
+fn event_name(event: &Option<Event>) -> &'static str
+    ensures { result.now ≡ event_text event.now }
+{
+    match event {
+        Some(event) => event.name(),
+        None => "0",
+    }
+}
+
+fn put_sizes_of(out: &mut Vec<u8>, info: &Info) -> Result<(), AllocError>
+    ensures { OnOk result (out.new.items ≡ out.old.items ++ sizes_text info.now) }
+{
+    put_limit(out, " ", info.addr)?;
+    put_limit(out, " ", info.options)?;
+    put_limit(out, " ", info.tsdu)?;
+    put_limit(out, " ", info.etsdu)
+}
+
+fn put_info(out: &mut Vec<u8>, info: &Info) -> Result<(), AllocError>
+    ensures { OnOk result (out.new.items ≡ out.old.items ++ info_text info.now) }
+{
+    put_sizes_of(out, info)?;
+    put_limit(out, " ", info.connect)?;
+    put_limit(out, " ", info.discon)?;
+    put_number(out, " ", info.servtype.number() as u64)?;
+    put_number(out, " ", info.flags as u64)
+}
+
+fn put_reply(out: &mut Vec<u8>, reply: &Reply) -> Result<(), AllocError>
+    ensures { OnOk result (out.new.items ≡ out.old.items ++ reply_text reply.now) }
+{
+    match reply {
+        Reply::Plain => put_text(out, "ok"),
+        Reply::Opened { fd } => put_number(out, "ok ", fd.0 as u64),
+        Reply::Bound { addr, qlen } => {
+            put_octets(out, "ok ", addr)?;
+            put_number(out, " ", *qlen as u64)
+        }
+        Reply::Connected { addr, opt, udata } => {
+            put_octets(out, "ok ", addr)?;
+            put_octets(out, " ", opt)?;
+            put_octets(out, " ", udata)
+        }
+        Reply::Listened {
+            seq,
+            addr,
+            opt,
+            udata,
+        } => {
+            put_number(out, "ok ", seq.0 as u64)?;
+            put_octets(out, " ", addr)?;
+            put_octets(out, " ", opt)?;
+            put_octets(out, " ", udata)
+        }
+        Reply::Sent { n } => put_number(out, "ok ", *n as u64),
+        Reply::Got { bytes, flags } => {
+            put_octets(out, "ok ", bytes)?;
+            put_number(out, " ", *flags as u64)
+        }
+        Reply::Discon { reason, seq, udata } => {
+            put_number(out, "ok ", *reason as u64)?;
+            put_number(out, " ", seq.0 as u64)?;
+            put_octets(out, " ", udata)
+        }
+        Reply::UData {
+            addr,
+            opt,
+            bytes,
+            flags,
+        } => {
+            put_octets(out, "ok ", addr)?;
+            put_octets(out, " ", opt)?;
+            put_octets(out, " ", bytes)?;
+            put_number(out, " ", *flags as u64)
+        }
+        Reply::UDErr { addr, opt, code } => {
+            put_octets(out, "ok ", addr)?;
+            put_octets(out, " ", opt)?;
+            put_number(out, " ", *code as u64)
+        }
+        Reply::Seen { event } => {
+            put_text(out, "ok ")?;
+            put_text(out, event_name(event))
+        }
+        Reply::Stands { state } => {
+            put_text(out, "ok ")?;
+            put_text(out, state.name())
+        }
+        Reply::Limits { info } => {
+            put_text(out, "ok")?;
+            put_info(out, info)
+        }
+        Reply::Addresses { local, peer } => {
+            put_octets(out, "ok ", local)?;
+            put_octets(out, " ", peer)
+        }
+        Reply::Options { result, opt } => {
+            put_number(out, "ok ", *result as u64)?;
+            put_octets(out, " ", opt)
+        }
+        Reply::Refused { errno } => {
+            put_text(out, "err ")?;
+            put_text(out, errno.name())
+        }
+        Reply::Look { event } => {
+            put_text(out, "err TLOOK ")?;
+            put_text(out, event.name())
+        }
+        Reply::Overflow { seq } => put_number(out, "err TBUFOVFLW ", seq.0 as u64),
+    }
+}
+
+pub(crate) fn put_outcome(out: &mut Vec<u8>, outcome: &Outcome) -> Result<(), AllocError>
+    ensures { OnOk result (out.new.items ≡ out.old.items ++ outcome_text outcome.now) }
+{
+    match outcome {
+        Outcome::Done(reply) => put_reply(out, reply),
+        Outcome::Part { taken } => put_number(out, "part ", *taken as u64),
+    }
+}
