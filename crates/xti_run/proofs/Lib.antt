@@ -1,5 +1,0 @@
-pub mod Lookups
-pub mod Places
-pub mod Addresses
-pub mod Changes
-pub mod Binds

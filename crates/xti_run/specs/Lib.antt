@@ -1,3 +1,1 @@
-pub mod Received
-pub mod Cells
-pub mod Taken
+pub mod Straight

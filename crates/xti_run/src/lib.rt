@@ -1,8 +1,6 @@
 //! Runs of scripts.
 #![tactic(auto)]
 
-mod answers;
-mod bind;
-mod datagrams;
-mod endpoint;
-mod world;
+mod gate;
+
+pub use gate::{Gate, NoGate};

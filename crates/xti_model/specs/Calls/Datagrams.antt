@@ -119,8 +119,12 @@ abbrev pub got : Datagram → ℕ → ℕ → ℕ → Reply
 got d max amax omax = UData (trimmed d.source amax) (trimmed d.options omax) (take max d.bytes) (if has_rest max d then 1 else 0)
 
 -- where a field is too long the whole datagram is gone
+abbrev pub receive_from : ℕ → ℕ → ℕ → ℕ → ℕ → Endpoint → Plan
+receive_from fd sizes max amax omax e =
+    record (plan_of fd e (receive_rows sizes amax omax e) (at_endpoint fd (received max) ∷ []) (Done (got (told e) max amax omax))) { lost = at_endpoint fd dropped ∷ [] }
+
 abbrev pub receive_plan : Providers → World → ℕ → ℕ → ℕ → ℕ → ℕ → Plan
-receive_plan p w fd sizes max amax omax = on_open p w fd (λ e. record (plan_of fd e (receive_rows sizes amax omax e) (at_endpoint fd (received max) ∷ []) (Done (got (told e) max amax omax))) { lost = at_endpoint fd dropped ∷ [] })
+receive_plan p w fd sizes max amax omax = on_open p w fd (receive_from fd sizes max amax omax)
 
 abbrev pub error_or : Option DatagramError → DatagramError
 error_or None = record { destination = []; options = []; code = 0 }

@@ -1,0 +1,5 @@
+pub mod Lookups
+pub mod Places
+pub mod Addresses
+pub mod Changes
+pub mod Binds

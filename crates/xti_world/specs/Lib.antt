@@ -1,0 +1,3 @@
+pub mod Received
+pub mod Cells
+pub mod Taken
