@@ -1,5 +1,5 @@
 -- Reading a list of options, one option after the other.
-use Rattle.std.proofs.Common.{◌≡◌, ◌≤◌, ◌<◌, ◌+◌, ◌&&◌, ◌-◌, ◌==◌, ◌∙◌, sym, ℕ, zero, suc, List, [], ◌∷◌, length, drop, true, false, Bool, refl, ap, arith, is_some, nat_le, length-drop, option_map, Option, None, Some, slice_range}
+use Rattle.std.proofs.Common.{◌≡◌, ◌≤◌, ◌<◌, ◌+◌, ◌&&◌, ◌==◌, ◌∙◌, sym, ℕ, zero, suc, List, [], ◌∷◌, length, true, false, Bool, refl, ap, arith, is_some, nat_le, length-drop, option_map, Option, None, Some, slice_range}
 use Rattle.std.proofs.lemmas.Bool.{and_parts}
 use Rattle.std.proofs.lemmas.Bool.Decides.{Decides-eqb, nat_tests}
 use Rattle.xti_base.specs.Options.{front_size, front_length, filling, are_zero, begins_option, behind_option, front_option, options_within, is_option_list, Opt}

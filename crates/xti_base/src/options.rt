@@ -45,7 +45,7 @@ fn are_zero(bytes: &[u8]) -> bool
     bytes.iter().all(|byte| *byte == 0)
 }
 
-/// The length that the option at the front gives.
+/// The length that the option at the front gives, which doesn't count what fills it up.
 fn length_of_front(bytes: &[u8]) -> usize
     requires { 4 ≤ length bytes.now }
     ensures { result ≡ front_length bytes.now }
@@ -57,10 +57,54 @@ fn length_of_front(bytes: &[u8]) -> usize
 mod tests {
     use super::*;
 
-    // Length 20, level XTI_GENERIC, name T_.., status 0, value 5, and forms near it.
+    // Length 20, level 65535, name 4098, status 0, and a value of four bytes.
+    const WHOLE: &[u8] = b"\0\0\0\x14\0\0\xff\xff\0\0\x10\x02\0\0\0\0\0\0\0\x05";
+
     #[test]
     fn tells_lists_of_options(rt: HostRuntime) {
-        let whole = b"\x00\x00\x00\x14\x00\x00\xff\xff\x00\x00\x10\x02\x00\x00\x00\x00\x00\x00\x00\x05";
-        assert!(rt; is_option_list(whole));
+        let table: [(&[u8], bool, &str); 11] = [
+            (b"", true, "no option"),
+            (WHOLE, true, "a value of four bytes"),
+            (&WHOLE[..19], false, "a byte is missing"),
+            (&WHOLE[..16], false, "the value is missing"),
+            (
+                b"\0\0\0\x10\0\0\xff\xff\0\0\x10\x02\0\0\0\0",
+                true,
+                "no value",
+            ),
+            (
+                b"\0\0\0\x0f\0\0\xff\xff\0\0\x10\x02\0\0\0\0",
+                false,
+                "a length below 16",
+            ),
+            (
+                b"\0\0\0\x15\0\0\xff\xff\0\0\x10\x02\0\0\0\0\0\0\0\x05\x07\0\0\0",
+                true,
+                "filled up by zeros",
+            ),
+            (
+                b"\0\0\0\x15\0\0\xff\xff\0\0\x10\x02\0\0\0\0\0\0\0\x05\x07\0\0\x01",
+                false,
+                "filled up by another byte",
+            ),
+            (
+                b"\0\0\0\x15\0\0\xff\xff\0\0\x10\x02\0\0\0\0\0\0\0\x05\x07",
+                false,
+                "not filled up",
+            ),
+            (
+                b"\xff\xff\xff\xff\0\0\xff\xff\0\0\x10\x02\0\0\0\0",
+                false,
+                "a length over what is left",
+            ),
+            (
+                b"\0\0\0\x10\0\0\xff\xff\0\0\x10\x02\0\0\0\0\0\0\0\x14\0\0\xff\xff\0\0\x10\x02\0\0\0\0\0\0\0\x05",
+                true,
+                "two options",
+            ),
+        ];
+        for (bytes, is_list, case) in table {
+            assert_eq!(rt; is_option_list(bytes), is_list, "{case}");
+        }
     }
 }

@@ -1,5 +1,5 @@
-use Rattle.std.proofs.Common.{rules, ◌≡◌, ◌≤◌, ◌∙◌, ◌==◌, ap, sym, arith, length, drop, true, false}
-use Rattle.xti_base.specs.Options.{front_size, begins_option, is_option_list}
+use Rattle.std.proofs.Common.{◌≡◌, ◌≤◌, ◌∙◌, ◌==◌, ap, sym, arith, length, drop, true, false}
+use Rattle.xti_base.specs.Options.{is_option_list}
 use Rattle.xti_base.proofs.OptionLists.{front_within, rest_decides, no_option, no_bytes}
 use Rattle.xti_base.proofs.options.is_option_list.Goals as goal
 
