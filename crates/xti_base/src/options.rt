@@ -1,0 +1,110 @@
+//! The form of lists of options (XNS, t_opthdr).
+
+ghost use Rattle.std.specs.Prelude.{◌≡◌, ◌≤◌, MatchOption, false, length, true};
+ghost use Rattle.xti_base.specs.Options.{are_zero, front_length, front_size, begins_option, is_option_list};
+
+/// Whether the bytes are a list of options in their form: one after the other, each with its length, level, name and
+/// status as big-endian words of four bytes, its value of length - 16 bytes, and zero bytes up to a multiple of four,
+/// which the length doesn't count. No bytes are the empty list. Takes no memory.
+pub fn is_option_list(bytes: &[u8]) -> bool
+    ensures { result ≡ is_option_list bytes.now }
+{
+    let mut rest = bytes;
+    while !rest.is_empty() {
+        match size_of_front(rest) {
+            Some(size) => rest = rest.split_at(size).1,
+            None => return false,
+        }
+    }
+    true
+}
+
+/// How many bytes the option at the front takes, with those that fill it up; `None` if no option stands there.
+#[tactic(auto, using(crate::proofs::OptionLists::zeros_decide), unfolding(crate::specs::Options::begins_option))]
+fn size_of_front(bytes: &[u8]) -> Option<usize>
+    ensures { MatchOption result (begins_option bytes.now ≡ false) (λ size. (begins_option bytes.now ≡ true) × (size ≡ front_size bytes.now)) }
+{
+    if bytes.len() < 16 {
+        return None;
+    }
+    let length = length_of_front(bytes);
+    let size = length + (4 - length % 4) % 4;
+    if length < 16 || bytes.len() < size {
+        return None;
+    }
+    if are_zero(&bytes[length..size]) {
+        Some(size)
+    } else {
+        None
+    }
+}
+
+fn are_zero(bytes: &[u8]) -> bool
+    ensures { result ≡ are_zero bytes.now }
+{
+    bytes.iter().all(|byte| *byte == 0)
+}
+
+/// The length that the option at the front gives, which doesn't count what fills it up.
+fn length_of_front(bytes: &[u8]) -> usize
+    requires { 4 ≤ length bytes.now }
+    ensures { result ≡ front_length bytes.now }
+{
+    u32::from_be_bytes([bytes[0], bytes[1], bytes[2], bytes[3]]) as usize
+}
+
+#[cfg(test)]
+mod tests {
+    use super::*;
+
+    // Length 20, level 65535, name 4098, status 0, and a value of four bytes.
+    const WHOLE: &[u8] = b"\0\0\0\x14\0\0\xff\xff\0\0\x10\x02\0\0\0\0\0\0\0\x05";
+
+    #[test]
+    fn tells_lists_of_options(rt: HostRuntime) {
+        let table: [(&[u8], bool, &str); 11] = [
+            (b"", true, "no option"),
+            (WHOLE, true, "a value of four bytes"),
+            (&WHOLE[..19], false, "a byte is missing"),
+            (&WHOLE[..16], false, "the value is missing"),
+            (
+                b"\0\0\0\x10\0\0\xff\xff\0\0\x10\x02\0\0\0\0",
+                true,
+                "no value",
+            ),
+            (
+                b"\0\0\0\x0f\0\0\xff\xff\0\0\x10\x02\0\0\0\0",
+                false,
+                "a length below 16",
+            ),
+            (
+                b"\0\0\0\x15\0\0\xff\xff\0\0\x10\x02\0\0\0\0\0\0\0\x05\x07\0\0\0",
+                true,
+                "filled up by zeros",
+            ),
+            (
+                b"\0\0\0\x15\0\0\xff\xff\0\0\x10\x02\0\0\0\0\0\0\0\x05\x07\0\0\x01",
+                false,
+                "filled up by another byte",
+            ),
+            (
+                b"\0\0\0\x15\0\0\xff\xff\0\0\x10\x02\0\0\0\0\0\0\0\x05\x07",
+                false,
+                "not filled up",
+            ),
+            (
+                b"\xff\xff\xff\xff\0\0\xff\xff\0\0\x10\x02\0\0\0\0",
+                false,
+                "a length over what is left",
+            ),
+            (
+                b"\0\0\0\x10\0\0\xff\xff\0\0\x10\x02\0\0\0\0\0\0\0\x14\0\0\xff\xff\0\0\x10\x02\0\0\0\0\0\0\0\x05",
+                true,
+                "two options",
+            ),
+        ];
+        for (bytes, is_list, case) in table {
+            assert_eq!(rt; is_option_list(bytes), is_list, "{case}");
+        }
+    }
+}
