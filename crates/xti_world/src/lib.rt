@@ -5,6 +5,8 @@ mod answers;
 mod bind;
 mod endpoint;
 mod receiving;
+mod sending;
+mod step;
 mod world;
 
 pub use world::World;
