@@ -14,7 +14,7 @@ use Rattle.xti_model.specs.declared.script.NamedCall.{NamedCall}
 use Rattle.xti_model.specs.declared.script.NamedCall.TheVariants.{TOpen, TBind, TSndUData, TRcvUData}
 use Rattle.xti_model.specs.declared.script.Line.{Line}
 use Rattle.xti_script.specs.Texts.{words_of, is_name, is_plain_text}
-use Rattle.xti_script.specs.Grammar.{IsTextWord, IsOpen, IsBind, IsSend, IsReceive, IsCall, IsLine, AreLines, opens, sends, defines, binds, binds_to, some_line, most_lines, most_opens, most_datagrams}
+use Rattle.xti_script.specs.Grammar.{IsOpen, IsBind, IsSend, IsReceive, IsCall, IsLine, AreLines, opens, sends, defines, binds, binds_to, some_line, most_lines, most_opens, most_datagrams}
 use Rattle.xti_script.specs.Reading.{is_text, text_within, text_value, is_datagram_mode, can_define, open_of, can_bind, bind_to, bind_of, can_send, send_to, send_of, receive_of, call_of, with_worker, line_of, behind, lines_from}
 
 pub is_word : (xs ys : List ℕ) → bytes_eq xs ys ≡ true → xs ≡ ys

@@ -120,6 +120,9 @@ take_front xs ys m le =
 take_whole : (xs : List (List ℕ)) (m : ℕ) → m ≤ length xs → take m (map some xs ++ None ∷ []) ≡ take m (map some xs)
 take_whole xs m le = take-append-le m (map some xs) (None ∷ []) (omega (arith, length-map xs some))
 
+same_later : (o f : List ℕ) (others front : List (List ℕ)) (wrong : List ℕ) → o ≡ f → (back : List (List ℕ)) × (others ≡ front ++ wrong ∷ back) → (back : List (List ℕ)) × (o ∷ others ≡ (f ∷ front) ++ wrong ∷ back)
+same_later o f others front wrong h (back, e) = (back, ap (λ (x : List ℕ). x ∷ others) h ∙ ap (λ (ls : List (List ℕ)). f ∷ ls) e)
+
 -- lines that begin with the same are these and others
 same_front : (others front : List (List ℕ)) (wrong : List ℕ) (tail : List (Option (List ℕ))) → take (suc (length front)) (map some others ++ None ∷ []) ≡ take (suc (length front)) (map some front ++ Some wrong ∷ tail)
     → (back : List (List ℕ)) × (others ≡ front ++ wrong ∷ back)
@@ -129,8 +132,7 @@ same_front (o ∷ others) [] wrong tail e = let h : o ≡ wrong = cc in (others,
 same_front (o ∷ others) (f ∷ front) wrong tail e =
     let h : o ≡ f = cc in
     let t : take (suc (length front)) (map some others ++ None ∷ []) ≡ take (suc (length front)) (map some front ++ Some wrong ∷ tail) = cc in
-    let l = same_front others front wrong tail t in
-    (l.0, ap (λ (x : List ℕ). x ∷ others) h ∙ ap (λ (ls : List (List ℕ)). f ∷ ls) l.1)
+    same_later o f others front wrong h (same_front others front wrong tail t)
 
 -- the front that was good begins a script
 begins : (front back : List (List ℕ)) (lines : List Line) (text : List ℕ) (m : ℕ) → AreLines [] lines front → lines_of text ≡ (codes "xti-script 1" ∷ front) ++ back → m ≤ length front + 1 → CanBegin text m

@@ -3,4 +3,4 @@ pub mod Loop
 pub mod Grammar
 pub mod Least
 pub mod Scripts
-pub mod Knowing
+pub mod TextSets

@@ -10,10 +10,10 @@ use Rattle.xti_script.specs.declared.draft.Known.{Known}
 use Rattle.xti_script.specs.Grammar.{is_open, is_send, opens_name, binds_name, binds_address, opens, sends, defines, binds, binds_to, some_line}
 
 -- a set of texts
-abbrev pub Texts : Type 0
-Texts = BTreeSet (Vec ℕ Global)
+abbrev pub TextSet : Type 0
+TextSet = BTreeSet (Vec ℕ Global)
 
-abbrev pub has : Texts → List ℕ → Bool
+abbrev pub has : TextSet → List ℕ → Bool
 has texts bytes = contains_by (λ k. slice_cmp nat_cmp bytes k.items) texts
 
 -- the names that lines define, the names that they bind, the addresses of their binds, and how many of them open and send

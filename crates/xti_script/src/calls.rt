@@ -1,14 +1,26 @@
 //! Reading the words of a line.
 
-ghost use Rattle.std.specs.Prelude.{◌≡◌, ◌<◌, length, IfOk, OnSome};
+ghost use Rattle.std.specs.Prelude.{◌≡◌, ◌<◌, length, IfOk, OnSome, Some};
 ghost use Rattle.xti_script.specs.Texts.{words_of};
-ghost use Rattle.xti_script.specs.Reading.{views, is_datagram_mode, can_define, open_of, can_bind, bind_of, can_send, send_of, receive_of, call_of, line_of};
+ghost use Rattle.xti_script.specs.Grammar.{most_lines};
+ghost use Rattle.xti_script.specs.Reading.{views, is_datagram_mode, can_define, open_of, can_bind, bind_of, can_send, send_to, send_of, receive_of, call_of, line_of};
 
 use crate::draft::Draft;
 use crate::texts::{is_name, text_value, words_of};
 use std::alloc::{AllocError, Global};
 use xti_base::{Octets, Prov};
 use xti_model::{Line, NamedCall};
+
+/// The most call lines of a script.
+const MOST_LINES: usize = 100_000;
+/// The most open lines.
+const MOST_OPENS: usize = 64;
+/// The most sndudata lines.
+const MOST_DATAGRAMS: usize = 16;
+/// The most bytes of an address.
+const MOST_ADDRESS: usize = 64;
+/// The most bytes of a datagram.
+const MOST_DATA: usize = 8192;
 
 fn is_datagram_mode(prov: &[u8], mode: &[u8]) -> bool
     ensures { result ≡ is_datagram_mode prov.now mode.now }
@@ -19,7 +31,7 @@ fn is_datagram_mode(prov: &[u8], mode: &[u8]) -> bool
 fn can_define(draft: &Draft, name: &[u8]) -> bool
     ensures { result ≡ can_define draft.now name.now }
 {
-    is_name(name) && !draft.defines(name) && draft.open_count() < 64
+    is_name(name) && !draft.defines(name) && draft.open_count() < MOST_OPENS
 }
 
 #[tactic(auto, unfolding(crate::specs::Reading::open_of))]
@@ -57,7 +69,7 @@ fn read_bind(alloc: Global, draft: &Draft, args: &[&[u8]]) -> Result<Option<Name
             if !can_bind(draft, name) {
                 return Ok(None);
             }
-            match text_value(b"addr=t:".as_slice(), 64, word) {
+            match text_value(b"addr=t:".as_slice(), MOST_ADDRESS, word) {
                 Some(addr) => Ok(Some(NamedCall::TBind {
                     fd: Octets::copy_of(alloc, name)?,
                     addr: Octets::copy_of(alloc, addr)?,
@@ -74,7 +86,27 @@ fn read_bind(alloc: Global, draft: &Draft, args: &[&[u8]]) -> Result<Option<Name
 fn can_send(draft: &Draft, name: &[u8]) -> bool
     ensures { result ≡ can_send draft.now name.now }
 {
-    draft.defines(name) && draft.send_count() < 16
+    draft.defines(name) && draft.send_count() < MOST_DATAGRAMS
+}
+
+fn send_to(
+    alloc: Global,
+    draft: &Draft,
+    name: &[u8],
+    addr: &[u8],
+    bytes: &[u8],
+) -> Result<Option<NamedCall>, AllocError>
+    ensures { IfOk result (λ call. call ≡ send_to draft.now name.now (Some addr.now) (Some bytes.now)) }
+{
+    if !draft.binds_to(addr) {
+        return Ok(None);
+    }
+    Ok(Some(NamedCall::TSndUData {
+        fd: Octets::copy_of(alloc, name)?,
+        addr: Octets::copy_of(alloc, addr)?,
+        opt: Octets::new(alloc),
+        bytes: Octets::copy_of(alloc, bytes)?,
+    }))
 }
 
 #[tactic(auto, unfolding(crate::specs::Reading::send_of))]
@@ -86,28 +118,24 @@ fn read_send(alloc: Global, draft: &Draft, args: &[&[u8]]) -> Result<Option<Name
             if !can_send(draft, name) {
                 return Ok(None);
             }
-            let Some(addr) = text_value(b"addr=t:".as_slice(), 64, to) else {
+            let Some(addr) = text_value(b"addr=t:".as_slice(), MOST_ADDRESS, to) else {
                 return Ok(None);
             };
-            let Some(bytes) = text_value(b"data=t:".as_slice(), 8192, word) else {
+            let Some(bytes) = text_value(b"data=t:".as_slice(), MOST_DATA, word) else {
                 return Ok(None);
             };
-            if !draft.binds_to(addr) {
-                return Ok(None);
-            }
-            Ok(Some(NamedCall::TSndUData {
-                fd: Octets::copy_of(alloc, name)?,
-                addr: Octets::copy_of(alloc, addr)?,
-                opt: Octets::new(alloc),
-                bytes: Octets::copy_of(alloc, bytes)?,
-            }))
+            send_to(alloc, draft, name, addr, bytes)
         }
         _ => Ok(None),
     }
 }
 
 #[tactic(auto, unfolding(crate::specs::Reading::receive_of))]
-fn read_receive(alloc: Global, draft: &Draft, args: &[&[u8]]) -> Result<Option<NamedCall>, AllocError>
+fn read_receive(
+    alloc: Global,
+    draft: &Draft,
+    args: &[&[u8]],
+) -> Result<Option<NamedCall>, AllocError>
     ensures { IfOk result (λ call. call ≡ receive_of draft.now (views args.now)) }
 {
     match args {
@@ -151,10 +179,10 @@ fn read_call(alloc: Global, draft: &Draft, words: &[&[u8]]) -> Result<Option<Nam
 #[tactic(auto, unfolding(crate::specs::Reading::line_of))]
 fn read_words(alloc: Global, draft: &Draft, words: &[&[u8]]) -> Result<Option<Line>, AllocError>
     ensures line { IfOk result (λ line. line ≡ line_of draft.now (views words.now)) }
-    ensures room { IfOk result (λ line. OnSome line (length draft.now < 100000)) }
+    ensures room { IfOk result (λ line. OnSome line (length draft.now < most_lines)) }
 {
     match words {
-        [worker, words @ ..] if *worker == b"0".as_slice() && draft.len() < 100_000 => {
+        [worker, words @ ..] if *worker == b"0".as_slice() && draft.len() < MOST_LINES => {
             match read_call(alloc, draft, words)? {
                 Some(call) => Ok(Some(Line { worker: 0, call })),
                 None => Ok(None),
@@ -165,9 +193,13 @@ fn read_words(alloc: Global, draft: &Draft, words: &[&[u8]]) -> Result<Option<Li
 }
 
 /// The line that a text gives behind the lines of the draft; `None` where it gives none.
-pub(crate) fn read_line(alloc: Global, draft: &Draft, text: &[u8]) -> Result<Option<Line>, AllocError>
+pub(crate) fn read_line(
+    alloc: Global,
+    draft: &Draft,
+    text: &[u8],
+) -> Result<Option<Line>, AllocError>
     ensures line { IfOk result (λ line. line ≡ line_of draft.now (words_of text.now)) }
-    ensures room { IfOk result (λ line. OnSome line (length draft.now < 100000)) }
+    ensures room { IfOk result (λ line. OnSome line (length draft.now < most_lines)) }
 {
     let words = words_of(alloc, text)?;
     read_words(alloc, draft, words.as_slice())

@@ -2,7 +2,7 @@
 
 ghost use Rattle.std.specs.Prelude.{◌≡◌, ◌<◌, ◌||◌, ◌++◌, ◌+◌, ◌∷◌, [], ℕ, if◌then◌else◌, List, length, count_by, IfOk, OnOk};
 ghost use Rattle.std.specs.Str.{bytes_eq};
-ghost use Rattle.xti_script.specs.Grammar.{is_open, is_send, opens_name, binds_name, binds_address, opens, sends, defines, binds, binds_to, some_line};
+ghost use Rattle.xti_script.specs.Grammar.{most_lines, is_open, is_send, opens_name, binds_name, binds_address, opens, sends, defines, binds, binds_to, some_line};
 ghost use Rattle.xti_script.specs.Known.{has, Knows, Adds};
 
 use std::alloc::{AllocError, Global};
@@ -10,22 +10,22 @@ use std::collections::BTreeSet;
 use std::marker::Model;
 use xti_model::{Line, Lines, NamedCall};
 
-type Texts = BTreeSet<Vec<u8>>;
+type TextSet = BTreeSet<Vec<u8>>;
 
-fn has(texts: &Texts, bytes: &[u8]) -> bool
+fn has(texts: &TextSet, bytes: &[u8]) -> bool
     ensures { result ≡ has texts.now bytes.now }
 {
     texts.contains(bytes)
 }
 
-fn add_text(alloc: Global, texts: &mut Texts, text: &[u8]) -> Result<(), AllocError>
+fn add_text(alloc: Global, texts: &mut TextSet, text: &[u8]) -> Result<(), AllocError>
     ensures { OnOk result ((other : List ℕ) → has texts.new other ≡ (has texts.old other || bytes_eq text.now other)) }
 {
     texts.insert(Vec::from_slice(alloc, text)?)?;
     Ok(())
 }
 
-fn add_name(alloc: Global, names: &mut Texts, call: &NamedCall) -> Result<(), AllocError>
+fn add_name(alloc: Global, names: &mut TextSet, call: &NamedCall) -> Result<(), AllocError>
     ensures { OnOk result ((name : List ℕ) → has names.new name ≡ (has names.old name || opens_name name call.now)) }
 {
     match call {
@@ -34,7 +34,7 @@ fn add_name(alloc: Global, names: &mut Texts, call: &NamedCall) -> Result<(), Al
     }
 }
 
-fn add_bound(alloc: Global, bound: &mut Texts, call: &NamedCall) -> Result<(), AllocError>
+fn add_bound(alloc: Global, bound: &mut TextSet, call: &NamedCall) -> Result<(), AllocError>
     ensures { OnOk result ((name : List ℕ) → has bound.new name ≡ (has bound.old name || binds_name name call.now)) }
 {
     match call {
@@ -43,7 +43,7 @@ fn add_bound(alloc: Global, bound: &mut Texts, call: &NamedCall) -> Result<(), A
     }
 }
 
-fn add_address(alloc: Global, addresses: &mut Texts, call: &NamedCall) -> Result<(), AllocError>
+fn add_address(alloc: Global, addresses: &mut TextSet, call: &NamedCall) -> Result<(), AllocError>
     ensures { OnOk result ((address : List ℕ) → has addresses.new address ≡ (has addresses.old address || binds_address address call.now)) }
 {
     match call {
@@ -53,7 +53,7 @@ fn add_address(alloc: Global, addresses: &mut Texts, call: &NamedCall) -> Result
 }
 
 fn opens_with(count: usize, call: &NamedCall) -> usize
-    requires { count < 100000 }
+    requires { count < most_lines }
     ensures { result ≡ count + (if is_open call.now then 1 else 0) }
 {
     match call {
@@ -63,7 +63,7 @@ fn opens_with(count: usize, call: &NamedCall) -> usize
 }
 
 fn sends_with(count: usize, call: &NamedCall) -> usize
-    requires { count < 100000 }
+    requires { count < most_lines }
     ensures { result ≡ count + (if is_send call.now then 1 else 0) }
 {
     match call {
@@ -76,11 +76,11 @@ fn sends_with(count: usize, call: &NamedCall) -> usize
 #[derive(Drop)]
 struct Known {
     /// The names that they define.
-    names: BTreeSet<Vec<u8>>,
+    names: TextSet,
     /// The names of the endpoints that they bind.
-    bound: BTreeSet<Vec<u8>>,
+    bound: TextSet,
     /// The addresses of their binds.
-    addresses: BTreeSet<Vec<u8>>,
+    addresses: TextSet,
     /// How many of them are open lines.
     open_count: usize,
     /// How many of them are sndudata lines.
@@ -101,8 +101,8 @@ impl Known {
     }
 
     fn add(&mut self, alloc: Global, call: &NamedCall) -> Result<(), AllocError>
-        requires opens { self.old.open_count < 100000 }
-        requires sends { self.old.send_count < 100000 }
+        requires opens { self.old.open_count < most_lines }
+        requires sends { self.old.send_count < most_lines }
         ensures { OnOk result (Adds call.now self.old self.new) }
     {
         add_name(alloc, &mut self.names, call)?;
@@ -146,7 +146,7 @@ impl Draft {
 
     /// The lines and one more.
     pub(crate) fn with(self, alloc: Global, line: Line) -> Result<Draft, AllocError>
-        requires { length self < 100000 }
+        requires { length self < most_lines }
         ensures { IfOk result (λ draft. draft ≡ self ++ line ∷ []) }
     {
         let Draft {

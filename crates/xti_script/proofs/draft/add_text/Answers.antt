@@ -1,4 +1,4 @@
-use Rattle.xti_script.proofs.Knowing.{has_more}
+use Rattle.xti_script.proofs.TextSets.{has_more}
 use Rattle.xti_script.proofs.draft.add_text.Goals as goal
 
 pub returns : goal.returns

@@ -1,6 +1,6 @@
--- What a draft knows after one more line.
-use Rattle.std.proofs.Common.{◌≡◌, ℕ, ◌+◌, ◌<◌, Bool, true, false, cond, ◌||◌, List, [], ◌∷◌, ◌++◌, length, refl, sym, ap, ◌∙◌, arith}
-use Rattle.std.specs.Prelude.{Vec, count_by}
+-- A set of texts, and one more text.
+use Rattle.std.proofs.Common.{◌≡◌, ℕ, Bool, true, false, ◌||◌, List, [], ◌∷◌, refl, sym, ap, ◌∙◌}
+use Rattle.std.specs.Prelude.{Vec}
 use Rattle.std.specs.declared.alloc.Global.{Global}
 use Rattle.std.specs.declared.cmp.Ordering.{Ordering}
 use Rattle.std.specs.declared.cmp.Ordering.TheVariants.{Less, Equal, Greater}
@@ -9,15 +9,10 @@ use Rattle.std.specs.Cmp.Lexicographic.{slice_cmp}
 use Rattle.std.specs.BTreeSet.{insert_key}
 use Rattle.std.specs.List.{list_any}
 use Rattle.std.specs.Str.{bytes_eq}
-use Rattle.std.proofs.lemmas.List.Folds.{list_any-append}
 use Rattle.std.proofs.lemmas.Map.Lookups.{exact_bytes}
 use Rattle.std.proofs.lemmas.Map.Text.{is_eq-slice_cmp}
-use Rattle.std.proofs.lemmas.List.Sums.{sum_by_push, count_by-le-length}
 use Rattle.std.proofs.lemmas.Slice.Eq.{bytes_eq-Decides}
-use Rattle.xti_model.specs.declared.script.Line.{Line}
-use Rattle.xti_script.specs.Grammar.{is_open, is_send, opens_name, binds_name, binds_address, opens, sends, defines, binds, binds_to, some_line}
-use Rattle.xti_script.specs.Known.{Texts, has, Knows, Adds}
-use Rattle.xti_script.specs.declared.draft.Known.{Known}
+use Rattle.xti_script.specs.Known.{TextSet, has}
 
 abbrev pub vec_cmp : Vec ℕ Global → Vec ℕ Global → Ordering
 vec_cmp x y = slice_cmp nat_cmp x.items y.items
@@ -66,30 +61,7 @@ bytes_eq-swap : (xs ys : List ℕ) → bytes_eq xs ys ≡ bytes_eq ys xs
 bytes_eq-swap xs ys =
     both_ways _ _ (λ e. (bytes_eq-Decides ys xs).1 (sym ((bytes_eq-Decides xs ys).0 e))) (λ e. (bytes_eq-Decides xs ys).1 (sym ((bytes_eq-Decides ys xs).0 e)))
 
-pub has_more : (old new : Texts) (k : Vec ℕ Global) (text : List ℕ) → k.items ≡ text → new.keys ≡ insert_key vec_cmp old.keys k → (other : List ℕ) → has new other ≡ (has old other || bytes_eq text other)
+pub has_more : (old new : TextSet) (k : Vec ℕ Global) (text : List ℕ) → k.items ≡ text → new.keys ≡ insert_key vec_cmp old.keys k → (other : List ℕ) → has new other ≡ (has old other || bytes_eq text other)
 has_more old new k text e keys other =
     let at_k : is_text other k ≡ bytes_eq text other = is_eq-slice_cmp other k.items ∙ bytes_eq-swap other k.items ∙ ap (λ (t : List ℕ). bytes_eq t other) e in
     ap (list_any (is_text other)) keys ∙ has-insert_key other old.keys k ∙ ap (λ (b : Bool). has old other || b) at_k
-
-any_more : (test : Line → Bool) (lines : List Line) (line : Line) → some_line test (lines ++ line ∷ []) ≡ (some_line test lines || test line)
-any_more test lines line = list_any-append test lines (line ∷ []) ∙ ap (λ (b : Bool). some_line test lines || b) (or_false (test line))
-
-count_more : (test : Line → Bool) (lines : List Line) (line : Line) → count_by test (lines ++ line ∷ []) ≡ count_by test lines + cond (test line) 1 0
-count_more test lines line = sum_by_push (λ x. cond (test x) 1 0) lines line
-
--- what is known of lines and one more
-pub knows_more : (lines : List Line) (line : Line) (old new : Known) → Knows lines old → Adds line.call old new → Knows (lines ++ line ∷ []) new
-knows_more lines line old new k a = record {
-  defined = λ name. a.defined name ∙ ap (λ (t : Bool). t || opens_name name line.call) (k.defined name) ∙ sym (any_more (defines name) lines line);
-  bound = λ name. a.bound name ∙ ap (λ (t : Bool). t || binds_name name line.call) (k.bound name) ∙ sym (any_more (binds name) lines line);
-  bound_to = λ address. a.bound_to address ∙ ap (λ (t : Bool). t || binds_address address line.call) (k.bound_to address) ∙ sym (any_more (binds_to address) lines line);
-  opened = a.opened ∙ ap (λ (n : ℕ). n + cond (is_open line.call) 1 0) k.opened ∙ sym (count_more opens lines line);
-  sent = a.sent ∙ ap (λ (n : ℕ). n + cond (is_send line.call) 1 0) k.sent ∙ sym (count_more sends lines line);
-}
-
--- no more lines open, and none more send, than there are
-pub few_opens : (lines : List Line) (known : Known) → Knows lines known → length lines < 100000 → known.open_count < 100000
-few_opens lines known k lt = omega (arith, k.opened, count_by-le-length opens lines)
-
-pub few_sends : (lines : List Line) (known : Known) → Knows lines known → length lines < 100000 → known.send_count < 100000
-few_sends lines known k lt = omega (arith, k.sent, count_by-le-length sends lines)
