@@ -3,3 +3,4 @@ pub mod Places
 pub mod Addresses
 pub mod Changes
 pub mod Binds
+pub mod Sends

@@ -111,7 +111,8 @@ fn send(
         deliver(w, fd, to, source, addr, opt, bytes)?;
         Ok(done(w, fd, Reply::Plain))
     } else if nonblock {
-        w.mark_flow(fd, Some(addr.copy()?));
+        let mark = addr.copy()?;
+        w.mark_flow(fd, Some(mark));
         Ok(refused(w, fd, Errno::TFLOW))
     } else {
         Ok(Applied::Blocked)
@@ -144,6 +145,17 @@ fn source_of(alloc: Global, w: &World, fd: Fd) -> Result<Octets, AllocError>
     }
 }
 
+/// The datagram waits at an endpoint, and the sender's flow mark is cleared.
+fn give(w: &mut World, fd: Fd, to: Fd, d: Datagram) -> Result<(), AllocError>
+    ensures ok { OnOk result (w.new.cells ≡ changed w.old.providers w.old.cells (at_endpoint to.0 (Datagrams.with_datagram d) ∷ at_endpoint fd.0 (Datagrams.mark_flow None) ∷ [])) }
+    ensures providers { w.new.providers ≡ w.old.providers }
+    ensures err { OnErr result (w.new ≡ w.old) }
+{
+    w.push_datagram(to, d)?;
+    w.mark_flow(fd, None);
+    Ok(())
+}
+
 /// The datagram waits at the endpoint that is bound, and else an error at the sender.
 fn deliver(
     w: &mut World,
@@ -161,8 +173,7 @@ fn deliver(
     match to {
         Some(to) => {
             let d = Datagram::new(source, opt.copy()?, bytes.copy()?);
-            w.push_datagram(Fd(to), d)?;
-            w.mark_flow(fd, None);
+            give(w, fd, Fd(to), d)?;
         }
         None => {
             let d = DatagramError::new(addr.copy()?, opt.copy()?, 1);
