@@ -20,11 +20,6 @@ abbrev pub taken : Applied → World → Option Step
 taken (applied.Step outcome after) w = Some (record { outcome = outcome; after = after; world = w })
 taken applied.Blocked w = None
 
--- a blocked step leaves all as it was
-abbrev pub StaysIfBlocked : Applied → World → World → Type 0
-StaysIfBlocked (applied.Step outcome after) old new = Unit {0}
-StaysIfBlocked applied.Blocked old new = new ≡ old
-
 -- the address was given; a caller who takes too little of it is told so
 abbrev pub bound : Providers → World → ℕ → Prov → List ℕ → ℕ → ℕ → Step
 bound p w fd prov address qlen amax =

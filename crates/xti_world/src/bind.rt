@@ -1,6 +1,6 @@
 //! t_open and t_bind.
 
-ghost use Rattle.std.specs.Prelude.{◌≡◌, ◌∷◌, [], nat_lt, Some, IfOk, IfSome, OnErr, OnOk, ◌<◌, ◌^◌};
+ghost use Rattle.std.specs.Prelude.{None, ◌≡◌, ◌∷◌, [], nat_lt, Some, IfOk, IfSome, OnErr, OnOk, ◌<◌, ◌^◌};
 ghost use Rattle.xti_model.specs.World.{the_switch, endpoint, changed, at_endpoint, at_switch};
 ghost use Rattle.xti_model.specs.Switch.{give_address, place_at};
 ghost use Rattle.xti_model.specs.Step.{step_of, made};
@@ -20,6 +20,7 @@ const NO_FD: Fd = Fd(4_294_967_295);
 
 pub(crate) fn open(alloc: Global, w: &mut World, prov: Prov, nonblock: bool) -> Applied
     ensures step { taken result w.new.cells ≡ step_of w.old.providers w.old.cells (Open.plan w.old.providers w.old.cells prov nonblock) }
+    ensures still { taken result w.new.cells ≡ None → w.new ≡ w.old }
     ensures providers { w.new.providers ≡ w.old.providers }
 {
     if !is_provider(prov) {
@@ -45,6 +46,7 @@ pub(crate) fn bind(
     amax: u32,
 ) -> Result<Applied, AllocError>
     ensures step { IfOk result (λ a. taken a w.new.cells ≡ step_of w.old.providers w.old.cells (Bind.plan w.old.providers w.old.cells fd.0 addr.now qlen amax)) }
+    ensures still { IfOk result (λ a. taken a w.new.cells ≡ None → w.new ≡ w.old) }
     ensures providers { w.new.providers ≡ w.old.providers }
     ensures err { OnErr result (w.new ≡ w.old) }
 {
@@ -95,6 +97,7 @@ fn bind_to(
     amax: u32,
 ) -> Result<Applied, AllocError>
     ensures step { IfOk result (λ a. taken a w.new.cells ≡ Some (bound w.old.providers w.old.cells fd.0 prov chosen qlen amax)) }
+    ensures still { IfOk result (λ a. taken a w.new.cells ≡ None → w.new ≡ w.old) }
     ensures providers { w.new.providers ≡ w.old.providers }
     ensures err { OnErr result (w.new ≡ w.old) }
 {

@@ -1,6 +1,6 @@
 //! t_rcvudata.
 
-ghost use Rattle.std.specs.Prelude.{◌≡◌, IfOk, IfSome, OnErr, IsSomeAnd};
+ghost use Rattle.std.specs.Prelude.{None, ◌≡◌, IfOk, IfSome, OnErr, IsSomeAnd};
 ghost use Rattle.xti_model.specs.World.{endpoint};
 ghost use Rattle.xti_model.specs.Step.{step_of};
 ghost use Rattle.xti_model.specs.Calls.Datagrams as Datagrams;
@@ -22,6 +22,7 @@ pub(crate) fn rcvudata(
     omax: u32,
 ) -> Result<Applied, AllocError>
     ensures step { IfOk result (λ a. taken a w.new.cells ≡ step_of w.old.providers w.old.cells (Datagrams.receive_plan w.old.providers w.old.cells fd.0 1 max amax omax)) }
+    ensures still { IfOk result (λ a. taken a w.new.cells ≡ None → w.new ≡ w.old) }
     ensures providers { w.new.providers ≡ w.old.providers }
     ensures err { OnErr result (w.new ≡ w.old) }
 {
@@ -60,6 +61,7 @@ fn receive(
 ) -> Result<Applied, AllocError>
     requires { IsSomeAnd (endpoint w.old.providers w.old.cells fd.0) HasDatagram }
     ensures step { IfOk result (λ a. IfSome (endpoint w.old.providers w.old.cells fd.0) (λ e. taken a w.new.cells ≡ receive_step w.old.providers w.old.cells fd.0 max amax omax e)) }
+    ensures still { IfOk result (λ a. taken a w.new.cells ≡ None → w.new ≡ w.old) }
     ensures providers { w.new.providers ≡ w.old.providers }
     ensures err { OnErr result (w.new ≡ w.old) }
 {

@@ -29,6 +29,7 @@ pub(crate) fn sndudata(
     bytes: &Octets,
 ) -> Result<Applied, AllocError>
     ensures step { IfOk result (λ a. taken a w.new.cells ≡ step_of w.old.providers w.old.cells (Datagrams.send_plan w.old.providers w.old.cells fd.0 addr.now opt.now 1 bytes.now)) }
+    ensures still { IfOk result (λ a. taken a w.new.cells ≡ None → w.new ≡ w.old) }
     ensures providers { w.new.providers ≡ w.old.providers }
     ensures err { OnErr result (w.new ≡ w.old) }
 {
@@ -102,6 +103,7 @@ fn send(
     bytes: &Octets,
 ) -> Result<Applied, AllocError>
     ensures step { IfOk result (λ a. IfSome (endpoint w.old.providers w.old.cells fd.0) (IsSendStep w.old.providers w.old.cells w.new.cells fd.0 prov nonblock addr.now opt.now bytes.now a)) }
+    ensures still { IfOk result (λ a. taken a w.new.cells ≡ None → w.new ≡ w.old) }
     ensures providers { w.new.providers ≡ w.old.providers }
     ensures err { OnErr result (w.new ≡ w.old) }
 {

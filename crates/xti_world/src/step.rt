@@ -8,7 +8,7 @@ use std::alloc::AllocError;
 use xti_model::{Applied, Call, Go};
 
 impl World {
-    ghost use Rattle.std.specs.Prelude.{◌≡◌, IsTrue, IfOk, OnErr};
+    ghost use Rattle.std.specs.Prelude.{◌≡◌, None, IsTrue, IfOk, OnErr};
     ghost use Rattle.xti_model.specs.Built.{is_built};
     ghost use Rattle.xti_model.specs.Step.{step};
     ghost use Rattle.xti_world.specs.Taken.{taken};
@@ -19,6 +19,7 @@ impl World {
     pub fn step(&mut self, call: &Call, _go: Go) -> Result<Applied, AllocError>
         requires { IsTrue (is_built call.now) }
         ensures step { IfOk result (λ a. taken a self.new.cells ≡ step self.old.providers self.old.cells call.now _go) }
+        ensures still { IfOk result (λ a. taken a self.new.cells ≡ None → self.new ≡ self.old) }
         ensures providers { self.new.providers ≡ self.old.providers }
         ensures err { OnErr result (self.new ≡ self.old) }
     {
