@@ -4,6 +4,8 @@
 mod calls;
 mod journal;
 mod replies;
+#[cfg(test)]
+mod tests;
 mod words;
 
 pub use journal::{write_entry, write_journal};
