@@ -2,5 +2,6 @@
 #![tactic(auto)]
 
 mod gate;
+mod names;
 
 pub use gate::{Gate, NoGate};
