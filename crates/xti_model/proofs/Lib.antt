@@ -1,2 +1,4 @@
 pub mod Turns
 pub mod Legality
+pub mod Appending
+pub mod Following
