@@ -2,3 +2,4 @@ pub mod Turns
 pub mod Legality
 pub mod Appending
 pub mod Following
+pub mod Outcomes
