@@ -125,7 +125,7 @@ Continues lines past worker (act.Begin c) = (l : Placed) × (next_line lines pas
 
 -- the names of the next line are settled: its worker has begun those before it, and so has worker 0
 pub next-settled : (lines : List Line) (past : List Entry) (worker : ℕ) → MayGo lines past worker → (l : Placed) → next_line lines past worker ≡ Some l → IsSettled past l
-next-settled lines past worker may l e = (subst (HasBegun l.earlier past) (sym place.0) own_begun, setup may)
+next-settled lines past worker may l e = (subst (HasBegun l.earlier past) (sym place.0) own_begun, setup may.setup)
   where
     place : IsPlace [] worker (length (begun past worker)) l
     place = subst (λ o. IfSome o (IsPlace [] worker (length (begun past worker)))) e (placed-place [] lines worker (length (begun past worker)))
@@ -136,7 +136,7 @@ next-settled lines past worker may l e = (subst (HasBegun l.earlier past) (sym p
     own_begun : HasBegun l.earlier past worker
     own_begun = omega (arith, place.1)
 
-    setup : MayGo lines past worker → HasBegun l.earlier past 0
+    setup : (worker ≡ 0) ⊎ (is_through lines past 0 ≡ true) → HasBegun l.earlier past 0
     setup (inl z) = subst (HasBegun l.earlier past) z own_begun
     setup (inr h) = omega (arith, within, through-begun lines past 0 h, placed-lines [] lines 0)
 

@@ -1,5 +1,6 @@
+pub mod Appending
 pub mod Turns
 pub mod Legality
-pub mod Appending
 pub mod Following
 pub mod Outcomes
+pub mod Working
