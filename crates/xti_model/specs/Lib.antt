@@ -16,5 +16,6 @@ pub mod Resolve
 pub mod Robin
 pub mod Touched
 pub mod Built
+pub mod Work
 pub mod Complete
 pub mod Streams

@@ -3,10 +3,12 @@
 
 mod call;
 mod entry;
+mod laws;
 mod profile;
 mod script;
 
 pub use call::Call;
 pub use entry::{Act, Applied, Entries, Entry, Go, Outcome, Reply};
+pub use laws::{robin_follows, robin_is_legal};
 pub use profile::{Profile, Providers};
 pub use script::{Journal, Line, Lines, Name, NamedCall, Script, StallLine, Stalls};

@@ -1,0 +1,6 @@
+pub mod Appending
+pub mod Turns
+pub mod Legality
+pub mod Following
+pub mod Outcomes
+pub mod Working

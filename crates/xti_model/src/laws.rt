@@ -1,0 +1,21 @@
+//! Laws of histories, over all scripts.
+
+ghost use Rattle.std.specs.Prelude.{ℕ, List};
+ghost use Rattle.xti_model.specs.declared.entry.Entry.{Entry};
+ghost use Rattle.xti_model.specs.declared.profile.Providers.{Providers};
+ghost use Rattle.xti_model.specs.declared.script.Line.{Line};
+ghost use Rattle.xti_model.specs.declared.script.Script.{Script};
+ghost use Rattle.xti_model.specs.History.{after, Legal};
+ghost use Rattle.xti_model.specs.Robin.{robin_from, robin};
+ghost use Rattle.xti_model.specs.Complete.{Follows, Each, workers};
+
+/// Round robin goes on legally from any legal history, and the whole run is legal.
+pub fn robin_is_legal()
+    ensures goes_on { (p : Providers) (lines : List Line) (n : ℕ) (past : List Entry) → Legal p past → Legal p (robin_from p lines n (after p past) past) }
+    ensures whole { (s : Script) → Legal s.providers (robin s) }
+{}
+
+/// In the round-robin run of any script each worker's calls stand in script order, each once.
+pub fn robin_follows()
+    ensures { (s : Script) → Each (Follows (robin s) s.lines) workers }
+{}
