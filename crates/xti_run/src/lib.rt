@@ -3,5 +3,6 @@
 
 mod gate;
 mod names;
+mod round_robin;
 
 pub use gate::{Gate, NoGate};
