@@ -1,3 +1,4 @@
 pub mod Straight
 pub mod Names
 pub mod Plays
+pub mod Program

@@ -4,5 +4,10 @@
 mod gate;
 mod names;
 mod round_robin;
+mod top;
+mod words;
 
 pub use gate::{Gate, NoGate};
+pub use round_robin::replay;
+pub use top::{Status, program};
+pub use words::Words;

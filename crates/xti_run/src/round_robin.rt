@@ -5,11 +5,17 @@ ghost use Rattle.xti_model.specs.declared.script.Line.{Line};
 ghost use Rattle.xti_model.specs.World.{opening};
 ghost use Rattle.xti_run.specs.Names.{Knows};
 ghost use Rattle.xti_run.specs.Plays.{Plays};
+ghost use Rattle.xti_model.specs.History.{Legal};
+ghost use Rattle.xti_model.specs.Robin.{robin};
+ghost use Rattle.xti_model.specs.Complete.{Follows, Each, workers};
+ghost use Rattle.xti_script.specs.Grammar.{HasText};
 ghost use Rattle.xti_run.specs.Straight.{is_plain, are_plain, straight};
 
 use crate::names::{Table, call_in, learn};
 use std::alloc::{AllocError, Global};
-use xti_model::{Act, Applied, Entries, Entry, Go, Line, Providers};
+use xti_model::{
+    Act, Applied, Entries, Entry, Go, Journal, Line, Providers, Script, Stalls, robin_follows, robin_is_legal,
+};
 use xti_world::World;
 
 /// Makes the call of a line; false where it is blocked, and the run ends.
@@ -58,4 +64,24 @@ pub(crate) fn entries_of(
         }
     }
     Ok(entries)
+}
+
+/// The journal of the round-robin run of a script that has a text.
+pub fn replay(alloc: Global, s: &Script) -> Result<Journal, AllocError>
+    requires { HasText s.now }
+    ensures entries { IfOk result (λ j. j.entries ≡ robin s.now) }
+    ensures providers { IfOk result (λ j. j.providers ≡ s.now.providers) }
+    ensures stalls { IfOk result (λ j. j.stalls ≡ []) }
+    ensures legal { IfOk result (λ j. Legal s.now.providers j.entries) }
+    ensures follows { IfOk result (λ j. Each (Follows j.entries s.now.lines) workers) }
+    ensures whole { IfOk result (λ j. length j.entries ≡ length s.now.lines) }
+{
+    robin_is_legal();
+    robin_follows();
+    let entries = entries_of(alloc, &s.providers, s.lines.as_slice())?;
+    Ok(Journal {
+        providers: s.providers,
+        entries,
+        stalls: Stalls::new(alloc),
+    })
 }

@@ -1,0 +1,91 @@
+-- What the program answers.
+use Rattle.std.specs.Prelude.{◌≡◌, ℕ, ◌+◌, ◌<◌, ◌≤◌, List, [], ◌∷◌, ◌++◌, length, take, codes, decimal, Option, Some, None, ◌⊎◌, Bool, true, false}
+use Rattle.std.specs.Str.{bytes_eq}
+use Rattle.xti_io.specs.Sink.{Takes}
+use Rattle.xti_model.specs.declared.script.Script.{Script}
+use Rattle.xti_model.specs.declared.script.Journal.{Journal}
+use Rattle.xti_model.specs.History.{Legal}
+use Rattle.xti_model.specs.Robin.{robin}
+use Rattle.xti_model.specs.Complete.{Follows, Each, workers}
+use Rattle.xti_script.specs.Grammar.{IsScript}
+use Rattle.xti_script.specs.Refused.{IsRefusedAt}
+use Rattle.xti_journal.specs.JournalText.{journal_text}
+
+-- the most bytes of an input
+abbrev pub limit : ℕ
+limit = 67108864
+
+-- the journal of the round-robin run
+abbrev pub replayed : Script → Journal
+replayed s = record { providers = s.providers; entries = robin s; stalls = [] }
+
+unfoldable pub refused_line : ℕ → List ℕ
+refused_line n = codes "refused line " ++ decimal n ++ codes "\n"
+
+unfoldable pub refused_words : List ℕ
+refused_words = codes "refused words\n"
+
+unfoldable pub refused_size : List ℕ
+refused_size = codes "refused size\n"
+
+-- whether the words are the one word of the command
+abbrev pub is_replay : List (List ℕ) → Bool
+is_replay (word ∷ []) = bytes_eq word (codes "replay")
+is_replay other = false
+
+-- the input spells a script: status 0 and the journal of its run, which is legal, has each worker's calls in script order, each once, and has all of them
+pub record IsReplayed (input : List ℕ) (status : ℕ) (text : List ℕ) : Type 0 where
+  pub script : Script
+  pub is_script : IsScript script input
+  pub done : status ≡ 0
+  pub printed : text ≡ journal_text (replayed script)
+  pub legal : Legal script.providers (robin script)
+  pub follows : Each (Follows (robin script) script.lines) workers
+  pub whole : length (robin script) ≡ length script.lines
+
+-- the input spells none: status 2, and the first line by which it does not
+pub record IsRefusedInput (input : List ℕ) (status : ℕ) (text : List ℕ) : Type 0 where
+  pub line : ℕ
+  pub refused : IsRefusedAt input line
+  pub done : status ≡ 2
+  pub printed : text ≡ refused_line line
+
+-- the input is too long: status 2
+pub record IsTooLong (input : List ℕ) (status : ℕ) (text : List ℕ) : Type 0 where
+  pub long : limit < length input
+  pub done : status ≡ 2
+  pub printed : text ≡ refused_size
+
+-- the status and the text for an input
+abbrev pub IsAnswer : List ℕ → ℕ → List ℕ → Type 0
+IsAnswer input status text = ((length input ≤ limit) × (IsReplayed input status text ⊎ IsRefusedInput input status text)) ⊎ IsTooLong input status text
+
+-- the same for what a source had left, where it tells its bytes
+abbrev pub IsReplay : Option (List ℕ) → ℕ → List ℕ → Type 0
+IsReplay None status text = (status ≡ 0) ⊎ (status ≡ 2)
+IsReplay (Some input) status text = IsAnswer input status text
+
+-- the words are no command: status 1
+pub record IsRefusedWords (words : List (List ℕ)) (status : ℕ) (text : List ℕ) : Type 0 where
+  pub refused : is_replay words ≡ false
+  pub done : status ≡ 1
+  pub printed : text ≡ refused_words
+
+-- the status and the text for these words and what the source had left
+abbrev pub IsOutput : List (List ℕ) → Option (List ℕ) → ℕ → List ℕ → Type 0
+IsOutput words left status text = ((is_replay words ≡ true) × IsReplay left status text) ⊎ IsRefusedWords words status text
+
+-- the whole text was written
+pub record IsWritten (words : List (List ℕ)) (left : Option (List ℕ)) (status : ℕ) (before now : Option (List ℕ)) : Type 0 where
+  pub text : List ℕ
+  pub output : IsOutput words left status text
+  pub taken : Takes before now text
+
+-- a write failed behind a front of the text that some status would have come with
+pub record IsCutOff (words : List (List ℕ)) (left : Option (List ℕ)) (before now : Option (List ℕ)) : Type 0 where
+  pub status : ℕ
+  pub text : List ℕ
+  pub written : ℕ
+  pub output : IsOutput words left status text
+  pub part : written < length text
+  pub taken : Takes before now (take written text)

@@ -1,0 +1,103 @@
+//! The top call.
+
+ghost use Rattle.std.specs.Prelude.{◌≡◌, ◌≢◌, ◌<◌, ◌≤◌, ◌+◌, ◌⊎◌, ℕ, List, Some, IfOk, IfErr, OnErr, length, true, false};
+ghost use Rattle.xti_io.specs.Faults.{Rose};
+ghost use Rattle.xti_io.specs.Source.{GivesUpTo};
+ghost use Rattle.xti_model.specs.declared.script.Script.{Script};
+ghost use Rattle.xti_script.specs.Grammar.{IsScript};
+ghost use Rattle.xti_run.specs.Program.{IsReplayed, IsRefusedInput, IsAnswer, IsReplay, IsOutput, IsWritten, IsCutOff, IsRefusedWords, limit, refused_line, refused_words, refused_size, is_replay};
+
+use crate::gate::Gate;
+use crate::round_robin::replay;
+use crate::words::Words;
+use std::alloc::{AllocError, Global};
+use std::sync::Wait;
+use std::thread::Threads;
+use xti_base::Octets;
+use xti_io::{ReadEnd, Sink, Source, read_all, write_all};
+use xti_journal::write_journal;
+use xti_script::{ScriptFail, read_script};
+
+/// The most bytes of an input.
+const LIMIT: usize = 67_108_864;
+
+/// How a run of the program ends.
+///
+/// 0: done whole. 1: the words are no command. 2: the input is too long, or isn't in its form. 4: want of
+/// memory. 5: reading failed. 6: writing failed.
+#[derive(Clone, Copy, Debug, PartialEq, Eq)]
+pub struct Status(pub u8);
+
+/// A status, and what is written before it.
+#[derive(Drop)]
+struct Answer {
+    status: u8,
+    text: Octets,
+}
+
+#[tactic(auto, unfolding(crate::specs::Program::refused_line))]
+fn line_text(alloc: Global, line: u64) -> Result<Octets, AllocError>
+    ensures { IfOk result (λ text. text ≡ refused_line line) }
+{
+    let text = format!(in alloc; "refused line {line}\n")?;
+    Ok(Octets::from_vec(text.into_bytes()))
+}
+
+/// What is answered to an input within the limit.
+fn answer_to(alloc: Global, input: &[u8]) -> Result<Answer, AllocError>
+    ensures { IfOk result (λ a. IsReplayed input.now a.status a.text ⊎ IsRefusedInput input.now a.status a.text) }
+{
+    match read_script(alloc, input) {
+        Ok(script) => {
+            let journal = replay(alloc, &script)?;
+            let text = write_journal(alloc, &journal)?;
+            Ok(Answer { status: 0, text })
+        }
+        Err(ScriptFail::Bad { line }) => {
+            let text = line_text(alloc, line)?;
+            Ok(Answer { status: 2, text })
+        }
+        Err(ScriptFail::OutOfMemory) => Err(AllocError),
+    }
+}
+
+#[tactic(auto, unfolding(crate::specs::Program::refused_words))]
+fn words_answer(alloc: Global) -> Result<Answer, AllocError>
+    ensures { IfOk result (λ a. (a.status ≡ 1) × (a.text ≡ refused_words)) }
+{
+    Ok(Answer {
+        status: 1,
+        text: Octets::copy_of(alloc, b"refused words\n")?,
+    })
+}
+
+#[tactic(auto, unfolding(crate::specs::Program::refused_size))]
+fn size_answer(alloc: Global) -> Result<Answer, AllocError>
+    ensures { IfOk result (λ a. (a.status ≡ 2) × (a.text ≡ refused_size)) }
+{
+    Ok(Answer {
+        status: 2,
+        text: Octets::copy_of(alloc, b"refused size\n")?,
+    })
+}
+
+/// The answer to what the source has left.
+fn replay_answer<R: Source>(alloc: Global, source: &mut R) -> Result<Answer, Status>
+    ensures ok { IfOk result (λ a. IsReplay (R.left source.old) a.status a.text) }
+    ensures err { IfErr result (λ s. (s.0 ≡ 4) ⊎ ((s.0 ≡ 5) × Rose (R.faults source.old) (R.faults source.new))) }
+    ensures read { GivesUpTo (limit + 1) (R.left source.old) (R.left source.new) }
+    ensures later { R.faults source.old ≤ R.faults source.new }
+{
+    match read_all(alloc, source, LIMIT) {
+        Ok(input) => match answer_to(alloc, input.as_slice()) {
+            Ok(answer) => Ok(answer),
+            Err(_) => Err(Status(4)),
+        },
+        Err(ReadEnd::TooLong) => match size_answer(alloc) {
+            Ok(answer) => Ok(answer),
+            Err(_) => Err(Status(4)),
+        },
+        Err(ReadEnd::Fault) => Err(Status(5)),
+        Err(ReadEnd::OutOfMemory) => Err(Status(4)),
+    }
+}
