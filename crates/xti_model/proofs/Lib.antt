@@ -4,3 +4,5 @@ pub mod Legality
 pub mod Following
 pub mod Outcomes
 pub mod Working
+pub mod Sums
+pub mod Phases
