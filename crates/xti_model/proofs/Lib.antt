@@ -6,3 +6,4 @@ pub mod Outcomes
 pub mod Working
 pub mod Sums
 pub mod Phases
+pub mod Completing

@@ -1,7 +1,7 @@
 -- The setup comes first: worker 0 alone has entries until it is through, and then the others.
-use Rattle.std.specs.Prelude.{ℕ, ◌+◌, ◌<◌, ◌==◌, ◌&&◌, not, nat_lt, Bool, true, false, List, [], ◌∷◌, ◌++◌, length, filter, slice_get, Option, Some, None, IfSome, is_none, option_map, option_and_then, ◌≡◌, ◌⊎◌, if◌then◌else◌}
+use Rattle.std.specs.Prelude.{ℕ, ◌==◌, ◌&&◌, not, Bool, true, false, List, [], ◌∷◌, ◌++◌, length, filter, slice_get, Option, Some, None, IfSome, is_none, option_map, option_and_then, ◌≡◌, ◌⊎◌, if◌then◌else◌}
 use Rattle.std.specs.List.{list_any, list_all}
-use Rattle.std.proofs.Common.{refl, sym, ap, subst, ◌∙◌, arith, inl, inr}
+use Rattle.std.proofs.Common.{refl, sym, ap, subst, ◌∙◌, inl, inr}
 use Rattle.std.proofs.lemmas.Bool.{eq-eqb, eqb-true, false≢true}
 use Rattle.std.proofs.lemmas.List.Folds.{list_all-append}
 use Rattle.xti_model.specs.declared.entry.Entry.{Entry}
@@ -9,10 +9,10 @@ use Rattle.xti_model.specs.declared.script.Line.{Line}
 use Rattle.xti_model.specs.declared.profile.Providers.{Providers}
 use Rattle.xti_model.specs.World.{World}
 use Rattle.xti_model.specs.Step.{Step}
-use Rattle.xti_model.specs.History.{Going, is_own, own, unfinished, unfinished_from, step_going}
-use Rattle.xti_model.specs.Resolve.{Placed, placed, is_begin, begun}
-use Rattle.xti_model.specs.Robin.{begin_line, next_line, next_or, next_going, is_through, last_worker, Turn, turn_of, turn_going, turn}
-use Rattle.xti_model.specs.Complete.{is_setup, setup_first, is_worker}
+use Rattle.xti_model.specs.History.{Going, own, unfinished, unfinished_from, step_going}
+use Rattle.xti_model.specs.Resolve.{Placed, placed, is_begin}
+use Rattle.xti_model.specs.Robin.{begin_line, next_line, next_or, next_going, is_through, Turn, turn_of, turn_going, turn}
+use Rattle.xti_model.specs.Complete.{is_setup, setup_first}
 use Rattle.xti_model.proofs.Turns.{MayGo}
 use Rattle.xti_model.proofs.Working.{own-more}
 
@@ -24,6 +24,7 @@ turn-each p lines w past worker P h = next (next_going lines past worker)
     stepped : (g : Going) (s : Option Step) → IfSome (option_map (turn_of worker g) s) P
     stepped g None = tt
     stepped g (Some s) = h g s
+
     next : (g : Option Going) → IfSome (option_and_then (turn_going p w worker) g) P
     next None = tt
     next (Some g) = stepped g (step_going p w g)
@@ -47,6 +48,7 @@ through-by lines past worker = by (unfinished past worker)
     line : (l : Option Placed) → is_none (option_map (begin_line past) l) ≡ is_none l
     line None = refl
     line (Some l) = refl
+
     by : (u : Option Going) → is_none (next_or lines past worker u) ≡ is_through_by (placed lines worker) (own past worker) u
     by (Some g) = refl
     by None = line (next_line lines past worker)
@@ -93,6 +95,7 @@ turn-phase p lines w past worker may phase = by (worker == 0) refl may.setup pha
   where
     Next : Turn → Type 0
     Next t = IsInPhase lines (past ++ t.entry ∷ [])
+
     by : (b : Bool) → (worker == 0) ≡ b → (worker ≡ 0) ⊎ (is_through lines past 0 ≡ true) → IsInPhase lines past → (h : Bool) → is_through lines past 0 ≡ h → IfSome (turn p lines w past worker) Next
     by true z m f true t = through-turn p lines w past worker Next (subst (λ n. is_through lines past n ≡ true) (sym (eqb-true worker 0 z)) t)
     by true z m (inl f) false t = turn-each p lines w past worker Next (λ g s. inl (all_setup-more past (turn_of worker g s).entry (eqb-true worker 0 z) f))

@@ -5,7 +5,7 @@ use Rattle.std.proofs.Common.{refl, sym, ap, subst, ◌∙◌, arith, eqb, inl, 
 use Rattle.std.proofs.lemmas.Bool.Decides.{eqb_tells, nat_tests}
 use Rattle.std.proofs.lemmas.List.Sums.{sum_by-cons}
 use Rattle.xti_model.specs.declared.script.Line.{Line}
-use Rattle.xti_model.specs.Resolve.{Placed, placed, placed_from, if_own, is_of, lines_of}
+use Rattle.xti_model.specs.Resolve.{placed_from, if_own, is_of, lines_of}
 use Rattle.xti_model.specs.Robin.{numbers}
 use Rattle.xti_model.specs.Work.{argument_bytes, script_bytes}
 use Rattle.xti_model.proofs.Working.{line_work, placed_work}
@@ -62,8 +62,14 @@ part_of false w = omega arith
 pub lines-split : (lines : List Line) (from : ℕ) → sum_by line_work (lines_of lines from) + sum_by line_work (lines_from lines (from + 1)) ≤ sum_by line_work (lines_from lines from)
 lines-split [] from = omega arith
 lines-split (line ∷ lines) from =
-    omega (arith, sum-filter (is_of from) line lines, sum-filter (λ line. nat_le (from + 1) line.worker) line lines, sum-filter (λ line. nat_le from line.worker) line lines,
-        is_one_of line.worker from (line_work line), lines-split lines from)
+    omega (
+      arith,
+      sum-filter (is_of from) line lines,
+      sum-filter (λ line. nat_le (from + 1) line.worker) line lines,
+      sum-filter (λ line. nat_le from line.worker) line lines,
+      is_one_of line.worker from (line_work line),
+      lines-split lines from,
+    )
 
 pub lines-all : (lines : List Line) (from n : ℕ) → sum_by (λ worker. sum_by line_work (lines_of lines worker)) (numbers from n) ≤ sum_by line_work (lines_from lines from)
 lines-all lines from zero = omega arith
