@@ -14,7 +14,7 @@ use Rattle.xti_model.specs.World.{World, opening}
 use Rattle.xti_model.specs.Step.{Step}
 use Rattle.xti_model.specs.History.{Going, own, call_after, going_after, unfinished, unfinished_from, made_by, step_going, step_at, left_by, after_from, after, Fits, LegalFrom, Legal}
 use Rattle.xti_model.specs.Resolve.{Placed}
-use Rattle.xti_model.specs.Robin.{begin_line, next_line, next_or, next_going, act_of, Turn, turn_of, turn_going, turn, next_turn, robin_from}
+use Rattle.xti_model.specs.Robin.{begin_line, next_line, next_or, next_going, act_of, Turn, turn_of, turn_going, turn, robin_from}
 use Rattle.xti_model.proofs.Turns.{next_turn-each, robin_from-keeps}
 
 -- the world after one entry more
@@ -85,14 +85,14 @@ turn-made p lines w past worker = next (next_going lines past worker) (next-doin
 abbrev pub IsLegalAt : Providers → World → List Entry → Type 0
 IsLegalAt p w past = Legal p past × (after p past ≡ w)
 
-pub turn-legal : (p : Providers) (lines : List Line) (w : World) (past : List Entry) → IsLegalAt p w past →
-    IfSome (next_turn p lines w past) (λ t. IsLegalAt p t.world (past ++ t.entry ∷ []))
-turn-legal p lines w past k = next_turn-each p lines w past (λ t. IsLegalAt p t.world (past ++ t.entry ∷ [])) (λ worker may. IfSome_then (turn p lines w past worker) (turn-made p lines w past worker) legal)
-  where
-    legal : (t : Turn) → IsMade p w past t → IsLegalAt p t.world (past ++ t.entry ∷ [])
-    legal t h =
-        let made = subst (λ v. IsMade p v past t) (sym k.1) h in
-        (legal-snoc p (opening p) [] past t.entry k.0 made.0, after-snoc p (opening p) [] past t.entry ∙ made.1)
+pub made-legal : (p : Providers) (w : World) (past : List Entry) → IsLegalAt p w past → (t : Turn) → IsMade p w past t → IsLegalAt p t.world (past ++ t.entry ∷ [])
+made-legal p w past k t h =
+    let made = subst (λ v. IsMade p v past t) (sym k.1) h in
+    (legal-snoc p (opening p) [] past t.entry k.0 made.0, after-snoc p (opening p) [] past t.entry ∙ made.1)
+
+pub turn-legal : (p : Providers) (lines : List Line) (w : World) (past : List Entry) (worker : ℕ) → IsLegalAt p w past →
+    IfSome (turn p lines w past worker) (λ t. IsLegalAt p t.world (past ++ t.entry ∷ []))
+turn-legal p lines w past worker k = IfSome_then (turn p lines w past worker) (turn-made p lines w past worker) (made-legal p w past k)
 
 pub robin_from-legal : (p : Providers) (lines : List Line) (n : ℕ) (past : List Entry) → Legal p past → Legal p (robin_from p lines n (after p past) past)
-robin_from-legal p lines n past l = (robin_from-keeps p lines (IsLegalAt p) (turn-legal p lines) n (after p past) past (l, refl)).1.0
+robin_from-legal p lines n past l = (robin_from-keeps p lines (IsLegalAt p) (λ w past k. next_turn-each p lines w past (λ t. IsLegalAt p t.world (past ++ t.entry ∷ [])) (λ worker may. turn-legal p lines w past worker k)) n (after p past) past (l, refl)).1.0

@@ -4,3 +4,6 @@ pub mod Legality
 pub mod Following
 pub mod Outcomes
 pub mod Working
+pub mod Sums
+pub mod Phases
+pub mod Completing

@@ -1,10 +1,10 @@
 -- Each step of a call leaves fewer steps to make: a send takes a byte or more, and a connect goes on once.
-use Rattle.std.specs.Prelude.{ℕ, zero, suc, ◌+◌, ◌-◌, ◌<◌, ◌≤◌, ◌==◌, ◌||◌, ◌&&◌, not, nat_lt, min, Bool, true, false, List, [], ◌∷◌, length, map, Option, Some, None, IfSome, ◌≡◌, ◌≢◌, if◌then◌else◌}
+use Rattle.std.specs.Prelude.{ℕ, ◌+◌, ◌-◌, ◌<◌, ◌≤◌, ◌==◌, ◌||◌, ◌&&◌, not, nat_lt, min, Bool, true, false, List, [], ◌∷◌, length, map, Option, Some, None, IfSome, ◌≡◌, ◌≢◌, if◌then◌else◌}
 use Rattle.std.specs.List.{concat, AllByRecursion}
 use Rattle.std.proofs.lemmas.Option.{none-some}
 use Rattle.std.proofs.lemmas.Bool.Decides.{nat_tests}
 use Rattle.xti_model.specs.Arguments.{is_expedited}
-use Rattle.std.proofs.Common.{refl, sym, ap, subst, ◌∙◌, arith}
+use Rattle.std.proofs.Common.{refl, sym, arith}
 use Rattle.xti_base.specs.declared.errno.Errno.TheVariants.{TBADF, TNODATA}
 use Rattle.xti_model.specs.declared.call.Call.{Call}
 use Rattle.xti_model.specs.declared.call.Call.TheVariants as call
@@ -72,6 +72,7 @@ step_of-outcome Q done p w plan h = by (first plan.rows) refl
     waited : (b : Bool) (s : Step) → Q s.outcome → IfSome (if b then Some s else None) (λ s. Q s.outcome)
     waited true s q = q
     waited false s q = tt
+
     by : (r : Option Refusal) → first plan.rows ≡ r → IfSome (step_by p w plan r) (λ s. Q s.outcome)
     by None e = h e
     by (Some (answers reply)) e = done reply
@@ -141,9 +142,11 @@ sends p parts bytes flags taken e peer Q done k part n now h = by (n == length b
     room : 0 < room_for (is_expedited flags) e peer
     room = room_left (bytes_waiting (waiting (is_expedited flags) peer)) (byte_bound (is_expedited flags) e peer) (ends_waiting (waiting (is_expedited flags) peer)) (end_bound (is_expedited flags))
         (first-none (Send.rows p parts bytes flags taken peer e) h).1.1.1.1.1.0
+
     waits_on : (b : Bool) → (n == length bytes) ≡ false → Q (if b then Done (Sent n) else Part n)
     waits_on true ne = done (Sent n)
     waits_on false ne = part n (goes_on (length bytes) taken (room_for (is_expedited flags) e peer) n k room now ne)
+
     by : (b : Bool) → (n == length bytes) ≡ b → Q (if b || e.nonblock then Done (Sent n) else Part n)
     by true q = done (Sent n)
     by false q = waits_on e.nonblock q
@@ -174,16 +177,16 @@ step-falls p w (call.TAccept fd resfd seq opt udata) g k = replies (call.TAccept
     by e (Some r) = tt
 step-falls p w (call.TSnd fd bytes flags) go.Begin k =
     on_open-outcome (Falls (call.TSnd fd bytes flags) go.Begin) (λ r. tt) p w fd.0 _
-        (λ e h. sends p 1 bytes flags 0 e (linked p w fd.0 e) (Falls (call.TSnd fd bytes flags) go.Begin) (λ r. tt) (omega arith) (λ n h. (h.0, omega (arith, h.1))) _ refl h)
+    (λ e h. sends p 1 bytes flags 0 e (linked p w fd.0 e) (Falls (call.TSnd fd bytes flags) go.Begin) (λ r. tt) (omega arith) (λ n h. (h.0, omega (arith, h.1))) _ refl h)
 step-falls p w (call.TSnd fd bytes flags) (go.More n) k =
     later_plan-outcome (Falls (call.TSnd fd bytes flags) (go.More n)) (λ r. tt) p w n fd.0 _
-        (λ e h. sends p 1 bytes flags n e (linked p w fd.0 e) (Falls (call.TSnd fd bytes flags) (go.More n)) (λ r. tt) k (λ m h. (h.0, omega (arith, h.1))) _ refl h)
+    (λ e h. sends p 1 bytes flags n e (linked p w fd.0 e) (Falls (call.TSnd fd bytes flags) (go.More n)) (λ r. tt) k (λ m h. (h.0, omega (arith, h.1))) _ refl h)
 step-falls p w (call.TSndV fd parts flags) go.Begin k =
     on_open-outcome (Falls (call.TSndV fd parts flags) go.Begin) (λ r. tt) p w fd.0 _
-        (λ e h. sends p (length parts) (concat parts) flags 0 e (linked p w fd.0 e) (Falls (call.TSndV fd parts flags) go.Begin) (λ r. tt) (omega arith) (λ n h. (h.0, omega (arith, h.1))) _ refl h)
+    (λ e h. sends p (length parts) (concat parts) flags 0 e (linked p w fd.0 e) (Falls (call.TSndV fd parts flags) go.Begin) (λ r. tt) (omega arith) (λ n h. (h.0, omega (arith, h.1))) _ refl h)
 step-falls p w (call.TSndV fd parts flags) (go.More n) k =
     later_plan-outcome (Falls (call.TSndV fd parts flags) (go.More n)) (λ r. tt) p w n fd.0 _
-        (λ e h. sends p (length parts) (concat parts) flags n e (linked p w fd.0 e) (Falls (call.TSndV fd parts flags) (go.More n)) (λ r. tt) k (λ m h. (h.0, omega (arith, h.1))) _ refl h)
+    (λ e h. sends p (length parts) (concat parts) flags n e (linked p w fd.0 e) (Falls (call.TSndV fd parts flags) (go.More n)) (λ r. tt) k (λ m h. (h.0, omega (arith, h.1))) _ refl h)
 step-falls p w (call.TRcv fd max) g k = replies (call.TRcv fd max) g p w fd.0 _ (λ e. tt)
 step-falls p w (call.TRcvV fd sizes) g k = replies (call.TRcvV fd sizes) g p w fd.0 _ (λ e. tt)
 step-falls p w (call.TSndDis fd seq udata) g k = replies (call.TSndDis fd seq udata) g p w fd.0 _ (λ e. tt)

@@ -53,11 +53,12 @@ next_turn-each p lines w past P each = among (is_through lines past 0) refl
   where
     last : ℕ
     last = last_worker 0 past
+
     among : (b : Bool) → is_through lines past 0 ≡ b → IfSome (first_turn (turn p lines w past) (if b then order_after (last_worker 0 past) else 0 ∷ [])) P
     among true h = first_turn-each P (turn p lines w past) (order_after (last_worker 0 past))
         (all-append (λ worker. IfSome (turn p lines w past worker) P) (numbers (last + 1) (32 - last)) (numbers 1 last)
-            (all-numbers (λ worker. IfSome (turn p lines w past worker) P) (last + 1) (32 - last) (λ k a b. each k (record { setup = inr h; within = λ l. omega arith })))
-            (all-numbers (λ worker. IfSome (turn p lines w past worker) P) 1 last (λ k a b. each k (record { setup = inr h; within = λ l. omega arith }))))
+        (all-numbers (λ worker. IfSome (turn p lines w past worker) P) (last + 1) (32 - last) (λ k a b. each k (record { setup = inr h; within = λ l. omega arith })))
+        (all-numbers (λ worker. IfSome (turn p lines w past worker) P) 1 last (λ k a b. each k (record { setup = inr h; within = λ l. omega arith }))))
     among false h = first_turn-each P (turn p lines w past) (0 ∷ []) (each 0 (record { setup = inl refl; within = λ l. omega arith }), tt)
 
 -- what the turns keep holds in the end, with some world
@@ -89,6 +90,6 @@ robin_from-ends p lines Keeps work each (suc n) w past k le = more (next_turn p 
     more : (t : Option Turn) → next_turn p lines w past ≡ t → IfSome t (λ t. Keeps t.world (past ++ t.entry ∷ []) × (work (past ++ t.entry ∷ []) < work past)) →
         ((v : World) (es : List Entry) → Keeps v es → work es ≤ n → (u : World) × (next_turn p lines u (robin_from p lines n v es) ≡ None) × Keeps u (robin_from p lines n v es)) →
         (v : World) × (next_turn p lines v (elim t [ None ↦ past | Some t ↦ robin_from p lines n t.world (past ++ t.entry ∷ []) ]) ≡ None)
-            × Keeps v (elim t [ None ↦ past | Some t ↦ robin_from p lines n t.world (past ++ t.entry ∷ []) ])
+        × Keeps v (elim t [ None ↦ past | Some t ↦ robin_from p lines n t.world (past ++ t.entry ∷ []) ])
     more None e h later = (w, e, k)
     more (Some t) e h later = later t.world (past ++ t.entry ∷ []) h.0 (omega (arith, h.1))

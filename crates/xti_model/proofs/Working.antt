@@ -1,17 +1,16 @@
 -- The work that is left of a script falls with each turn: a line and each byte of its arguments stand for a step.
-use Rattle.std.specs.Prelude.{ℕ, zero, suc, ◌+◌, ◌<◌, ◌≤◌, ◌==◌, Bool, true, false, List, [], ◌∷◌, ◌++◌, length, map, drop, filter, slice_get, Option, Some, None, IfSome, option_map, option_and_then, ◌≡◌, if◌then◌else◌}
-use Rattle.std.specs.List.{concat, sum_by}
-use Rattle.std.proofs.Common.{refl, sym, ap, subst, ◌∙◌, arith, length-append, get_or}
+use Rattle.std.specs.Prelude.{ℕ, ◌+◌, ◌<◌, ◌≤◌, Bool, true, false, List, [], ◌∷◌, ◌++◌, length, drop, Option, Some, None, IfSome, option_map, option_and_then, ◌≡◌, if◌then◌else◌}
+use Rattle.std.specs.List.{sum_by}
+use Rattle.std.proofs.Common.{refl, sym, ap, ◌∙◌, arith, length-append}
 use Rattle.std.proofs.lemmas.Bool.{eq-eqb}
-use Rattle.std.proofs.lemmas.List.{append-nil, drop_more}
+use Rattle.std.proofs.lemmas.List.{append-nil}
 use Rattle.std.proofs.lemmas.List.Sums.{sum_by-drop_more}
-use Rattle.std.proofs.lemmas.Option.{IfSome_then, slice_get_within, get_or_from_slice_get}
+use Rattle.std.proofs.lemmas.Option.{slice_get_within, get_or_from_slice_get}
 use Rattle.xti_model.specs.declared.call.Call.{Call}
 use Rattle.xti_model.specs.declared.call.Call.TheVariants as call
 use Rattle.xti_model.specs.declared.script.NamedCall.{NamedCall}
 use Rattle.xti_model.specs.declared.script.NamedCall.TheVariants as named
 use Rattle.xti_model.specs.declared.script.Line.{Line}
-use Rattle.xti_model.specs.declared.entry.Act.{Act}
 use Rattle.xti_model.specs.declared.entry.Act.TheVariants as act
 use Rattle.xti_model.specs.declared.entry.Go.{Go}
 use Rattle.xti_model.specs.declared.entry.Go.TheVariants as go
@@ -23,7 +22,7 @@ use Rattle.xti_model.specs.World.{World}
 use Rattle.xti_model.specs.Step.{Step}
 use Rattle.xti_model.specs.History.{Going, is_own, own, call_after, going_after, unfinished, unfinished_from, step_going}
 use Rattle.xti_model.specs.Resolve.{Placed, placed, is_begin, begun, Meanings, meanings, with_numbers, resolved}
-use Rattle.xti_model.specs.Robin.{begin_line, next_line, next_or, next_going, act_of, Turn, turn_of, turn_going, turn, next_turn}
+use Rattle.xti_model.specs.Robin.{begin_line, next_line, next_or, next_going, act_of, Turn, turn_of, turn_going, turn}
 use Rattle.xti_model.specs.Work.{argument_bytes}
 use Rattle.xti_model.proofs.Appending.{own-append, begun-append}
 use Rattle.xti_model.proofs.Legality.{GoesOn, unfinished-goes_on}
@@ -119,17 +118,18 @@ next-is lines past worker k = by (unfinished past worker) refl (unfinished-goes_
     begins : (l : Option Placed) → next_line lines past worker ≡ l → IfSome (option_map (begin_line past) l) (IsNext lines past worker)
     begins None n = tt
     begins (Some l) n = record {
-        call = refl;
-        possible = possible-begin (resolved l.earlier l.line past);
-        work = λ e h a. omega (arith, lines_left-begins lines past e worker l h (ap is_begin a) n, left-named (meanings l.earlier l.line.worker past) l.line.call);
-      }
+      call = refl;
+      possible = possible-begin (resolved l.earlier l.line past);
+      work = λ e h a. omega (arith, lines_left-begins lines past e worker l h (ap is_begin a) n, left-named (meanings l.earlier l.line.worker past) l.line.call);
+    }
+
     by : (u : Option Going) → unfinished past worker ≡ u → GoesOn u → IsCallOf (call_from None (own past worker)) u → IsPossibleGoing u → IfSome (next_or lines past worker u) (IsNext lines past worker)
     by None u m c k = begins (next_line lines past worker) refl
     by (Some g) u m c k = record {
-        call = rw m c;
-        possible = k;
-        work = λ e h a. omega (arith, lines_left-goes_on lines past e worker h (a ∙ m), ap going_work u);
-      }
+      call = rw m c;
+      possible = k;
+      work = λ e h a. omega (arith, lines_left-goes_on lines past e worker h (a ∙ m), ap going_work u);
+    }
 
 -- the call's work after a step, which is possible again
 pub going_after-falls : (c : Call) (g : Go) (o : Outcome) → Falls c g o → (going_work (going_after (Some c) o) < left c g) × IsPossibleGoing (going_after (Some c) o)
@@ -145,7 +145,7 @@ own-more past e worker b h = own-append past (e ∷ []) worker ∙ alone b h
 
 -- a turn of the worker leaves less to it
 abbrev pub Lessens : List Line → List Entry → ℕ → Turn → Type 0
-Lessens lines past worker t = (worker_work lines (past ++ t.entry ∷ []) worker < worker_work lines past worker) × IsPossibleGoing (unfinished (past ++ t.entry ∷ []) worker)
+Lessens lines past worker t = (t.entry.worker ≡ worker) × (worker_work lines (past ++ t.entry ∷ []) worker < worker_work lines past worker) × IsPossibleGoing (unfinished (past ++ t.entry ∷ []) worker)
 
 pub turn-lessens : (p : Providers) (lines : List Line) (w : World) (past : List Entry) (worker : ℕ) → IsPossibleGoing (unfinished past worker) →
     IfSome (turn p lines w past worker) (Lessens lines past worker)
@@ -156,12 +156,14 @@ turn-lessens p lines w past worker k = next (next_going lines past worker) (next
         let e = (turn_of worker g s).entry in
         let own_entry : is_own worker e ≡ true = eq-eqb worker worker refl in
         let goes : unfinished (past ++ e ∷ []) worker ≡ going_after (Some g.call) s.outcome =
-            ap (unfinished_from None None) (own-more past e worker true own_entry) ∙ unfinished_from-snoc None None (own past worker) e ∙ ap (λ c. going_after c s.outcome) n.call in
+        ap (unfinished_from None None) (own-more past e worker true own_entry) ∙ unfinished_from-snoc None None (own past worker) e ∙ ap (λ c. going_after c s.outcome) n.call in
         let falls = going_after-falls g.call g.so_far s.outcome f in
-        (omega (arith, n.work e own_entry refl, ap going_work goes, falls.0), rw goes falls.1)
+        (refl, omega (arith, n.work e own_entry refl, ap going_work goes, falls.0), rw goes falls.1)
+
     stepped : (g : Going) → IsNext lines past worker g → (s : Option Step) → IfSome s (λ s. Falls g.call g.so_far s.outcome) → IfSome (option_map (turn_of worker g) s) (Lessens lines past worker)
     stepped g n None f = tt
     stepped g n (Some s) f = lessens g n s f
+
     next : (g : Option Going) → IfSome g (IsNext lines past worker) → IfSome (option_and_then (turn_going p w worker) g) (Lessens lines past worker)
     next None n = tt
     next (Some g) n = stepped g n (step_going p w g) (step-falls p w g.call g.so_far n.possible)

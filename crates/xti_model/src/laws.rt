@@ -1,13 +1,14 @@
 //! Laws of histories, over all scripts.
 
-ghost use Rattle.std.specs.Prelude.{ℕ, List};
+ghost use Rattle.std.specs.Prelude.{ℕ, ◌+◌, ◌≤◌, List, length};
 ghost use Rattle.xti_model.specs.declared.entry.Entry.{Entry};
 ghost use Rattle.xti_model.specs.declared.profile.Providers.{Providers};
 ghost use Rattle.xti_model.specs.declared.script.Line.{Line};
 ghost use Rattle.xti_model.specs.declared.script.Script.{Script};
 ghost use Rattle.xti_model.specs.History.{after, Legal};
-ghost use Rattle.xti_model.specs.Robin.{robin_from, robin};
-ghost use Rattle.xti_model.specs.Complete.{Follows, Each, workers};
+ghost use Rattle.xti_model.specs.Robin.{robin_from, robin, most_steps};
+ghost use Rattle.xti_model.specs.Work.{script_bytes};
+ghost use Rattle.xti_model.specs.Complete.{Follows, Each, workers, Complete};
 
 /// Round robin goes on legally from any legal history, and the whole run is legal.
 pub fn robin_is_legal()
@@ -18,4 +19,9 @@ pub fn robin_is_legal()
 /// In the round-robin run of any script each worker's calls stand in script order, each once.
 pub fn robin_follows()
     ensures { (s : Script) → Each (Follows (robin s) s.lines) workers }
+{}
+
+/// Where the lines and the bytes of their arguments are no more than the bound on steps, the round-robin run of a script goes on until each worker is through or blocked.
+pub fn robin_is_complete()
+    ensures { (s : Script) → length s.lines + script_bytes s.lines ≤ most_steps → Complete s.providers (robin s) s.lines }
 {}

@@ -9,6 +9,6 @@ mod script;
 
 pub use call::Call;
 pub use entry::{Act, Applied, Entries, Entry, Go, Outcome, Reply};
-pub use laws::{robin_follows, robin_is_legal};
+pub use laws::{robin_follows, robin_is_complete, robin_is_legal};
 pub use profile::{Profile, Providers};
 pub use script::{Journal, Line, Lines, Name, NamedCall, Script, StallLine, Stalls};
