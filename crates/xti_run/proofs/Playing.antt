@@ -1,6 +1,6 @@
 -- What one line of a run does to the names, the entries and what is left.
-use Rattle.std.proofs.Common.{◌≡◌, ℕ, zero, suc, ◌+◌, Bool, true, false, cond, ◌&&◌, List, [], ◌∷◌, ◌++◌, length, get_or, take, drop, ◌<◌, ◌≤◌, add-one, drop-cons, Option, Some, None, refl, sym, ap, ◌∙◌, arith, length-append}
-use Rattle.std.specs.Prelude.{option_map, if◌then◌else◌}
+use Rattle.std.proofs.Common.{◌≡◌, ℕ, ◌+◌, Bool, true, false, cond, ◌&&◌, List, [], ◌∷◌, ◌++◌, length, get_or, take, drop, ◌<◌, ◌≤◌, add-one, drop-cons, Option, Some, None, refl, sym, ap, ◌∙◌, arith, length-append}
+use Rattle.std.specs.Prelude.{option_map}
 use Rattle.std.proofs.lemmas.List.{drop_all, take_more}
 use Rattle.xti_model.specs.declared.call.Call.{Call}
 use Rattle.xti_model.specs.declared.entry.Go.TheVariants as go
@@ -14,12 +14,12 @@ use Rattle.xti_model.specs.declared.script.NamedCall.TheVariants as named
 use Rattle.xti_model.specs.declared.script.Line.{Line}
 use Rattle.xti_model.specs.declared.profile.Providers.{Providers}
 use Rattle.xti_model.specs.World.{World}
-use Rattle.xti_model.specs.Step.{Step, step}
-use Rattle.xti_model.specs.Resolve.{Meanings, answer_of, opened_fd, opens, with_numbers}
+use Rattle.xti_model.specs.Step.{step}
+use Rattle.xti_model.specs.Resolve.{answer_of, opened_fd, opens, with_numbers}
 use Rattle.xti_model.specs.Built.{is_built_named}
 use Rattle.xti_run.specs.Names.{Table, Knows, number_in, number_of, or_no_number, or_number, fd_in, call_in}
 use Rattle.xti_run.specs.Plays.{Plays}
-use Rattle.xti_run.specs.Straight.{is_plain, told_by, call_at, entry_of, straight}
+use Rattle.xti_run.specs.Straight.{is_plain, told_by, call_at, straight}
 
 opened : (o : Option Outcome) → or_no_number (option_map number_of o) ≡ opened_fd o
 opened None = refl

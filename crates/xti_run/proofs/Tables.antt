@@ -1,6 +1,6 @@
 -- A table of names, and one more name.
 use Rattle.std.proofs.Common.{◌≡◌, ℕ, Bool, true, false, cond, List, [], ◌∷◌, Option, Some, None, refl, sym, ap, ◌∙◌}
-use Rattle.std.specs.Prelude.{Vec, is_none, is_some, not, if◌then◌else◌}
+use Rattle.std.specs.Prelude.{Vec, is_some}
 use Rattle.std.specs.declared.alloc.Global.{Global}
 use Rattle.std.specs.declared.cmp.Ordering.{Ordering}
 use Rattle.std.specs.declared.cmp.Ordering.TheVariants.{Less, Equal, Greater}
@@ -79,5 +79,6 @@ number_more old new k v name e absent entries other =
     both_ways true b h g = sym (h refl)
     both_ways false true h g = g refl
     both_ways false false h g = refl
+
     swapped : bytes_eq other k.items ≡ bytes_eq k.items other
     swapped = both_ways _ _ (λ t. (bytes_eq-Decides k.items other).1 (sym ((bytes_eq-Decides other k.items).0 t))) (λ t. (bytes_eq-Decides other k.items).1 (sym ((bytes_eq-Decides k.items other).0 t)))

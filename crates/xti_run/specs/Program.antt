@@ -1,5 +1,5 @@
 -- What the program answers.
-use Rattle.std.specs.Prelude.{◌≡◌, ℕ, ◌+◌, ◌<◌, ◌≤◌, List, [], ◌∷◌, ◌++◌, length, take, codes, decimal, Option, Some, None, ◌⊎◌, Bool, true, false}
+use Rattle.std.specs.Prelude.{◌≡◌, ℕ, ◌<◌, ◌≤◌, List, [], ◌∷◌, ◌++◌, length, take, codes, decimal, Option, Some, None, ◌⊎◌, Bool, true, false}
 use Rattle.std.specs.Str.{bytes_eq}
 use Rattle.xti_io.specs.Sink.{Takes}
 use Rattle.xti_model.specs.declared.script.Script.{Script}
@@ -60,10 +60,16 @@ pub record IsTooLong (input : List ℕ) (status : ℕ) (text : List ℕ) : Type 
 abbrev pub IsAnswer : List ℕ → ℕ → List ℕ → Type 0
 IsAnswer input status text = ((length input ≤ limit) × (IsReplayed input status text ⊎ IsRefusedInput input status text)) ⊎ IsTooLong input status text
 
--- the same for what a source had left, where it tells its bytes
-abbrev pub IsReplay : Option (List ℕ) → ℕ → List ℕ → Type 0
-IsReplay None status text = (status ≡ 0) ⊎ (status ≡ 2)
-IsReplay (Some input) status text = IsAnswer input status text
+-- these are the bytes that a source had left, as far as it tells them
+abbrev pub IsLeft : Option (List ℕ) → List ℕ → Type 0
+IsLeft None input = Unit {0}
+IsLeft (Some bytes) input = bytes ≡ input
+
+-- the status and the text for what a source had left
+pub record IsReplay (left : Option (List ℕ)) (status : ℕ) (text : List ℕ) : Type 0 where
+  pub input : List ℕ
+  pub is_left : IsLeft left input
+  pub answer : IsAnswer input status text
 
 -- the words are no command: status 1
 pub record IsRefusedWords (words : List (List ℕ)) (status : ℕ) (text : List ℕ) : Type 0 where

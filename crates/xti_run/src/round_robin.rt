@@ -14,7 +14,8 @@ ghost use Rattle.xti_run.specs.Straight.{is_plain, are_plain, straight};
 use crate::names::{Table, call_in, learn};
 use std::alloc::{AllocError, Global};
 use xti_model::{
-    Act, Applied, Entries, Entry, Go, Journal, Line, Providers, Script, Stalls, robin_follows, robin_is_legal,
+    Act, Applied, Entries, Entry, Go, Journal, Line, Providers, Script, Stalls, robin_follows,
+    robin_is_legal,
 };
 use xti_world::World;
 

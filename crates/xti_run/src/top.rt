@@ -101,3 +101,55 @@ fn replay_answer<R: Source>(alloc: Global, source: &mut R) -> Result<Answer, Sta
         Err(ReadEnd::OutOfMemory) => Err(Status(4)),
     }
 }
+
+/// The answer to the words and what the source has left.
+fn output<R: Source>(alloc: Global, words: &Words, source: &mut R) -> Result<Answer, Status>
+    ensures ok { IfOk result (λ a. IsOutput words.now (R.left source.old) a.status a.text) }
+    ensures err { IfErr result (λ s. (s.0 ≡ 4) ⊎ ((s.0 ≡ 5) × (is_replay words.now ≡ true) × Rose (R.faults source.old) (R.faults source.new))) }
+    ensures read { is_replay words.now ≡ true → GivesUpTo (limit + 1) (R.left source.old) (R.left source.new) }
+    ensures unread { is_replay words.now ≡ false → source.new ≡ source.old }
+{
+    if words.is_replay() {
+        replay_answer(alloc, source)
+    } else {
+        match words_answer(alloc) {
+            Ok(answer) => Ok(answer),
+            Err(_) => Err(Status(4)),
+        }
+    }
+}
+
+/// Runs the command of the words over a source and a sink, and answers how it ended.
+///
+/// The one command is `replay`: it reads a script, makes its calls one after the other, and writes the journal.
+/// The words are looked at first, then the source is read, and the whole text is made before the first write.
+pub fn program<T: Threads + Wait + Sync, R: Source, W: Sink, G: Gate>(
+    _rt: &T,
+    alloc: Global,
+    words: &Words,
+    source: &mut R,
+    sink: &mut W,
+    _gate: &G,
+) -> Status
+    // Below 4 the whole text was written: the journal of a legal run, or why there is none.
+    ensures written { result.0 < 4 → IsWritten words.now (R.left source.old) result.0 (W.held sink.old) (W.held sink.new) }
+    ensures unwritten { (result.0 ≡ 4) ⊎ (result.0 ≡ 5) → W.held sink.new ≡ W.held sink.old }
+    ensures cut_off { result.0 ≡ 6 → IsCutOff words.now (R.left source.old) (W.held sink.old) (W.held sink.new) }
+
+    // Faults are answered only where their count rose.
+    ensures read_fault { result.0 ≡ 5 → (is_replay words.now ≡ true) × Rose (R.faults source.old) (R.faults source.new) }
+    ensures write_fault { result.0 ≡ 6 → Rose (W.faults sink.old) (W.faults sink.new) }
+    ensures range { (result.0 < 7) × (result.0 ≢ 3) }
+
+    // What is read.
+    ensures read { is_replay words.now ≡ true → GivesUpTo (limit + 1) (R.left source.old) (R.left source.new) }
+    ensures unread { is_replay words.now ≡ false → source.new ≡ source.old }
+{
+    match output(alloc, words, source) {
+        Err(status) => status,
+        Ok(answer) => match write_all(sink, answer.text.as_slice()) {
+            Ok(()) => Status(answer.status),
+            Err(_) => Status(6),
+        },
+    }
+}

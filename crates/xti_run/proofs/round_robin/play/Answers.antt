@@ -1,4 +1,3 @@
-use Rattle.std.proofs.Common.{sym, ◌∙◌}
 use Rattle.xti_run.proofs.Playing.{play_blocked, play_made}
 use Rattle.xti_run.proofs.round_robin.play.Goals as goal
 

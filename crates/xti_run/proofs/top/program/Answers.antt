@@ -1,0 +1,14 @@
+use Rattle.std.specs.Prelude.{ℕ, List, Option}
+use Rattle.xti_io.specs.Sink.{TakesUpTo}
+use Rattle.xti_io.specs.declared.sink.WriteEnd.{WriteEnd}
+use Rattle.xti_io.specs.declared.sink.WriteEnd.TheVariants.{Fault}
+use Rattle.xti_run.specs.Program.{IsCutOff, IsOutput}
+use Rattle.xti_run.proofs.top.program.Goals as goal
+
+cut_off : (words : List (List ℕ)) (left : Option (List ℕ)) (status : ℕ) (text : List ℕ) (before now : Option (List ℕ)) (e : WriteEnd) → IsOutput words left status text → TakesUpTo e before now text → IsCutOff words left before now
+cut_off words left status text before now (Fault written) out h = record { status = status; text = text; written = written; output = out; part = h.0; taken = h.1 }
+
+pub returns-clause-cut_off : goal.returns-clause-cut_off
+returns-clause-cut_off g c six =
+    let taken : TakesUpTo c.in-Err-write_all.field-0 (g.W.Sink.held c.args.sink.now) (g.W.Sink.held c.write_all.new.sink) c.in-Ok.answer.text = rw (← c.as_slice.ensures) c.in-Err-write_all.ensures.fault in
+    cut_off _ _ _ _ _ _ _ c.in-Ok.ensures.ok taken
