@@ -1,0 +1,78 @@
+//! The command `xti`.
+#![tactic(auto)]
+
+use std::alloc::AllocError;
+use std::io::{Eprint, ErrorKind, Input, Print};
+use std::process::ExitCode;
+use std::rt::Env;
+use std::sync::Wait;
+use std::thread::Threads;
+use std::{env, io};
+use xti_io::{StdSink, StdSource};
+use xti_run::{NoGate, Words, program};
+
+const VERSION: &str = "xti 0.1.0\n";
+
+const USAGE: &str = "\
+usage: xti replay
+       xti --help | -h | --version
+
+replay  reads a script of XTI calls from standard input, makes the calls one
+        after the other, and prints their journal on standard output
+
+status: 0 done, 1 the words are no command, 2 the input is refused,
+        4 want of memory, 5 reading failed, 6 writing failed
+";
+
+/// The text that the words ask for where they are no command: the usage or the version.
+fn told(words: &[String]) -> Option<&'static str> {
+    match words {
+        [word] => match word.as_str() {
+            "--help" | "-h" => Some(USAGE),
+            "--version" => Some(VERSION),
+            _ => None,
+        },
+        _ => None,
+    }
+}
+
+/// Runs the words over standard input and output; the usage goes to standard error where they are no command.
+fn run<R: Threads + Wait + Sync + Input + Print + Eprint + AllocGlobal>(rt: &R, words: &Words) -> u8 {
+    let mut source = StdSource::new(rt.reader());
+    let mut sink = StdSink::new(io::writer(rt));
+    let status = program(rt, rt.alloc(), words, &mut source, &mut sink, &NoGate).0;
+    if status == 1 {
+        // Nothing is left to tell where standard error fails too.
+        let _ = eprint!(rt; "{USAGE}");
+    }
+    status
+}
+
+/// The words behind the program's own name; none where they are no text.
+fn given<R: Env + AllocGlobal>(rt: &R) -> Result<Vec<String>, AllocError> {
+    match env::args(rt) {
+        Ok(all) => all.skip(1).collect(rt.alloc()),
+        Err(e) if e.kind() == ErrorKind::OutOfMemory => Err(AllocError),
+        Err(_) => Ok(Vec::new(rt.alloc())),
+    }
+}
+
+/// Answers the words behind the program's own name; the status, or want of memory.
+fn answer<R: Threads + Wait + Sync + Input + Print + Eprint + Env + AllocGlobal>(rt: &R) -> Result<u8, AllocError> {
+    let given = given(rt)?;
+    if let Some(text) = told(given.as_slice()) {
+        return Ok(match print!(rt; "{text}") {
+            Ok(()) => 0,
+            Err(_) => 6,
+        });
+    }
+    let mut words = Words::new(rt.alloc());
+    for word in &given {
+        words.push(word.as_str())?;
+    }
+    Ok(run(rt, &words))
+}
+
+fn main(rt: HostRuntime) -> ExitCode {
+    ExitCode::from(answer(&rt).unwrap_or(4))
+}
