@@ -1,6 +1,7 @@
 -- What the program answers.
 use Rattle.std.specs.Prelude.{◌≡◌, ℕ, ◌<◌, ◌≤◌, List, [], ◌∷◌, ◌++◌, length, take, codes, decimal, Option, Some, None, ◌⊎◌, Bool, true, false}
 use Rattle.std.specs.Str.{bytes_eq}
+use Rattle.xti_io.specs.Faults.{Rose}
 use Rattle.xti_io.specs.Sink.{Takes}
 use Rattle.xti_model.specs.declared.script.Script.{Script}
 use Rattle.xti_model.specs.declared.script.Journal.{Journal}
@@ -95,3 +96,15 @@ pub record IsCutOff (words : List (List ℕ)) (left : Option (List ℕ)) (before
   pub output : IsOutput words left status text
   pub part : written < length text
   pub taken : Takes before now (take written text)
+
+-- what a source that tells its bytes had left spells a script, within the limit
+pub record HasScript (left : Option (List ℕ)) : Type 0 where
+  pub script : Script
+  pub input : List ℕ
+  pub told : left ≡ Some input
+  pub within : length input ≤ limit
+  pub is_script : IsScript script input
+
+-- no fault was counted
+abbrev pub NoFault : ℕ → ℕ → Type 0
+NoFault before now = Rose before now → ⊥

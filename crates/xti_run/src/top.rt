@@ -5,7 +5,7 @@ ghost use Rattle.xti_io.specs.Faults.{Rose};
 ghost use Rattle.xti_io.specs.Source.{GivesUpTo};
 ghost use Rattle.xti_model.specs.declared.script.Script.{Script};
 ghost use Rattle.xti_script.specs.Grammar.{IsScript};
-ghost use Rattle.xti_run.specs.Program.{IsReplayed, IsRefusedInput, IsAnswer, IsReplay, IsOutput, IsWritten, IsCutOff, IsRefusedWords, limit, refused_line, refused_words, refused_size, is_replay};
+ghost use Rattle.xti_run.specs.Program.{IsReplayed, IsRefusedInput, IsAnswer, IsReplay, IsOutput, IsWritten, IsCutOff, IsRefusedWords, HasScript, NoFault, limit, refused_line, refused_words, refused_size, is_replay};
 
 use crate::gate::Gate;
 use crate::round_robin::replay;
@@ -16,7 +16,7 @@ use std::thread::Threads;
 use xti_base::Octets;
 use xti_io::{ReadEnd, Sink, Source, read_all, write_all};
 use xti_journal::write_journal;
-use xti_script::{ScriptFail, read_script};
+use xti_script::{ScriptFail, never_both, read_script};
 
 /// The most bytes of an input.
 const LIMIT: usize = 67_108_864;
@@ -140,11 +140,17 @@ pub fn program<T: Threads + Wait + Sync, R: Source, W: Sink, G: Gate>(
     ensures read_fault { result.0 ≡ 5 → (is_replay words.now ≡ true) × Rose (R.faults source.old) (R.faults source.new) }
     ensures write_fault { result.0 ≡ 6 → Rose (W.faults sink.old) (W.faults sink.new) }
     ensures range { (result.0 < 7) × (result.0 ≢ 3) }
+    ensures words { result.0 ≡ 1 → is_replay words.now ≡ false }
+
+    // With no fault the whole text is written, or memory was wanting.
+    ensures settled { NoFault (R.faults source.old) (R.faults source.new) → NoFault (W.faults sink.old) (W.faults sink.new) → (result.0 ≡ 4) ⊎ IsWritten words.now (R.left source.old) result.0 (W.held sink.old) (W.held sink.new) }
+    ensures complete { is_replay words.now ≡ true → HasScript (R.left source.old) → NoFault (R.faults source.old) (R.faults source.new) → NoFault (W.faults sink.old) (W.faults sink.new) → (result.0 ≡ 0) ⊎ (result.0 ≡ 4) }
 
     // What is read.
     ensures read { is_replay words.now ≡ true → GivesUpTo (limit + 1) (R.left source.old) (R.left source.new) }
     ensures unread { is_replay words.now ≡ false → source.new ≡ source.old }
 {
+    never_both();
     match output(alloc, words, source) {
         Err(status) => status,
         Ok(answer) => match write_all(sink, answer.text.as_slice()) {
