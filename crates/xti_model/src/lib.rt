@@ -6,6 +6,8 @@ mod entry;
 mod laws;
 mod profile;
 mod script;
+#[cfg(test)]
+mod tests;
 
 pub use call::Call;
 pub use entry::{Act, Applied, Entries, Entry, Go, Outcome, Reply};
