@@ -1,6 +1,6 @@
 //! What a script's head may set for each provider.
 
-ghost use Rattle.std.specs.Prelude.{◌≡◌, true};
+ghost use Rattle.std.specs.Prelude.{◌≡◌};
 ghost use Rattle.xti_model.specs.Profile.{usual, is_size, has_limit, has_messages, is_stream, has_buffers, valid_connections, valid_orderly, valid_datagrams, valid};
 
 use xti_base::Limit;
@@ -96,8 +96,7 @@ impl Profile {
 impl Providers {
     /// The starting values.
     pub fn usual() -> Providers
-        ensures usual { result ≡ usual }
-        ensures valid { valid result ≡ true }
+        ensures { result ≡ usual }
     {
         let plain = Profile {
             tsdu: Limit::At(65536),
