@@ -141,7 +141,7 @@ sends p parts bytes flags taken e peer Q done k part n now h = by (n == length b
   where
     room : 0 < room_for (is_expedited flags) e peer
     room = room_left (bytes_waiting (waiting (is_expedited flags) peer)) (byte_bound (is_expedited flags) e peer) (ends_waiting (waiting (is_expedited flags) peer)) (end_bound (is_expedited flags))
-        (first-none (Send.rows p parts bytes flags taken peer e) h).1.1.1.1.1.0
+        (first-none (Send.rows p parts bytes flags taken peer e) h).1.1.1.1.1.1.0
 
     waits_on : (b : Bool) → (n == length bytes) ≡ false → Q (if b then Done (Sent n) else Part n)
     waits_on true ne = done (Sent n)

@@ -1,6 +1,8 @@
--- The starting values of the providers.
-use Rattle.std.specs.Prelude.{true, false}
-use Rattle.xti_base.specs.declared.limit.Limit.TheVariants.{At}
+-- The values of the providers: those at the start, and those that a script may set.
+use Rattle.std.specs.Prelude.{ℕ, Bool, true, false, ◌==◌, ◌&&◌, ◌||◌, not, nat_le}
+use Rattle.xti_base.specs.declared.limit.Limit.{Limit}
+use Rattle.xti_base.specs.declared.limit.Limit.TheVariants.{At, Infinite, Invalid}
+use Rattle.xti_model.specs.declared.profile.Profile.{Profile}
 use Rattle.xti_model.specs.declared.profile.Providers.{Providers}
 
 abbrev pub usual : Providers
@@ -9,3 +11,40 @@ usual = record {
   ticotsord = record { tsdu = At 0; sendzero = false; same_addr = false; sndbuf = 16384; rcvbuf = 16384 };
   ticlts = record { tsdu = At 8192; sendzero = true; same_addr = false; sndbuf = 16384; rcvbuf = 16384 };
 }
+
+-- a message or a buffer of at least one byte
+abbrev pub is_size : ℕ → Bool
+is_size n = nat_le 1 n && nat_le n 65536
+
+-- messages have ends, and a limit
+abbrev pub has_limit : Limit → Bool
+has_limit (At n) = is_size n
+has_limit Infinite = false
+has_limit Invalid = false
+
+-- messages have ends, with a limit or without
+abbrev pub has_messages : Limit → Bool
+has_messages Infinite = true
+has_messages limit = has_limit limit
+
+-- bytes without ends
+abbrev pub is_stream : Limit → Bool
+is_stream (At n) = n == 0
+is_stream limit = false
+
+abbrev pub has_buffers : Profile → Bool
+has_buffers p = is_size p.sndbuf && is_size p.rcvbuf
+
+-- a stream has no empty messages
+abbrev pub valid_orderly : Profile → Bool
+valid_orderly p = has_buffers p && (has_messages p.tsdu || (is_stream p.tsdu && not p.sendzero))
+
+abbrev pub valid_connections : Profile → Bool
+valid_connections p = has_buffers p && has_messages p.tsdu
+
+-- datagrams have no listener whose address could be taken
+abbrev pub valid_datagrams : Profile → Bool
+valid_datagrams p = has_buffers p && has_limit p.tsdu && not p.same_addr
+
+abbrev pub valid : Providers → Bool
+valid p = valid_connections p.ticots && valid_orderly p.ticotsord && valid_datagrams p.ticlts

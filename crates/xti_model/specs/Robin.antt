@@ -55,6 +55,7 @@ abbrev pub first_turn : (ℕ → Option Turn) → List ℕ → Option Turn
 first_turn turn_of [] = None
 first_turn turn_of (worker ∷ workers) = elim (turn_of worker) [ None ↦ first_turn turn_of workers | Some t ↦ Some t ]
 
+-- so many numbers, from the first on
 abbrev pub numbers : ℕ → ℕ → List ℕ
 numbers from zero = []
 numbers from (suc n) = from ∷ numbers (from + 1) n

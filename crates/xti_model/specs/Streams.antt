@@ -17,6 +17,7 @@ use Rattle.xti_model.specs.declared.profile.Providers.{Providers}
 use Rattle.xti_model.specs.Symbols.{piece}
 use Rattle.xti_model.specs.Endpoint.{Endpoint, find_number}
 use Rattle.xti_model.specs.World.{World, endpoint}
+use Rattle.xti_model.specs.Links.{names}
 use Rattle.xti_model.specs.Sending.{has_ends}
 use Rattle.xti_model.specs.Arguments.{has_more, is_expedited}
 use Rattle.xti_model.specs.History.{Going, doing, after}
@@ -65,12 +66,8 @@ connection_in p w (Some e) = of_act e.act
 abbrev pub connection : Providers → List Entry → ℕ → Option Connection
 connection p entries place = connection_in p (after p (take place entries)) (slice_get entries place)
 
-abbrev pub is_same : ℕ → Option ℕ → Bool
-is_same fd None = false
-is_same fd (Some other) = other == fd
-
 abbrev pub is_made_by : ℕ → Made → Bool
-is_made_by fd m = is_same fd (fd_of m.going.call)
+is_made_by fd m = names fd (fd_of m.going.call)
 
 abbrev pub is_over : State → Bool
 is_over s = same_state s T_IDLE || same_state s T_UNINIT

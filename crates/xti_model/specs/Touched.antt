@@ -1,11 +1,12 @@
 -- The cells that a call may read or change.
-use Rattle.std.specs.Prelude.{ℕ, zero, suc, ◌+◌, List, [], ◌∷◌, ◌++◌, map, filter, Option, Some, None, option_map, option_to_list}
+use Rattle.std.specs.Prelude.{ℕ, ◌+◌, List, [], ◌∷◌, ◌++◌, map, filter, Option, Some, None, option_map, option_to_list}
 use Rattle.xti_model.specs.declared.profile.Providers.{Providers}
 use Rattle.xti_model.specs.declared.call.Call.{Call}
 use Rattle.xti_model.specs.declared.call.Call.TheVariants as call
 use Rattle.xti_model.specs.Endpoint.{Endpoint, find_number}
 use Rattle.xti_model.specs.World.{World, is_among, endpoint, the_switch, place_of, switch_number, places}
 use Rattle.xti_model.specs.Switch.{bound, listener, opening_place}
+use Rattle.xti_model.specs.Robin.{numbers}
 
 -- the cell of a descriptor that is named
 abbrev pub cell_of : Providers → Option ℕ → List ℕ
@@ -93,10 +94,6 @@ fd_of (call.TGetInfo fd) = Some fd.0
 fd_of (call.TGetProtAddr fd amax pmax) = Some fd.0
 fd_of (call.TOptMgmt fd action opt omax) = Some fd.0
 fd_of (call.SetMode fd nonblock) = Some fd.0
-
-abbrev pub numbers : ℕ → ℕ → List ℕ
-numbers from zero = []
-numbers from (suc n) = from ∷ numbers (from + 1) n
 
 -- the cells that a call names, in some order
 abbrev pub named : Providers → World → Call → List ℕ

@@ -1,14 +1,20 @@
-//! Laws of histories, over all scripts.
+//! Laws of the starting values, and of histories over all scripts.
 
-ghost use Rattle.std.specs.Prelude.{ℕ, ◌+◌, ◌≤◌, List, length};
+ghost use Rattle.std.specs.Prelude.{ℕ, ◌+◌, ◌≡◌, ◌≤◌, List, length, true};
 ghost use Rattle.xti_model.specs.declared.entry.Entry.{Entry};
 ghost use Rattle.xti_model.specs.declared.profile.Providers.{Providers};
 ghost use Rattle.xti_model.specs.declared.script.Line.{Line};
 ghost use Rattle.xti_model.specs.declared.script.Script.{Script};
 ghost use Rattle.xti_model.specs.History.{after, Legal};
+ghost use Rattle.xti_model.specs.Profile.{usual, valid};
 ghost use Rattle.xti_model.specs.Robin.{robin_from, robin, most_steps};
 ghost use Rattle.xti_model.specs.Work.{script_bytes};
 ghost use Rattle.xti_model.specs.Complete.{Follows, Each, workers, Complete};
+
+/// The starting values are values that a script may set.
+pub fn usual_is_valid()
+    ensures { valid usual ≡ true }
+{}
 
 /// Round robin goes on legally from any legal history, and the whole run is legal.
 pub fn robin_is_legal()

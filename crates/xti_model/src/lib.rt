@@ -6,9 +6,11 @@ mod entry;
 mod laws;
 mod profile;
 mod script;
+#[cfg(test)]
+mod tests;
 
 pub use call::Call;
 pub use entry::{Act, Applied, Entries, Entry, Go, Outcome, Reply};
-pub use laws::{robin_follows, robin_is_complete, robin_is_legal};
+pub use laws::{robin_follows, robin_is_complete, robin_is_legal, usual_is_valid};
 pub use profile::{Profile, Providers};
 pub use script::{Journal, Line, Lines, Name, NamedCall, Script, StallLine, Stalls};

@@ -1,7 +1,7 @@
 //! What a script's head may set for each provider.
 
 ghost use Rattle.std.specs.Prelude.{◌≡◌};
-ghost use Rattle.xti_model.specs.Profile.{usual};
+ghost use Rattle.xti_model.specs.Profile.{usual, is_size, has_limit, has_messages, is_stream, has_buffers, valid_connections, valid_orderly, valid_datagrams, valid};
 
 use xti_base::Limit;
 
@@ -31,6 +31,68 @@ pub struct Providers {
     pub ticlts: Profile,
 }
 
+/// The most bytes of a message and of a buffer.
+const MOST: u32 = 65536;
+
+fn is_size(bytes: u32) -> bool
+    ensures { result ≡ is_size bytes }
+{
+    1 <= bytes && bytes <= MOST
+}
+
+fn has_limit(tsdu: Limit) -> bool
+    ensures { result ≡ has_limit tsdu }
+{
+    match tsdu {
+        Limit::At(bytes) => is_size(bytes),
+        Limit::Infinite | Limit::Invalid => false,
+    }
+}
+
+fn has_messages(tsdu: Limit) -> bool
+    ensures { result ≡ has_messages tsdu }
+{
+    match tsdu {
+        Limit::Infinite => true,
+        Limit::At(_) | Limit::Invalid => has_limit(tsdu),
+    }
+}
+
+fn is_stream(tsdu: Limit) -> bool
+    ensures { result ≡ is_stream tsdu }
+{
+    match tsdu {
+        Limit::At(bytes) => bytes == 0,
+        Limit::Infinite | Limit::Invalid => false,
+    }
+}
+
+impl Profile {
+    fn has_buffers(&self) -> bool
+        ensures { result ≡ has_buffers self.now }
+    {
+        is_size(self.sndbuf) && is_size(self.rcvbuf)
+    }
+
+    fn valid_connections(&self) -> bool
+        ensures { result ≡ valid_connections self.now }
+    {
+        self.has_buffers() && has_messages(self.tsdu)
+    }
+
+    fn valid_orderly(&self) -> bool
+        ensures { result ≡ valid_orderly self.now }
+    {
+        self.has_buffers() && (has_messages(self.tsdu) || (is_stream(self.tsdu) && !self.sendzero))
+    }
+
+    fn valid_datagrams(&self) -> bool
+        ensures { result ≡ valid_datagrams self.now }
+    {
+        self.has_buffers() && has_limit(self.tsdu) && !self.same_addr
+    }
+}
+
 impl Providers {
     /// The starting values.
     pub fn usual() -> Providers
@@ -55,5 +117,15 @@ impl Providers {
                 ..plain
             },
         }
+    }
+    /// Whether a script may set these values. Each message size is 1 to 65536 bytes, and without a limit only for
+    /// connections; that of `ticotsord` is also 0, and then no message may be empty. `same_addr` is for connections
+    /// only, and each buffer has 1 to 65536 bytes. Takes no memory.
+    pub fn valid(&self) -> bool
+        ensures { result ≡ valid self.now }
+    {
+        self.ticots.valid_connections()
+            && self.ticotsord.valid_orderly()
+            && self.ticlts.valid_datagrams()
     }
 }

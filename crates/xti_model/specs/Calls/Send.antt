@@ -19,10 +19,13 @@ abbrev pub is_over : Option ℕ → ℕ → Bool
 is_over None n = false
 is_over (Some limit) n = nat_lt limit n
 
--- bytes that cannot be sent as they are; so many of them were taken before
-abbrev pub is_bad_data : Providers → ℕ → List ℕ → Bool → ℕ → Endpoint → Bool
-is_bad_data p parts bytes expedited taken e =
-    is_too_many parts || nat_lt 65536 (length bytes) ||
+-- more than one call takes
+abbrev pub is_too_much : ℕ → List ℕ → Bool
+is_too_much parts bytes = is_too_many parts || nat_lt 65536 (length bytes)
+
+-- bytes that the provider does not send as they are; so many of them were taken before
+abbrev pub is_bad_data : Providers → List ℕ → Bool → ℕ → Endpoint → Bool
+is_bad_data p bytes expedited taken e =
     ((length bytes == 0) && not (profile p e.prov).sendzero) ||
     is_over (message_limit p e expedited) (unfinished expedited e + (length bytes - taken))
 
@@ -34,7 +37,8 @@ rows p parts bytes flags taken peer e =
     without_connections e ∷
     refuses (has_other_flags flags) TBADFLAG ∷
     outside sending e ∷
-    refuses (is_bad_data p parts bytes (is_expedited flags) taken e) TBADDATA ∷
+    refuses (is_too_much parts bytes) TBADDATA ∷
+    refuses (is_bad_data p bytes (is_expedited flags) taken e) TBADDATA ∷
     looks looks_data e ∷
     not_ready (not (ready_for (is_expedited flags) e peer)) TFLOW ∷ []
 
