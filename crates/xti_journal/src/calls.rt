@@ -2,14 +2,15 @@
 
 ghost use Rattle.std.specs.Prelude.{◌≡◌, ◌++◌, OnOk, IsTrue};
 ghost use Rattle.xti_journal.specs.JournalText.{call_text, act_text};
-ghost use Rattle.xti_journal.specs.Families.{is_name_or_options, is_connection_request, is_connection_receipt, is_send, is_receive};
+ghost use Rattle.xti_journal.specs.Families.{is_address_or_options, is_connection_request, is_connection_receipt, is_send, is_receive};
 
 use crate::words::{put_mode, put_most, put_number, put_octets, put_parts, put_sizes, put_text};
 use std::alloc::AllocError;
 use xti_model::{Act, Call};
 
-fn put_name_or_options(out: &mut Vec<u8>, call: &Call) -> Result<(), AllocError>
-    requires { IsTrue (is_name_or_options call.now) }
+// A call that names an address, asks for addresses or settles options.
+fn put_address_or_options(out: &mut Vec<u8>, call: &Call) -> Result<(), AllocError>
+    requires { IsTrue (is_address_or_options call.now) }
     ensures { OnOk result (out.new.items ≡ out.old.items ++ call_text call.now) }
 {
     match call {
@@ -44,6 +45,7 @@ fn put_name_or_options(out: &mut Vec<u8>, call: &Call) -> Result<(), AllocError>
     }
 }
 
+// A call that asks for a connection, takes one or ends one.
 fn put_connection_request(out: &mut Vec<u8>, call: &Call) -> Result<(), AllocError>
     requires { IsTrue (is_connection_request call.now) }
     ensures { OnOk result (out.new.items ≡ out.old.items ++ call_text call.now) }
@@ -86,6 +88,7 @@ fn put_connection_request(out: &mut Vec<u8>, call: &Call) -> Result<(), AllocErr
     }
 }
 
+// A call that takes what the other side asked or answered about a connection.
 fn put_connection_receipt(out: &mut Vec<u8>, call: &Call) -> Result<(), AllocError>
     requires { IsTrue (is_connection_receipt call.now) }
     ensures { OnOk result (out.new.items ≡ out.old.items ++ call_text call.now) }
@@ -117,6 +120,7 @@ fn put_connection_receipt(out: &mut Vec<u8>, call: &Call) -> Result<(), AllocErr
     }
 }
 
+// A call that sends data or a datagram.
 fn put_send(out: &mut Vec<u8>, call: &Call) -> Result<(), AllocError>
     requires { IsTrue (is_send call.now) }
     ensures { OnOk result (out.new.items ≡ out.old.items ++ call_text call.now) }
@@ -158,6 +162,7 @@ fn put_send(out: &mut Vec<u8>, call: &Call) -> Result<(), AllocError>
     }
 }
 
+// A call that takes data, a datagram or the error of a datagram.
 fn put_receive(out: &mut Vec<u8>, call: &Call) -> Result<(), AllocError>
     requires { IsTrue (is_receive call.now) }
     ensures { OnOk result (out.new.items ≡ out.old.items ++ call_text call.now) }
@@ -211,6 +216,10 @@ fn put_call(out: &mut Vec<u8>, call: &Call) -> Result<(), AllocError>
             put_text(out, prov.name())?;
             put_mode(out, " ", *nonblock)
         }
+        Call::SetMode { fd, nonblock } => {
+            put_number(out, "mode ", fd.0 as u64)?;
+            put_mode(out, " ", *nonblock)
+        }
         Call::TClose { fd } => put_number(out, "close ", fd.0 as u64),
         Call::TUnbind { fd } => put_number(out, "unbind ", fd.0 as u64),
         Call::TSndRel { fd } => put_number(out, "sndrel ", fd.0 as u64),
@@ -219,16 +228,15 @@ fn put_call(out: &mut Vec<u8>, call: &Call) -> Result<(), AllocError>
         Call::TGetState { fd } => put_number(out, "getstate ", fd.0 as u64),
         Call::TSync { fd } => put_number(out, "sync ", fd.0 as u64),
         Call::TGetInfo { fd } => put_number(out, "getinfo ", fd.0 as u64),
-        Call::SetMode { fd, nonblock } => {
-            put_number(out, "mode ", fd.0 as u64)?;
-            put_mode(out, " ", *nonblock)
+        Call::TBind { .. } | Call::TGetProtAddr { .. } | Call::TOptMgmt { .. } => {
+            put_address_or_options(out, call)
         }
-        Call::TBind { .. } | Call::TGetProtAddr { .. } | Call::TOptMgmt { .. } =>
-            put_name_or_options(out, call),
-        Call::TConnect { .. } | Call::TAccept { .. } | Call::TSndDis { .. } =>
-            put_connection_request(out, call),
-        Call::TRcvConnect { .. } | Call::TListen { .. } | Call::TRcvDis { .. } =>
-            put_connection_receipt(out, call),
+        Call::TConnect { .. } | Call::TAccept { .. } | Call::TSndDis { .. } => {
+            put_connection_request(out, call)
+        }
+        Call::TRcvConnect { .. } | Call::TListen { .. } | Call::TRcvDis { .. } => {
+            put_connection_receipt(out, call)
+        }
         Call::TSnd { .. } | Call::TSndV { .. } | Call::TSndUData { .. } | Call::TSndVUData { .. } =>
             put_send(out, call),
         Call::TRcv { .. }

@@ -37,6 +37,7 @@ fn put_info(out: &mut Vec<u8>, info: &Info) -> Result<(), AllocError>
     put_number(out, " ", info.flags as u64)
 }
 
+// What the other side asked or answered about a connection.
 fn put_connection_news(out: &mut Vec<u8>, reply: &Reply) -> Result<(), AllocError>
     requires { IsTrue (is_connection_news reply.now) }
     ensures { OnOk result (out.new.items ≡ out.old.items ++ reply_text reply.now) }
@@ -67,6 +68,7 @@ fn put_connection_news(out: &mut Vec<u8>, reply: &Reply) -> Result<(), AllocErro
     }
 }
 
+// Data, a datagram or the error of a datagram.
 fn put_received(out: &mut Vec<u8>, reply: &Reply) -> Result<(), AllocError>
     requires { IsTrue (is_received reply.now) }
     ensures { OnOk result (out.new.items ≡ out.old.items ++ reply_text reply.now) }
@@ -96,6 +98,7 @@ fn put_received(out: &mut Vec<u8>, reply: &Reply) -> Result<(), AllocError>
     }
 }
 
+// The error of a call that failed.
 fn put_error(out: &mut Vec<u8>, reply: &Reply) -> Result<(), AllocError>
     requires { IsTrue (is_error reply.now) }
     ensures { OnOk result (out.new.items ≡ out.old.items ++ reply_text reply.now) }
@@ -145,12 +148,13 @@ fn put_reply(out: &mut Vec<u8>, reply: &Reply) -> Result<(), AllocError>
             put_number(out, "ok ", *result as u64)?;
             put_octets(out, " ", opt)
         }
-        Reply::Connected { .. } | Reply::Listened { .. } | Reply::Discon { .. } =>
-            put_connection_news(out, reply),
+        Reply::Connected { .. } | Reply::Listened { .. } | Reply::Discon { .. } => {
+            put_connection_news(out, reply)
+        }
         Reply::Got { .. } | Reply::UData { .. } | Reply::UDErr { .. } => put_received(out, reply),
-        Reply::Refused { .. } | Reply::Look { .. } | Reply::Overflow { .. } => put_error(
-            out, reply,
-        ),
+        Reply::Refused { .. } | Reply::Look { .. } | Reply::Overflow { .. } => {
+            put_error(out, reply)
+        }
     }
 }
 
