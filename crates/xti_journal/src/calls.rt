@@ -1,22 +1,19 @@
 //! Calls with their numbers.
 
-ghost use Rattle.std.specs.Prelude.{◌≡◌, ◌++◌, OnOk};
+ghost use Rattle.std.specs.Prelude.{◌≡◌, ◌++◌, OnOk, IsTrue};
 ghost use Rattle.xti_journal.specs.JournalText.{call_text, act_text};
+ghost use Rattle.xti_journal.specs.Families.{is_address_or_options, is_connection_request, is_connection_receipt, is_send, is_receive};
 
 use crate::words::{put_mode, put_most, put_number, put_octets, put_parts, put_sizes, put_text};
 use std::alloc::AllocError;
 use xti_model::{Act, Call};
 
-fn put_call(out: &mut Vec<u8>, call: &Call) -> Result<(), AllocError>
+// A call that names an address, asks for addresses or settles options.
+fn put_address_or_options(out: &mut Vec<u8>, call: &Call) -> Result<(), AllocError>
+    requires { IsTrue (is_address_or_options call.now) }
     ensures { OnOk result (out.new.items ≡ out.old.items ++ call_text call.now) }
 {
     match call {
-        Call::TOpen { prov, nonblock } => {
-            put_text(out, "open ")?;
-            put_text(out, prov.name())?;
-            put_mode(out, " ", *nonblock)
-        }
-        Call::TClose { fd } => put_number(out, "close ", fd.0 as u64),
         Call::TBind {
             fd,
             addr,
@@ -28,7 +25,32 @@ fn put_call(out: &mut Vec<u8>, call: &Call) -> Result<(), AllocError>
             put_number(out, " qlen=", *qlen as u64)?;
             put_number(out, " amax=", *amax as u64)
         }
-        Call::TUnbind { fd } => put_number(out, "unbind ", fd.0 as u64),
+        Call::TGetProtAddr { fd, amax, pmax } => {
+            put_number(out, "getprotaddr ", fd.0 as u64)?;
+            put_number(out, " amax=", *amax as u64)?;
+            put_number(out, " pmax=", *pmax as u64)
+        }
+        Call::TOptMgmt {
+            fd,
+            action,
+            opt,
+            omax,
+        } => {
+            put_number(out, "optmgmt ", fd.0 as u64)?;
+            put_number(out, " ", *action as u64)?;
+            put_octets(out, " opt=", opt)?;
+            put_number(out, " omax=", *omax as u64)
+        }
+        _ => unreachable!(),
+    }
+}
+
+// A call that asks for a connection, takes one or ends one.
+fn put_connection_request(out: &mut Vec<u8>, call: &Call) -> Result<(), AllocError>
+    requires { IsTrue (is_connection_request call.now) }
+    ensures { OnOk result (out.new.items ≡ out.old.items ++ call_text call.now) }
+{
+    match call {
         Call::TConnect {
             fd,
             addr,
@@ -44,6 +66,34 @@ fn put_call(out: &mut Vec<u8>, call: &Call) -> Result<(), AllocError>
             put_octets(out, " udata=", udata)?;
             put_most(out, *amax, *omax, *umax)
         }
+        Call::TAccept {
+            fd,
+            resfd,
+            seq,
+            opt,
+            udata,
+        } => {
+            put_number(out, "accept ", fd.0 as u64)?;
+            put_number(out, " ", resfd.0 as u64)?;
+            put_number(out, " ", seq.0 as u64)?;
+            put_octets(out, " opt=", opt)?;
+            put_octets(out, " udata=", udata)
+        }
+        Call::TSndDis { fd, seq, udata } => {
+            put_number(out, "snddis ", fd.0 as u64)?;
+            put_number(out, " ", seq.0 as u64)?;
+            put_octets(out, " udata=", udata)
+        }
+        _ => unreachable!(),
+    }
+}
+
+// A call that takes what the other side asked or answered about a connection.
+fn put_connection_receipt(out: &mut Vec<u8>, call: &Call) -> Result<(), AllocError>
+    requires { IsTrue (is_connection_receipt call.now) }
+    ensures { OnOk result (out.new.items ≡ out.old.items ++ call_text call.now) }
+{
+    match call {
         Call::TRcvConnect {
             fd,
             amax,
@@ -62,19 +112,20 @@ fn put_call(out: &mut Vec<u8>, call: &Call) -> Result<(), AllocError>
             put_number(out, "listen ", fd.0 as u64)?;
             put_most(out, *amax, *omax, *umax)
         }
-        Call::TAccept {
-            fd,
-            resfd,
-            seq,
-            opt,
-            udata,
-        } => {
-            put_number(out, "accept ", fd.0 as u64)?;
-            put_number(out, " ", resfd.0 as u64)?;
-            put_number(out, " ", seq.0 as u64)?;
-            put_octets(out, " opt=", opt)?;
-            put_octets(out, " udata=", udata)
+        Call::TRcvDis { fd, umax } => {
+            put_number(out, "rcvdis ", fd.0 as u64)?;
+            put_number(out, " umax=", *umax as u64)
         }
+        _ => unreachable!(),
+    }
+}
+
+// A call that sends data or a datagram.
+fn put_send(out: &mut Vec<u8>, call: &Call) -> Result<(), AllocError>
+    requires { IsTrue (is_send call.now) }
+    ensures { OnOk result (out.new.items ≡ out.old.items ++ call_text call.now) }
+{
+    match call {
         Call::TSnd { fd, bytes, flags } => {
             put_number(out, "snd ", fd.0 as u64)?;
             put_octets(out, " data=", bytes)?;
@@ -85,25 +136,6 @@ fn put_call(out: &mut Vec<u8>, call: &Call) -> Result<(), AllocError>
             put_parts(out, " parts=", parts.as_slice())?;
             put_number(out, " flags=", *flags as u64)
         }
-        Call::TRcv { fd, max } => {
-            put_number(out, "rcv ", fd.0 as u64)?;
-            put_number(out, " max=", *max as u64)
-        }
-        Call::TRcvV { fd, sizes } => {
-            put_number(out, "rcvv ", fd.0 as u64)?;
-            put_sizes(out, " sizes=", sizes.as_slice())
-        }
-        Call::TSndDis { fd, seq, udata } => {
-            put_number(out, "snddis ", fd.0 as u64)?;
-            put_number(out, " ", seq.0 as u64)?;
-            put_octets(out, " udata=", udata)
-        }
-        Call::TRcvDis { fd, umax } => {
-            put_number(out, "rcvdis ", fd.0 as u64)?;
-            put_number(out, " umax=", *umax as u64)
-        }
-        Call::TSndRel { fd } => put_number(out, "sndrel ", fd.0 as u64),
-        Call::TRcvRel { fd } => put_number(out, "rcvrel ", fd.0 as u64),
         Call::TSndUData {
             fd,
             addr,
@@ -125,6 +157,24 @@ fn put_call(out: &mut Vec<u8>, call: &Call) -> Result<(), AllocError>
             put_octets(out, " addr=", addr)?;
             put_octets(out, " opt=", opt)?;
             put_parts(out, " parts=", parts.as_slice())
+        }
+        _ => unreachable!(),
+    }
+}
+
+// A call that takes data, a datagram or the error of a datagram.
+fn put_receive(out: &mut Vec<u8>, call: &Call) -> Result<(), AllocError>
+    requires { IsTrue (is_receive call.now) }
+    ensures { OnOk result (out.new.items ≡ out.old.items ++ call_text call.now) }
+{
+    match call {
+        Call::TRcv { fd, max } => {
+            put_number(out, "rcv ", fd.0 as u64)?;
+            put_number(out, " max=", *max as u64)
+        }
+        Call::TRcvV { fd, sizes } => {
+            put_number(out, "rcvv ", fd.0 as u64)?;
+            put_sizes(out, " sizes=", sizes.as_slice())
         }
         Call::TRcvUData {
             fd,
@@ -153,30 +203,47 @@ fn put_call(out: &mut Vec<u8>, call: &Call) -> Result<(), AllocError>
             put_number(out, " amax=", *amax as u64)?;
             put_number(out, " omax=", *omax as u64)
         }
-        Call::TLookAt { fd } => put_number(out, "look ", fd.0 as u64),
-        Call::TGetState { fd } => put_number(out, "getstate ", fd.0 as u64),
-        Call::TSync { fd } => put_number(out, "sync ", fd.0 as u64),
-        Call::TGetInfo { fd } => put_number(out, "getinfo ", fd.0 as u64),
-        Call::TGetProtAddr { fd, amax, pmax } => {
-            put_number(out, "getprotaddr ", fd.0 as u64)?;
-            put_number(out, " amax=", *amax as u64)?;
-            put_number(out, " pmax=", *pmax as u64)
-        }
-        Call::TOptMgmt {
-            fd,
-            action,
-            opt,
-            omax,
-        } => {
-            put_number(out, "optmgmt ", fd.0 as u64)?;
-            put_number(out, " ", *action as u64)?;
-            put_octets(out, " opt=", opt)?;
-            put_number(out, " omax=", *omax as u64)
+        _ => unreachable!(),
+    }
+}
+
+fn put_call(out: &mut Vec<u8>, call: &Call) -> Result<(), AllocError>
+    ensures { OnOk result (out.new.items ≡ out.old.items ++ call_text call.now) }
+{
+    match call {
+        Call::TOpen { prov, nonblock } => {
+            put_text(out, "open ")?;
+            put_text(out, prov.name())?;
+            put_mode(out, " ", *nonblock)
         }
         Call::SetMode { fd, nonblock } => {
             put_number(out, "mode ", fd.0 as u64)?;
             put_mode(out, " ", *nonblock)
         }
+        Call::TClose { fd } => put_number(out, "close ", fd.0 as u64),
+        Call::TUnbind { fd } => put_number(out, "unbind ", fd.0 as u64),
+        Call::TSndRel { fd } => put_number(out, "sndrel ", fd.0 as u64),
+        Call::TRcvRel { fd } => put_number(out, "rcvrel ", fd.0 as u64),
+        Call::TLookAt { fd } => put_number(out, "look ", fd.0 as u64),
+        Call::TGetState { fd } => put_number(out, "getstate ", fd.0 as u64),
+        Call::TSync { fd } => put_number(out, "sync ", fd.0 as u64),
+        Call::TGetInfo { fd } => put_number(out, "getinfo ", fd.0 as u64),
+        Call::TBind { .. } | Call::TGetProtAddr { .. } | Call::TOptMgmt { .. } => {
+            put_address_or_options(out, call)
+        }
+        Call::TConnect { .. } | Call::TAccept { .. } | Call::TSndDis { .. } => {
+            put_connection_request(out, call)
+        }
+        Call::TRcvConnect { .. } | Call::TListen { .. } | Call::TRcvDis { .. } => {
+            put_connection_receipt(out, call)
+        }
+        Call::TSnd { .. } | Call::TSndV { .. } | Call::TSndUData { .. } | Call::TSndVUData { .. } =>
+            put_send(out, call),
+        Call::TRcv { .. }
+        | Call::TRcvV { .. }
+        | Call::TRcvUData { .. }
+        | Call::TRcvVUData { .. }
+        | Call::TRcvUDErr { .. } => put_receive(out, call),
     }
 }
 

@@ -1,7 +1,8 @@
 //! What calls answered.
 
-ghost use Rattle.std.specs.Prelude.{◌≡◌, ◌++◌, OnOk};
+ghost use Rattle.std.specs.Prelude.{◌≡◌, ◌++◌, OnOk, IsTrue};
 ghost use Rattle.xti_journal.specs.JournalText.{event_text, sizes_text, info_text, reply_text, outcome_text};
+ghost use Rattle.xti_journal.specs.Families.{is_connection_news, is_received, is_error};
 
 use crate::words::{put_limit, put_number, put_octets, put_text};
 use std::alloc::AllocError;
@@ -36,16 +37,12 @@ fn put_info(out: &mut Vec<u8>, info: &Info) -> Result<(), AllocError>
     put_number(out, " ", info.flags as u64)
 }
 
-fn put_reply(out: &mut Vec<u8>, reply: &Reply) -> Result<(), AllocError>
+// What the other side asked or answered about a connection.
+fn put_connection_news(out: &mut Vec<u8>, reply: &Reply) -> Result<(), AllocError>
+    requires { IsTrue (is_connection_news reply.now) }
     ensures { OnOk result (out.new.items ≡ out.old.items ++ reply_text reply.now) }
 {
     match reply {
-        Reply::Plain => put_text(out, "ok"),
-        Reply::Opened { fd } => put_number(out, "ok ", fd.0 as u64),
-        Reply::Bound { addr, qlen } => {
-            put_octets(out, "ok ", addr)?;
-            put_number(out, " ", *qlen as u64)
-        }
         Reply::Connected { addr, opt, udata } => {
             put_octets(out, "ok ", addr)?;
             put_octets(out, " ", opt)?;
@@ -62,15 +59,24 @@ fn put_reply(out: &mut Vec<u8>, reply: &Reply) -> Result<(), AllocError>
             put_octets(out, " ", opt)?;
             put_octets(out, " ", udata)
         }
-        Reply::Sent { n } => put_number(out, "ok ", *n as u64),
-        Reply::Got { bytes, flags } => {
-            put_octets(out, "ok ", bytes)?;
-            put_number(out, " ", *flags as u64)
-        }
         Reply::Discon { reason, seq, udata } => {
             put_number(out, "ok ", *reason as u64)?;
             put_number(out, " ", seq.0 as u64)?;
             put_octets(out, " ", udata)
+        }
+        _ => unreachable!(),
+    }
+}
+
+// Data, a datagram or the error of a datagram.
+fn put_received(out: &mut Vec<u8>, reply: &Reply) -> Result<(), AllocError>
+    requires { IsTrue (is_received reply.now) }
+    ensures { OnOk result (out.new.items ≡ out.old.items ++ reply_text reply.now) }
+{
+    match reply {
+        Reply::Got { bytes, flags } => {
+            put_octets(out, "ok ", bytes)?;
+            put_number(out, " ", *flags as u64)
         }
         Reply::UData {
             addr,
@@ -88,6 +94,40 @@ fn put_reply(out: &mut Vec<u8>, reply: &Reply) -> Result<(), AllocError>
             put_octets(out, " ", opt)?;
             put_number(out, " ", *code as u64)
         }
+        _ => unreachable!(),
+    }
+}
+
+// The error of a call that failed.
+fn put_error(out: &mut Vec<u8>, reply: &Reply) -> Result<(), AllocError>
+    requires { IsTrue (is_error reply.now) }
+    ensures { OnOk result (out.new.items ≡ out.old.items ++ reply_text reply.now) }
+{
+    match reply {
+        Reply::Refused { errno } => {
+            put_text(out, "err ")?;
+            put_text(out, errno.name())
+        }
+        Reply::Look { event } => {
+            put_text(out, "err TLOOK ")?;
+            put_text(out, event.name())
+        }
+        Reply::Overflow { seq } => put_number(out, "err TBUFOVFLW ", seq.0 as u64),
+        _ => unreachable!(),
+    }
+}
+
+fn put_reply(out: &mut Vec<u8>, reply: &Reply) -> Result<(), AllocError>
+    ensures { OnOk result (out.new.items ≡ out.old.items ++ reply_text reply.now) }
+{
+    match reply {
+        Reply::Plain => put_text(out, "ok"),
+        Reply::Opened { fd } => put_number(out, "ok ", fd.0 as u64),
+        Reply::Bound { addr, qlen } => {
+            put_octets(out, "ok ", addr)?;
+            put_number(out, " ", *qlen as u64)
+        }
+        Reply::Sent { n } => put_number(out, "ok ", *n as u64),
         Reply::Seen { event } => {
             put_text(out, "ok ")?;
             put_text(out, event_name(event))
@@ -108,15 +148,13 @@ fn put_reply(out: &mut Vec<u8>, reply: &Reply) -> Result<(), AllocError>
             put_number(out, "ok ", *result as u64)?;
             put_octets(out, " ", opt)
         }
-        Reply::Refused { errno } => {
-            put_text(out, "err ")?;
-            put_text(out, errno.name())
+        Reply::Connected { .. } | Reply::Listened { .. } | Reply::Discon { .. } => {
+            put_connection_news(out, reply)
         }
-        Reply::Look { event } => {
-            put_text(out, "err TLOOK ")?;
-            put_text(out, event.name())
+        Reply::Got { .. } | Reply::UData { .. } | Reply::UDErr { .. } => put_received(out, reply),
+        Reply::Refused { .. } | Reply::Look { .. } | Reply::Overflow { .. } => {
+            put_error(out, reply)
         }
-        Reply::Overflow { seq } => put_number(out, "err TBUFOVFLW ", seq.0 as u64),
     }
 }
 
