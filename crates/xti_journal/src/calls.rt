@@ -2,7 +2,7 @@
 
 ghost use Rattle.std.specs.Prelude.{◌≡◌, ◌++◌, OnOk, IsTrue};
 ghost use Rattle.xti_journal.specs.JournalText.{call_text, act_text};
-ghost use Rattle.xti_journal.specs.Families.{is_address_or_options, is_connection_request, is_connection_receipt, is_send, is_receive};
+ghost use Rattle.xti_model.specs.Families.{is_address_or_options, is_connection_request, is_connection_receipt, is_send, is_receive};
 
 use crate::words::{put_mode, put_most, put_number, put_octets, put_parts, put_sizes, put_text};
 use std::alloc::AllocError;

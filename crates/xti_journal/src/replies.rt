@@ -2,7 +2,7 @@
 
 ghost use Rattle.std.specs.Prelude.{◌≡◌, ◌++◌, OnOk, IsTrue};
 ghost use Rattle.xti_journal.specs.JournalText.{event_text, sizes_text, info_text, reply_text, outcome_text};
-ghost use Rattle.xti_journal.specs.Families.{is_connection_news, is_received, is_error};
+ghost use Rattle.xti_model.specs.Families.{is_connection_news, is_received, is_error};
 
 use crate::words::{put_limit, put_number, put_octets, put_text};
 use std::alloc::AllocError;

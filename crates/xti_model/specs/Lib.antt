@@ -19,3 +19,4 @@ pub mod Built
 pub mod Work
 pub mod Complete
 pub mod Streams
+pub mod Families

@@ -1,6 +1,7 @@
 //! The calls of XTI as plain data.
 
-ghost use Rattle.std.specs.Prelude.{◌≡◌, IfOk};
+ghost use Rattle.std.specs.Prelude.{◌≡◌, IfOk, IsTrue};
+ghost use Rattle.xti_model.specs.Families.{is_address_or_options, is_connection_request, is_connection_receipt, is_send, is_receive};
 
 use std::alloc::AllocError;
 use xti_base::{Fd, Octets, Parts, Prov, Seq, Sizes};
@@ -171,6 +172,208 @@ pub enum Call {
     },
 }
 
+// A call that names an address, asks for addresses or settles options, once more.
+fn copy_address_or_options(call: &Call) -> Result<Call, AllocError>
+    requires { IsTrue (is_address_or_options call.now) }
+    ensures { IfOk result (λ copy. copy ≡ call.now) }
+{
+    match call {
+        Call::TBind {
+            fd,
+            addr,
+            qlen,
+            amax,
+        } => Ok(Call::TBind {
+            fd: *fd,
+            addr: addr.copy()?,
+            qlen: *qlen,
+            amax: *amax,
+        }),
+        Call::TGetProtAddr { fd, amax, pmax } => Ok(Call::TGetProtAddr {
+            fd: *fd,
+            amax: *amax,
+            pmax: *pmax,
+        }),
+        Call::TOptMgmt {
+            fd,
+            action,
+            opt,
+            omax,
+        } => Ok(Call::TOptMgmt {
+            fd: *fd,
+            action: *action,
+            opt: opt.copy()?,
+            omax: *omax,
+        }),
+        _ => unreachable!(),
+    }
+}
+
+// A call that asks for a connection, takes one or ends one, once more.
+fn copy_connection_request(call: &Call) -> Result<Call, AllocError>
+    requires { IsTrue (is_connection_request call.now) }
+    ensures { IfOk result (λ copy. copy ≡ call.now) }
+{
+    match call {
+        Call::TConnect {
+            fd,
+            addr,
+            opt,
+            udata,
+            amax,
+            omax,
+            umax,
+        } => Ok(Call::TConnect {
+            fd: *fd,
+            addr: addr.copy()?,
+            opt: opt.copy()?,
+            udata: udata.copy()?,
+            amax: *amax,
+            omax: *omax,
+            umax: *umax,
+        }),
+        Call::TAccept {
+            fd,
+            resfd,
+            seq,
+            opt,
+            udata,
+        } => Ok(Call::TAccept {
+            fd: *fd,
+            resfd: *resfd,
+            seq: *seq,
+            opt: opt.copy()?,
+            udata: udata.copy()?,
+        }),
+        Call::TSndDis { fd, seq, udata } => Ok(Call::TSndDis {
+            fd: *fd,
+            seq: *seq,
+            udata: udata.copy()?,
+        }),
+        _ => unreachable!(),
+    }
+}
+
+// A call that takes what the other side asked or answered about a connection, once more.
+fn copy_connection_receipt(call: &Call) -> Result<Call, AllocError>
+    requires { IsTrue (is_connection_receipt call.now) }
+    ensures { IfOk result (λ copy. copy ≡ call.now) }
+{
+    match call {
+        Call::TRcvConnect {
+            fd,
+            amax,
+            omax,
+            umax,
+        } => Ok(Call::TRcvConnect {
+            fd: *fd,
+            amax: *amax,
+            omax: *omax,
+            umax: *umax,
+        }),
+        Call::TListen {
+            fd,
+            amax,
+            omax,
+            umax,
+        } => Ok(Call::TListen {
+            fd: *fd,
+            amax: *amax,
+            omax: *omax,
+            umax: *umax,
+        }),
+        Call::TRcvDis { fd, umax } => Ok(Call::TRcvDis {
+            fd: *fd,
+            umax: *umax,
+        }),
+        _ => unreachable!(),
+    }
+}
+
+// A call that sends data or a datagram, once more.
+fn copy_send(call: &Call) -> Result<Call, AllocError>
+    requires { IsTrue (is_send call.now) }
+    ensures { IfOk result (λ copy. copy ≡ call.now) }
+{
+    match call {
+        Call::TSnd { fd, bytes, flags } => Ok(Call::TSnd {
+            fd: *fd,
+            bytes: bytes.copy()?,
+            flags: *flags,
+        }),
+        Call::TSndV { fd, parts, flags } => Ok(Call::TSndV {
+            fd: *fd,
+            parts: parts.copy()?,
+            flags: *flags,
+        }),
+        Call::TSndUData {
+            fd,
+            addr,
+            opt,
+            bytes,
+        } => Ok(Call::TSndUData {
+            fd: *fd,
+            addr: addr.copy()?,
+            opt: opt.copy()?,
+            bytes: bytes.copy()?,
+        }),
+        Call::TSndVUData {
+            fd,
+            addr,
+            opt,
+            parts,
+        } => Ok(Call::TSndVUData {
+            fd: *fd,
+            addr: addr.copy()?,
+            opt: opt.copy()?,
+            parts: parts.copy()?,
+        }),
+        _ => unreachable!(),
+    }
+}
+
+// A call that takes data, a datagram or the error of a datagram, once more.
+fn copy_receive(call: &Call) -> Result<Call, AllocError>
+    requires { IsTrue (is_receive call.now) }
+    ensures { IfOk result (λ copy. copy ≡ call.now) }
+{
+    match call {
+        Call::TRcv { fd, max } => Ok(Call::TRcv { fd: *fd, max: *max }),
+        Call::TRcvV { fd, sizes } => Ok(Call::TRcvV {
+            fd: *fd,
+            sizes: sizes.copy()?,
+        }),
+        Call::TRcvUData {
+            fd,
+            max,
+            amax,
+            omax,
+        } => Ok(Call::TRcvUData {
+            fd: *fd,
+            max: *max,
+            amax: *amax,
+            omax: *omax,
+        }),
+        Call::TRcvVUData {
+            fd,
+            sizes,
+            amax,
+            omax,
+        } => Ok(Call::TRcvVUData {
+            fd: *fd,
+            sizes: sizes.copy()?,
+            amax: *amax,
+            omax: *omax,
+        }),
+        Call::TRcvUDErr { fd, amax, omax } => Ok(Call::TRcvUDErr {
+            fd: *fd,
+            amax: *amax,
+            omax: *omax,
+        }),
+        _ => unreachable!(),
+    }
+}
+
 impl Call {
     /// The same call once more.
     pub fn copy(&self) -> Result<Call, AllocError>
@@ -182,169 +385,32 @@ impl Call {
                 nonblock: *nonblock,
             }),
             Call::TClose { fd } => Ok(Call::TClose { fd: *fd }),
-            Call::TBind {
-                fd,
-                addr,
-                qlen,
-                amax,
-            } => Ok(Call::TBind {
-                fd: *fd,
-                addr: addr.copy()?,
-                qlen: *qlen,
-                amax: *amax,
-            }),
             Call::TUnbind { fd } => Ok(Call::TUnbind { fd: *fd }),
-            Call::TConnect {
-                fd,
-                addr,
-                opt,
-                udata,
-                amax,
-                omax,
-                umax,
-            } => Ok(Call::TConnect {
-                fd: *fd,
-                addr: addr.copy()?,
-                opt: opt.copy()?,
-                udata: udata.copy()?,
-                amax: *amax,
-                omax: *omax,
-                umax: *umax,
-            }),
-            Call::TRcvConnect {
-                fd,
-                amax,
-                omax,
-                umax,
-            } => Ok(Call::TRcvConnect {
-                fd: *fd,
-                amax: *amax,
-                omax: *omax,
-                umax: *umax,
-            }),
-            Call::TListen {
-                fd,
-                amax,
-                omax,
-                umax,
-            } => Ok(Call::TListen {
-                fd: *fd,
-                amax: *amax,
-                omax: *omax,
-                umax: *umax,
-            }),
-            Call::TAccept {
-                fd,
-                resfd,
-                seq,
-                opt,
-                udata,
-            } => Ok(Call::TAccept {
-                fd: *fd,
-                resfd: *resfd,
-                seq: *seq,
-                opt: opt.copy()?,
-                udata: udata.copy()?,
-            }),
-            Call::TSnd { fd, bytes, flags } => Ok(Call::TSnd {
-                fd: *fd,
-                bytes: bytes.copy()?,
-                flags: *flags,
-            }),
-            Call::TSndV { fd, parts, flags } => Ok(Call::TSndV {
-                fd: *fd,
-                parts: parts.copy()?,
-                flags: *flags,
-            }),
-            Call::TRcv { fd, max } => Ok(Call::TRcv { fd: *fd, max: *max }),
-            Call::TRcvV { fd, sizes } => Ok(Call::TRcvV {
-                fd: *fd,
-                sizes: sizes.copy()?,
-            }),
-            Call::TSndDis { fd, seq, udata } => Ok(Call::TSndDis {
-                fd: *fd,
-                seq: *seq,
-                udata: udata.copy()?,
-            }),
-            Call::TRcvDis { fd, umax } => Ok(Call::TRcvDis {
-                fd: *fd,
-                umax: *umax,
-            }),
             Call::TSndRel { fd } => Ok(Call::TSndRel { fd: *fd }),
             Call::TRcvRel { fd } => Ok(Call::TRcvRel { fd: *fd }),
-            Call::TSndUData {
-                fd,
-                addr,
-                opt,
-                bytes,
-            } => Ok(Call::TSndUData {
-                fd: *fd,
-                addr: addr.copy()?,
-                opt: opt.copy()?,
-                bytes: bytes.copy()?,
-            }),
-            Call::TSndVUData {
-                fd,
-                addr,
-                opt,
-                parts,
-            } => Ok(Call::TSndVUData {
-                fd: *fd,
-                addr: addr.copy()?,
-                opt: opt.copy()?,
-                parts: parts.copy()?,
-            }),
-            Call::TRcvUData {
-                fd,
-                max,
-                amax,
-                omax,
-            } => Ok(Call::TRcvUData {
-                fd: *fd,
-                max: *max,
-                amax: *amax,
-                omax: *omax,
-            }),
-            Call::TRcvVUData {
-                fd,
-                sizes,
-                amax,
-                omax,
-            } => Ok(Call::TRcvVUData {
-                fd: *fd,
-                sizes: sizes.copy()?,
-                amax: *amax,
-                omax: *omax,
-            }),
-            Call::TRcvUDErr { fd, amax, omax } => Ok(Call::TRcvUDErr {
-                fd: *fd,
-                amax: *amax,
-                omax: *omax,
-            }),
             Call::TLookAt { fd } => Ok(Call::TLookAt { fd: *fd }),
             Call::TGetState { fd } => Ok(Call::TGetState { fd: *fd }),
             Call::TSync { fd } => Ok(Call::TSync { fd: *fd }),
             Call::TGetInfo { fd } => Ok(Call::TGetInfo { fd: *fd }),
-            Call::TGetProtAddr { fd, amax, pmax } => Ok(Call::TGetProtAddr {
-                fd: *fd,
-                amax: *amax,
-                pmax: *pmax,
-            }),
-            Call::TOptMgmt {
-                fd,
-                action,
-                opt,
-                omax,
-            } => Ok(Call::TOptMgmt {
-                fd: *fd,
-                action: *action,
-                opt: opt.copy()?,
-                omax: *omax,
-            }),
             Call::SetMode { fd, nonblock } => Ok(Call::SetMode {
                 fd: *fd,
                 nonblock: *nonblock,
             }),
+            Call::TBind { .. } | Call::TGetProtAddr { .. } | Call::TOptMgmt { .. } =>
+                copy_address_or_options(self),
+            Call::TConnect { .. } | Call::TAccept { .. } | Call::TSndDis { .. } =>
+                copy_connection_request(self),
+            Call::TRcvConnect { .. } | Call::TListen { .. } | Call::TRcvDis { .. } =>
+                copy_connection_receipt(self),
+            Call::TSnd { .. }
+            | Call::TSndV { .. }
+            | Call::TSndUData { .. }
+            | Call::TSndVUData { .. } => copy_send(self),
+            Call::TRcv { .. }
+            | Call::TRcvV { .. }
+            | Call::TRcvUData { .. }
+            | Call::TRcvVUData { .. }
+            | Call::TRcvUDErr { .. } => copy_receive(self),
         }
     }
 }

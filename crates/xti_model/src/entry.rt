@@ -1,6 +1,7 @@
 //! Replies, outcomes and the entries of a history.
 
-ghost use Rattle.std.specs.Prelude.{◌≡◌, IfOk};
+ghost use Rattle.std.specs.Prelude.{◌≡◌, IfOk, IsTrue};
+ghost use Rattle.xti_model.specs.Families.{is_connection_news, is_received};
 
 use crate::call::Call;
 use std::alloc::AllocError;
@@ -97,6 +98,67 @@ pub enum Reply {
     },
 }
 
+// What the other side asked or answered about a connection, once more.
+fn copy_connection_news(reply: &Reply) -> Result<Reply, AllocError>
+    requires { IsTrue (is_connection_news reply.now) }
+    ensures { IfOk result (λ copy. copy ≡ reply.now) }
+{
+    match reply {
+        Reply::Connected { addr, opt, udata } => Ok(Reply::Connected {
+            addr: addr.copy()?,
+            opt: opt.copy()?,
+            udata: udata.copy()?,
+        }),
+        Reply::Listened {
+            seq,
+            addr,
+            opt,
+            udata,
+        } => Ok(Reply::Listened {
+            seq: *seq,
+            addr: addr.copy()?,
+            opt: opt.copy()?,
+            udata: udata.copy()?,
+        }),
+        Reply::Discon { reason, seq, udata } => Ok(Reply::Discon {
+            reason: *reason,
+            seq: *seq,
+            udata: udata.copy()?,
+        }),
+        _ => unreachable!(),
+    }
+}
+
+// Data, a datagram or the error of a datagram, once more.
+fn copy_received(reply: &Reply) -> Result<Reply, AllocError>
+    requires { IsTrue (is_received reply.now) }
+    ensures { IfOk result (λ copy. copy ≡ reply.now) }
+{
+    match reply {
+        Reply::Got { bytes, flags } => Ok(Reply::Got {
+            bytes: bytes.copy()?,
+            flags: *flags,
+        }),
+        Reply::UData {
+            addr,
+            opt,
+            bytes,
+            flags,
+        } => Ok(Reply::UData {
+            addr: addr.copy()?,
+            opt: opt.copy()?,
+            bytes: bytes.copy()?,
+            flags: *flags,
+        }),
+        Reply::UDErr { addr, opt, code } => Ok(Reply::UDErr {
+            addr: addr.copy()?,
+            opt: opt.copy()?,
+            code: *code,
+        }),
+        _ => unreachable!(),
+    }
+}
+
 impl Reply {
     /// The same reply once more.
     pub fn copy(&self) -> Result<Reply, AllocError>
@@ -109,48 +171,7 @@ impl Reply {
                 addr: addr.copy()?,
                 qlen: *qlen,
             }),
-            Reply::Connected { addr, opt, udata } => Ok(Reply::Connected {
-                addr: addr.copy()?,
-                opt: opt.copy()?,
-                udata: udata.copy()?,
-            }),
-            Reply::Listened {
-                seq,
-                addr,
-                opt,
-                udata,
-            } => Ok(Reply::Listened {
-                seq: *seq,
-                addr: addr.copy()?,
-                opt: opt.copy()?,
-                udata: udata.copy()?,
-            }),
             Reply::Sent { n } => Ok(Reply::Sent { n: *n }),
-            Reply::Got { bytes, flags } => Ok(Reply::Got {
-                bytes: bytes.copy()?,
-                flags: *flags,
-            }),
-            Reply::Discon { reason, seq, udata } => Ok(Reply::Discon {
-                reason: *reason,
-                seq: *seq,
-                udata: udata.copy()?,
-            }),
-            Reply::UData {
-                addr,
-                opt,
-                bytes,
-                flags,
-            } => Ok(Reply::UData {
-                addr: addr.copy()?,
-                opt: opt.copy()?,
-                bytes: bytes.copy()?,
-                flags: *flags,
-            }),
-            Reply::UDErr { addr, opt, code } => Ok(Reply::UDErr {
-                addr: addr.copy()?,
-                opt: opt.copy()?,
-                code: *code,
-            }),
             Reply::Seen { event } => Ok(Reply::Seen { event: *event }),
             Reply::Stands { state } => Ok(Reply::Stands { state: *state }),
             Reply::Limits { info } => Ok(Reply::Limits { info: *info }),
@@ -165,6 +186,9 @@ impl Reply {
             Reply::Refused { errno } => Ok(Reply::Refused { errno: *errno }),
             Reply::Look { event } => Ok(Reply::Look { event: *event }),
             Reply::Overflow { seq } => Ok(Reply::Overflow { seq: *seq }),
+            Reply::Connected { .. } | Reply::Listened { .. } | Reply::Discon { .. } =>
+                copy_connection_news(self),
+            Reply::Got { .. } | Reply::UData { .. } | Reply::UDErr { .. } => copy_received(self),
         }
     }
 }

@@ -1,4 +1,4 @@
--- Families of calls and of replies, of which each has a function that writes its lines.
+-- Families of calls and of replies.
 use Rattle.std.specs.Prelude.{Bool, true, false}
 use Rattle.xti_model.specs.declared.call.Call.{Call}
 use Rattle.xti_model.specs.declared.call.Call.TheVariants.{TBind, TConnect, TRcvConnect, TListen, TAccept, TSnd, TSndV, TRcv, TRcvV, TSndDis, TRcvDis, TSndUData, TSndVUData, TRcvUData, TRcvVUData, TRcvUDErr, TGetProtAddr, TOptMgmt}
