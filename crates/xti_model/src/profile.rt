@@ -34,12 +34,14 @@ pub struct Providers {
 /// The most bytes of a message and of a buffer.
 const MOST: u32 = 65536;
 
+/// Whether a message or a buffer may have so many bytes.
 fn is_size(bytes: u32) -> bool
     ensures { result ≡ is_size bytes }
 {
     1 <= bytes && bytes <= MOST
 }
 
+/// Whether messages have ends, and a limit.
 fn has_limit(tsdu: Limit) -> bool
     ensures { result ≡ has_limit tsdu }
 {
@@ -49,6 +51,7 @@ fn has_limit(tsdu: Limit) -> bool
     }
 }
 
+/// Whether messages have ends, with a limit or without.
 fn has_messages(tsdu: Limit) -> bool
     ensures { result ≡ has_messages tsdu }
 {
@@ -58,6 +61,7 @@ fn has_messages(tsdu: Limit) -> bool
     }
 }
 
+/// Whether bytes are sent without ends.
 fn is_stream(tsdu: Limit) -> bool
     ensures { result ≡ is_stream tsdu }
 {
@@ -118,9 +122,10 @@ impl Providers {
             },
         }
     }
-    /// Whether a script may set these values. Each message size is 1 to 65536 bytes, and without a limit only for
-    /// connections; that of `ticotsord` is also 0, and then no message may be empty. `same_addr` is for connections
-    /// only, and each buffer has 1 to 65536 bytes. Takes no memory.
+
+    /// Whether a script may set these values. The message size is 1 to 65536 bytes; for connections it may also be
+    /// without a limit, and for `ticotsord` 0 bytes, and then no message may be empty. `same_addr` is for
+    /// connections only. Each buffer has 1 to 65536 bytes. Takes no memory.
     pub fn valid(&self) -> bool
         ensures { result ≡ valid self.now }
     {
