@@ -15,97 +15,98 @@ use xti_io::{MemSink, MemSource, SureSink, SureSource};
 struct Faulty {
     name: &'static str,
     input: &'static str,
-    failed_read: Option<u32>,
-    failed_write: Option<u32>,
+    failed_read: u32,
+    failed_write: u32,
     status: u8,
     held: &'static str,
 }
 
 const EMPTY_SCRIPT: &str = "xti-script 1\n";
 
+/// The number of a call that no run comes to.
+const NEVER: u32 = 1_000_000;
+
 const FAULTY: [Faulty; 9] = [
     Faulty {
         name: "the first read",
         input: EMPTY_SCRIPT,
-        failed_read: Some(0),
-        failed_write: None,
+        failed_read: 0,
+        failed_write: NEVER,
         status: 5,
         held: "",
     },
     Faulty {
         name: "the second read",
         input: EMPTY_SCRIPT,
-        failed_read: Some(1),
-        failed_write: None,
+        failed_read: 1,
+        failed_write: NEVER,
         status: 5,
         held: "",
     },
     Faulty {
         name: "the read that would find the end",
         input: EMPTY_SCRIPT,
-        failed_read: Some(2),
-        failed_write: None,
+        failed_read: 2,
+        failed_write: NEVER,
         status: 5,
         held: "",
     },
     Faulty {
         name: "a read that never comes",
         input: EMPTY_SCRIPT,
-        failed_read: Some(3),
-        failed_write: None,
+        failed_read: 3,
+        failed_write: NEVER,
         status: 0,
         held: EMPTY_JOURNAL,
     },
     Faulty {
         name: "the first write",
         input: EMPTY_SCRIPT,
-        failed_read: None,
-        failed_write: Some(0),
+        failed_read: NEVER,
+        failed_write: 0,
         status: 6,
         held: "",
     },
     Faulty {
         name: "the second write",
         input: EMPTY_SCRIPT,
-        failed_read: None,
-        failed_write: Some(1),
+        failed_read: NEVER,
+        failed_write: 1,
         status: 6,
         held: "xti-journa",
     },
     Faulty {
         name: "a write that never comes",
         input: EMPTY_SCRIPT,
-        failed_read: None,
-        failed_write: Some(25),
+        failed_read: NEVER,
+        failed_write: 25,
         status: 0,
         held: EMPTY_JOURNAL,
     },
     Faulty {
         name: "the second write about an input that is refused",
         input: "",
-        failed_read: None,
-        failed_write: Some(1),
+        failed_read: NEVER,
+        failed_write: 1,
         status: 6,
         held: "refused li",
     },
     Faulty {
         name: "a read and a write",
         input: EMPTY_SCRIPT,
-        failed_read: Some(1),
-        failed_write: Some(0),
+        failed_read: 1,
+        failed_write: 0,
         status: 5,
         held: "",
     },
 ];
 
-/// The list of this one call, or of none.
-fn only(alloc: Global, call: Option<u32>) -> Result<Calls, AllocError>
+/// The list of this one call.
+fn only(alloc: Global, call: u32) -> Result<Calls, AllocError>
     ensures { IfOk result (λ calls. is_listed (2 ^ 64 - 1) calls ≡ false) }
 {
     let mut calls = Calls::new(alloc);
-    if let Some(number) = call {
-        calls.push(number as u64)?;
-    }
+    calls.push(call as u64)?;
     Ok(calls)
 }
 

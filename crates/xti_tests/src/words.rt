@@ -18,8 +18,8 @@ const NO_COMMANDS: [&[&str]; 7] = [
 
 fn words_of(alloc: Global, texts: &[&str]) -> Result<Words, AllocError> {
     let mut words = Words::new(alloc);
-    for text in texts {
-        words.push(text)?;
+    for word in texts {
+        words.push(word)?;
     }
     Ok(words)
 }
