@@ -37,7 +37,10 @@ fn told(words: &[String]) -> Option<&'static str> {
 }
 
 /// Runs the words over standard input and output; the usage goes to standard error where they are no command.
-fn run<R: Threads + Wait + Sync + Input + Print + Eprint + AllocGlobal>(rt: &R, words: &Words) -> u8 {
+fn run<R: Threads + Wait + Sync + Input + Print + Eprint + AllocGlobal>(
+    rt: &R,
+    words: &Words,
+) -> u8 {
     let mut source = StdSource::new(rt.reader());
     let mut sink = StdSink::new(io::writer(rt));
     let status = program(rt, rt.alloc(), words, &mut source, &mut sink, &NoGate).0;
@@ -58,7 +61,9 @@ fn given<R: Env + AllocGlobal>(rt: &R) -> Result<Vec<String>, AllocError> {
 }
 
 /// Answers the words behind the program's own name; the status, or want of memory.
-fn answer<R: Threads + Wait + Sync + Input + Print + Eprint + Env + AllocGlobal>(rt: &R) -> Result<u8, AllocError> {
+fn answer<R: Threads + Wait + Sync + Input + Print + Eprint + Env + AllocGlobal>(
+    rt: &R,
+) -> Result<u8, AllocError> {
     let given = given(rt)?;
     if let Some(text) = told(given.as_slice()) {
         return Ok(match print!(rt; "{text}") {

@@ -1,5 +1,5 @@
 -- A bind that no row refuses.
-use Rattle.std.proofs.Common.{◌≡◌, ℕ, Bool, true, false, not, cond, ltb, List, [], ◌∷◌, length, Option, Some, None, refl, sym, ap, ◌∙◌}
+use Rattle.std.proofs.Common.{◌≡◌, ℕ, Bool, true, false, cond, ltb, List, [], ◌∷◌, length, Option, Some, None, refl}
 use Rattle.std.specs.List.{list_any}
 use Rattle.xti_base.specs.declared.kinds.State.TheVariants.{T_UNBND}
 use Rattle.xti_model.specs.declared.profile.Providers.{Providers}
@@ -8,7 +8,7 @@ use Rattle.xti_model.specs.World.{World, endpoint, the_switch}
 use Rattle.xti_model.specs.Switch.{chosen}
 use Rattle.xti_model.specs.Events.{is_state}
 use Rattle.xti_model.specs.Plan.{field, is_too_long, Refusal, loses}
-use Rattle.xti_model.specs.Step.{Step, step_of, step_by}
+use Rattle.xti_model.specs.Step.{step_of, step_by}
 use Rattle.xti_model.specs.Calls.Bind as Bind
 use Rattle.xti_world.specs.Taken.{bound}
 

@@ -5,7 +5,7 @@ use Rattle.std.proofs.lemmas.List.{get_or-map, length-map, length-set, map-set}
 use Rattle.std.proofs.Math.Seq.{map-set_same}
 use Rattle.xti_base.specs.declared.kinds.Prov.{Prov}
 use Rattle.xti_model.specs.Endpoint.{Endpoint}
-use Rattle.xti_model.specs.World.{World, Cell, switch_cell, Binding, Place, Switch, closed_place, change, change_switch, open_cell}
+use Rattle.xti_model.specs.World.{World, Cell, switch_cell, Binding, Switch, closed_place, change, change_switch, open_cell}
 use Rattle.xti_model.specs.Switch.{mark_open, give_address}
 use Rattle.xti_world.specs.declared.world.Slot.{Slot}
 use Rattle.xti_world.specs.Cells.{cell_of, known_of, cells_of, switch_of, numbered}

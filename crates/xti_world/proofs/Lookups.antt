@@ -1,8 +1,8 @@
 -- Cells under rising numbers with one more behind them: what a number finds, and what a change of one cell makes of them.
-use Rattle.std.proofs.Common.{◌≡◌, ℕ, zero, suc, ◌+◌, ◌<◌, Bool, true, false, eqb, cond, List, [], ◌∷◌, ◌++◌, length, get_or, set, Option, Some, None, refl, sym, ap, ◌∙◌, add-zero, add-one, arith}
-use Rattle.std.specs.Prelude.{find, map}
+use Rattle.std.proofs.Common.{◌≡◌, ℕ, zero, suc, ◌+◌, ◌<◌, true, false, eqb, List, [], ◌∷◌, ◌++◌, length, get_or, set, Some, refl, sym, ap, add-zero, arith}
+use Rattle.std.specs.Prelude.{find}
 use Rattle.std.proofs.lemmas.Bool.{ne_eqb, eq-eqb}
-use Rattle.xti_model.specs.World.{World, Cell, Numbered, is_numbered, change_numbered, change}
+use Rattle.xti_model.specs.World.{World, Cell, Numbered, is_numbered, change}
 use Rattle.xti_world.specs.Cells.{numbered}
 
 abbrev pub at_number : ℕ → Cell → Numbered

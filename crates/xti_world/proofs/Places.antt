@@ -1,12 +1,12 @@
 -- What the world's cells say, place by place.
-use Rattle.std.proofs.Common.{◌≡◌, ℕ, zero, suc, ◌+◌, ◌<◌, ◌≤◌, ◌*◌, ◌/◌, ◌%◌, Bool, true, false, not, ◌&&◌, eqb, ltb, cond, List, [], ◌∷◌, ◌++◌, length, get_or, set, Option, Some, None, refl, sym, ap, ◌∙◌, zero-add, arith}
-use Rattle.std.specs.Prelude.{find, map, is_none, is_some, option_and_then}
+use Rattle.std.proofs.Common.{◌≡◌, ℕ, suc, ◌+◌, ◌<◌, ◌/◌, ◌%◌, Bool, true, false, not, ◌&&◌, eqb, ltb, cond, List, [], ◌∷◌, length, get_or, Option, Some, None, refl, sym, ap, ◌∙◌, zero-add, arith}
+use Rattle.std.specs.Prelude.{map, is_none, is_some}
 use Rattle.std.specs.List.{position, position_or_len}
 use Rattle.std.proofs.lemmas.Bool.{ne_eqb, eq-eqb}
 use Rattle.std.proofs.lemmas.List.{get_or-map, length-map}
 use Rattle.xti_model.specs.declared.profile.Providers.{Providers}
 use Rattle.xti_model.specs.Endpoint.{Endpoint}
-use Rattle.xti_model.specs.World.{World, Cell, Place, closed_place, switch_cell, Binding, Switch, cell_at, endpoint, endpoint_in, the_switch, switch_or_empty}
+use Rattle.xti_model.specs.World.{Place, closed_place, switch_cell, Binding, cell_at, endpoint, endpoint_in, the_switch}
 use Rattle.xti_model.specs.Switch.{is_free, free_place}
 use Rattle.xti_world.specs.declared.world.Slot.{Slot}
 use Rattle.xti_world.specs.Cells.{cell_of, known_of, cells_of, switch_of, is_free_slot}

@@ -1,12 +1,12 @@
 -- A datagram send that no row refuses but for flow.
-use Rattle.std.proofs.Common.{◌≡◌, ℕ, Bool, true, false, not, cond, ◌||◌, List, [], ◌∷◌, length, Option, Some, None, refl, sym, ap, ◌∙◌}
-use Rattle.std.specs.Prelude.{IfSome, is_some, option_and_then}
+use Rattle.std.proofs.Common.{◌≡◌, ℕ, Bool, true, false, List, [], ◌∷◌, Option, Some, None, refl, ap, ◌∙◌}
+use Rattle.std.specs.Prelude.{IfSome}
 use Rattle.xti_base.specs.declared.errno.Errno.TheVariants.{TFLOW}
 use Rattle.xti_base.specs.declared.kinds.Prov.{Prov}
 use Rattle.xti_base.specs.declared.kinds.State.TheVariants.{T_IDLE}
 use Rattle.xti_model.specs.declared.entry.Applied.{Applied}
 use Rattle.xti_model.specs.declared.entry.Outcome.TheVariants.{Done}
-use Rattle.xti_model.specs.declared.entry.Reply.TheVariants.{Refused, Plain}
+use Rattle.xti_model.specs.declared.entry.Reply.TheVariants.{Refused}
 use Rattle.xti_model.specs.declared.profile.Providers.{Providers}
 use Rattle.xti_model.specs.Provider.{profile, has_datagrams}
 use Rattle.xti_model.specs.Endpoint.{Endpoint}
@@ -15,7 +15,7 @@ use Rattle.xti_model.specs.Switch.{bound}
 use Rattle.xti_model.specs.Sending.{takes_datagram}
 use Rattle.xti_model.specs.Events.{is_state, some_wait}
 use Rattle.xti_model.specs.Arguments.{bad_address, bad_options}
-use Rattle.xti_model.specs.Step.{Step, step_of, made}
+use Rattle.xti_model.specs.Step.{step_of, made}
 use Rattle.xti_model.specs.Calls.Datagrams as Datagrams
 use Rattle.xti_world.specs.Taken.{taken, there, send_step, IsSendStep}
 

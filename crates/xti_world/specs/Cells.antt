@@ -2,8 +2,7 @@
 use Rattle.std.specs.Prelude.{ℕ, ◌+◌, ◌≡◌, ◌<◌, ◌^◌, List, [], ◌∷◌, ◌++◌, length, map, is_some, is_none, ◌&&◌, nat_lt, Bool, All}
 use Rattle.xti_base.specs.declared.kinds.Prov.{Prov}
 use Rattle.xti_model.specs.declared.profile.Providers.{Providers}
-use Rattle.xti_model.specs.Endpoint.{Endpoint}
-use Rattle.xti_model.specs.World.{World, Cell, endpoint_cell, switch_cell, Switch, Binding, Place, Numbered}
+use Rattle.xti_model.specs.World.{World, Cell, endpoint_cell, switch_cell, Switch, Binding, Place}
 use Rattle.xti_model.specs.Switch.{descriptors, is_bound}
 use Rattle.xti_world.specs.declared.world.Slot.{Slot}
 

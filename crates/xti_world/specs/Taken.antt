@@ -33,7 +33,7 @@ there p w to = option_and_then (endpoint p w) to
 abbrev pub send_step : Providers → World → ℕ → List ℕ → List ℕ → List ℕ → Endpoint → Option Step
 send_step p w fd address options bytes e =
     step_by p w (Datagrams.send_from p w fd address options 1 bytes e (bound_to (the_switch p w) e.prov address))
-        (first (not_ready (not (takes_datagram (there p w (bound_to (the_switch p w) e.prov address)))) TFLOW ∷ []))
+    (first (not_ready (not (takes_datagram (there p w (bound_to (the_switch p w) e.prov address)))) TFLOW ∷ []))
 
 abbrev pub IsSendStep : Providers → World → World → ℕ → Prov → Bool → List ℕ → List ℕ → List ℕ → Applied → Endpoint → Type 0
 IsSendStep p w new fd prov nonblock address options bytes a e = e.prov ≡ prov → e.nonblock ≡ nonblock → taken a new ≡ send_step p w fd address options bytes e

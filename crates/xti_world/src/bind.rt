@@ -8,7 +8,9 @@ ghost use Rattle.xti_model.specs.Calls.Open as Open;
 ghost use Rattle.xti_model.specs.Calls.Bind as Bind;
 ghost use Rattle.xti_world.specs.Taken.{taken, bound};
 
-use crate::answers::{done, has_datagrams, is_provider, is_too_long, overflow, profile, refused, trimmed};
+use crate::answers::{
+    done, has_datagrams, is_provider, is_too_long, overflow, profile, refused, trimmed,
+};
 use crate::endpoint::Endpoint;
 use crate::world::World;
 use std::alloc::{AllocError, Global};

@@ -203,37 +203,35 @@ impl Model for Endpoint {
 
     ghost Value = { Endpoint };
 
-    ghost view = {
-        λ e. record {
-            prov = e.prov;
-            nonblock = e.nonblock;
-            state = e.state;
-            address = e.address;
-            qlen = e.qlen;
-            last_number = 0;
-            pending = [];
-            outstanding = [];
-            disconnects = [];
-            target = None;
-            peer = None;
-            peer_address = None;
-            confirmation = None;
-            normal = [];
-            expedited = [];
-            mid_expedited = false;
-            release = false;
-            datagrams = e.datagrams.items;
-            begun = e.begun;
-            datagram_errors = e.errors.items;
-            unfinished_normal = 0;
-            unfinished_expedited = 0;
-            flow_normal = false;
-            flow_expedited = false;
-            flow_datagram = e.flow;
-            sndbuf = e.sndbuf;
-            rcvbuf = e.rcvbuf;
-        }
-    };
+    ghost view = { λ e. record {
+      prov = e.prov;
+      nonblock = e.nonblock;
+      state = e.state;
+      address = e.address;
+      qlen = e.qlen;
+      last_number = 0;
+      pending = [];
+      outstanding = [];
+      disconnects = [];
+      target = None;
+      peer = None;
+      peer_address = None;
+      confirmation = None;
+      normal = [];
+      expedited = [];
+      mid_expedited = false;
+      release = false;
+      datagrams = e.datagrams.items;
+      begun = e.begun;
+      datagram_errors = e.errors.items;
+      unfinished_normal = 0;
+      unfinished_expedited = 0;
+      flow_normal = false;
+      flow_expedited = false;
+      flow_datagram = e.flow;
+      sndbuf = e.sndbuf;
+      rcvbuf = e.rcvbuf;
+    } };
 }
 
 impl Endpoint {

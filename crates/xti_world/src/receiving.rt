@@ -28,7 +28,13 @@ pub(crate) fn rcvudata(
 {
     let (prov, state, nonblock, has_error, has_datagram) = match w.endpoint(fd) {
         None => return Ok(refused(w, fd, Errno::TBADF)),
-        Some(e) => (e.prov(), e.state(), e.nonblock(), e.has_error(), e.has_datagram()),
+        Some(e) => (
+            e.prov(),
+            e.state(),
+            e.nonblock(),
+            e.has_error(),
+            e.has_datagram(),
+        ),
     };
     if !has_datagrams(prov) {
         return Ok(refused(w, fd, Errno::TNOTSUPPORT));

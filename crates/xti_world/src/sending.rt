@@ -14,7 +14,7 @@ use crate::answers::{done, has_datagrams, overflow, profile, refused, trimmed};
 use crate::endpoint::{Datagram, DatagramError};
 use crate::world::World;
 use std::alloc::{AllocError, Global};
-use xti_base::{is_option_list, Errno, Event, Fd, Limit, Octets, Prov, State};
+use xti_base::{Errno, Event, Fd, Limit, Octets, Prov, State, is_option_list};
 use xti_model::{Applied, Profile, Reply};
 
 /// The most datagrams that wait at an endpoint.

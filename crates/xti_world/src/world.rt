@@ -108,12 +108,7 @@ impl Slot {
         Ok(())
     }
 
-    fn receive(
-        &mut self,
-        alloc: Global,
-        generation: u32,
-        max: u32,
-    ) -> Result<Received, AllocError>
+    fn receive(&mut self, alloc: Global, generation: u32, max: u32) -> Result<Received, AllocError>
         requires { IsSomeAnd (endpoint_in generation (cell_of self.old)) HasDatagram }
         ensures got { IfOk result (IsReceivedOf max (endpoint_in generation (cell_of self.old))) }
         ensures cell { OnOk result (cell_of self.new ≡ change_endpoint generation (received max) (cell_of self.old)) }

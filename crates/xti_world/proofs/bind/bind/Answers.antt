@@ -1,4 +1,4 @@
-use Rattle.std.proofs.Common.{sym, ◌∙◌, ◌≡◌, ltb, length, true, false, [], ◌∷◌, arith, Some}
+use Rattle.std.proofs.Common.{sym, ◌≡◌, ltb, length, true, false, [], ◌∷◌, arith, Some}
 use Rattle.std.proofs.lemmas.Bool.Decides.{nat_tests}
 use Rattle.xti_base.specs.declared.kinds.State.TheVariants.{T_UNBND}
 use Rattle.xti_model.specs.World.{endpoint, the_switch}

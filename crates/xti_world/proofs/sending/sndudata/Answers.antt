@@ -1,4 +1,4 @@
-use Rattle.std.proofs.Common.{sym, ◌∙◌, ◌≡◌, true, false, [], ◌∷◌, arith, Some}
+use Rattle.std.proofs.Common.{sym, ◌≡◌, true, false, [], ◌∷◌, arith, Some}
 use Rattle.std.proofs.lemmas.Bool.Decides.{nat_tests}
 use Rattle.xti_base.specs.declared.kinds.State.TheVariants.{T_IDLE}
 use Rattle.xti_model.specs.World.{endpoint}
@@ -19,4 +19,4 @@ returns-clause-step c =
     let t : Datagrams.is_bad_datagram (profile c.args.w.now.providers c.in-Some.e.now.prov) c.args.bytes.now ≡ false = rw (← c.as_slice-3.ensures, ← c.prov.ensures, ← c.providers.ensures, ← c.profile.ensures) (sym c.if-is_bad_data.ensures) in
     let u : some_wait c.in-Some.e.now.datagram_errors ≡ false = rw (← c.has_error.ensures) c.if-has_error.false in
     rw (send_free c.args.w.now.providers c.args.w.now.cells c.args.fd.0 c.args.addr.now c.args.opt.now c.args.bytes.now c.in-Some.e.now o d s a b t u)
-        ((rw o at c.in_ok-answer.ensures.step) (sym c.prov.ensures) (sym c.nonblock.ensures))
+    ((rw o at c.in_ok-answer.ensures.step) (sym c.prov.ensures) (sym c.nonblock.ensures))

@@ -1,4 +1,3 @@
-use Rattle.std.proofs.Common.{◌∙◌}
 use Rattle.xti_world.proofs.Places.{the_switch-is}
 use Rattle.xti_world.proofs.world.World.bound.Goals as goal
 

@@ -1,4 +1,4 @@
-use Rattle.std.proofs.Common.{sym, ap, ◌∙◌, arith}
+use Rattle.std.proofs.Common.{arith}
 use Rattle.xti_world.proofs.Places.{the_switch-is, generation-is}
 use Rattle.xti_world.proofs.world.World.generation.Goals as goal
 

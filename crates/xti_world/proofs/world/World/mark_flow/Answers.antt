@@ -1,4 +1,4 @@
-use Rattle.std.proofs.Common.{arith, ◌%◌, ◌/◌, sym}
+use Rattle.std.proofs.Common.{arith, ◌%◌}
 use Rattle.xti_world.proofs.Changes.{endpoint-changed}
 use Rattle.xti_world.proofs.world.World.mark_flow.Goals as goal
 

@@ -1,6 +1,4 @@
-use Rattle.std.proofs.Common.{arith, ◌%◌, ◌/◌, sym, ◌≡◌}
-use Rattle.xti_model.specs.World.{endpoint, endpoint_in}
-use Rattle.xti_world.specs.Cells.{cell_of, cells_of}
+use Rattle.std.proofs.Common.{arith, ◌%◌}
 use Rattle.xti_world.proofs.Changes.{endpoint-changed}
 use Rattle.xti_world.proofs.Places.{endpoint-is}
 use Rattle.xti_world.proofs.world.World.receive.Goals as goal
