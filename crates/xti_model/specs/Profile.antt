@@ -28,16 +28,16 @@ has_messages Infinite = true
 has_messages limit = has_limit limit
 
 -- bytes without ends
-abbrev pub is_stream : Limit → Bool
-is_stream (At n) = n == 0
-is_stream limit = false
+abbrev pub is_stream_limit : Limit → Bool
+is_stream_limit (At n) = n == 0
+is_stream_limit other = false
 
 abbrev pub has_buffers : Profile → Bool
 has_buffers p = is_size p.sndbuf && is_size p.rcvbuf
 
 -- a stream has no empty messages
 abbrev pub valid_orderly : Profile → Bool
-valid_orderly p = has_buffers p && (has_messages p.tsdu || (is_stream p.tsdu && not p.sendzero))
+valid_orderly p = has_buffers p && (has_messages p.tsdu || (is_stream_limit p.tsdu && not p.sendzero))
 
 abbrev pub valid_connections : Profile → Bool
 valid_connections p = has_buffers p && has_messages p.tsdu

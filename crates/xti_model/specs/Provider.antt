@@ -10,6 +10,7 @@ use Rattle.xti_base.specs.declared.limit.Limit.{Limit}
 use Rattle.xti_base.specs.declared.limit.Limit.TheVariants.{At, Invalid}
 use Rattle.xti_model.specs.declared.profile.Profile.{Profile}
 use Rattle.xti_model.specs.declared.profile.Providers.{Providers}
+use Rattle.xti_model.specs.Profile.{is_stream_limit}
 
 abbrev pub profile : Providers → Prov → Profile
 profile p Ticots = p.ticots
@@ -43,10 +44,6 @@ limit_over_zero (At (suc n)) = Some (suc n)
 limit_over_zero other = None
 
 -- whether normal data are a stream of bytes, without ends
-abbrev pub is_stream_limit : Limit → Bool
-is_stream_limit (At zero) = true
-is_stream_limit other = false
-
 abbrev pub is_stream : Providers → Prov → Bool
 is_stream p prov = is_stream_limit (profile p prov).tsdu
 

@@ -1,7 +1,7 @@
 //! What a script's head may set for each provider.
 
 ghost use Rattle.std.specs.Prelude.{◌≡◌};
-ghost use Rattle.xti_model.specs.Profile.{usual, is_size, has_limit, has_messages, is_stream, has_buffers, valid_connections, valid_orderly, valid_datagrams, valid};
+ghost use Rattle.xti_model.specs.Profile.{usual, is_size, has_limit, has_messages, is_stream_limit, has_buffers, valid_connections, valid_orderly, valid_datagrams, valid};
 
 use xti_base::Limit;
 
@@ -63,7 +63,7 @@ fn has_messages(tsdu: Limit) -> bool
 
 /// Whether bytes are sent without ends.
 fn is_stream(tsdu: Limit) -> bool
-    ensures { result ≡ is_stream tsdu }
+    ensures { result ≡ is_stream_limit tsdu }
 {
     match tsdu {
         Limit::At(bytes) => bytes == 0,
