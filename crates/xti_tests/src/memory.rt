@@ -1,0 +1,104 @@
+//! With memory at hand no public call answers want of memory. Each that can is called once.
+
+use std::alloc::{AllocError, Global};
+use std::test::*;
+use xti_base::{Calls, Octets, Parts, Prov, Room, State};
+use xti_io::{MemSink, MemSource, SureSink, read_all};
+use xti_journal::{write_entry, write_journal};
+use xti_model::{Act, Applied, Call, Entry, Go, Outcome, Providers, Reply};
+use xti_run::{Words, replay};
+use xti_script::read_script;
+use xti_world::World;
+
+#[test]
+fn lists(rt: HostRuntime) -> Result<(), Fail> {
+    let alloc = rt.alloc();
+    let mut bytes = Octets::copy_of(alloc, b"ab")?;
+    bytes.push(99)?;
+    let mut parts = Parts::new(alloc);
+    parts.push(bytes.copy()?)?;
+    let mut calls = Calls::new(alloc);
+    calls.push(7)?;
+    let room = Room::new(alloc, 3)?;
+    assert_eq!(rt; parts.copy()?.as_slice().len(), 1);
+    assert_eq!(rt; calls.copy()?.as_slice(), [7].as_slice());
+    assert_eq!(rt; room.finish().as_slice().len(), 0);
+    Ok(())
+}
+
+#[test]
+fn sources_and_sinks(rt: HostRuntime) -> Result<(), Fail> {
+    let alloc = rt.alloc();
+    let mut source = MemSource::new(Octets::copy_of(alloc, b"abc")?, 2, Calls::new(alloc));
+    assert_eq!(rt;
+        read_all(alloc, &mut source, 3)?.as_slice(),
+        b"abc".as_slice()
+    );
+    assert_eq!(rt;
+        MemSink::new(alloc, 10, 1, Calls::new(alloc))?.held().len(),
+        0
+    );
+    assert_eq!(rt; SureSink::new(alloc, 10)?.held().len(), 0);
+    Ok(())
+}
+
+/// The entry of a send that was refused.
+fn entry(alloc: Global, call: Call) -> Result<Entry, AllocError> {
+    Ok(Entry {
+        worker: 0,
+        act: Act::Begin(call),
+        outcome: Outcome::Done(Reply::Bound {
+            addr: Octets::copy_of(alloc, b"a")?,
+            qlen: 0,
+        }),
+        after: State::T_IDLE,
+    })
+}
+
+#[test]
+fn copies(rt: HostRuntime) -> Result<(), Fail> {
+    let alloc = rt.alloc();
+    let call = Call::TOpen {
+        prov: Prov::Ticlts,
+        nonblock: true,
+    };
+    let copy = entry(alloc, call.copy()?)?.copy()?;
+    let act = copy.act.copy()?;
+    let outcome = copy.outcome.copy()?;
+    if let Outcome::Done(reply) = &outcome {
+        reply.copy()?;
+    }
+    let again = Entry {
+        worker: 0,
+        act,
+        outcome,
+        after: State::T_IDLE,
+    };
+    assert_eq!(rt;
+        write_entry(alloc, 1, &again)?.as_slice(),
+        b"1 0 open ticlts nonblock => ok x:61 0 T_IDLE\n".as_slice()
+    );
+    Ok(())
+}
+
+#[test]
+fn runs(rt: HostRuntime) -> Result<(), Fail> {
+    let alloc = rt.alloc();
+    let mut words = Words::new(alloc);
+    words.push("replay")?;
+    let script = read_script(alloc, b"xti-script 1\n0 open a ticlts nonblock\n")?;
+    let journal = replay(alloc, &script)?;
+    assert_eq!(rt; journal.entries.as_slice().len(), 1);
+    assert_eq!(rt; write_journal(alloc, &journal)?.as_slice().len() > 0, true);
+    let mut world = World::fresh(alloc, &Providers::usual())?;
+    let open = Call::TOpen {
+        prov: Prov::Ticlts,
+        nonblock: true,
+    };
+    let is_step = match world.step(&open, Go::Begin)? {
+        Applied::Step { .. } => true,
+        Applied::Blocked => false,
+    };
+    assert_eq!(rt; is_step, true);
+    Ok(())
+}
