@@ -53,10 +53,16 @@ fn run<R: Threads + Wait + Sync + Input + Print + Eprint + AllocGlobal>(
 
 /// The words behind the program's own name; none where they are no text.
 fn given<R: Env + AllocGlobal>(rt: &R) -> Result<Vec<String>, AllocError> {
+    let mut words = Vec::new(rt.alloc());
     match env::args(rt) {
-        Ok(all) => all.skip(1).collect(rt.alloc()),
+        Ok(all) => {
+            for word in all.skip(1) {
+                words.push(word)?;
+            }
+            Ok(words)
+        }
         Err(e) if e.kind() == ErrorKind::OutOfMemory => Err(AllocError),
-        Err(_) => Ok(Vec::new(rt.alloc())),
+        Err(_) => Ok(words),
     }
 }
 
