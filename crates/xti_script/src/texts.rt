@@ -34,7 +34,11 @@ pub(crate) fn first_line(text: &[u8]) -> (&[u8], &[u8])
 pub(crate) fn words_of(alloc: Global, line: &[u8]) -> Result<Vec<&[u8]>, AllocError>
     ensures { IfOk result (λ words. map (λ w. w.now) words.items ≡ words_of line.now) }
 {
-    line.split(|c| *c == b' ').collect(alloc)
+    let mut words = Vec::new(alloc);
+    for word in line.split(|c| *c == b' ') {
+        words.push(word)?;
+    }
+    Ok(words)
 }
 
 fn is_lower(c: u8) -> bool
