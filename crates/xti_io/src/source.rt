@@ -47,6 +47,7 @@ pub fn read_all<R: Source>(alloc: Global, src: &mut R, limit: usize) -> Result<O
     ensures all { IfOk result (λ all. GivesAll (R.left src.old) (R.left src.new) all) }
     ensures bound { IfOk result (λ all. length all ≤ limit) }
     ensures too_long { IsErrOf result ReadEnd.TooLong → (front : List ℕ) × (length front ≡ limit + 1) × Gives (R.left src.old) (R.left src.new) front }
+    ensures memory { IsErrOf result ReadEnd.OutOfMemory → (front : List ℕ) × (0 < length front) × Gives (R.left src.old) (R.left src.new) front }
     ensures fault { IsErrOf result ReadEnd.Fault → Rose (R.faults src.old) (R.faults src.new) }
     ensures front { OnErr result (GivesUpTo (limit + 1) (R.left src.old) (R.left src.new)) }
     ensures later { R.faults src.old ≤ R.faults src.new }

@@ -13,3 +13,10 @@ returns-then-is_err-clause-front g c = (
   simp (length-append, length-take) (omega (arith, simp length-take at c.read.auto.buf)),
   Gives-then _ _ _ _ _ c.loop-buf.invariant.took c.in-Ok.ensures.bytes.1,
 )
+
+pub returns-then-is_err-clause-memory : goal.returns-then-is_err-clause-memory
+returns-then-is_err-clause-memory g c out = (
+  c.loop-buf.all.items ++ take c.in-Ok.count c.read.new.buf,
+  simp (length-append, length-take) (omega (arith, c.in-Ok.count-test, c.in-Ok.ensures.bytes.0)),
+  Gives-then _ _ _ _ _ c.loop-buf.invariant.took c.in-Ok.ensures.bytes.1,
+)
