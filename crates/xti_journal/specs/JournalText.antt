@@ -1,9 +1,9 @@
 -- The text of a journal: a first line, a line for each provider, a line for each entry, a line for each step
 -- that is blocked at the end, and a last line with the count of entries. Every line ends with LF, and the words
 -- of a line are parted by one space. docs/JOURNAL.md has the format in words.
-use Rattle.std.specs.Prelude.{ℕ, ◌+◌, ◌/◌, ◌%◌, Bool, List, [], ◌∷◌, ◌++◌, length, Option, Some, None, codes, decimal, if◌then◌else◌, nat_lt}
+use Rattle.std.specs.Prelude.{ℕ, ◌+◌, Bool, List, [], ◌∷◌, ◌++◌, length, Option, Some, None, codes, decimal, if◌then◌else◌}
 use Rattle.std.specs.List.{flat_map}
-use Rattle.std.specs.Fmt.{signed_decimal}
+use Rattle.xti_text.specs.Words.{number_word, signed_word, octets_word}
 use Rattle.xti_base.specs.declared.kinds.Event.{Event}
 use Rattle.xti_base.specs.declared.limit.Limit.{Limit}
 use Rattle.xti_base.specs.declared.limit.Info.{Info}
@@ -24,20 +24,7 @@ use Rattle.xti_model.specs.declared.entry.Reply.TheVariants.{Plain, Opened, Boun
 use Rattle.xti_model.specs.declared.script.Journal.{Journal}
 use Rattle.xti_model.specs.declared.script.StallLine.{StallLine}
 
--- words: each is written behind the text that parts it from the word before, as " " or " addr="
-
-abbrev pub number_word : List ℕ → ℕ → List ℕ
-number_word key n = key ++ decimal n
-
-abbrev pub hex_digit : ℕ → ℕ
-hex_digit d = if nat_lt d 10 then 48 + d else 87 + d
-
-abbrev pub hex_pair : ℕ → List ℕ
-hex_pair b = hex_digit (b / 16) ∷ hex_digit (b % 16) ∷ []
-
--- bytes as `x:` and two hexadecimal digits for each
-abbrev pub octets_word : List ℕ → List ℕ → List ℕ
-octets_word key bytes = key ++ codes "x:" ++ flat_map hex_pair bytes
+-- words
 
 -- a truth value as 1 or 0
 abbrev pub bit_word : List ℕ → Bool → List ℕ
@@ -48,7 +35,7 @@ mode_word key nonblock = key ++ (if nonblock then codes "nonblock" else codes "b
 
 -- a limit as a signed number
 abbrev pub limit_word : List ℕ → Limit → List ℕ
-limit_word key l = key ++ signed_decimal (limit_number l)
+limit_word key l = signed_word key (limit_number l)
 
 -- members parted by commas, and `none` for the list without members
 abbrev pub parts_word : List ℕ → List (List ℕ) → List ℕ

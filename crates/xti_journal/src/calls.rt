@@ -4,9 +4,10 @@ ghost use Rattle.std.specs.Prelude.{◌≡◌, ◌++◌, OnOk, IsTrue};
 ghost use Rattle.xti_journal.specs.JournalText.{call_text, act_text};
 ghost use Rattle.xti_model.specs.Families.{is_address_or_options, is_connection_request, is_connection_receipt, is_send, is_receive};
 
-use crate::words::{put_mode, put_most, put_number, put_octets, put_parts, put_sizes, put_text};
+use crate::words::{put_mode, put_most, put_octets, put_parts, put_sizes};
 use std::alloc::AllocError;
 use xti_model::{Act, Call};
+use xti_text::{put_number, put_text};
 
 // A call that names an address, asks for addresses or settles options.
 fn put_address_or_options(out: &mut Vec<u8>, call: &Call) -> Result<(), AllocError>

@@ -6,10 +6,11 @@ ghost use Rattle.xti_journal.specs.JournalText.{profile_text, provider_text, fir
 
 use crate::calls::put_act;
 use crate::replies::put_outcome;
-use crate::words::{put_bit, put_limit, put_number, put_text};
+use crate::words::{put_bit, put_limit};
 use std::alloc::{AllocError, Global};
 use xti_base::Octets;
 use xti_model::{Entry, Journal, Profile, Providers, StallLine};
+use xti_text::{put_number, put_text};
 
 fn put_profile(out: &mut Vec<u8>, p: &Profile) -> Result<(), AllocError>
     ensures { OnOk result (out.new.items ≡ out.old.items ++ profile_text p.now) }

@@ -4,10 +4,11 @@ ghost use Rattle.std.specs.Prelude.{◌≡◌, ◌++◌, OnOk, IsTrue};
 ghost use Rattle.xti_journal.specs.JournalText.{event_text, sizes_text, info_text, reply_text, outcome_text};
 ghost use Rattle.xti_model.specs.Families.{is_connection_news, is_received, is_error};
 
-use crate::words::{put_limit, put_number, put_octets, put_text};
+use crate::words::{put_limit, put_octets};
 use std::alloc::AllocError;
 use xti_base::{Event, Info};
 use xti_model::{Outcome, Reply};
+use xti_text::{put_number, put_text};
 
 fn event_name(event: &Option<Event>) -> &'static str
     ensures { result.now ≡ event_text event.now }

@@ -1,0 +1,90 @@
+//! The words of printed lines, each written behind the text that parts it from the word before.
+#![tactic(auto)]
+
+ghost use Rattle.std.specs.Prelude.{◌≡◌, ◌*◌, ◌++◌, ◌<◌, OnOk, length, decimal};
+ghost use Rattle.std.specs.List.{flat_map};
+ghost use Rattle.xti_text.specs.Words.{number_word, signed_word, hex_digit, hex_pair, octets_word};
+
+use itoa::Buffer;
+use std::alloc::AllocError;
+
+/// Appends a text.
+#[inline(always)]
+pub fn put_text(out: &mut Vec<u8>, text: &str) -> Result<(), AllocError>
+    ensures { OnOk result (out.new.items ≡ out.old.items ++ text.now) }
+{
+    out.extend_from_slice(text.as_bytes())
+}
+
+/// Appends a number in decimal digits, without leading zeros.
+// A key is short and known where it is written: it is copied there, and not by a call.
+#[inline(always)]
+pub fn put_number(out: &mut Vec<u8>, key: &str, n: u64) -> Result<(), AllocError>
+    ensures { OnOk result (out.new.items ≡ out.old.items ++ number_word key.now n) }
+{
+    put_text(out, key)?;
+    put_decimal(out, n)
+}
+
+/// Appends a number in decimal digits, with `-` before it where it is below 0.
+pub fn put_signed(out: &mut Vec<u8>, key: &str, n: i64) -> Result<(), AllocError>
+    ensures { OnOk result (out.new.items ≡ out.old.items ++ signed_word key.now n) }
+{
+    let mut buffer = Buffer::new();
+    put_text(out, key)?;
+    put_text(out, buffer.format(n))
+}
+
+#[tactic(auto, using(std::proofs::lemmas::Fmt::decimal_digit))]
+fn put_decimal(out: &mut Vec<u8>, n: u64) -> Result<(), AllocError>
+    ensures { OnOk result (out.new.items ≡ out.old.items ++ decimal n) }
+{
+    if n < 10 {
+        let digit = b'0' + n as u8;
+        return out.extend_from_slice(&[digit]);
+    }
+    let mut buffer = Buffer::new();
+    put_text(out, buffer.format(n))
+}
+
+fn hex_digit(d: u8) -> u8
+    requires { d < 16 }
+    ensures { result ≡ hex_digit d }
+{
+    if d < 10 { b'0' + d } else { b'a' + (d - 10) }
+}
+
+/// Appends bytes as `x:` and two hexadecimal digits for each.
+#[inline(always)]
+pub fn put_octets(out: &mut Vec<u8>, key: &str, bytes: &[u8]) -> Result<(), AllocError>
+    ensures { OnOk result (out.new.items ≡ out.old.items ++ octets_word key.now bytes.now) }
+{
+    put_text(out, key)?;
+    put_text(out, "x:")?;
+    put_pairs(out, bytes)
+}
+
+fn put_pairs(out: &mut Vec<u8>, bytes: &[u8]) -> Result<(), AllocError>
+    ensures { OnOk result (out.new.items ≡ out.old.items ++ flat_map hex_pair bytes.now) }
+{
+    let start = out.len();
+    let Some(end) = start.checked_add(2 * bytes.len()) else {
+        return Err(AllocError);
+    };
+    out.resize(end, 0)?;
+    let (_, pairs) = out.as_mut_slice().split_at_mut(start);
+    fill_pairs(pairs, bytes);
+    Ok(())
+}
+
+// Two digits for each byte. Without a table, so that several bytes are turned at once.
+fn fill_pairs(out: &mut [u8], bytes: &[u8])
+    requires { length out.old ≡ 2 * length bytes.now }
+    ensures { out.new ≡ flat_map hex_pair bytes.now }
+{
+    for i in 0..bytes.len() {
+        let b = bytes[i];
+        out[2 * i] = hex_digit(b / 16);
+        out[2 * i + 1] = hex_digit(b % 16);
+    }
+}
