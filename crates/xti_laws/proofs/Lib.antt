@@ -1,0 +1,6 @@
+mod Only
+mod Local
+mod Others
+mod Touched
+mod Changes
+mod Kept

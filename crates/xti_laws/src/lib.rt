@@ -1,0 +1,33 @@
+//! Laws of the definitions of a step: what a step reads, what it changes, and how.
+#![tactic(auto)]
+
+ghost use Rattle.std.specs.Prelude.{◌≡◌, ℕ, Bool, List, true, option_map};
+ghost use Rattle.xti_model.specs.declared.call.Call.{Call};
+ghost use Rattle.xti_model.specs.declared.entry.Go.{Go};
+ghost use Rattle.xti_model.specs.declared.entry.Entry.{Entry};
+ghost use Rattle.xti_model.specs.declared.profile.Providers.{Providers};
+ghost use Rattle.xti_model.specs.World.{World, Cell, is_among, only, without, place_of};
+ghost use Rattle.xti_model.specs.Step.{plan, step};
+ghost use Rattle.xti_model.specs.Touched.{named};
+ghost use Rattle.xti_model.specs.History.{after_from, left_by};
+ghost use Rattle.xti_laws.specs.Updates.{PlanKinds};
+ghost use Rattle.xti_laws.specs.Laws.{Within, restrict, AllCells, Keeps};
+
+/// A step is settled by the cells that its call names, and leaves all others as they are.
+///
+/// `reads`: on some cells of a world a step answers what it answers on all of them, and leaves these cells as
+/// it leaves them there, if the cells that the call names are among them, and that of the endpoint whose state
+/// is told. `changes`: cells that the call doesn't name stay. Both hold of any list of cells.
+pub fn steps_are_local()
+    ensures reads { (p : Providers) (t : List ℕ) (w : World) (c : Call) (g : Go) → Within t (named p w c) → is_among t (place_of p (plan p w c g).fd) ≡ true → step p (only t w) c g ≡ option_map (restrict t) (step p w c g) }
+    ensures changes { (p : Providers) (t : List ℕ) (w : World) (c : Call) (g : Go) → Within t (named p w c) → without t (left_by w (step p w c g)) ≡ without t w }
+{}
+
+/// Each change that a call may make is one of the named kinds.
+///
+/// `kinds`: of every call, in every world. `kept`: so what each kind keeps of a single cell holds of every
+/// cell after any entries, legal or not.
+pub fn changes_are_named()
+    ensures kinds { (p : Providers) (w : World) (c : Call) (g : Go) → PlanKinds (plan p w c g) }
+    ensures kept { (p : Providers) (test : Cell → Bool) → Keeps p (λ cell. test cell ≡ true) → (w : World) (past entries : List Entry) → AllCells (λ cell. test cell ≡ true) w → AllCells (λ cell. test cell ≡ true) (after_from p w past entries) }
+{}
