@@ -4,3 +4,4 @@ mod Others
 mod Touched
 mod Changes
 mod Kept
+mod histories

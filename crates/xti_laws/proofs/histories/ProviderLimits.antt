@@ -1,0 +1,50 @@
+-- provider limits
+use Rattle.std.specs.Prelude.{ℕ, zero, suc, ◌+◌, ◌%◌, true, false, List, [], ◌∷◌, ◌≡◌, refl, codes, Some, None}
+use Rattle.std.specs.Fmt.{digits}
+use Rattle.xti_base.specs.Options.{begins_option, is_option_list, options_within}
+use Rattle.xti_base.specs.declared.errno.Errno.TheVariants.{TBADADDR, TBADOPT, TACCES, TBADF, TNOADDR, TOUTSTATE, TBADSEQ, TSYSERR, TLOOK, TBADDATA, TBUFOVFLW, TFLOW, TNODATA, TNODIS, TNOUDERR, TBADFLAG, TNOREL, TNOTSUPPORT, TSTATECHNG, TNOSTRUCTYPE, TBADNAME, TBADQLEN, TADDRBUSY, TINDOUT, TPROVMISMATCH, TRESQLEN, TRESADDR, TQFULL, TPROTO}
+use Rattle.xti_base.specs.declared.kinds.Event.TheVariants.{T_LISTEN, T_CONNECT, T_DATA, T_EXDATA, T_DISCONNECT, T_UDERR, T_ORDREL, T_GODATA, T_GOEXDATA}
+use Rattle.xti_base.specs.declared.kinds.Prov.TheVariants.{Ticots, Ticotsord, Ticlts, Other}
+use Rattle.xti_base.specs.declared.kinds.ServType.TheVariants.{T_COTS, T_COTS_ORD, T_CLTS}
+use Rattle.xti_base.specs.declared.kinds.State.TheVariants.{T_UNINIT, T_UNBND, T_IDLE, T_OUTCON, T_INCON, T_DATAXFER, T_OUTREL, T_INREL}
+use Rattle.xti_base.specs.declared.limit.Limit.TheVariants.{At, Infinite, Invalid}
+use Rattle.xti_model.specs.declared.call.Call.TheVariants as call
+use Rattle.xti_model.specs.declared.entry.Act.TheVariants as act
+use Rattle.xti_model.specs.declared.entry.Entry.{Entry}
+use Rattle.xti_model.specs.declared.entry.Outcome.TheVariants.{Done, Part}
+use Rattle.xti_model.specs.declared.entry.Reply.TheVariants.{Plain, Opened, Bound, Connected, Listened, Sent, Got, Discon, UData, UDErr, Seen, Stands, Limits, Addresses, Options, Refused, Look, Overflow}
+use Rattle.xti_model.specs.declared.profile.Providers.{Providers}
+use Rattle.xti_model.specs.declared.script.Line.{Line}
+use Rattle.xti_model.specs.declared.script.NamedCall.TheVariants as named
+use Rattle.xti_model.specs.Robin.{robin}
+use Rattle.xti_model.specs.Step.{plan, step}
+use Rattle.xti_model.specs.World.{opening}
+
+providers : Providers
+providers = record { ticots = record { tsdu = At 65536; sendzero = true; same_addr = false; sndbuf = 16384; rcvbuf = 16384 }; ticotsord = record { tsdu = At 0; sendzero = false; same_addr = false; sndbuf = 16384; rcvbuf = 16384 }; ticlts = record { tsdu = At 8192; sendzero = true; same_addr = false; sndbuf = 16384; rcvbuf = 16384 } }
+
+lines : List Line
+lines =
+    record { worker = 0; call = named.TOpen (codes "a") Ticots false } ∷
+    record { worker = 0; call = named.TOpen (codes "b") Ticotsord false } ∷
+    record { worker = 0; call = named.TOpen (codes "c") Ticlts false } ∷
+    record { worker = 0; call = named.TGetInfo (codes "a") } ∷
+    record { worker = 0; call = named.TGetInfo (codes "b") } ∷
+    record { worker = 0; call = named.TGetInfo (codes "c") } ∷
+    record { worker = 0; call = named.TSync (codes "a") } ∷
+    []
+
+entries : List Entry
+entries =
+    record { worker = 0; act = act.Begin (call.TOpen Ticots false); outcome = Done (Opened (record { 0 = 0 })); after = T_UNBND } ∷
+    record { worker = 0; act = act.Begin (call.TOpen Ticotsord false); outcome = Done (Opened (record { 0 = 1 })); after = T_UNBND } ∷
+    record { worker = 0; act = act.Begin (call.TOpen Ticlts false); outcome = Done (Opened (record { 0 = 2 })); after = T_UNBND } ∷
+    record { worker = 0; act = act.Begin (call.TGetInfo (record { 0 = 0 })); outcome = Done (Limits (record { addr = (At 64); options = (At 256); tsdu = (At 65536); etsdu = (At 128); connect = (At 64); discon = (At 64); servtype = T_COTS; flags = 1 })); after = T_UNBND } ∷
+    record { worker = 0; act = act.Begin (call.TGetInfo (record { 0 = 1 })); outcome = Done (Limits (record { addr = (At 64); options = (At 256); tsdu = (At 0); etsdu = (At 128); connect = (At 64); discon = (At 64); servtype = T_COTS_ORD; flags = 0 })); after = T_UNBND } ∷
+    record { worker = 0; act = act.Begin (call.TGetInfo (record { 0 = 2 })); outcome = Done (Limits (record { addr = (At 64); options = (At 256); tsdu = (At 8192); etsdu = Invalid; connect = Invalid; discon = Invalid; servtype = T_CLTS; flags = 1 })); after = T_UNBND } ∷
+    record { worker = 0; act = act.Begin (call.TSync (record { 0 = 0 })); outcome = Done (Stands T_UNBND); after = T_UNBND } ∷
+    []
+
+the_history : robin (record { providers = providers; lines = lines }) ≡ entries
+unfolding providers lines entries digits opening step plan is_option_list options_within begins_option
+the_history = refl
