@@ -34,9 +34,10 @@ pub fn is_option_list(bytes: &[u8]) -> bool
     true
 }
 
-/// How many bytes the option at the front takes, with those that fill it up; `None` if no option stands there.
+/// How many bytes the option at the front takes, with those that fill it up; `None` exactly if no option stands there.
+/// Takes no memory.
 #[tactic(auto, using(crate::proofs::OptionLists::zeros_decide), unfolding(crate::specs::Options::begins_option))]
-fn size_of_front(bytes: &[u8]) -> Option<usize>
+pub fn size_of_front(bytes: &[u8]) -> Option<usize>
     ensures { MatchOption result (begins_option bytes.now ≡ false) (λ size. (begins_option bytes.now ≡ true) × (size ≡ front_size bytes.now)) }
 {
     if bytes.len() < 16 {
