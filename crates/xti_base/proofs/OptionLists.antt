@@ -2,7 +2,8 @@
 use Rattle.std.proofs.Common.{◌≡◌, ◌≤◌, ◌<◌, ◌+◌, ◌&&◌, ◌==◌, ◌∙◌, sym, ℕ, zero, suc, List, [], ◌∷◌, length, true, false, Bool, refl, ap, arith, is_some, nat_le, length-drop, option_map, Option, None, Some, slice_range}
 use Rattle.std.proofs.lemmas.Bool.{and_parts}
 use Rattle.std.proofs.lemmas.Bool.Decides.{Decides-eqb, nat_tests}
-use Rattle.xti_base.specs.Options.{front_size, front_length, filling, are_zero, begins_option, behind_option, front_option, options_within, is_option_list, Opt}
+use Rattle.xti_base.specs.Options.{front_size, front_length, filling, are_zero, begins_option, behind_option, front_option, options_within, is_option_list}
+use Rattle.xti_base.specs.declared.options.Opt.{Opt}
 
 at_most : (a b : ℕ) → nat_le a b ≡ true → a ≤ b
 at_most a b h = grind (arith, nat_tests)

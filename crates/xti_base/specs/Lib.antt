@@ -3,3 +3,4 @@ pub mod Kinds
 pub mod Limit
 pub mod Room
 pub mod Options
+pub mod Negotiation

@@ -149,19 +149,9 @@ impl<T: Copy> Numbers<T> {
         ensures { IfOk result (λ copy. copy ≡ self.now) }
     {
         Ok(Numbers {
-            members: copy_numbers(*self.members.allocator(), self.members.as_slice())?,
+            members: Vec::from_slice(*self.members.allocator(), self.members.as_slice())?,
         })
     }
-}
-
-fn copy_numbers<T: Copy>(alloc: Global, members: &[T]) -> Result<Vec<T>, AllocError>
-    ensures { IfOk result (λ copy. copy.items ≡ members.now) }
-{
-    let mut copy = Vec::with_capacity(alloc, members.len())?;
-    for member in members {
-        copy.push(*member)?;
-    }
-    Ok(copy)
 }
 
 impl Items<Octets> {

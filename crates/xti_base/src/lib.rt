@@ -14,5 +14,5 @@ pub use items::{Calls, Items, Numbers, Parts, Sizes};
 pub use kinds::{Event, Fd, Prov, Seq, ServType, State};
 pub use limit::{Info, Limit};
 pub use octets::Octets;
-pub use options::is_option_list;
+pub use options::{Opt, is_option_list, size_of_front};
 pub use room::Room;

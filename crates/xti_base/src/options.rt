@@ -1,7 +1,22 @@
-//! The form of lists of options (XNS, t_opthdr).
+//! Options, and the form of lists of them (XNS, t_opthdr).
 
 ghost use Rattle.std.specs.Prelude.{◌≡◌, ◌≤◌, MatchOption, false, length, true};
 ghost use Rattle.xti_base.specs.Options.{are_zero, front_length, front_size, begins_option, is_option_list};
+
+use crate::octets::Octets;
+
+/// An option (XNS, t_opthdr and the value behind it).
+#[derive(Drop)]
+pub struct Opt {
+    /// The level, as XTI_GENERIC.
+    pub level: u32,
+    /// The name at that level.
+    pub name: u32,
+    /// The result of a negotiation; nothing reads it in a request.
+    pub status: u32,
+    /// The value.
+    pub value: Octets,
+}
 
 /// Whether the bytes are a list of options in their form: one after the other, each with its length, level, name and
 /// status as big-endian words of four bytes, its value of length - 16 bytes, and zero bytes up to a multiple of four,
@@ -19,9 +34,10 @@ pub fn is_option_list(bytes: &[u8]) -> bool
     true
 }
 
-/// How many bytes the option at the front takes, with those that fill it up; `None` if no option stands there.
+/// How many bytes the option at the front takes, with those that fill it up; `None` exactly if no option stands there.
+/// Takes no memory.
 #[tactic(auto, using(crate::proofs::OptionLists::zeros_decide), unfolding(crate::specs::Options::begins_option))]
-fn size_of_front(bytes: &[u8]) -> Option<usize>
+pub fn size_of_front(bytes: &[u8]) -> Option<usize>
     ensures { MatchOption result (begins_option bytes.now ≡ false) (λ size. (begins_option bytes.now ≡ true) × (size ≡ front_size bytes.now)) }
 {
     if bytes.len() < 16 {

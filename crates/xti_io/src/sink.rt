@@ -5,6 +5,7 @@ ghost use Rattle.xti_io.specs.Faults.{HasCause};
 ghost use Rattle.xti_io.specs.Sink.{Writes, Takes, TakesUpTo};
 
 use crate::source::Failed;
+use thiserror::Error;
 
 /// A sink of bytes, which counts its faults.
 pub trait Sink {
@@ -22,9 +23,10 @@ pub trait Sink {
 }
 
 /// Why not all was written.
-#[derive(Clone, Copy, Debug, PartialEq, Eq)]
+#[derive(Clone, Copy, Debug, PartialEq, Eq, Error)]
 pub enum WriteEnd {
     /// A write failed.
+    #[error("a write failed after {written} bytes")]
     Fault {
         /// How many bytes were taken before.
         written: usize,

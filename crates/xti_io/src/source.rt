@@ -5,10 +5,12 @@ ghost use Rattle.xti_io.specs.Faults.{HasCause, Rose};
 ghost use Rattle.xti_io.specs.Source.{Reads, Gives, GivesAll, GivesUpTo};
 
 use std::alloc::Global;
+use thiserror::Error;
 use xti_base::Octets;
 
 /// A read or a write failed.
-#[derive(Clone, Copy, Debug, PartialEq, Eq)]
+#[derive(Clone, Copy, Debug, PartialEq, Eq, Error)]
+#[error("a read or a write failed")]
 pub struct Failed;
 
 /// A source of bytes, which counts its faults.
@@ -27,13 +29,16 @@ pub trait Source {
 }
 
 /// Why the input was not read to its end.
-#[derive(Clone, Copy, Debug, PartialEq, Eq)]
+#[derive(Clone, Copy, Debug, PartialEq, Eq, Error)]
 pub enum ReadEnd {
     /// A read failed.
+    #[error("a read failed")]
     Fault,
     /// There are more bytes than the limit allows.
+    #[error("the input is longer than the limit")]
     TooLong,
     /// Memory is out.
+    #[error("out of memory")]
     OutOfMemory,
 }
 

@@ -8,6 +8,7 @@ use Rattle.xti_model.specs.declared.script.NamedCall.TheVariants.{TOpen, TBind, 
 use Rattle.xti_model.specs.declared.script.Line.{Line}
 use Rattle.xti_model.specs.declared.script.Script.{Script}
 use Rattle.xti_model.specs.Profile.{usual}
+use Rattle.xti_model.specs.Resolve.{opens as opens_name}
 use Rattle.xti_script.specs.Texts.{lines_of, words_of, is_name, is_plain_text}
 
 -- the most call lines, open lines and sndudata lines of a script
@@ -27,10 +28,6 @@ is_open other = false
 abbrev pub is_send : NamedCall → Bool
 is_send (TSndUData fd addr opt bytes) = true
 is_send other = false
-
-abbrev pub opens_name : List ℕ → NamedCall → Bool
-opens_name name (TOpen other prov nonblock) = bytes_eq other name
-opens_name name other = false
 
 abbrev pub binds_name : List ℕ → NamedCall → Bool
 binds_name name (TBind fd addr qlen amax) = bytes_eq fd name

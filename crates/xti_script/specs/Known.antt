@@ -7,7 +7,8 @@ use Rattle.std.specs.Ordering.{nat_cmp}
 use Rattle.xti_model.specs.declared.script.NamedCall.{NamedCall}
 use Rattle.xti_model.specs.declared.script.Line.{Line}
 use Rattle.xti_script.specs.declared.draft.Known.{Known}
-use Rattle.xti_script.specs.Grammar.{is_open, is_send, opens_name, binds_name, binds_address, opens, sends, defines, binds, binds_to, some_line}
+use Rattle.xti_model.specs.Resolve.{opens as opens_name}
+use Rattle.xti_script.specs.Grammar.{is_open, is_send, binds_name, binds_address, opens, sends, defines, binds, binds_to, some_line}
 
 -- a set of texts
 abbrev pub TextSet : Type 0

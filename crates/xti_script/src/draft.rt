@@ -2,7 +2,8 @@
 
 ghost use Rattle.std.specs.Prelude.{◌≡◌, ◌<◌, ◌||◌, ◌++◌, ◌+◌, ◌∷◌, [], ℕ, if◌then◌else◌, List, length, count_by, IfOk, OnOk};
 ghost use Rattle.std.specs.Str.{bytes_eq};
-ghost use Rattle.xti_script.specs.Grammar.{most_lines, is_open, is_send, opens_name, binds_name, binds_address, opens, sends, defines, binds, binds_to, some_line};
+ghost use Rattle.xti_model.specs.Resolve.{opens as opens_name};
+ghost use Rattle.xti_script.specs.Grammar.{most_lines, is_open, is_send, binds_name, binds_address, opens, sends, defines, binds, binds_to, some_line};
 ghost use Rattle.xti_script.specs.Known.{has, Knows, Adds};
 
 use std::alloc::{AllocError, Global};

@@ -14,14 +14,17 @@ use crate::calls::read_line;
 use crate::draft::Draft;
 use crate::texts::first_line;
 use std::alloc::{AllocError, Global};
+use thiserror::Error;
 use xti_model::{Lines, Providers, Script};
 
 /// Why a text was not read.
-#[derive(Clone, Copy, Debug, PartialEq, Eq)]
+#[derive(Clone, Copy, Debug, PartialEq, Eq, Error)]
 pub enum ScriptFail {
     /// The text is no script; the first line by which it isn't, from 1.
+    #[error("the text is no script from line {line} on")]
     Bad { line: u64 },
     /// Want of memory.
+    #[error("out of memory")]
     OutOfMemory,
 }
 

@@ -9,7 +9,8 @@ use Rattle.xti_model.specs.declared.profile.Providers.{Providers}
 use Rattle.xti_model.specs.declared.entry.Outcome.TheVariants.{Done}
 use Rattle.xti_model.specs.declared.entry.Reply.TheVariants.{Plain, Seen, Stands, Limits, Addresses, Options}
 use Rattle.xti_model.specs.Provider.{profile, info}
-use Rattle.xti_base.specs.Options.{Settings, Negotiated, is_action, is_option_list, the_options, is_one_level, negotiate}
+use Rattle.xti_base.specs.Options.{is_option_list, the_options, options_bytes}
+use Rattle.xti_base.specs.Negotiation.{Settings, Negotiated, is_action, is_one_level, negotiate}
 use Rattle.xti_model.specs.Endpoint.{Endpoint, address_of}
 use Rattle.xti_model.specs.World.{World, at_endpoint}
 use Rattle.xti_model.specs.Events.{Around, around, is_state, pending}
@@ -62,13 +63,13 @@ abbrev pub option_rows : Negotiated → ℕ → List ℕ → ℕ → List Row
 option_rows n action options omax =
     refuses (not (is_action action)) TBADFLAG ∷
     refuses (nat_lt 256 (length options) || not (is_option_list options) || not (is_one_level (the_options options))) TBADOPT ∷
-    overflows (field n.bytes omax ∷ []) ∷ []
+    overflows (field (options_bytes n.options) omax ∷ []) ∷ []
 
 abbrev pub with_settings : Settings → Endpoint → Endpoint
 with_settings s e = record e { sndbuf = s.sndbuf; rcvbuf = s.rcvbuf }
 
 abbrev pub option_plan_of : ℕ → Negotiated → ℕ → List ℕ → ℕ → Endpoint → Plan
-option_plan_of fd n action options omax e = plan_of fd e (option_rows n action options omax) (at_endpoint fd (with_settings n.settings) ∷ []) (Done (Options n.result (trimmed n.bytes omax)))
+option_plan_of fd n action options omax e = plan_of fd e (option_rows n action options omax) (at_endpoint fd (with_settings n.settings) ∷ []) (Done (Options n.result (trimmed (options_bytes n.options) omax)))
 
 abbrev pub option_plan : Providers → World → ℕ → ℕ → List ℕ → ℕ → Plan
 option_plan p w fd action options omax = on_open p w fd (λ e. option_plan_of fd (negotiated p action options e) action options omax e)
