@@ -2,7 +2,7 @@
 use Rattle.std.specs.Prelude.{ℕ, Bool, List, [], ◌∷◌, Option}
 use Rattle.xti_base.specs.declared.kinds.Prov.{Prov}
 use Rattle.xti_base.specs.declared.kinds.Event.{Event}
-use Rattle.xti_base.specs.Options.{Settings}
+use Rattle.xti_base.specs.Negotiation.{Settings}
 use Rattle.xti_model.specs.declared.profile.Profile.{Profile}
 use Rattle.xti_model.specs.declared.profile.Providers.{Providers}
 use Rattle.xti_model.specs.Endpoint.{Endpoint, Datagram, DatagramError, Indication, opened}
