@@ -2,8 +2,7 @@
 use Rattle.std.proofs.Common.{◌≡◌, ℕ, Bool, true, false, ◌&&◌, ◌||◌, List, [], ◌∷◌, map, find, option_map, Option, Some, None, cond, refl, sym, ◌∙◌, ap}
 use Rattle.std.specs.List.{list_any}
 use Rattle.tpi_grammar.specs.Word.{meets, viable}
-use Rattle.tpi_grammar.specs.Frame.{Row, Slot, left, has_part, is_part, first_form}
-use Rattle.tpi_grammar.specs.Rows.{first_row, form_of}
+use Rattle.tpi_grammar.specs.Frame.{Row, Slot, left, has_part, is_part, first_row}
 use Rattle.tpi_grammar.specs.declared.word.Range.{Range}
 
 one_more : (f : Row → Range) (u x : ℕ) (r : Row) (rs : List Row) (t more : Bool) → viable (map f rs) u x ≡ more
@@ -40,10 +39,6 @@ module _ {K : Type 0} (g : K → Row) where
 pub any_map : {K : Type 0} (g : K → Slot) (ks : List K) → list_any (λ k. is_part (g k)) ks ≡ has_part (map g ks)
 any_map g [] = refl
 any_map g (k ∷ ks) = ap (λ b. is_part (g k) || b) (any_map g ks)
-
-pub first_form-row : (c d : ℕ) (rs : List Row) → form_of c d (first_row rs) ≡ first_form c d rs
-first_form-row c d [] = refl
-first_form-row c d (r ∷ rs) = refl
 
 first_one : {K : Type 0} (g : K → Row) (k : K) (rs : List Row) (t : Bool) (o : Option K) → first_row rs ≡ option_map g o
     → first_row (cond t (g k ∷ rs) rs) ≡ option_map g (cond t (Some k) o)

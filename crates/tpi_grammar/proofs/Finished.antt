@@ -4,7 +4,7 @@ use Rattle.std.specs.List.{list_any, list_all, AllByRecursion}
 use Rattle.std.proofs.lemmas.Bool.{lt-ltb, ltb-true, leb-true, le-leb}
 use Rattle.tpi_grammar.specs.Form.{Form, done, byte, Live}
 use Rattle.tpi_grammar.specs.Word.{meets, viable, word, IsRange}
-use Rattle.tpi_grammar.specs.Frame.{Row, Slot, upto, part, table, tail, slots_form, part_range, offset, has_part, head, first_form, row_form, at_most, exactly, left, chosen, size_range, data_range, number_range, frame}
+use Rattle.tpi_grammar.specs.Frame.{Row, Slot, upto, part, table, tail, slots_form, part_range, offset, has_part, head, form_of, first_row, number_form, row_form, at_most, exactly, left, chosen, size_range, data_range, number_range, frame}
 use Rattle.tpi_grammar.specs.declared.word.Range.{Range}
 use Rattle.tpi_grammar.proofs.WordForms.{and_true, both, word_live}
 
@@ -151,7 +151,7 @@ size_sound r h = go (has_part r.slots)
     go true = (h.size, omega arith)
     go false = (omega arith, omega (arith, h.size))
 
-first_live : (c d : ℕ) (rs : List Row) → c < 4294967296 → Some_left rs → AllByRecursion IsRow rs → Live (first_form c d rs)
+first_live : (c d : ℕ) (rs : List Row) → c < 4294967296 → Some_left rs → AllByRecursion IsRow rs → Live (form_of c d (first_row rs))
 first_live c d rs lt (some r more) h =
     slots_live r.slots (head r.slots) (c - head r.slots) (tail (c - head r.slots + d)) h.0.slots (omega (arith, lt, h.0.size)) (tail_live (c - head r.slots + d))
 

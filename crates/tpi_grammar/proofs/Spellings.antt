@@ -6,7 +6,7 @@ use Rattle.std.proofs.lemmas.Bool.{lt-ltb, ltb-true, leb-true, le-leb}
 use Rattle.std.proofs.lemmas.List.{length-take-le}
 use Rattle.tpi_grammar.specs.Form.{Form, done, byte, In}
 use Rattle.tpi_grammar.specs.Word.{meets, viable, word}
-use Rattle.tpi_grammar.specs.Frame.{Row, Slot, upto, part, Value, num, text, table, Filled, IsFilled, IsIn, Fit, AreBytes, spelling, be, words, parts, tail, slots_form, part_range, offset, has_part, head, row_form, first_form, at_most, exactly, left, chosen, size_range, data_range, number_range, control_size, frame}
+use Rattle.tpi_grammar.specs.Frame.{Row, Slot, upto, part, Value, num, text, table, Filled, IsFilled, IsIn, Fit, AreBytes, spelling, be, words, parts, tail, slots_form, part_range, offset, has_part, head, row_form, form_of, first_row, number_form, at_most, exactly, left, chosen, size_range, data_range, number_range, control_size, frame}
 use Rattle.tpi_grammar.specs.declared.word.Range.{Range}
 use Rattle.tpi_grammar.proofs.WordForms.{and_true, both, or_left, or_right}
 use Rattle.tpi_grammar.proofs.SpelledWords.{IsWord, word_is, word_has}
@@ -240,11 +240,11 @@ slots_has (part ∷ ss) (text bs ∷ vs) place left next rest small fit e lt inn
 
 -- ---- the grammar
 
--- the text is a primitive's spelling
+-- the text is the spelling of a row filled in
 pub record IsSpelled (ws : List ℕ) : Type 0 where
-  pub prim : Filled
-  pub good : IsFilled prim
-  pub spelled : ws ≡ spelling prim
+  pub filled : Filled
+  pub good : IsFilled filled
+  pub spelled : ws ≡ spelling filled
 
 not_both : true ≡ false → ⊥
 not_both x = cc
@@ -279,7 +279,7 @@ row_is r [] h i = elim i [ ]
 row_is r (x ∷ xs) h (inl e) = subst IsRow e h.0
 row_is r (x ∷ xs) h (inr i) = row_is r xs h.1 i
 
-first_is : (c d : ℕ) (rows : List Row) (ws : List ℕ) → Some_left rows → In (first_form c d rows) ws → (r : Row) × IsIn r rows × In (row_form c d r) ws
+first_is : (c d : ℕ) (rows : List Row) (ws : List ℕ) → Some_left rows → In (form_of c d (first_row rows)) ws → (r : Row) × IsIn r rows × In (row_form c d r) ws
 first_is c d rows ws (some r rs) i = (r, inl refl, i)
 
 pub joined : (a b c d e f : List ℕ) → a ++ (b ++ (c ++ (d ++ (e ++ f)))) ≡ a ++ b ++ c ++ d ++ e ++ f
@@ -317,11 +317,11 @@ body_is c d r ws none i =
 pub frame_is : (ws : List ℕ) → In frame ws → IsSpelled ws
 unfolding frame
 frame_is ws i =
-    let c = word_is (map size_range table) (λ n. chosen data_range (λ d. chosen number_range (λ _. first_form n d)) (left size_range n table)) ws i in
+    let c = word_is (map size_range table) (λ n. chosen data_range (λ d. number_form n d) (left size_range n table)) ws i in
     let rows : List Row = left size_range c.value table in
-    let d = word_is (map data_range rows) (λ n. chosen number_range (λ _. first_form c.value n) (left data_range n rows)) c.rest c.inner in
+    let d = word_is (map data_range rows) (λ n. number_form c.value n (left data_range n rows)) c.rest c.inner in
     let rows' : List Row = left data_range d.value rows in
-    let n = word_is (map number_range rows') (λ n. first_form c.value d.value (left number_range n rows')) d.rest d.inner in
+    let n = word_is (map number_range rows') (λ n. form_of c.value d.value (first_row (left number_range n rows'))) d.rest d.inner in
     let f = first_is c.value d.value (left number_range n.value rows') n.rest (some_left number_range n.value rows' n.met) n.inner in
     let r : Row = f.0 in
     let by_number = left_in number_range n.value r rows' f.1 in
@@ -333,7 +333,7 @@ frame_is ws i =
     let room : d.value ≤ r.most_data = is_at_most d.value r.most_data by_data.0 in
     let control : head r.slots + length (parts body.values) ≡ c.value = omega (arith, body.control, size.low) in
     record {
-      prim = record { row = r; values = body.values; user = body.user };
+      filled = record { row = r; values = body.values; user = body.user };
       good = record { row = by_size.1; values = body.fit; user = body.bytes; room = rw body.long room; control = rw control size.high };
       spelled = whole ws c.value d.value n.value (words (head r.slots) body.values) (parts body.values) body.user c.rest d.rest n.rest
           (head r.slots + length (parts body.values)) (length body.user) r.number c.text d.text n.text body.spelled (sym control) (sym body.long) number;
@@ -345,7 +345,7 @@ frame_is ws i =
     whole ws c d n head parts user w1 w2 w3 c' d' n' e1 e2 e3 e4 ec ed en =
         e1 ∙ rw (e2, e3, e4, ec, ed, en) (joined (be c') (be d') (be n') head parts user)
 
-first_has : (c d : ℕ) (r : Row) (rows : List Row) (ws : List ℕ) → IsIn r rows → ((x : Row) → IsIn x rows → x ≡ r) → In (row_form c d r) ws → In (first_form c d rows) ws
+first_has : (c d : ℕ) (r : Row) (rows : List Row) (ws : List ℕ) → IsIn r rows → ((x : Row) → IsIn x rows → x ≡ r) → In (row_form c d r) ws → In (form_of c d (first_row rows)) ws
 first_has c d r [] ws i only h = elim i [ ]
 first_has c d r (x ∷ xs) ws i only h = subst (λ (y : Row). In (row_form c d y) ws) (sym (only x (inl refl))) h
 
@@ -390,10 +390,10 @@ frame_has p h =
     let ends : In (tail (k + d)) (parts p.values ++ p.user) =
     subst (λ n. In (tail n) (parts p.values ++ p.user)) (sym long) (tail_has (parts p.values ++ p.user) (joined_bytes (parts p.values) p.user (parts_bytes r.slots p.values h.values) h.user)) in
     let inner = slots_has r.slots p.values (head r.slots) k (tail (k + d)) (parts p.values ++ p.user) good.slots h.values is_k (omega (arith, h.control, good.size)) ends in
-    let at_number = word_has (map number_range rows') (λ n. first_form c d (left number_range n rows')) r.number _ good.number (viable_in number_range r.number r rows' in_data (meets_exactly r.number))
+    let at_number = word_has (map number_range rows') (λ n. form_of c d (first_row (left number_range n rows'))) r.number _ good.number (viable_in number_range r.number r rows' in_data (meets_exactly r.number))
     (first_has c d r (left number_range r.number rows') _ in_number only inner) in
-    let at_data = word_has (map data_range rows) (λ n. chosen number_range (λ _. first_form c n) (left data_range n rows)) d _ (omega (arith, h.room, good.most_data))
+    let at_data = word_has (map data_range rows) (λ n. number_form c n (left data_range n rows)) d _ (omega (arith, h.room, good.most_data))
     (viable_in data_range d r rows in_size (meets_at_most d r.most_data h.room)) at_number in
-    let at_size = word_has (map size_range table) (λ n. chosen data_range (λ d. chosen number_range (λ _. first_form n d)) (left size_range n table)) c _ (omega (arith, h.control))
+    let at_size = word_has (map size_range table) (λ n. chosen data_range (λ d. number_form n d) (left size_range n table)) c _ (omega (arith, h.control))
     (viable_in size_range c r table h.row (size_meets p h)) at_data in
     subst (λ ws. In frame ws) (joined (be c) (be d) (be r.number) (words (head r.slots) p.values) (parts p.values) p.user) at_size

@@ -1,5 +1,5 @@
 use Rattle.std.proofs.Common.{sym, subst}
-use Rattle.tpi_grammar.specs.Rows.{MeansFrame}
+use Rattle.tpi_grammar.specs.Measured.{MeansFrame}
 use Rattle.tpi_grammar.specs.Form.{scan}
 use Rattle.tpi_grammar.specs.Frame.{frame}
 use Rattle.tpi_grammar.proofs.Finished.{frame_live}

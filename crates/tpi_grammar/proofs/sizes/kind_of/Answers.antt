@@ -1,6 +1,6 @@
 use Rattle.std.proofs.Common.{sym, ap, ◌∙◌, option_map}
-use Rattle.tpi_grammar.specs.Frame.{left, size_range, data_range, number_range}
-use Rattle.tpi_grammar.specs.Rows.{row_of, first_row}
+use Rattle.tpi_grammar.specs.Frame.{first_row, left, size_range, data_range, number_range}
+use Rattle.tpi_grammar.specs.Kinds.{row_of}
 use Rattle.tpi_grammar.proofs.Choices.{first_left}
 use Rattle.tpi_grammar.proofs.sizes.kind_of.Goals as goal
 
