@@ -7,3 +7,4 @@ pub mod Choices
 pub mod Tails
 pub mod Meaning
 pub mod OneSpelling
+pub mod FrameLists

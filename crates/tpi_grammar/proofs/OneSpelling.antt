@@ -26,7 +26,7 @@ no_prefix (byte ok next) (p ∷ a) (q ∷ b) x y ia ib e =
     let t = no_prefix (next p) a b x y ia.1 (subst (λ n. In (next n) b) (sym s) ib.1) (same_rest p q (a ++ x) (b ++ y) e) in
     cc
 
-split_same : (a b x y : List ℕ) → length a ≡ length b → a ++ x ≡ b ++ y → (a ≡ b) × (x ≡ y)
+pub split_same : (a b x y : List ℕ) → length a ≡ length b → a ++ x ≡ b ++ y → (a ≡ b) × (x ≡ y)
 split_same [] [] x y l e = (refl, e)
 split_same [] (q ∷ b) x y l e = absurd (omega (arith, l))
 split_same (p ∷ a) [] x y l e = absurd (omega (arith, l))
@@ -106,8 +106,8 @@ made : (r r' : Row) (v v' : List Value) (u u' : List ℕ) → r ≡ r' → v ≡
 made r r' v v' u u' a b c = rw (a, b, c) refl
 
 -- a spelling is that of one primitive
-pub one_prim : (p q : Filled) → IsFilled p → IsFilled q → spelling p ≡ spelling q → p ≡ q
-one_prim p q hp hq e =
+pub one_filled : (p q : Filled) → IsFilled p → IsFilled q → spelling p ≡ spelling q → p ≡ q
+one_filled p q hp hq e =
     let gp = row_is p.row table table_is hp.row in
     let gq = row_is q.row table table_is hq.row in
     let lp : length (parts p.values) < 4294967296 = omega (arith, hp.control) in
