@@ -8,3 +8,4 @@ pub mod Tails
 pub mod Meaning
 pub mod OneSpelling
 pub mod FrameLists
+pub mod AtOnce

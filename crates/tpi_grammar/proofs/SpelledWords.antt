@@ -5,8 +5,8 @@ use Rattle.std.specs.List.{list_any, AllByRecursion}
 use Rattle.std.proofs.lemmas.Bool.{lt-ltb, ltb-true, leb-true, le-leb}
 use Rattle.std.proofs.lemmas.Nat.{be_bytes_4, from_be_bytes-to_be_bytes_4}
 use Rattle.std.proofs.Math.Nat.{mul-le-mul_right}
-use Rattle.tpi_grammar.specs.Form.{Form, done, byte, In}
-use Rattle.tpi_grammar.specs.Word.{meets, viable, may_follow, word, IsRange}
+use Rattle.tpi_grammar.specs.Form.{Form, done, byte, In, later, scan}
+use Rattle.tpi_grammar.specs.Word.{meets, viable, may_follow, word, after_word, IsRange}
 use Rattle.tpi_grammar.specs.declared.word.Range.{Range}
 use Rattle.tpi_grammar.proofs.WordForms.{and_true, both, or_left, or_right, at_byte, past_byte, past_start}
 
@@ -111,3 +111,35 @@ word_has rs next v rest small met inner =
     let text : to_be_bytes w32 v ≡ a ∷ b ∷ c ∷ d ∷ [] = ap (to_be_bytes w32) is ∙ bytes_of a b c d ha hb hc hd in
     subst (λ (bs : List ℕ). In (word rs next) (bs ++ rest)) (sym text)
     (word_of_bytes rs next a b c d rest ha hb hc hd (subst (λ n. viable rs 1 n ≡ true) is met) (subst (λ n. In (next n) rest) is inner))
+
+-- a word in the ranges is read whole
+scan_bytes : (rs : List Range) (next : ℕ → Form) (a b c d : ℕ) (rest : List ℕ) → a < 256 → b < 256 → c < 256 → d < 256
+    → viable rs 1 (horner a b c d) ≡ true → scan (word rs next) (a ∷ b ∷ c ∷ d ∷ rest) ≡ after_word (scan (next (horner a b c d)) rest)
+unfolding word
+scan_bytes rs next a b c d rest ha hb hc hd met =
+    let m3 = viable_up rs 1 (256 * (256 * a + b) + c) d hd met in
+    let m2 = viable_up rs 256 (256 * a + b) c hc m3 in
+    let m1 = viable_up rs 65536 a b hb m2 in
+    rw (
+      may_step rs 16777216 0 a ha (subst (λ n. viable rs 16777216 n ≡ true) (sym (zero-add a)) m1),
+      may_step rs 65536 a b hb m2,
+      may_step rs 256 (256 * a + b) c hc m3,
+      may_step rs 1 (256 * (256 * a + b) + c) d hd met,
+    ) refl
+
+pub word_scan : (rs : List Range) (next : ℕ → Form) (v : ℕ) (rest : List ℕ) → v < 4294967296 → viable rs 1 v ≡ true
+    → scan (word rs next) (to_be_bytes w32 v ++ rest) ≡ after_word (scan (next v) rest)
+word_scan rs next v rest small met =
+    let a : ℕ = v / 16777216 in
+    let b : ℕ = v / 65536 % 256 in
+    let c : ℕ = v / 256 % 256 in
+    let d : ℕ = v % 256 in
+    let is : v ≡ horner a b c d = omega arith in
+    let ha : a < 256 = omega arith in
+    let hb : b < 256 = omega arith in
+    let hc : c < 256 = omega arith in
+    let hd : d < 256 = omega arith in
+    let text : to_be_bytes w32 v ≡ a ∷ b ∷ c ∷ d ∷ [] = ap (to_be_bytes w32) is ∙ bytes_of a b c d ha hb hc hd in
+    ap (λ (bs : List ℕ). scan (word rs next) (bs ++ rest)) text
+    ∙ scan_bytes rs next a b c d rest ha hb hc hd (subst (λ n. viable rs 1 n ≡ true) is met)
+    ∙ ap (λ n. after_word (scan (next n) rest)) (sym is)

@@ -34,6 +34,10 @@ IsRange r = (r.low ≤ r.high) × (r.high < 4294967296)
 abbrev pub after_word : Outcome → Outcome
 after_word o = later (later (later (later o)))
 
+-- the same, told twelve bytes earlier
+abbrev pub after_head : Outcome → Outcome
+after_head o = after_word (after_word (after_word o))
+
 -- what a word that was read so makes of the whole
 abbrev pub goes : WordRead → (ℕ → Form) → List ℕ → Outcome
 goes (Value v) next rest = after_word (scan (next v) rest)

@@ -1,15 +1,15 @@
 //! How much of an input is a frame.
 
-ghost use Rattle.std.specs.Prelude.{◌≡◌, ◌≤◌, ◌<◌, ◌+◌, ◌^◌, ℕ, [], ◌∷◌, length, drop, option_map};
+ghost use Rattle.std.specs.Prelude.{◌≡◌, ◌≤◌, ◌<◌, ◌+◌, ◌^◌, ℕ, [], ◌∷◌, length, drop, option_map, IfSome};
 ghost use Rattle.tpi_grammar.specs.Form.{Form, scan};
-ghost use Rattle.tpi_grammar.specs.Word.{after_word as later_word, goes, word};
-ghost use Rattle.tpi_grammar.specs.Frame.{table, left, size_range, data_range, offset, part_range, slots_form, form_of, first_row, number_range, number_form, chosen, tail, frame};
+ghost use Rattle.tpi_grammar.specs.Word.{after_word as later_word, after_head, goes, word};
+ghost use Rattle.tpi_grammar.specs.Frame.{table, left, size_range, data_range, offset, part_range, slots_form, row_form, form_of, first_row, number_range, number_form, chosen, tail, frame};
 ghost use Rattle.tpi_grammar.specs.Kinds.{row_of, slots_view};
 ghost use Rattle.tpi_grammar.specs.Measured.{MeansFrame, outcome_of};
 
 use crate::kind::{Kind, Slot};
-use crate::sizes::{Counts, PrimTypes, Sizes, kind_of, part_length};
-use crate::word::{WordRead, between, read_word};
+use crate::sizes::{Counts, PrimTypes, Sizes, kind_of, may_count, part_length};
+use crate::word::{WordRead, between, front_word, read_word};
 
 /// What is at the front of an input.
 #[derive(Debug, Clone, Copy, PartialEq, Eq)]
@@ -31,8 +31,55 @@ pub fn measure_frame(input: &[u8]) -> Measure
     scan_frame(input)
 }
 
-#[tactic(auto, unfolding(crate::specs::Frame::frame))]
+/// A primitive, and the two lengths in front of it.
+#[derive(Clone, Copy)]
+struct Head {
+    size: u32,
+    count: u32,
+    kind: Kind,
+}
+
+/// The two lengths and PRIM_type, read at once; `None` if less than twelve bytes are there, or no frame begins with them.
+fn read_head(input: &[u8]) -> Option<Head>
+    ensures long { IfSome result (λ _. 12 ≤ length input.now) }
+    ensures scans { IfSome result (λ h. scan frame input.now ≡ after_head (scan (row_form h.size h.count (row_of h.kind)) (drop 12 input.now))) }
+{
+    let size = front_word(input)?;
+    let count = front_word(&input[4..])?;
+    let number = front_word(&input[8..])?;
+    let kind = Kind::of_number(number)?;
+    if may_count(kind, size, 1, count) {
+        Some(Head { size, count, kind })
+    } else {
+        None
+    }
+}
+
+/// Reads a frame; its first three words at once if a frame begins with them, and else byte by byte.
 fn scan_frame(input: &[u8]) -> Measure
+    ensures { outcome_of result ≡ scan frame input.now }
+{
+    match read_head(input) {
+        Some(head) => measure_behind(head, input),
+        None => scan_bytes(input),
+    }
+}
+
+/// Reads what stands behind the first three words.
+fn measure_behind(head: Head, input: &[u8]) -> Measure
+    requires { 12 ≤ length input.now }
+    ensures { outcome_of result ≡ after_head (scan (row_form head.size head.count (row_of head.kind)) (drop 12 input.now)) }
+{
+    let behind = &input[12..];
+    let body = measure_body(Some(head.kind), head.size, head.count, behind);
+    let third = after_word(body, behind.len());
+    let second = after_word(third, behind.len() + 4);
+    after_word(second, behind.len() + 8)
+}
+
+/// Reads a frame byte by byte.
+#[tactic(auto, unfolding(crate::specs::Frame::frame))]
+fn scan_bytes(input: &[u8]) -> Measure
     ensures { outcome_of result ≡ scan frame input.now }
 {
     match read_word(input, &Sizes) {

@@ -152,7 +152,8 @@ fn some_count(kinds: &[Kind], size: u32, unit: u64, x: u32) -> bool
     kinds.iter().any(|kind| may_count(*kind, size, unit, x))
 }
 
-fn may_count(kind: Kind, size: u32, unit: u64, x: u32) -> bool
+/// Whether the control part may have this length, and the user data one of the `unit` lengths from `x * unit` on.
+pub(crate) fn may_count(kind: Kind, size: u32, unit: u64, x: u32) -> bool
     requires { unit ≤ 16777216 }
     ensures { result ≡ (meets 1 size (size_range (row_of kind)) && meets unit x (data_range (row_of kind))) }
 {

@@ -1,7 +1,8 @@
 //! Reading a word whose value lies in one of some ranges.
 
-ghost use Rattle.std.specs.Prelude.{◌≡◌, ◌≤◌, ◌<◌, ℕ, List, [], ◌∷◌, length, drop, true};
+ghost use Rattle.std.specs.Prelude.{◌≡◌, ◌≤◌, ◌<◌, ℕ, List, [], ◌∷◌, ◌++◌, length, drop, true, IfSome};
 ghost use Rattle.tpi_grammar.specs.Form.{Form, scan};
+ghost use Rattle.tpi_grammar.specs.Frame.{be};
 ghost use Rattle.tpi_grammar.specs.Word.{goes, meets, viable, word};
 
 /// The numbers from `low` to `high`.
@@ -60,9 +61,35 @@ pub(crate) fn between(low: u32, high: u32) -> Within
     Within(Range { low, high })
 }
 
-/// Reads a word in the ranges at the front of the bytes.
-#[tactic(auto, unfolding(crate::specs::Word::word))]
+/// The word at the front of the bytes, if four bytes are there.
+pub(crate) fn front_word(bytes: &[u8]) -> Option<u32>
+    ensures long { IfSome result (λ v. 4 ≤ length bytes.now) }
+    ensures word { IfSome result (λ v. bytes.now ≡ be v ++ drop 4 bytes.now) }
+{
+    let [a, b, c, d, ..] = bytes else {
+        return None;
+    };
+    Some(u32::from_be_bytes([*a, *b, *c, *d]))
+}
+
+/// Reads a word in the ranges at the front of the bytes: at once if its value is in them, and else byte by byte.
 pub(crate) fn read_word<C: Choice>(bytes: &[u8], choice: &C) -> WordRead
+    ensures scans { (next : ℕ → Form) → scan (word (C.ranges choice.now) next) bytes.now ≡ goes result next (drop 4 bytes.now) }
+    ensures long { (v : ℕ) → result ≡ WordRead.Value v → 4 ≤ length bytes.now }
+    ensures met { (v : ℕ) → result ≡ WordRead.Value v → viable (C.ranges choice.now) 1 v ≡ true }
+    ensures at { (n : ℕ) → result ≡ WordRead.Bad n → n < length bytes.now }
+{
+    if let Some(value) = front_word(bytes) {
+        if choice.is_viable(1, value) {
+            return WordRead::Value(value);
+        }
+    }
+    read_bytes(bytes, choice)
+}
+
+/// Reads a word in the ranges byte by byte.
+#[tactic(auto, unfolding(crate::specs::Word::word))]
+fn read_bytes<C: Choice>(bytes: &[u8], choice: &C) -> WordRead
     ensures scans { (next : ℕ → Form) → scan (word (C.ranges choice.now) next) bytes.now ≡ goes result next (drop 4 bytes.now) }
     ensures long { (v : ℕ) → result ≡ WordRead.Value v → 4 ≤ length bytes.now }
     ensures met { (v : ℕ) → result ≡ WordRead.Value v → viable (C.ranges choice.now) 1 v ≡ true }
