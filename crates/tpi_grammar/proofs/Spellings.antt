@@ -1,15 +1,14 @@
 -- The form of a frame has the spellings of primitives, and nothing else.
-use Rattle.std.proofs.Common.{◌≡◌, ◌≤◌, ◌<◌, ◌+◌, ◌*◌, ◌⊎◌, ℕ, suc, zero, Bool, true, false, ◌&&◌, ◌||◌, nat_lt, nat_le, List, [], ◌∷◌, ◌++◌, length, take, drop, length-drop, take-append-drop, length-append, map, flat_map, nat_eq, ◌-◌, cond, refl, sym, ◌∙◌, ap, arith, inl, inr, subst, append_assoc}
-use Rattle.std.specs.Int.{w32, to_be_bytes}
+use Rattle.std.proofs.Common.{◌≡◌, ◌≤◌, ◌<◌, ◌+◌, ◌*◌, ℕ, suc, zero, Bool, true, false, ◌&&◌, nat_lt, nat_le, List, [], ◌∷◌, ◌++◌, length, take, drop, length-drop, take-append-drop, length-append, map, nat_eq, ◌-◌, cond, refl, sym, ◌∙◌, ap, arith, inl, inr, subst, append_assoc}
 use Rattle.std.specs.List.{list_all, AllByRecursion}
 use Rattle.std.proofs.lemmas.Bool.{lt-ltb, ltb-true, leb-true, le-leb}
 use Rattle.std.proofs.lemmas.List.{length-take-le}
-use Rattle.tpi_grammar.specs.Form.{Form, done, byte, In}
+use Rattle.tpi_grammar.specs.Form.{Form, In}
 use Rattle.tpi_grammar.specs.Word.{meets, viable, word}
 use Rattle.tpi_grammar.specs.Frame.{Row, Slot, upto, part, Value, num, text, table, Filled, IsFilled, IsIn, Fit, AreBytes, spelling, be, words, parts, tail, slots_form, part_range, offset, has_part, head, row_form, form_of, first_row, number_form, at_most, exactly, left, chosen, size_range, data_range, number_range, control_size, frame}
 use Rattle.tpi_grammar.specs.declared.word.Range.{Range}
 use Rattle.tpi_grammar.proofs.WordForms.{and_true, both, or_left, or_right}
-use Rattle.tpi_grammar.proofs.SpelledWords.{IsWord, word_is, word_has}
+use Rattle.tpi_grammar.proofs.SpelledWords.{word_is, word_has}
 use Rattle.tpi_grammar.proofs.Finished.{is_exactly, meets_exactly, is_at_most, meets_at_most, alone, part_within, Some_left, some, some_left, IsSlot, IsRow, table_is}
 
 -- ---- which rows a value leaves

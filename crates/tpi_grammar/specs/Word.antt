@@ -1,5 +1,5 @@
 -- A word: four bytes, high byte first, whose value lies in one of some ranges.
-use Rattle.std.specs.Prelude.{◌≡◌, ◌≤◌, ◌<◌, ◌+◌, ◌*◌, ℕ, suc, zero, Bool, true, false, ◌&&◌, List, [], ◌∷◌, ◌++◌, length, drop, if◌then◌else◌, nat_lt, nat_le}
+use Rattle.std.specs.Prelude.{◌≤◌, ◌<◌, ◌+◌, ◌*◌, ℕ, Bool, ◌&&◌, List, nat_lt, nat_le}
 use Rattle.std.specs.List.{list_any}
 use Rattle.tpi_grammar.specs.Form.{Form, byte, Outcome, short, bad, later, scan}
 use Rattle.tpi_grammar.specs.declared.word.Range.{Range}

@@ -76,7 +76,11 @@ static CALLER: [Slot; 3] = [Slot::Part, Slot::Part, Slot::Upto(u32::MAX)];
 
 static NUMBERS: [Slot; 2] = [Slot::Upto(u32::MAX), Slot::Upto(u32::MAX)];
 
-static REASONS: [Slot; 3] = [Slot::Upto(u32::MAX), Slot::Upto(u32::MAX), Slot::Upto(u32::MAX)];
+static REASONS: [Slot; 3] = [
+    Slot::Upto(u32::MAX),
+    Slot::Upto(u32::MAX),
+    Slot::Upto(u32::MAX),
+];
 
 static KINDS: [Kind; 20] = [
     Kind::T_CONN_REQ,
@@ -221,9 +225,7 @@ impl Kind {
         ensures { result ≡ head (row_of self).slots }
     {
         match self {
-            Kind::T_UNBIND_REQ
-            | Kind::T_ORDREL_REQ
-            | Kind::T_ORDREL_IND => 4,
+            Kind::T_UNBIND_REQ | Kind::T_ORDREL_REQ | Kind::T_ORDREL_IND => 4,
             Kind::T_DISCON_REQ
             | Kind::T_DATA_REQ
             | Kind::T_EXDATA_REQ
@@ -231,16 +233,13 @@ impl Kind {
             | Kind::T_EXDATA_IND
             | Kind::T_OK_ACK => 8,
             Kind::T_DISCON_IND => 12,
-            Kind::T_BIND_REQ
-            | Kind::T_BIND_ACK
-            | Kind::T_ERROR_ACK => 16,
+            Kind::T_BIND_REQ | Kind::T_BIND_ACK | Kind::T_ERROR_ACK => 16,
             Kind::T_CONN_REQ
             | Kind::T_CONN_RES
             | Kind::T_UNITDATA_REQ
             | Kind::T_CONN_CON
             | Kind::T_UNITDATA_IND => 20,
-            Kind::T_CONN_IND
-            | Kind::T_UDERROR_IND => 24,
+            Kind::T_CONN_IND | Kind::T_UDERROR_IND => 24,
         }
     }
 }

@@ -10,3 +10,6 @@ mod word;
 pub use kind::{Kind, Slot};
 pub use laws::{frames_law, one_spelling};
 pub use measure::{Measure, measure_frame};
+
+#[cfg(test)]
+mod tests;
