@@ -335,14 +335,14 @@ frame_is ws i =
       filled = record { row = r; values = body.values; user = body.user };
       good = record { row = by_size.1; values = body.fit; user = body.bytes; room = rw body.long room; control = rw control size.high };
       spelled = whole ws c.value d.value n.value (words (head r.slots) body.values) (parts body.values) body.user c.rest d.rest n.rest
-          (head r.slots + length (parts body.values)) (length body.user) r.number c.text d.text n.text body.spelled (sym control) (sym body.long) number;
+          (head r.slots + length (parts body.values)) (length body.user) r.number c.text d.text n.text body.spelled control body.long number;
     }
   where
     whole : (ws : List ℕ) (c d n : ℕ) (head parts user w1 w2 w3 : List ℕ) (c' d' n' : ℕ)
-        → ws ≡ be c ++ w1 → w1 ≡ be d ++ w2 → w2 ≡ be n ++ w3 → w3 ≡ head ++ (parts ++ user) → c ≡ c' → d ≡ d' → n ≡ n'
+        → ws ≡ be c ++ w1 → w1 ≡ be d ++ w2 → w2 ≡ be n ++ w3 → w3 ≡ head ++ (parts ++ user) → c' ≡ c → d' ≡ d → n ≡ n'
         → ws ≡ be c' ++ be d' ++ be n' ++ head ++ parts ++ user
     whole ws c d n head parts user w1 w2 w3 c' d' n' e1 e2 e3 e4 ec ed en =
-        e1 ∙ rw (e2, e3, e4, ec, ed, en) (joined (be c') (be d') (be n') head parts user)
+        e1 ∙ rw (e2, e3, e4, ec, ed, en) (joined (be c) (be d) (be n') head parts user)
 
 first_has : (c d : ℕ) (r : Row) (rows : List Row) (ws : List ℕ) → IsIn r rows → ((x : Row) → IsIn x rows → x ≡ r) → In (row_form c d r) ws → In (form_of c d (first_row rows)) ws
 first_has c d r [] ws i only h = elim i [ ]
