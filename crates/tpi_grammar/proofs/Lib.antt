@@ -1,0 +1,11 @@
+pub mod Reading
+pub mod WordForms
+pub mod Finished
+pub mod SpelledWords
+pub mod Spellings
+pub mod Choices
+pub mod Tails
+pub mod Meaning
+pub mod OneSpelling
+pub mod FrameLists
+pub mod AtOnce

@@ -1,0 +1,6 @@
+pub mod Form
+pub mod Word
+pub mod Frame
+pub mod Kinds
+pub mod Measured
+pub mod Frames

@@ -1,0 +1,24 @@
+//! What the grammar says of all frames.
+
+ghost use Rattle.std.specs.Prelude.{◌≡◌, ◌≢◌, ◌+◌, ℕ, List, [], ◌++◌, length};
+ghost use Rattle.tpi_grammar.specs.Form.{short, bad};
+ghost use Rattle.tpi_grammar.specs.Frame.{Filled, IsFilled, spelling};
+ghost use Rattle.tpi_grammar.specs.Measured.{IsFrame, MeansFrame};
+ghost use Rattle.tpi_grammar.specs.Frames.{AreFilled, IsFrames, IsFirstWrong, spellings};
+
+/// Each frame is spelled by one row and its values only, and no frame begins another.
+pub fn one_spelling()
+    ensures one { (f g : Filled) → IsFilled f → IsFilled g → spelling f ≡ spelling g → f ≡ g }
+    ensures apart { (a b x y : List ℕ) → IsFrame a → IsFrame b → a ++ x ≡ b ++ y → a ≡ b }
+{}
+
+/// Frames one after the other are read one by one: where the next one is bad or cut, there the whole is wrong first, and
+/// nowhere else.
+pub fn frames_law()
+    ensures bad_frame { (front rest : List ℕ) (at : ℕ) → IsFrames front → MeansFrame rest (bad at) → IsFirstWrong (front ++ rest) (length front + at) }
+    ensures cut_frame { (front rest : List ℕ) → IsFrames front → MeansFrame rest short → rest ≢ [] → IsFirstWrong (front ++ rest) (length (front ++ rest)) }
+    ensures one_more { (front last : List ℕ) → IsFrames front → IsFrame last → IsFrames (front ++ last) }
+    ensures one_reading { (fs gs : List Filled) → AreFilled fs → AreFilled gs → spellings fs ≡ spellings gs → fs ≡ gs }
+    ensures never_both { (bs : List ℕ) (at : ℕ) → IsFirstWrong bs at → IsFrames bs → ⊥ }
+    ensures one_place { (bs : List ℕ) (a b : ℕ) → IsFirstWrong bs a → IsFirstWrong bs b → a ≡ b }
+{}

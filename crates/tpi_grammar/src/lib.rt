@@ -1,0 +1,15 @@
+//! The grammar of TPI frames: which bytes are a frame, and how much of an input is one.
+#![tactic(auto)]
+
+mod kind;
+mod laws;
+mod measure;
+mod sizes;
+mod word;
+
+pub use kind::{Kind, Slot};
+pub use laws::{frames_law, one_spelling};
+pub use measure::{Measure, measure_frame};
+
+#[cfg(test)]
+mod tests;
