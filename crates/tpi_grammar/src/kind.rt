@@ -217,7 +217,7 @@ impl Kind {
     }
 
     /// How many bytes PRIM_type and the words behind it are.
-    pub(crate) fn head(self) -> u32
+    pub fn head(self) -> u32
         ensures { result ≡ head (row_of self).slots }
     {
         match self {
