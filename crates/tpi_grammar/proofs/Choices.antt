@@ -1,5 +1,5 @@
 -- Some row of a choice meets a range: by the rows, and by the kinds that they come from.
-use Rattle.std.proofs.Common.{◌≡◌, ℕ, Bool, true, false, ◌&&◌, ◌||◌, List, [], ◌∷◌, map, find, option_map, Option, Some, None, cond, refl, sym, ◌∙◌, ap}
+use Rattle.std.proofs.Common.{◌≡◌, ℕ, Bool, true, false, ◌&&◌, ◌||◌, List, [], ◌∷◌, map, find, option_map, Option, Some, cond, refl, ap}
 use Rattle.std.specs.List.{list_any}
 use Rattle.tpi_grammar.specs.Word.{meets, viable}
 use Rattle.tpi_grammar.specs.Frame.{Row, Slot, left, has_part, is_part, first_row}

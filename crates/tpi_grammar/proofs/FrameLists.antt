@@ -1,6 +1,5 @@
 -- Frames one after the other are read one by one.
 use Rattle.std.proofs.Common.{◌≡◌, ◌≢◌, ◌≤◌, ◌<◌, ◌+◌, ◌⊎◌, ℕ, suc, List, [], ◌∷◌, ◌++◌, length, take, drop, length-append, length-take-le, take_all, take-append-drop, append_assoc, append-nil, refl, sym, ◌∙◌, ap, arith, inl, inr, subst}
-use Rattle.std.specs.List.{AllByRecursion}
 use Rattle.std.proofs.Math.Seq.{take-append_seam, take-append-add}
 use Rattle.std.proofs.Math.Nat.{eq-or-lt_of_le}
 use Rattle.std.proofs.lemmas.Bool.{cases_lt}
@@ -100,11 +99,11 @@ bad_frame front rest at hf m = record {
   within = omega (arith, m.0, length-append front rest);
   begins = subst BeginsFrames (sym (take-append-add front rest at)) (frames_begin front (take at rest) hf m.1);
   wrong = λ lt b.
-    let place : suc (length front + at) ≡ length front + suc at = omega arith in
-    let cut : take (suc (length front + at)) (front ++ rest) ≡ front ++ take (suc at) rest = ap (λ n. take n (front ++ rest)) place ∙ take-append-add front rest (suc at) in
-    let this : BeginsFrames (front ++ take (suc at) rest) = subst BeginsFrames cut b in
-    none_begin rest this.0 (suc at) (omega arith) (omega (arith, m.0)) m.2 m.3
-    (behind front (take (suc at) rest ++ this.0) hf (subst IsFrames (append_assoc front (take (suc at) rest) this.0) this.1));
+      let place : suc (length front + at) ≡ length front + suc at = omega arith in
+      let cut : take (suc (length front + at)) (front ++ rest) ≡ front ++ take (suc at) rest = ap (λ n. take n (front ++ rest)) place ∙ take-append-add front rest (suc at) in
+      let this : BeginsFrames (front ++ take (suc at) rest) = subst BeginsFrames cut b in
+      none_begin rest this.0 (suc at) (omega arith) (omega (arith, m.0)) m.2 m.3
+      (behind front (take (suc at) rest ++ this.0) hf (subst IsFrames (append_assoc front (take (suc at) rest) this.0) this.1));
   cut = λ e i. omega (arith, e, m.0, length-append front rest);
 }
 

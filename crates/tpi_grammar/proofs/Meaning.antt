@@ -1,8 +1,8 @@
 -- What an outcome of the form says, in the words of the grammar.
-use Rattle.std.proofs.Common.{◌≡◌, ◌≤◌, ◌<◌, ℕ, suc, List, [], ◌∷◌, ◌++◌, length, take, sym, subst}
-use Rattle.tpi_grammar.specs.Form.{In, Begins, HasNone, Means, Outcome, whole, short, bad}
-use Rattle.tpi_grammar.specs.Frame.{frame, Filled, IsFilled, spelling}
-use Rattle.tpi_grammar.specs.Measured.{IsFrame, BeginsFrame, HasNoFrame, MeansFrame}
+use Rattle.std.proofs.Common.{ℕ, List, take, sym, subst}
+use Rattle.tpi_grammar.specs.Form.{In, HasNone, Means, Outcome, whole, short, bad}
+use Rattle.tpi_grammar.specs.Frame.{frame}
+use Rattle.tpi_grammar.specs.Measured.{IsFrame, HasNoFrame, MeansFrame}
 use Rattle.tpi_grammar.proofs.Spellings.{frame_is, frame_has}
 
 to_frame : (ws : List ℕ) → In frame ws → IsFrame ws

@@ -1,12 +1,12 @@
 -- A primitive has one spelling, no spelling begins another, and a spelling is that of one primitive.
-use Rattle.std.proofs.Common.{◌≡◌, ◌≤◌, ◌<◌, ◌+◌, ◌-◌, ◌*◌, ◌⊎◌, ℕ, suc, zero, Bool, true, false, List, [], ◌∷◌, ◌++◌, length, take, drop, length-append, append_assoc, refl, sym, ◌∙◌, ap, arith, inl, inr, subst}
-use Rattle.std.specs.Int.{w32, to_be_bytes, from_be_bytes}
+use Rattle.std.proofs.Common.{◌≡◌, ◌<◌, ◌+◌, ℕ, List, [], ◌∷◌, ◌++◌, length, length-append, append_assoc, refl, sym, ◌∙◌, ap, arith, subst}
+use Rattle.std.specs.Int.{w32, from_be_bytes}
 use Rattle.std.specs.List.{AllByRecursion}
 use Rattle.std.proofs.lemmas.Nat.{from_be_bytes-to_be_bytes_4}
 use Rattle.tpi_grammar.specs.Form.{Form, done, byte, In}
 use Rattle.tpi_grammar.specs.Frame.{Row, Slot, upto, part, Value, num, text, table, Filled, IsFilled, Fit, spelling, be, words, parts, offset, head, control_size}
 use Rattle.tpi_grammar.proofs.Spellings.{one_row, row_is, table_rises, joined}
-use Rattle.tpi_grammar.proofs.Finished.{IsSlot, IsRow, table_is}
+use Rattle.tpi_grammar.proofs.Finished.{IsSlot, table_is}
 
 same_head : (p q : ℕ) (xs ys : List ℕ) → p ∷ xs ≡ q ∷ ys → p ≡ q
 same_head p q xs ys e = cc

@@ -1,6 +1,6 @@
 -- Reading byte by byte answers what the outcome means.
-use Rattle.std.proofs.Common.{◌≡◌, ◌≤◌, ◌<◌, ◌+◌, ℕ, suc, zero, Bool, true, false, List, [], ◌∷◌, ◌++◌, length, take, cond, refl, sym, ◌∙◌, arith}
-use Rattle.tpi_grammar.specs.Form.{Form, done, byte, In, Live, Begins, Outcome, whole, short, bad, later, scan, HasNone, Means}
+use Rattle.std.proofs.Common.{◌≡◌, ◌≤◌, ℕ, suc, zero, Bool, true, false, List, [], ◌∷◌, length, take, cond, refl, sym, ◌∙◌, arith}
+use Rattle.tpi_grammar.specs.Form.{Form, done, byte, In, Live, Outcome, whole, short, bad, later, scan, HasNone, Means}
 
 -- a live form has a text
 pub finish : (f : Form) → Live f → (ws : List ℕ) × In f ws

@@ -1,14 +1,13 @@
 -- A word in a form is the spelling of its value.
-use Rattle.std.proofs.Common.{◌≡◌, ◌≤◌, ◌<◌, ◌+◌, ◌*◌, ◌-◌, ◌/◌, ◌%◌, ℕ, suc, zero, Bool, true, false, ◌&&◌, ◌||◌, nat_lt, nat_le, List, [], ◌∷◌, ◌++◌, length, get_or, cond, refl, sym, ◌∙◌, ap, arith, subst, zero-add}
+use Rattle.std.proofs.Common.{◌≡◌, ◌≤◌, ◌<◌, ◌+◌, ◌*◌, ◌/◌, ◌%◌, ℕ, suc, zero, Bool, true, false, nat_lt, nat_le, List, [], ◌∷◌, ◌++◌, get_or, refl, sym, ◌∙◌, ap, arith, subst, zero-add}
 use Rattle.std.specs.Int.{w32, to_be_bytes, from_be_bytes}
-use Rattle.std.specs.List.{list_any, AllByRecursion}
 use Rattle.std.proofs.lemmas.Bool.{lt-ltb, ltb-true, leb-true, le-leb}
-use Rattle.std.proofs.lemmas.Nat.{be_bytes_4, from_be_bytes-to_be_bytes_4}
+use Rattle.std.proofs.lemmas.Nat.{be_bytes_4}
 use Rattle.std.proofs.Math.Nat.{mul-le-mul_right}
-use Rattle.tpi_grammar.specs.Form.{Form, done, byte, In, later, scan}
-use Rattle.tpi_grammar.specs.Word.{meets, viable, may_follow, word, after_word, IsRange}
+use Rattle.tpi_grammar.specs.Form.{Form, In, scan}
+use Rattle.tpi_grammar.specs.Word.{meets, viable, may_follow, word, after_word}
 use Rattle.tpi_grammar.specs.declared.word.Range.{Range}
-use Rattle.tpi_grammar.proofs.WordForms.{and_true, both, or_left, or_right, at_byte, past_byte, past_start}
+use Rattle.tpi_grammar.proofs.WordForms.{and_true, both, or_left, or_right, at_byte}
 
 abbrev horner : ℕ → ℕ → ℕ → ℕ → ℕ
 horner a b c d = 256 * (256 * (256 * a + b) + c) + d

@@ -1,15 +1,14 @@
 -- The form of a frame has the spellings of primitives, and nothing else.
-use Rattle.std.proofs.Common.{◌≡◌, ◌≤◌, ◌<◌, ◌+◌, ◌*◌, ◌⊎◌, ℕ, suc, zero, Bool, true, false, ◌&&◌, ◌||◌, nat_lt, nat_le, List, [], ◌∷◌, ◌++◌, length, take, drop, length-drop, take-append-drop, length-append, map, flat_map, nat_eq, ◌-◌, cond, refl, sym, ◌∙◌, ap, arith, inl, inr, subst, append_assoc}
-use Rattle.std.specs.Int.{w32, to_be_bytes}
+use Rattle.std.proofs.Common.{◌≡◌, ◌≤◌, ◌<◌, ◌+◌, ◌*◌, ℕ, suc, zero, Bool, true, false, ◌&&◌, nat_lt, nat_le, List, [], ◌∷◌, ◌++◌, length, take, drop, length-drop, take-append-drop, length-append, map, nat_eq, ◌-◌, cond, refl, sym, ◌∙◌, ap, arith, inl, inr, subst, append_assoc}
 use Rattle.std.specs.List.{list_all, AllByRecursion}
 use Rattle.std.proofs.lemmas.Bool.{lt-ltb, ltb-true, leb-true, le-leb}
 use Rattle.std.proofs.lemmas.List.{length-take-le}
-use Rattle.tpi_grammar.specs.Form.{Form, done, byte, In}
+use Rattle.tpi_grammar.specs.Form.{Form, In}
 use Rattle.tpi_grammar.specs.Word.{meets, viable, word}
 use Rattle.tpi_grammar.specs.Frame.{Row, Slot, upto, part, Value, num, text, table, Filled, IsFilled, IsIn, Fit, AreBytes, spelling, be, words, parts, tail, slots_form, part_range, offset, has_part, head, row_form, form_of, first_row, number_form, at_most, exactly, left, chosen, size_range, data_range, number_range, control_size, frame}
 use Rattle.tpi_grammar.specs.declared.word.Range.{Range}
 use Rattle.tpi_grammar.proofs.WordForms.{and_true, both, or_left, or_right}
-use Rattle.tpi_grammar.proofs.SpelledWords.{IsWord, word_is, word_has}
+use Rattle.tpi_grammar.proofs.SpelledWords.{word_is, word_has}
 use Rattle.tpi_grammar.proofs.Finished.{is_exactly, meets_exactly, is_at_most, meets_at_most, alone, part_within, Some_left, some, some_left, IsSlot, IsRow, table_is}
 
 -- ---- which rows a value leaves
@@ -336,14 +335,14 @@ frame_is ws i =
       filled = record { row = r; values = body.values; user = body.user };
       good = record { row = by_size.1; values = body.fit; user = body.bytes; room = rw body.long room; control = rw control size.high };
       spelled = whole ws c.value d.value n.value (words (head r.slots) body.values) (parts body.values) body.user c.rest d.rest n.rest
-          (head r.slots + length (parts body.values)) (length body.user) r.number c.text d.text n.text body.spelled (sym control) (sym body.long) number;
+          (head r.slots + length (parts body.values)) (length body.user) r.number c.text d.text n.text body.spelled control body.long number;
     }
   where
     whole : (ws : List ℕ) (c d n : ℕ) (head parts user w1 w2 w3 : List ℕ) (c' d' n' : ℕ)
-        → ws ≡ be c ++ w1 → w1 ≡ be d ++ w2 → w2 ≡ be n ++ w3 → w3 ≡ head ++ (parts ++ user) → c ≡ c' → d ≡ d' → n ≡ n'
+        → ws ≡ be c ++ w1 → w1 ≡ be d ++ w2 → w2 ≡ be n ++ w3 → w3 ≡ head ++ (parts ++ user) → c' ≡ c → d' ≡ d → n ≡ n'
         → ws ≡ be c' ++ be d' ++ be n' ++ head ++ parts ++ user
     whole ws c d n head parts user w1 w2 w3 c' d' n' e1 e2 e3 e4 ec ed en =
-        e1 ∙ rw (e2, e3, e4, ec, ed, en) (joined (be c') (be d') (be n') head parts user)
+        e1 ∙ rw (e2, e3, e4, ec, ed, en) (joined (be c) (be d) (be n') head parts user)
 
 first_has : (c d : ℕ) (r : Row) (rows : List Row) (ws : List ℕ) → IsIn r rows → ((x : Row) → IsIn x rows → x ≡ r) → In (row_form c d r) ws → In (form_of c d (first_row rows)) ws
 first_has c d r [] ws i only h = elim i [ ]

@@ -1,7 +1,7 @@
 -- Reading bytes of any value.
-use Rattle.std.proofs.Common.{◌≡◌, ◌≤◌, ◌<◌, ℕ, suc, zero, Bool, true, false, List, [], ◌∷◌, length, get_or, cond, refl, sym, ◌∙◌, ap, arith}
+use Rattle.std.proofs.Common.{◌≡◌, ◌≤◌, ◌<◌, ℕ, suc, zero, List, [], ◌∷◌, length, get_or, refl, ◌∙◌, ap, arith}
 use Rattle.std.proofs.lemmas.Bool.{lt-ltb}
-use Rattle.tpi_grammar.specs.Form.{Outcome, whole, short, bad, later, scan}
+use Rattle.tpi_grammar.specs.Form.{whole, short, later, scan}
 use Rattle.tpi_grammar.specs.Frame.{tail}
 
 first_small : (n b : ℕ) (bs : List ℕ) → b < 256 → scan (tail (suc n)) (b ∷ bs) ≡ later (scan (tail n) bs)

@@ -1,11 +1,15 @@
 -- A word in sound ranges can always be finished.
-use Rattle.std.proofs.Common.{◌≡◌, ◌≤◌, ◌<◌, ◌+◌, ◌*◌, ◌-◌, ◌/◌, ◌%◌, ℕ, suc, zero, Bool, true, false, ◌&&◌, ◌||◌, nat_lt, nat_le, List, [], ◌∷◌, length, cond, refl, sym, ◌∙◌, ap, arith, inl, inr, subst, zero-add}
-use Rattle.std.specs.List.{list_any, AllByRecursion}
+use Rattle.std.proofs.Common.{◌≡◌, ◌≤◌, ◌<◌, ◌+◌, ◌*◌, ◌-◌, ◌/◌, ◌%◌, ℕ, Bool, true, false, ◌&&◌, ◌||◌, nat_lt, nat_le, List, [], ◌∷◌, refl, arith, subst, zero-add}
+use Rattle.std.specs.List.{AllByRecursion}
 use Rattle.std.proofs.lemmas.Bool.{ltb-true, leb-true, le-leb, lt-ltb}
 use Rattle.std.proofs.Math.Nat.{mod-add-div', mod-lt}
-use Rattle.tpi_grammar.specs.Form.{Form, byte, Live}
-use Rattle.tpi_grammar.specs.Word.{meets, viable, may_follow, word, IsRange}
+use Rattle.tpi_grammar.specs.Form.{Form, Live}
+use Rattle.tpi_grammar.specs.Word.{meets, viable, may_follow, word}
 use Rattle.tpi_grammar.specs.declared.word.Range.{Range}
+
+-- a range of words
+abbrev pub IsRange : Range → Type 0
+IsRange r = (r.low ≤ r.high) × (r.high < 4294967296)
 
 pub and_true : (a b : Bool) → (a && b) ≡ true → (a ≡ true) × (b ≡ true)
 and_true true b e = (refl, e)

@@ -1,5 +1,5 @@
 -- A form that is read byte by byte, and what an input has of a text of that form at its front.
-use Rattle.std.specs.Prelude.{◌≡◌, ◌≤◌, ◌<◌, ◌+◌, ℕ, suc, zero, Bool, true, false, List, [], ◌∷◌, ◌++◌, length, take, if◌then◌else◌}
+use Rattle.std.specs.Prelude.{◌≡◌, ◌≤◌, ◌<◌, ℕ, suc, Bool, true, List, [], ◌∷◌, ◌++◌, length, take, if◌then◌else◌}
 
 -- what may come next: nothing, or a byte that passes a test, with what follows it
 pub data Form : Type 0 where

@@ -1,5 +1,5 @@
 -- The rows of the primitives.
-use Rattle.std.specs.Prelude.{◌≡◌, ℕ, List, [], ◌∷◌, map}
+use Rattle.std.specs.Prelude.{List, [], ◌∷◌, map}
 use Rattle.tpi_grammar.specs.Frame.{Row, Slot, upto, part, any, flag, row}
 use Rattle.tpi_grammar.specs.declared.kind.Kind.{Kind}
 use Rattle.tpi_grammar.specs.declared.kind.Kind.TheVariants.{T_CONN_REQ, T_CONN_RES, T_DISCON_REQ, T_DATA_REQ, T_EXDATA_REQ, T_BIND_REQ, T_UNBIND_REQ, T_UNITDATA_REQ, T_ORDREL_REQ, T_CONN_IND, T_CONN_CON, T_DISCON_IND, T_DATA_IND, T_EXDATA_IND, T_BIND_ACK, T_ERROR_ACK, T_OK_ACK, T_UNITDATA_IND, T_UDERROR_IND, T_ORDREL_IND}

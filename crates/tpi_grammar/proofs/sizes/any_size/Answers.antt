@@ -1,8 +1,8 @@
 use Rattle.std.proofs.Common.{sym, ap, map, ◌∙◌}
 use Rattle.tpi_grammar.specs.Word.{viable}
-use Rattle.tpi_grammar.specs.Frame.{left, size_range, data_range, number_range}
-use Rattle.tpi_grammar.specs.Kinds.{row_of, slot_view}
-use Rattle.tpi_grammar.proofs.Choices.{viable_map, viable_left, viable_left_twice, any_map}
+use Rattle.tpi_grammar.specs.Frame.{size_range}
+use Rattle.tpi_grammar.specs.Kinds.{row_of}
+use Rattle.tpi_grammar.proofs.Choices.{viable_map}
 use Rattle.tpi_grammar.proofs.sizes.any_size.Goals as goal
 
 pub returns : goal.returns

@@ -1,8 +1,6 @@
-use Rattle.std.proofs.Common.{sym, ap, map, ◌∙◌}
-use Rattle.tpi_grammar.specs.Word.{viable}
-use Rattle.tpi_grammar.specs.Frame.{left, size_range, data_range, number_range}
-use Rattle.tpi_grammar.specs.Kinds.{row_of, slot_view}
-use Rattle.tpi_grammar.proofs.Choices.{viable_map, viable_left, viable_left_twice, any_map}
+use Rattle.std.proofs.Common.{◌∙◌}
+use Rattle.tpi_grammar.specs.Kinds.{slot_view}
+use Rattle.tpi_grammar.proofs.Choices.{any_map}
 use Rattle.tpi_grammar.proofs.sizes.has_part.Goals as goal
 
 pub returns : goal.returns
