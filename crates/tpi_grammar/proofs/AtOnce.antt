@@ -1,11 +1,8 @@
 -- What is read at once: words in their ranges, and the first three words of a frame.
-use Rattle.std.proofs.Common.{◌≡◌, ◌<◌, ℕ, true, List, [], ◌∷◌, ◌++◌, length, map, take, take_all, drop, drop-drop, length-drop, ◌-◌, Some, refl, sym, ◌∙◌, ap, arith, inl, inr, subst}
+use Rattle.std.proofs.Common.{◌≡◌, ◌<◌, ℕ, true, List, [], ◌∷◌, ◌++◌, length, map, take, take_all, drop, drop-drop, length-drop, ◌-◌, Some, refl, sym, ◌∙◌, ap, arith, inl, subst}
 use Rattle.tpi_grammar.specs.Form.{scan}
 use Rattle.tpi_grammar.specs.Word.{after_word, after_head, meets}
 use Rattle.tpi_grammar.specs.Frame.{Row, table, IsIn, be, left, size_range, data_range, number_range, first_row, form_of, number_form, row_form, chosen, frame}
-use Rattle.tpi_grammar.specs.Kinds.{row_of}
-use Rattle.tpi_grammar.specs.declared.kind.Kind.{Kind}
-use Rattle.tpi_grammar.specs.declared.kind.Kind.TheVariants.{T_CONN_REQ, T_CONN_RES, T_DISCON_REQ, T_DATA_REQ, T_EXDATA_REQ, T_BIND_REQ, T_UNBIND_REQ, T_UNITDATA_REQ, T_ORDREL_REQ, T_CONN_IND, T_CONN_CON, T_DISCON_IND, T_DATA_IND, T_EXDATA_IND, T_BIND_ACK, T_ERROR_ACK, T_OK_ACK, T_UNITDATA_IND, T_UDERROR_IND, T_ORDREL_IND}
 use Rattle.tpi_grammar.proofs.SpelledWords.{word_scan}
 use Rattle.tpi_grammar.proofs.Finished.{is_exactly, meets_exactly, table_is}
 use Rattle.tpi_grammar.proofs.Spellings.{left_in, left_has, viable_in, one_row, row_is, table_rises}
@@ -37,29 +34,6 @@ head_scan r size count rest i small_size small_count met_size met_count =
     ∙ ap after_word (word_scan (map data_range rows) (λ n. number_form size n (left data_range n rows)) count (be r.number ++ rest) small_count (viable_in data_range count r rows in_size met_count)
     ∙ ap after_word (word_scan (map number_range rows') (λ n. form_of size count (first_row (left number_range n rows'))) r.number rest good.number (viable_in number_range r.number r rows' in_count met_number)
     ∙ ap (λ o. after_word (scan (form_of size count o) rest)) (first_row_is r last in_number only)))
-
-pub row_in : (k : Kind) → IsIn (row_of k) table
-unfolding table
-row_in T_CONN_REQ = inl refl
-row_in T_CONN_RES = inr (inl refl)
-row_in T_DISCON_REQ = inr (inr (inl refl))
-row_in T_DATA_REQ = inr (inr (inr (inl refl)))
-row_in T_EXDATA_REQ = inr (inr (inr (inr (inl refl))))
-row_in T_BIND_REQ = inr (inr (inr (inr (inr (inl refl)))))
-row_in T_UNBIND_REQ = inr (inr (inr (inr (inr (inr (inl refl))))))
-row_in T_UNITDATA_REQ = inr (inr (inr (inr (inr (inr (inr (inl refl)))))))
-row_in T_ORDREL_REQ = inr (inr (inr (inr (inr (inr (inr (inr (inl refl))))))))
-row_in T_CONN_IND = inr (inr (inr (inr (inr (inr (inr (inr (inr (inl refl)))))))))
-row_in T_CONN_CON = inr (inr (inr (inr (inr (inr (inr (inr (inr (inr (inl refl))))))))))
-row_in T_DISCON_IND = inr (inr (inr (inr (inr (inr (inr (inr (inr (inr (inr (inl refl)))))))))))
-row_in T_DATA_IND = inr (inr (inr (inr (inr (inr (inr (inr (inr (inr (inr (inr (inl refl))))))))))))
-row_in T_EXDATA_IND = inr (inr (inr (inr (inr (inr (inr (inr (inr (inr (inr (inr (inr (inl refl)))))))))))))
-row_in T_BIND_ACK = inr (inr (inr (inr (inr (inr (inr (inr (inr (inr (inr (inr (inr (inr (inl refl))))))))))))))
-row_in T_ERROR_ACK = inr (inr (inr (inr (inr (inr (inr (inr (inr (inr (inr (inr (inr (inr (inr (inl refl)))))))))))))))
-row_in T_OK_ACK = inr (inr (inr (inr (inr (inr (inr (inr (inr (inr (inr (inr (inr (inr (inr (inr (inl refl))))))))))))))))
-row_in T_UNITDATA_IND = inr (inr (inr (inr (inr (inr (inr (inr (inr (inr (inr (inr (inr (inr (inr (inr (inr (inl refl)))))))))))))))))
-row_in T_UDERROR_IND = inr (inr (inr (inr (inr (inr (inr (inr (inr (inr (inr (inr (inr (inr (inr (inr (inr (inr (inl refl))))))))))))))))))
-row_in T_ORDREL_IND = inr (inr (inr (inr (inr (inr (inr (inr (inr (inr (inr (inr (inr (inr (inr (inr (inr (inr (inr (inl refl)))))))))))))))))))
 
 -- what a slice from a place to the end has
 abbrev pub from_place : ℕ → List ℕ → List ℕ

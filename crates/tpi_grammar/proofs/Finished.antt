@@ -3,10 +3,10 @@ use Rattle.std.proofs.Common.{◌≡◌, ◌≤◌, ◌<◌, ◌+◌, ◌*◌, �
 use Rattle.std.specs.List.{list_all, AllByRecursion}
 use Rattle.std.proofs.lemmas.Bool.{lt-ltb, ltb-true, leb-true, le-leb}
 use Rattle.tpi_grammar.specs.Form.{Form, Live}
-use Rattle.tpi_grammar.specs.Word.{meets, viable, word, IsRange}
+use Rattle.tpi_grammar.specs.Word.{meets, viable, word}
 use Rattle.tpi_grammar.specs.Frame.{Row, Slot, upto, part, table, tail, slots_form, part_range, offset, has_part, head, form_of, first_row, at_most, exactly, left, chosen, size_range, data_range, number_range, frame}
 use Rattle.tpi_grammar.specs.declared.word.Range.{Range}
-use Rattle.tpi_grammar.proofs.WordForms.{and_true, both, word_live}
+use Rattle.tpi_grammar.proofs.WordForms.{IsRange, and_true, both, word_live}
 
 pub is_exactly : (n k : ℕ) → meets 1 n (exactly k) ≡ true → n ≡ k
 is_exactly n k e =

@@ -9,3 +9,4 @@ pub mod Meaning
 pub mod OneSpelling
 pub mod FrameLists
 pub mod AtOnce
+pub mod KindRows

@@ -4,8 +4,12 @@ use Rattle.std.specs.List.{AllByRecursion}
 use Rattle.std.proofs.lemmas.Bool.{ltb-true, leb-true, le-leb, lt-ltb}
 use Rattle.std.proofs.Math.Nat.{mod-add-div', mod-lt}
 use Rattle.tpi_grammar.specs.Form.{Form, Live}
-use Rattle.tpi_grammar.specs.Word.{meets, viable, may_follow, word, IsRange}
+use Rattle.tpi_grammar.specs.Word.{meets, viable, may_follow, word}
 use Rattle.tpi_grammar.specs.declared.word.Range.{Range}
+
+-- a range of words
+abbrev pub IsRange : Range → Type 0
+IsRange r = (r.low ≤ r.high) × (r.high < 4294967296)
 
 pub and_true : (a b : Bool) → (a && b) ≡ true → (a ≡ true) × (b ≡ true)
 and_true true b e = (refl, e)

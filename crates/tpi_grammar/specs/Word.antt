@@ -1,5 +1,5 @@
 -- A word: four bytes, high byte first, whose value lies in one of some ranges.
-use Rattle.std.specs.Prelude.{◌≤◌, ◌<◌, ◌+◌, ◌*◌, ℕ, Bool, ◌&&◌, List, nat_lt, nat_le}
+use Rattle.std.specs.Prelude.{◌+◌, ◌*◌, ℕ, Bool, ◌&&◌, List, nat_lt, nat_le}
 use Rattle.std.specs.List.{list_any}
 use Rattle.tpi_grammar.specs.Form.{Form, byte, Outcome, short, bad, later, scan}
 use Rattle.tpi_grammar.specs.declared.word.Range.{Range}
@@ -25,10 +25,6 @@ word rs next = byte (may_follow rs 16777216 0) (λ a.
     byte (may_follow rs 256 (256 * a + b)) (λ c.
     byte (may_follow rs 1 (256 * (256 * a + b) + c)) (λ d.
     next (256 * (256 * (256 * a + b) + c) + d)))))
-
--- a range of words
-abbrev pub IsRange : Range → Type 0
-IsRange r = (r.low ≤ r.high) × (r.high < 4294967296)
 
 -- the same, told four bytes earlier
 abbrev pub after_word : Outcome → Outcome

@@ -14,68 +14,77 @@ pub enum Slot {
     Part,
 }
 
-/// The primitives of TPI that may be sent as frames, spelled as in TPI.
+/// The primitives of TPI that may be sent as frames, spelled as in TPI, with what stands behind PRIM_type. DEST, OPT, SRC,
+/// RES and ADDR are parts: each is a length and an offset there.
 #[derive(Debug, Clone, Copy, PartialEq, Eq)]
 #[allow(non_camel_case_types)]
 pub enum Kind {
-    /// Asks for a connection: the address and the options of the called side, with user data.
+    /// Asks for a connection: DEST (the called address), OPT; with user data.
     T_CONN_REQ,
-    /// Accepts a connection: the accepting endpoint, options, and the sequence number of the indication, with user data.
+    /// Accepts a connection: ACCEPTOR_id, OPT, SEQ_number (that of the indication); with user data.
     T_CONN_RES,
-    /// Ends a connection or refuses one: the sequence number of the indication, with user data.
+    /// Ends a connection or refuses one: SEQ_number (that of the indication); with user data.
     T_DISCON_REQ,
-    /// Sends data: whether more follow, with user data.
+    /// Sends data: MORE_flag; with user data.
     T_DATA_REQ,
-    /// Sends expedited data: whether more follow, with user data.
+    /// Sends expedited data: MORE_flag; with user data.
     T_EXDATA_REQ,
-    /// Asks for an address: the address, and the greatest number of indications that wait.
+    /// Asks for an address: ADDR, CONIND_number.
     T_BIND_REQ,
-    /// Gives the address up.
+    /// Gives the address up: no words.
     T_UNBIND_REQ,
-    /// Sends a datagram: the address it goes to, and options, with user data.
+    /// Sends a datagram: DEST, OPT; with user data.
     T_UNITDATA_REQ,
-    /// Asks for an orderly release.
+    /// Asks for an orderly release: no words.
     T_ORDREL_REQ,
-    /// Tells of a connection that is asked for: the address and the options of the calling side, and a sequence number, with user data.
+    /// Tells of a connection that is asked for: SRC (the calling address), OPT, SEQ_number; with user data.
     T_CONN_IND,
-    /// Tells that a connection was accepted: the responding address, and options, with user data.
+    /// Tells that a connection was accepted: RES (the responding address), OPT; with user data.
     T_CONN_CON,
-    /// Tells that a connection ended: the reason and a sequence number, with user data.
+    /// Tells that a connection ended or was refused: DISCON_reason, SEQ_number; with user data.
     T_DISCON_IND,
-    /// Brings data: whether more follow, with user data.
+    /// Brings data: MORE_flag; with user data.
     T_DATA_IND,
-    /// Brings expedited data: whether more follow, with user data.
+    /// Brings expedited data: MORE_flag; with user data.
     T_EXDATA_IND,
-    /// Answers T_BIND_REQ: the address, and the greatest number of indications that wait.
+    /// Answers T_BIND_REQ: ADDR, CONIND_number.
     T_BIND_ACK,
-    /// Tells of a request that failed: its number, the error of TLI and that of the system.
+    /// Tells of a request that failed: ERROR_prim, TLI_error, UNIX_error.
     T_ERROR_ACK,
-    /// Tells of a request that succeeded: its number.
+    /// Tells of a request that succeeded: CORRECT_prim.
     T_OK_ACK,
-    /// Brings a datagram: the address it came from, and options, with user data.
+    /// Brings a datagram: SRC, OPT; with user data.
     T_UNITDATA_IND,
-    /// Tells of a datagram that failed: the address it went to, options, and the kind of error.
+    /// Tells of a datagram that failed: DEST, OPT, ERROR_type.
     T_UDERROR_IND,
-    /// Tells of an orderly release that is asked for.
+    /// Tells of an orderly release that is asked for: no words.
     T_ORDREL_IND,
 }
 
+// DEST, SRC or RES, and OPT
 static PARTS: [Slot; 2] = [Slot::Part, Slot::Part];
 
+// ACCEPTOR_id, OPT, SEQ_number
 static ACCEPTOR: [Slot; 3] = [Slot::Upto(u32::MAX), Slot::Part, Slot::Upto(u32::MAX)];
 
+// SEQ_number or CORRECT_prim
 static NUMBER: [Slot; 1] = [Slot::Upto(u32::MAX)];
 
+// MORE_flag
 static FLAG: [Slot; 1] = [Slot::Upto(1)];
 
+// ADDR, CONIND_number
 static BINDING: [Slot; 2] = [Slot::Part, Slot::Upto(u32::MAX)];
 
 static NOTHING: [Slot; 0] = [];
 
-static CALLER: [Slot; 3] = [Slot::Part, Slot::Part, Slot::Upto(u32::MAX)];
+// SRC or DEST, OPT, and SEQ_number or ERROR_type
+static PARTS_FIRST: [Slot; 3] = [Slot::Part, Slot::Part, Slot::Upto(u32::MAX)];
 
+// DISCON_reason, SEQ_number
 static NUMBERS: [Slot; 2] = [Slot::Upto(u32::MAX), Slot::Upto(u32::MAX)];
 
+// ERROR_prim, TLI_error, UNIX_error
 static REASONS: [Slot; 3] = [
     Slot::Upto(u32::MAX),
     Slot::Upto(u32::MAX),
@@ -178,7 +187,7 @@ impl Kind {
             Kind::T_UNBIND_REQ => &NOTHING,
             Kind::T_UNITDATA_REQ => &PARTS,
             Kind::T_ORDREL_REQ => &NOTHING,
-            Kind::T_CONN_IND => &CALLER,
+            Kind::T_CONN_IND => &PARTS_FIRST,
             Kind::T_CONN_CON => &PARTS,
             Kind::T_DISCON_IND => &NUMBERS,
             Kind::T_DATA_IND => &FLAG,
@@ -187,7 +196,7 @@ impl Kind {
             Kind::T_ERROR_ACK => &REASONS,
             Kind::T_OK_ACK => &NUMBER,
             Kind::T_UNITDATA_IND => &PARTS,
-            Kind::T_UDERROR_IND => &CALLER,
+            Kind::T_UDERROR_IND => &PARTS_FIRST,
             Kind::T_ORDREL_IND => &NOTHING,
         }
     }
@@ -221,7 +230,7 @@ impl Kind {
     }
 
     /// How many bytes PRIM_type and the words behind it are.
-    pub(crate) fn head(self) -> u32
+    pub fn head(self) -> u32
         ensures { result ≡ head (row_of self).slots }
     {
         match self {

@@ -8,7 +8,7 @@ mod sizes;
 mod word;
 
 pub use kind::{Kind, Slot};
-pub use laws::{frames_law, one_spelling};
+pub use laws::{frames_law, kinds_law, one_spelling, reading_law};
 pub use measure::{Measure, measure_frame};
 
 #[cfg(test)]

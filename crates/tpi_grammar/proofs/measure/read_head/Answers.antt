@@ -4,7 +4,8 @@ use Rattle.tpi_grammar.specs.Word.{meets}
 use Rattle.tpi_grammar.specs.Frame.{size_range, data_range, frame}
 use Rattle.tpi_grammar.specs.Kinds.{row_of}
 use Rattle.tpi_grammar.proofs.WordForms.{and_true}
-use Rattle.tpi_grammar.proofs.AtOnce.{head_scan, head_text, row_in}
+use Rattle.tpi_grammar.proofs.AtOnce.{head_scan, head_text}
+use Rattle.tpi_grammar.proofs.KindRows.{row_in}
 use Rattle.tpi_grammar.proofs.measure.read_head.Goals as goal
 
 pub returns-then-may_count-clause-scans : goal.returns-then-may_count-clause-scans

@@ -1,0 +1,4 @@
+pub mod FrameReads
+pub mod FieldReads
+pub mod FilledIn
+pub mod Decodes

@@ -1,0 +1,29 @@
+-- A primitive whose fields are lent, and which primitives get no frame.
+use Rattle.std.specs.Prelude.{ℕ, ◌<◌, ◌≤◌, ◌⊎◌, List, [], ◌∷◌, ◌++◌, length, flat_map}
+use Rattle.tpi_grammar.specs.Frame.{Slot, upto, part, Value, num, text, Filled, control_size}
+use Rattle.tpi_prim.specs.Primitive.{of_kind}
+use Rattle.tpi_prim.specs.declared.encoding.Field.{Field}
+use Rattle.tpi_prim.specs.declared.encoding.Field.TheVariants.{Number, Bytes, Nothing}
+use Rattle.tpi_prim.specs.declared.encoding.Lent.{Lent}
+
+abbrev pub value_of : Field → List Value
+value_of (Number n) = num n ∷ []
+value_of (Bytes bs) = text bs.now ∷ []
+value_of Nothing = []
+
+abbrev pub values_of : List Field → List Value
+values_of = flat_map value_of
+
+abbrev pub filled_by : Lent → Filled
+filled_by lent = of_kind lent.kind (values_of lent.fields) lent.user.now
+
+-- a number or a part at each slot, and numbers within theirs
+abbrev pub HasShape : List Slot → List Value → Type 0
+HasShape [] [] = Unit {0}
+HasShape (upto m ∷ ss) (num n ∷ vs) = (n ≤ m) × HasShape ss vs
+HasShape (part ∷ ss) (text bs ∷ vs) = HasShape ss vs
+HasShape _ _ = ⊥
+
+-- the control part is over 1,024 bytes, or the user data over 65,536
+abbrev pub IsTooBig : Filled → Type 0
+IsTooBig f = (1024 < control_size f) ⊎ (65536 < length f.user)

@@ -1,0 +1,4 @@
+pub mod Primitive
+pub mod Fields
+pub mod Lent
+pub mod Decoding

@@ -1,0 +1,379 @@
+//! Making frames of primitives.
+
+ghost use Rattle.std.specs.Prelude.{◌≡◌, ◌≤◌, ◌<◌, ◌+◌, ◌-◌, ◌^◌, [], ◌∷◌, ◌++◌, ◌↔◌, length, IfOk, IfErr, OnOk, IsErrOf};
+ghost use Rattle.std.specs.Option.{SomeIff};
+ghost use Rattle.tpi_grammar.specs.Kinds.{row_of};
+ghost use Rattle.tpi_grammar.specs.Frame.{AreBytes, IsFilled, spelling, words, parts, offset, head, control_size};
+ghost use Rattle.tpi_prim.specs.Primitive.{filled, Spells};
+ghost use Rattle.tpi_prim.specs.Fields.{primitive_in};
+ghost use Rattle.tpi_prim.specs.Lent.{value_of, values_of, filled_by, HasShape, IsTooBig};
+
+use crate::frames::Frame;
+use crate::primitive::Prim;
+use bytes::{BufMut, Bytes, BytesMut};
+use std::alloc::{AllocError, AllocFailed, Global};
+use thiserror::Error;
+use tpi_grammar::Kind;
+
+/// Why a primitive gets no frame.
+#[derive(Debug, Drop, Clone, Copy, PartialEq, Eq, Error)]
+pub enum EncodeFail {
+    /// Memory ran out.
+    #[error("out of memory")]
+    OutOfMemory,
+    /// The control part is over 1,024 bytes, or the user data over 65,536.
+    #[error("the frame is too big")]
+    TooBig,
+}
+
+impl From<AllocError> for EncodeFail {
+    ghost use Rattle.std.specs.Prelude.{◌≡◌};
+    ghost use Rattle.tpi_prim.specs.declared.encoding.EncodeFail.TheVariants.{OutOfMemory};
+
+    ghost from_gives = { λ _ e. e ≡ OutOfMemory };
+
+    fn from(_error: AllocError) -> EncodeFail {
+        EncodeFail::OutOfMemory
+    }
+}
+
+impl<T: Drop> From<AllocFailed<T>> for EncodeFail {
+    ghost use Rattle.std.specs.Prelude.{◌≡◌};
+    ghost use Rattle.tpi_prim.specs.declared.encoding.EncodeFail.TheVariants.{OutOfMemory};
+
+    ghost from_gives = { λ _ e. e ≡ OutOfMemory };
+
+    fn from(_error: AllocFailed<T>) -> EncodeFail {
+        EncodeFail::OutOfMemory
+    }
+}
+
+/// The frame of a primitive. The limits are looked at before memory is taken.
+pub fn encode(alloc: Global, prim: &Prim) -> Result<Frame, EncodeFail>
+    ensures spelled { IfOk result (λ frame. Spells prim.now frame) }
+    ensures read { IfOk result (λ frame. primitive_in frame ≡ prim.now) }
+    ensures too_big { IsErrOf result EncodeFail.TooBig ↔ IsTooBig (filled prim.now) }
+{
+    let lent = lent_of(prim);
+    let control = lent.control_len().ok_or(EncodeFail::TooBig)?;
+    if lent.user.len() > 65536 {
+        return Err(EncodeFail::TooBig);
+    }
+    let frame = lent.encode(alloc, control)?;
+    Ok(frame)
+}
+
+/// What stands at a slot, lent.
+#[derive(Clone, Copy)]
+enum Field<'a> {
+    Number(u32),
+    Bytes(&'a [u8]),
+    Nothing,
+}
+
+/// A primitive whose fields are lent.
+#[derive(Clone, Copy)]
+struct Lent<'a> {
+    kind: Kind,
+    fields: [Field<'a>; 3],
+    user: &'a [u8],
+}
+
+impl<'a> Lent<'a> {
+    fn new(kind: Kind, fields: [Field<'a>; 3], user: &'a Bytes) -> Lent<'a>
+        ensures kind { result.kind ≡ kind }
+        ensures fields { result.fields ≡ fields.entry }
+        ensures user { result.user.now ≡ user.now }
+    {
+        Lent {
+            kind,
+            fields,
+            user: user.as_slice(),
+        }
+    }
+
+    fn alone(kind: Kind, fields: [Field<'a>; 3]) -> Lent<'a>
+        ensures kind { result.kind ≡ kind }
+        ensures fields { result.fields ≡ fields.entry }
+        ensures user { result.user.now ≡ [] }
+    {
+        Lent {
+            kind,
+            fields,
+            user: &[],
+        }
+    }
+}
+
+impl Lent<'_> {
+    /// How long the control part is; `None` over 1,024 bytes.
+    fn control_len(&self) -> Option<u32>
+        ensures { SomeIff result (control_size (filled_by self.now) ≤ 1024) (control_size (filled_by self.now)) }
+    {
+        let left = room_left(1024 - self.kind.head() as usize, &self.fields)?;
+        Some(1024 - left as u32)
+    }
+
+    fn encode(&self, alloc: Global, control: u32) -> Result<Frame, EncodeFail>
+        requires shape { HasShape (row_of self.now.kind).slots (values_of self.now.fields) }
+        requires data { length self.now.user.now ≤ (row_of self.now.kind).most_data }
+        requires control { control ≡ control_size (filled_by self.now) }
+        requires small { control ≤ 1024 }
+        ensures spelled { IfOk result (λ frame. frame ≡ spelling (filled_by self.now)) }
+        ensures filled { OnOk result (IsFilled (filled_by self.now)) }
+        ensures memory { IfErr result (λ e. e ≡ EncodeFail.OutOfMemory) }
+    {
+        let user = self.user;
+        let len = 8 + control as usize + user.len();
+        let mut out = BytesMut::with_capacity(alloc, len)?;
+        out.put_u32(control)?;
+        out.put_u32(user.len() as u32)?;
+        out.put_u32(self.kind.number())?;
+        put_words(&mut out, self.kind.head(), &self.fields)?;
+        put_parts(&mut out, &self.fields)?;
+        put_bytes(&mut out, user)?;
+        let bytes = out.freeze()?;
+        Ok(Frame::of(bytes))
+    }
+}
+
+fn part_of<'a>(field: &Field<'a>) -> &'a [u8]
+    ensures { result.now ≡ parts (value_of field.now) }
+{
+    match field {
+        Field::Bytes(bytes) => bytes,
+        _ => &[],
+    }
+}
+
+/// What is left of a room when the parts are in it; `None` where they don't fit.
+fn room_left(room: usize, fields: &[Field<'_>]) -> Option<usize>
+    ensures { SomeIff result (length (parts (values_of fields.now)) ≤ room) (room - length (parts (values_of fields.now))) }
+{
+    let [first, others @ ..] = fields else {
+        return Some(room);
+    };
+    let room = room.checked_sub(part_of(first).len())?;
+    room_left(room, others)
+}
+
+fn offset_of(len: u32, place: u32) -> u32
+    ensures { result ≡ offset len place }
+{
+    if len == 0 { 0 } else { place }
+}
+
+/// Writes the words of the fields, whose parts lie from this place of the control part on.
+fn put_words(out: &mut BytesMut, place: u32, fields: &[Field<'_>]) -> Result<(), AllocError>
+    requires { place + length (parts (values_of fields.now)) < 2 ^ 32 }
+    ensures { OnOk result (out.new.items ≡ out.old.items ++ words place (values_of fields.now)) }
+{
+    let [first, others @ ..] = fields else {
+        return Ok(());
+    };
+    match first {
+        Field::Number(n) => {
+            out.put_u32(*n)?;
+            put_words(out, place, others)
+        }
+        Field::Bytes(bytes) => {
+            let len = bytes.len() as u32;
+            out.put_u32(len)?;
+            out.put_u32(offset_of(len, place))?;
+            put_words(out, place + len, others)
+        }
+        Field::Nothing => put_words(out, place, others),
+    }
+}
+
+fn put_bytes(out: &mut BytesMut, bytes: &[u8]) -> Result<(), AllocError>
+    ensures written { OnOk result (out.new.items ≡ out.old.items ++ bytes.now) }
+    ensures bytes { AreBytes bytes.now }
+{
+    out.put_slice(bytes)
+}
+
+/// Writes the parts of the fields.
+fn put_parts(out: &mut BytesMut, fields: &[Field<'_>]) -> Result<(), AllocError>
+    ensures written { OnOk result (out.new.items ≡ out.old.items ++ parts (values_of fields.now)) }
+    ensures bytes { OnOk result (AreBytes (parts (values_of fields.now))) }
+{
+    let [first, others @ ..] = fields else {
+        return Ok(());
+    };
+    put_bytes(out, part_of(first))?;
+    put_parts(out, others)
+}
+
+fn lent_of(prim: &Prim) -> Lent<'_>
+    ensures same { filled_by result ≡ filled prim.now }
+    ensures shape { HasShape (row_of result.kind).slots (values_of result.fields) }
+    ensures data { length result.user.now ≤ 65536 → length result.user.now ≤ (row_of result.kind).most_data }
+{
+    match prim {
+        Prim::T_CONN_REQ { dest, opt, user } => Lent::new(
+            Kind::T_CONN_REQ,
+            [
+                Field::Bytes(dest.as_slice()),
+                Field::Bytes(opt.as_slice()),
+                Field::Nothing,
+            ],
+            user,
+        ),
+        Prim::T_CONN_RES {
+            acceptor_id,
+            opt,
+            seq_number,
+            user,
+        } => Lent::new(
+            Kind::T_CONN_RES,
+            [
+                Field::Number(*acceptor_id),
+                Field::Bytes(opt.as_slice()),
+                Field::Number(*seq_number),
+            ],
+            user,
+        ),
+        Prim::T_DISCON_REQ { seq_number, user } => Lent::new(
+            Kind::T_DISCON_REQ,
+            [Field::Number(*seq_number), Field::Nothing, Field::Nothing],
+            user,
+        ),
+        Prim::T_DATA_REQ { more, user } => Lent::new(
+            Kind::T_DATA_REQ,
+            [Field::Number(*more as u32), Field::Nothing, Field::Nothing],
+            user,
+        ),
+        Prim::T_EXDATA_REQ { more, user } => Lent::new(
+            Kind::T_EXDATA_REQ,
+            [Field::Number(*more as u32), Field::Nothing, Field::Nothing],
+            user,
+        ),
+        Prim::T_BIND_REQ {
+            addr,
+            conind_number,
+        } => Lent::alone(
+            Kind::T_BIND_REQ,
+            [
+                Field::Bytes(addr.as_slice()),
+                Field::Number(*conind_number),
+                Field::Nothing,
+            ],
+        ),
+        Prim::T_UNBIND_REQ => Lent::alone(
+            Kind::T_UNBIND_REQ,
+            [Field::Nothing, Field::Nothing, Field::Nothing],
+        ),
+        Prim::T_UNITDATA_REQ { dest, opt, user } => Lent::new(
+            Kind::T_UNITDATA_REQ,
+            [
+                Field::Bytes(dest.as_slice()),
+                Field::Bytes(opt.as_slice()),
+                Field::Nothing,
+            ],
+            user,
+        ),
+        Prim::T_ORDREL_REQ => Lent::alone(
+            Kind::T_ORDREL_REQ,
+            [Field::Nothing, Field::Nothing, Field::Nothing],
+        ),
+        Prim::T_CONN_IND {
+            src,
+            opt,
+            seq_number,
+            user,
+        } => Lent::new(
+            Kind::T_CONN_IND,
+            [
+                Field::Bytes(src.as_slice()),
+                Field::Bytes(opt.as_slice()),
+                Field::Number(*seq_number),
+            ],
+            user,
+        ),
+        Prim::T_CONN_CON { res, opt, user } => Lent::new(
+            Kind::T_CONN_CON,
+            [
+                Field::Bytes(res.as_slice()),
+                Field::Bytes(opt.as_slice()),
+                Field::Nothing,
+            ],
+            user,
+        ),
+        Prim::T_DISCON_IND {
+            reason,
+            seq_number,
+            user,
+        } => Lent::new(
+            Kind::T_DISCON_IND,
+            [
+                Field::Number(*reason),
+                Field::Number(*seq_number),
+                Field::Nothing,
+            ],
+            user,
+        ),
+        Prim::T_DATA_IND { more, user } => Lent::new(
+            Kind::T_DATA_IND,
+            [Field::Number(*more as u32), Field::Nothing, Field::Nothing],
+            user,
+        ),
+        Prim::T_EXDATA_IND { more, user } => Lent::new(
+            Kind::T_EXDATA_IND,
+            [Field::Number(*more as u32), Field::Nothing, Field::Nothing],
+            user,
+        ),
+        Prim::T_BIND_ACK {
+            addr,
+            conind_number,
+        } => Lent::alone(
+            Kind::T_BIND_ACK,
+            [
+                Field::Bytes(addr.as_slice()),
+                Field::Number(*conind_number),
+                Field::Nothing,
+            ],
+        ),
+        Prim::T_ERROR_ACK {
+            error_prim,
+            tli_error,
+            unix_error,
+        } => Lent::alone(
+            Kind::T_ERROR_ACK,
+            [
+                Field::Number(*error_prim),
+                Field::Number(*tli_error),
+                Field::Number(*unix_error),
+            ],
+        ),
+        Prim::T_OK_ACK { correct_prim } => Lent::alone(
+            Kind::T_OK_ACK,
+            [Field::Number(*correct_prim), Field::Nothing, Field::Nothing],
+        ),
+        Prim::T_UNITDATA_IND { src, opt, user } => Lent::new(
+            Kind::T_UNITDATA_IND,
+            [
+                Field::Bytes(src.as_slice()),
+                Field::Bytes(opt.as_slice()),
+                Field::Nothing,
+            ],
+            user,
+        ),
+        Prim::T_UDERROR_IND {
+            dest,
+            opt,
+            error_type,
+        } => Lent::alone(
+            Kind::T_UDERROR_IND,
+            [
+                Field::Bytes(dest.as_slice()),
+                Field::Bytes(opt.as_slice()),
+                Field::Number(*error_type),
+            ],
+        ),
+        Prim::T_ORDREL_IND => Lent::alone(
+            Kind::T_ORDREL_IND,
+            [Field::Nothing, Field::Nothing, Field::Nothing],
+        ),
+    }
+}

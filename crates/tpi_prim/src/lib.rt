@@ -1,0 +1,14 @@
+//! The primitives of TPI, their frames, and reading frames.
+#![tactic(auto)]
+
+mod decoding;
+mod encoding;
+mod frames;
+mod laws;
+pub mod primitive;
+
+pub use decoding::{Decoded, decode};
+pub use encoding::{EncodeFail, encode};
+pub use frames::Frame;
+pub use laws::primitives_law;
+pub use tpi_grammar::Kind;
