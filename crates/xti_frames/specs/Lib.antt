@@ -1,1 +1,2 @@
 pub mod FrameText
+pub mod Wrong

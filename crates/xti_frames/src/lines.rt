@@ -1,0 +1,231 @@
+//! The line of one primitive.
+
+ghost use Rattle.std.specs.Prelude.{◌≡◌, ◌++◌, OnOk, IsTrue, codes};
+ghost use Rattle.xti_frames.specs.FrameText.{name_word, number_field, flag_field, part_field, user_field, frame_text, frame_line, is_of_connection, is_of_data, is_of_binding};
+
+use bytes::Bytes;
+use std::alloc::AllocError;
+use tpi_prim::primitive::Prim;
+use xti_text::{put_number, put_octets, put_text};
+
+#[tactic(auto, unfolding(crate::specs::FrameText::name_word))]
+fn put_name(out: &mut Vec<u8>, name: &str) -> Result<(), AllocError>
+    ensures { OnOk result (out.new.items ≡ out.old.items ++ name_word name.now) }
+{
+    put_text(out, name)
+}
+
+#[tactic(auto, unfolding(crate::specs::FrameText::number_field))]
+fn put_field(out: &mut Vec<u8>, key: &str, n: u32) -> Result<(), AllocError>
+    ensures { OnOk result (out.new.items ≡ out.old.items ++ number_field key.now n) }
+{
+    put_number(out, key, n as u64)
+}
+
+#[tactic(auto, unfolding(crate::specs::FrameText::flag_field))]
+fn put_flag(out: &mut Vec<u8>, key: &str, more: bool) -> Result<(), AllocError>
+    ensures { OnOk result (out.new.items ≡ out.old.items ++ flag_field key.now more) }
+{
+    put_text(out, key)?;
+    put_text(out, if more { "1" } else { "0" })
+}
+
+#[tactic(auto, unfolding(crate::specs::FrameText::part_field))]
+fn put_part(out: &mut Vec<u8>, key: &str, part: &Bytes) -> Result<(), AllocError>
+    ensures { OnOk result (out.new.items ≡ out.old.items ++ part_field key.now part.now) }
+{
+    put_octets(out, key, part)
+}
+
+fn put_user(out: &mut Vec<u8>, user: &Bytes) -> Result<(), AllocError>
+    ensures { OnOk result (out.new.items ≡ out.old.items ++ user_field user.now) }
+{
+    put_part(out, " data=", user)
+}
+
+// The name, MORE_flag and the user data.
+fn put_flagged(out: &mut Vec<u8>, name: &str, more: bool, user: &Bytes) -> Result<(), AllocError>
+    ensures { OnOk result (out.new.items ≡ out.old.items ++ (name_word name.now ++ flag_field (codes " MORE_flag=") more ++ user_field user.now)) }
+{
+    put_name(out, name)?;
+    put_flag(out, " MORE_flag=", more)?;
+    put_user(out, user)
+}
+
+// The name, an address and the options.
+fn put_parts(
+    out: &mut Vec<u8>,
+    name: &str,
+    key: &str,
+    address: &Bytes,
+    opt: &Bytes,
+) -> Result<(), AllocError>
+    ensures { OnOk result (out.new.items ≡ out.old.items ++ (name_word name.now ++ part_field key.now address.now ++ part_field (codes " OPT=") opt.now)) }
+{
+    put_name(out, name)?;
+    put_part(out, key, address)?;
+    put_part(out, " OPT=", opt)
+}
+
+// A primitive of a connection, from its request to its end.
+fn put_connection(out: &mut Vec<u8>, prim: &Prim) -> Result<(), AllocError>
+    requires { IsTrue (is_of_connection prim.now) }
+    ensures { OnOk result (out.new.items ≡ out.old.items ++ frame_text prim.now) }
+{
+    match prim {
+        Prim::T_CONN_REQ { dest, opt, user } => {
+            put_parts(out, "T_CONN_REQ", " DEST=", dest, opt)?;
+            put_user(out, user)
+        }
+        Prim::T_CONN_RES {
+            acceptor_id,
+            opt,
+            seq_number,
+            user,
+        } => {
+            put_name(out, "T_CONN_RES")?;
+            put_field(out, " ACCEPTOR_id=", *acceptor_id)?;
+            put_part(out, " OPT=", opt)?;
+            put_field(out, " SEQ_number=", *seq_number)?;
+            put_user(out, user)
+        }
+        Prim::T_DISCON_REQ { seq_number, user } => {
+            put_name(out, "T_DISCON_REQ")?;
+            put_field(out, " SEQ_number=", *seq_number)?;
+            put_user(out, user)
+        }
+        Prim::T_ORDREL_REQ => put_name(out, "T_ORDREL_REQ"),
+        Prim::T_CONN_IND {
+            src,
+            opt,
+            seq_number,
+            user,
+        } => {
+            put_parts(out, "T_CONN_IND", " SRC=", src, opt)?;
+            put_field(out, " SEQ_number=", *seq_number)?;
+            put_user(out, user)
+        }
+        Prim::T_CONN_CON { res, opt, user } => {
+            put_parts(out, "T_CONN_CON", " RES=", res, opt)?;
+            put_user(out, user)
+        }
+        Prim::T_DISCON_IND {
+            reason,
+            seq_number,
+            user,
+        } => {
+            put_name(out, "T_DISCON_IND")?;
+            put_field(out, " DISCON_reason=", *reason)?;
+            put_field(out, " SEQ_number=", *seq_number)?;
+            put_user(out, user)
+        }
+        Prim::T_ORDREL_IND => put_name(out, "T_ORDREL_IND"),
+        _ => unreachable!(),
+    }
+}
+
+// A primitive that carries data, or tells that a datagram wasn't delivered.
+fn put_data(out: &mut Vec<u8>, prim: &Prim) -> Result<(), AllocError>
+    requires { IsTrue (is_of_data prim.now) }
+    ensures { OnOk result (out.new.items ≡ out.old.items ++ frame_text prim.now) }
+{
+    match prim {
+        Prim::T_DATA_REQ { more, user } => put_flagged(out, "T_DATA_REQ", *more, user),
+        Prim::T_EXDATA_REQ { more, user } => put_flagged(out, "T_EXDATA_REQ", *more, user),
+        Prim::T_UNITDATA_REQ { dest, opt, user } => {
+            put_parts(out, "T_UNITDATA_REQ", " DEST=", dest, opt)?;
+            put_user(out, user)
+        }
+        Prim::T_DATA_IND { more, user } => put_flagged(out, "T_DATA_IND", *more, user),
+        Prim::T_EXDATA_IND { more, user } => put_flagged(out, "T_EXDATA_IND", *more, user),
+        Prim::T_UNITDATA_IND { src, opt, user } => {
+            put_parts(out, "T_UNITDATA_IND", " SRC=", src, opt)?;
+            put_user(out, user)
+        }
+        Prim::T_UDERROR_IND {
+            dest,
+            opt,
+            error_type,
+        } => {
+            put_parts(out, "T_UDERROR_IND", " DEST=", dest, opt)?;
+            put_field(out, " ERROR_type=", *error_type)
+        }
+        _ => unreachable!(),
+    }
+}
+
+// A request of a binding, or an acknowledgement.
+fn put_binding(out: &mut Vec<u8>, prim: &Prim) -> Result<(), AllocError>
+    requires { IsTrue (is_of_binding prim.now) }
+    ensures { OnOk result (out.new.items ≡ out.old.items ++ frame_text prim.now) }
+{
+    match prim {
+        Prim::T_BIND_REQ {
+            addr,
+            conind_number,
+        } => {
+            put_name(out, "T_BIND_REQ")?;
+            put_part(out, " ADDR=", addr)?;
+            put_field(out, " CONIND_number=", *conind_number)
+        }
+        Prim::T_UNBIND_REQ => put_name(out, "T_UNBIND_REQ"),
+        Prim::T_BIND_ACK {
+            addr,
+            conind_number,
+        } => {
+            put_name(out, "T_BIND_ACK")?;
+            put_part(out, " ADDR=", addr)?;
+            put_field(out, " CONIND_number=", *conind_number)
+        }
+        Prim::T_ERROR_ACK {
+            error_prim,
+            tli_error,
+            unix_error,
+        } => {
+            put_name(out, "T_ERROR_ACK")?;
+            put_field(out, " ERROR_prim=", *error_prim)?;
+            put_field(out, " TLI_error=", *tli_error)?;
+            put_field(out, " UNIX_error=", *unix_error)
+        }
+        Prim::T_OK_ACK { correct_prim } => {
+            put_name(out, "T_OK_ACK")?;
+            put_field(out, " CORRECT_prim=", *correct_prim)
+        }
+        _ => unreachable!(),
+    }
+}
+
+fn put_prim(out: &mut Vec<u8>, prim: &Prim) -> Result<(), AllocError>
+    ensures { OnOk result (out.new.items ≡ out.old.items ++ frame_text prim.now) }
+{
+    match prim {
+        Prim::T_BIND_REQ { .. }
+        | Prim::T_UNBIND_REQ
+        | Prim::T_BIND_ACK { .. }
+        | Prim::T_ERROR_ACK { .. }
+        | Prim::T_OK_ACK { .. } => put_binding(out, prim),
+        Prim::T_CONN_REQ { .. }
+        | Prim::T_CONN_RES { .. }
+        | Prim::T_DISCON_REQ { .. }
+        | Prim::T_ORDREL_REQ
+        | Prim::T_CONN_IND { .. }
+        | Prim::T_CONN_CON { .. }
+        | Prim::T_DISCON_IND { .. }
+        | Prim::T_ORDREL_IND => put_connection(out, prim),
+        Prim::T_DATA_REQ { .. }
+        | Prim::T_EXDATA_REQ { .. }
+        | Prim::T_UNITDATA_REQ { .. }
+        | Prim::T_DATA_IND { .. }
+        | Prim::T_EXDATA_IND { .. }
+        | Prim::T_UNITDATA_IND { .. }
+        | Prim::T_UDERROR_IND { .. } => put_data(out, prim),
+    }
+}
+
+/// Appends the line of a primitive.
+pub(crate) fn put_line(out: &mut Vec<u8>, prim: &Prim) -> Result<(), AllocError>
+    ensures { OnOk result (out.new.items ≡ out.old.items ++ frame_line prim.now) }
+{
+    put_prim(out, prim)?;
+    put_text(out, "\n")
+}
