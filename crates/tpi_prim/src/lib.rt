@@ -16,3 +16,6 @@ pub use laws::primitives_law;
 pub use prims::Prims;
 pub use reading::{FeedFail, FrameReader};
 pub use tpi_grammar::Kind;
+
+#[cfg(test)]
+mod tests;
