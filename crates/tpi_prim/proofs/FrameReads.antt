@@ -374,7 +374,7 @@ read_back (prim.T_DATA_IND more user) bs r = let m = same_flag (word_in bs 12) m
 read_back (prim.T_EXDATA_IND more user) bs r = let m = same_flag (word_in bs 12) more [] r.values in let u = r.user in cc
 read_back p bs r = let v = r.values in let u = r.user in cc
 
-of_its_kind : (p : Prim) → filled p ≡ of_kind (kind_of p) (filled p).values (filled p).user
+pub of_its_kind : (p : Prim) → filled p ≡ of_kind (kind_of p) (filled p).values (filled p).user
 of_its_kind prim.T_UNBIND_REQ = refl
 of_its_kind _ = refl
 

@@ -2,3 +2,4 @@ pub mod FrameReads
 pub mod FieldReads
 pub mod FilledIn
 pub mod Decodes
+pub mod FeedReads

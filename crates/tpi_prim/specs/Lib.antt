@@ -2,3 +2,5 @@ pub mod Primitive
 pub mod Fields
 pub mod Lent
 pub mod Decoding
+pub mod Fed
+pub mod Reading

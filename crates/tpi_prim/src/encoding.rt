@@ -3,7 +3,7 @@
 ghost use Rattle.std.specs.Prelude.{◌≡◌, ◌≤◌, ◌<◌, ◌+◌, ◌-◌, ◌^◌, [], ◌∷◌, ◌++◌, ◌↔◌, length, IfOk, IfErr, OnOk, IsErrOf};
 ghost use Rattle.std.specs.Option.{SomeIff};
 ghost use Rattle.tpi_grammar.specs.Kinds.{row_of};
-ghost use Rattle.tpi_grammar.specs.Frame.{AreBytes, IsFilled, spelling, words, parts, offset, head, control_size};
+ghost use Rattle.tpi_grammar.specs.Frame.{text, AreBytes, IsFilled, spelling, words, parts, offset, head, control_size};
 ghost use Rattle.tpi_prim.specs.Primitive.{filled, Spells};
 ghost use Rattle.tpi_prim.specs.Fields.{primitive_in};
 ghost use Rattle.tpi_prim.specs.Lent.{value_of, values_of, filled_by, HasShape, IsTooBig};
@@ -54,7 +54,7 @@ pub fn encode(alloc: Global, prim: &Prim) -> Result<Frame, EncodeFail>
     ensures read { IfOk result (λ frame. primitive_in frame ≡ prim.now) }
     ensures too_big { IsErrOf result EncodeFail.TooBig ↔ IsTooBig (filled prim.now) }
 {
-    let lent = lent_of(prim);
+    let lent = Lent::of(prim);
     let control = lent.control_len().ok_or(EncodeFail::TooBig)?;
     if lent.user.len() > 65536 {
         return Err(EncodeFail::TooBig);
@@ -79,33 +79,20 @@ struct Lent<'a> {
     user: &'a [u8],
 }
 
-impl<'a> Lent<'a> {
-    fn new(kind: Kind, fields: [Field<'a>; 3], user: &'a Bytes) -> Lent<'a>
-        ensures kind { result.kind ≡ kind }
-        ensures fields { result.fields ≡ fields.entry }
-        ensures user { result.user.now ≡ user.now }
-    {
-        Lent {
-            kind,
-            fields,
-            user: user.as_slice(),
-        }
-    }
-
-    fn alone(kind: Kind, fields: [Field<'a>; 3]) -> Lent<'a>
-        ensures kind { result.kind ≡ kind }
-        ensures fields { result.fields ≡ fields.entry }
-        ensures user { result.user.now ≡ [] }
-    {
-        Lent {
-            kind,
-            fields,
-            user: &[],
-        }
-    }
-}
-
 impl Lent<'_> {
+    #[tactic(auto, using(crate::proofs::FrameReads::of_its_kind))]
+    fn of(prim: &Prim) -> Lent<'_>
+        ensures same { filled_by result ≡ filled prim.now }
+        ensures shape { HasShape (row_of result.kind).slots (values_of result.fields) }
+        ensures room { length result.user.now ≤ 65536 → length result.user.now ≤ (row_of result.kind).most_data }
+    {
+        Lent {
+            kind: prim.kind(),
+            fields: fields_of(prim),
+            user: user_of(prim),
+        }
+    }
+
     /// How long the control part is; `None` over 1,024 bytes.
     fn control_len(&self) -> Option<u32>
         ensures { SomeIff result (control_size (filled_by self.now) ≤ 1024) (control_size (filled_by self.now)) }
@@ -205,175 +192,126 @@ fn put_parts(out: &mut BytesMut, fields: &[Field<'_>]) -> Result<(), AllocError>
     put_parts(out, others)
 }
 
-fn lent_of(prim: &Prim) -> Lent<'_>
-    ensures same { filled_by result ≡ filled prim.now }
-    ensures shape { HasShape (row_of result.kind).slots (values_of result.fields) }
-    ensures data { length result.user.now ≤ 65536 → length result.user.now ≤ (row_of result.kind).most_data }
+fn fields_of(prim: &Prim) -> [Field<'_>; 3]
+    ensures values { values_of result ≡ (filled prim.now).values }
+    ensures shape { HasShape (filled prim.now).row.slots (values_of result) }
 {
     match prim {
-        Prim::T_CONN_REQ { dest, opt, user } => Lent::new(
-            Kind::T_CONN_REQ,
-            [
-                Field::Bytes(dest.as_slice()),
-                Field::Bytes(opt.as_slice()),
-                Field::Nothing,
-            ],
-            user,
-        ),
+        Prim::T_CONN_REQ {
+            dest: first,
+            opt: second,
+            ..
+        }
+        | Prim::T_UNITDATA_REQ {
+            dest: first,
+            opt: second,
+            ..
+        }
+        | Prim::T_CONN_CON {
+            res: first,
+            opt: second,
+            ..
+        }
+        | Prim::T_UNITDATA_IND {
+            src: first,
+            opt: second,
+            ..
+        } => [part(first), part(second), Field::Nothing],
+        Prim::T_CONN_IND {
+            src: first,
+            opt: second,
+            seq_number: last,
+            ..
+        }
+        | Prim::T_UDERROR_IND {
+            dest: first,
+            opt: second,
+            error_type: last,
+        } => [part(first), part(second), Field::Number(*last)],
         Prim::T_CONN_RES {
             acceptor_id,
             opt,
             seq_number,
-            user,
-        } => Lent::new(
-            Kind::T_CONN_RES,
-            [
-                Field::Number(*acceptor_id),
-                Field::Bytes(opt.as_slice()),
-                Field::Number(*seq_number),
-            ],
-            user,
-        ),
-        Prim::T_DISCON_REQ { seq_number, user } => Lent::new(
-            Kind::T_DISCON_REQ,
-            [Field::Number(*seq_number), Field::Nothing, Field::Nothing],
-            user,
-        ),
-        Prim::T_DATA_REQ { more, user } => Lent::new(
-            Kind::T_DATA_REQ,
-            [Field::Number(*more as u32), Field::Nothing, Field::Nothing],
-            user,
-        ),
-        Prim::T_EXDATA_REQ { more, user } => Lent::new(
-            Kind::T_EXDATA_REQ,
-            [Field::Number(*more as u32), Field::Nothing, Field::Nothing],
-            user,
-        ),
+            ..
+        } => [
+            Field::Number(*acceptor_id),
+            part(opt),
+            Field::Number(*seq_number),
+        ],
         Prim::T_BIND_REQ {
             addr,
             conind_number,
-        } => Lent::alone(
-            Kind::T_BIND_REQ,
-            [
-                Field::Bytes(addr.as_slice()),
-                Field::Number(*conind_number),
-                Field::Nothing,
-            ],
-        ),
-        Prim::T_UNBIND_REQ => Lent::alone(
-            Kind::T_UNBIND_REQ,
-            [Field::Nothing, Field::Nothing, Field::Nothing],
-        ),
-        Prim::T_UNITDATA_REQ { dest, opt, user } => Lent::new(
-            Kind::T_UNITDATA_REQ,
-            [
-                Field::Bytes(dest.as_slice()),
-                Field::Bytes(opt.as_slice()),
-                Field::Nothing,
-            ],
-            user,
-        ),
-        Prim::T_ORDREL_REQ => Lent::alone(
-            Kind::T_ORDREL_REQ,
-            [Field::Nothing, Field::Nothing, Field::Nothing],
-        ),
-        Prim::T_CONN_IND {
-            src,
-            opt,
-            seq_number,
-            user,
-        } => Lent::new(
-            Kind::T_CONN_IND,
-            [
-                Field::Bytes(src.as_slice()),
-                Field::Bytes(opt.as_slice()),
-                Field::Number(*seq_number),
-            ],
-            user,
-        ),
-        Prim::T_CONN_CON { res, opt, user } => Lent::new(
-            Kind::T_CONN_CON,
-            [
-                Field::Bytes(res.as_slice()),
-                Field::Bytes(opt.as_slice()),
-                Field::Nothing,
-            ],
-            user,
-        ),
+        }
+        | Prim::T_BIND_ACK {
+            addr,
+            conind_number,
+        } => [part(addr), Field::Number(*conind_number), Field::Nothing],
+        Prim::T_DATA_REQ { more, .. }
+        | Prim::T_EXDATA_REQ { more, .. }
+        | Prim::T_DATA_IND { more, .. }
+        | Prim::T_EXDATA_IND { more, .. } => [
+            Field::Number(*more as u32),
+            Field::Nothing,
+            Field::Nothing,
+        ],
+        Prim::T_DISCON_REQ {
+            seq_number: only,
+            ..
+        }
+        | Prim::T_OK_ACK { correct_prim: only } => [
+            Field::Number(*only),
+            Field::Nothing,
+            Field::Nothing,
+        ],
         Prim::T_DISCON_IND {
             reason,
             seq_number,
-            user,
-        } => Lent::new(
-            Kind::T_DISCON_IND,
-            [
-                Field::Number(*reason),
-                Field::Number(*seq_number),
-                Field::Nothing,
-            ],
-            user,
-        ),
-        Prim::T_DATA_IND { more, user } => Lent::new(
-            Kind::T_DATA_IND,
-            [Field::Number(*more as u32), Field::Nothing, Field::Nothing],
-            user,
-        ),
-        Prim::T_EXDATA_IND { more, user } => Lent::new(
-            Kind::T_EXDATA_IND,
-            [Field::Number(*more as u32), Field::Nothing, Field::Nothing],
-            user,
-        ),
-        Prim::T_BIND_ACK {
-            addr,
-            conind_number,
-        } => Lent::alone(
-            Kind::T_BIND_ACK,
-            [
-                Field::Bytes(addr.as_slice()),
-                Field::Number(*conind_number),
-                Field::Nothing,
-            ],
-        ),
+            ..
+        } => [
+            Field::Number(*reason),
+            Field::Number(*seq_number),
+            Field::Nothing,
+        ],
         Prim::T_ERROR_ACK {
             error_prim,
             tli_error,
             unix_error,
-        } => Lent::alone(
-            Kind::T_ERROR_ACK,
-            [
-                Field::Number(*error_prim),
-                Field::Number(*tli_error),
-                Field::Number(*unix_error),
-            ],
-        ),
-        Prim::T_OK_ACK { correct_prim } => Lent::alone(
-            Kind::T_OK_ACK,
-            [Field::Number(*correct_prim), Field::Nothing, Field::Nothing],
-        ),
-        Prim::T_UNITDATA_IND { src, opt, user } => Lent::new(
-            Kind::T_UNITDATA_IND,
-            [
-                Field::Bytes(src.as_slice()),
-                Field::Bytes(opt.as_slice()),
-                Field::Nothing,
-            ],
-            user,
-        ),
-        Prim::T_UDERROR_IND {
-            dest,
-            opt,
-            error_type,
-        } => Lent::alone(
-            Kind::T_UDERROR_IND,
-            [
-                Field::Bytes(dest.as_slice()),
-                Field::Bytes(opt.as_slice()),
-                Field::Number(*error_type),
-            ],
-        ),
-        Prim::T_ORDREL_IND => Lent::alone(
-            Kind::T_ORDREL_IND,
-            [Field::Nothing, Field::Nothing, Field::Nothing],
-        ),
+        } => [
+            Field::Number(*error_prim),
+            Field::Number(*tli_error),
+            Field::Number(*unix_error),
+        ],
+        Prim::T_UNBIND_REQ | Prim::T_ORDREL_REQ | Prim::T_ORDREL_IND => [
+            Field::Nothing,
+            Field::Nothing,
+            Field::Nothing,
+        ],
+    }
+}
+
+fn part(bytes: &Bytes) -> Field<'_>
+    ensures { value_of result ≡ text bytes.now ∷ [] }
+{
+    Field::Bytes(bytes.as_slice())
+}
+
+fn user_of(prim: &Prim) -> &[u8]
+    ensures user { result.now ≡ (filled prim.now).user }
+    ensures room { length result.now ≤ 65536 → length result.now ≤ (filled prim.now).row.most_data }
+{
+    match prim {
+        Prim::T_CONN_REQ { user, .. }
+        | Prim::T_CONN_RES { user, .. }
+        | Prim::T_DISCON_REQ { user, .. }
+        | Prim::T_DATA_REQ { user, .. }
+        | Prim::T_EXDATA_REQ { user, .. }
+        | Prim::T_UNITDATA_REQ { user, .. }
+        | Prim::T_CONN_IND { user, .. }
+        | Prim::T_CONN_CON { user, .. }
+        | Prim::T_DISCON_IND { user, .. }
+        | Prim::T_DATA_IND { user, .. }
+        | Prim::T_EXDATA_IND { user, .. }
+        | Prim::T_UNITDATA_IND { user, .. } => user.as_slice(),
+        _ => &[],
     }
 }

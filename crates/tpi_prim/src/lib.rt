@@ -6,9 +6,16 @@ mod encoding;
 mod frames;
 mod laws;
 pub mod primitive;
+mod prims;
+mod reading;
 
 pub use decoding::{Decoded, decode};
 pub use encoding::{EncodeFail, encode};
 pub use frames::Frame;
 pub use laws::primitives_law;
+pub use prims::Prims;
+pub use reading::{FeedFail, FrameReader};
 pub use tpi_grammar::Kind;
+
+#[cfg(test)]
+mod tests;

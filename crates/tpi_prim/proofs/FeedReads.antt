@@ -1,0 +1,80 @@
+-- Frames one after the other, read from bytes that come in pieces.
+use Rattle.std.proofs.Common.{◌≡◌, ◌≤◌, ◌<◌, ◌+◌, ◌-◌, ℕ, List, [], ◌∷◌, ◌++◌, length, take, drop, map, None, take-append-drop, append_assoc, length-append, length-take, length-drop, arith, refl, sym, ◌∙◌, ap, subst}
+use Rattle.std.proofs.Math.Seq.{take-add, take-append_seam}
+use Rattle.std.proofs.lemmas.List.{map-append, length-take-le, take_all}
+use Rattle.tpi_grammar.specs.Form.{short, bad}
+use Rattle.tpi_grammar.specs.Frame.{Filled, IsFilled, spelling}
+use Rattle.tpi_grammar.specs.Measured.{IsFrame, MeansFrame}
+use Rattle.tpi_grammar.specs.Frames.{spellings, AreFilled, IsFirstWrong}
+use Rattle.tpi_grammar.specs.declared.kind.Kind.TheVariants as kind
+use Rattle.tpi_grammar.proofs.FrameLists.{bad_frame}
+use Rattle.tpi_prim.specs.declared.primitive.Prim.{Prim}
+use Rattle.tpi_prim.specs.Primitive.{filled, of_kind, Spells}
+use Rattle.tpi_prim.specs.Fed.{Fed}
+use Rattle.tpi_prim.specs.Reading.{SpellAll, IsFront, GoesWrong, Takes, capped}
+use Rattle.tpi_prim.proofs.FilledIn.{is_filled}
+
+-- no bytes are a proper prefix of a frame
+pub nothing_short : MeansFrame [] short
+nothing_short =
+    let f : Filled = of_kind kind.T_UNBIND_REQ [] [] in
+    let good : IsFilled f = is_filled kind.T_UNBIND_REQ [] [] tt tt tt (omega arith) (omega arith) in
+    ((spelling f, (f, good, refl)), λ n le frame. absurd (omega (arith, ap length frame.2, length-take {A = ℕ} n [])))
+
+spellings-append : (fs gs : List Filled) → spellings (fs ++ gs) ≡ spellings fs ++ spellings gs
+spellings-append [] gs = refl
+spellings-append (f ∷ fs) gs = ap (λ xs. spelling f ++ xs) (spellings-append fs gs) ∙ sym (append_assoc (spelling f) (spellings fs) (spellings gs))
+
+AreFilled-append : (fs : List Filled) (f : Filled) → AreFilled fs → IsFilled f → AreFilled (fs ++ f ∷ [])
+AreFilled-append [] f h good = (good, tt)
+AreFilled-append (g ∷ fs) f h good = (h.0, AreFilled-append fs f h.1 good)
+
+append_nil : (xs : List ℕ) → xs ++ [] ≡ xs
+append_nil [] = refl
+append_nil (x ∷ xs) = ap (λ ys. x ∷ ys) (append_nil xs)
+
+-- what is left behind `used` bytes, as a slice has it
+abbrev pub rest_of : ℕ → List ℕ → List ℕ
+rest_of used bs = take (length bs - used) (drop used bs)
+
+pub rest_of-drop : (used : ℕ) (bs : List ℕ) → rest_of used bs ≡ drop used bs
+rest_of-drop used bs = take_all (length bs - used) (drop used bs) (omega (arith, length-drop used bs))
+
+pub spell_more : (bs : List ℕ) (ps : List Prim) (used : ℕ) (p : Prim) (more : ℕ) → SpellAll ps (take used bs) → Spells p (take more (rest_of used bs))
+    → SpellAll (ps ++ p ∷ []) (take (used + more) bs)
+spell_more bs ps used p more s one' = let one = subst (λ (xs : List ℕ). Spells p (take more xs)) (rest_of-drop used bs) one' in record {
+  each = subst AreFilled (sym (map-append filled ps (p ∷ []))) (AreFilled-append (map filled ps) (filled p) s.each one.0);
+  bytes = take-add used more bs ∙ rw (s.bytes, one.1, map-append filled ps (p ∷ []), spellings-append (map filled ps) (filled p ∷ []))
+      (ap (λ (xs : List ℕ). spellings (map filled ps) ++ xs) (sym (append_nil (spelling (filled p)))));
+}
+
+pub grows : (bs : List ℕ) (p : Prim) (more : ℕ) → Spells p (take more bs) → 0 < more
+grows bs p more one = omega (arith, ap length one.1, length-take more bs)
+
+pub goes_wrong : (bs : List ℕ) (ps : List Prim) (used at : ℕ) → used ≤ length bs → SpellAll ps (take used bs) → MeansFrame (rest_of used bs) (bad at) → GoesWrong bs (used + at)
+goes_wrong bs ps used at within s wrong' = let wrong = subst (λ (xs : List ℕ). MeansFrame xs (bad at)) (rest_of-drop used bs) wrong' in record {
+  within = omega (arith, wrong.0, length-drop used bs);
+  first = subst (λ (xs : List ℕ). IsFirstWrong xs (used + at)) (take-append-drop used bs)
+      (subst (λ n. IsFirstWrong (take used bs ++ drop used bs) (n + at)) (length-take-le used bs within)
+      (bad_frame (take used bs) (drop used bs) at (map filled ps, s.each, s.bytes) wrong));
+}
+
+pub takes : (old new : Fed) (piece all : List ℕ) (ps : List Prim) (used : ℕ) → all ≡ old.rest ++ piece → IsFront all ps used → new.rest ≡ drop used all
+    → new.passed ≡ capped (old.passed + used) → new.wrong ≡ None → Takes old new piece ps
+takes old new piece all ps used is front rest passed wrong = record {
+  frames = (
+    take used all,
+    front.frames,
+    sym is ∙ sym (take-append-drop used all) ∙ ap (λ (xs : List ℕ). take used all ++ xs) (sym rest),
+    passed ∙ ap (λ n. capped (old.passed + n)) (sym (length-take-le used all front.within)),
+  );
+  rest = subst (λ (xs : List ℕ). MeansFrame xs short) (sym rest) front.rest;
+  wrong = wrong;
+}
+
+pub as_before : (held : ℕ) (old piece all : List ℕ) → held ≡ length old → all ≡ old ++ piece → take held all ≡ old
+as_before held old piece all long is = rw (long, is) (take-append_seam old piece)
+
+pub is_front : (bs : List ℕ) (ps : List Prim) (used : ℕ) → used ≤ length bs → SpellAll ps (take used bs) → MeansFrame (rest_of used bs) short → IsFront bs ps used
+is_front bs ps used within s rest =
+    record { within = within; frames = s; rest = subst (λ (xs : List ℕ). MeansFrame xs short) (rest_of-drop used bs) rest }
