@@ -1,5 +1,5 @@
 -- What the program answers.
-use Rattle.std.specs.Prelude.{◌≡◌, ℕ, ◌<◌, ◌≤◌, List, [], ◌∷◌, ◌++◌, length, take, codes, decimal, Option, Some, None, ◌⊎◌, Bool, true, false}
+use Rattle.std.specs.Prelude.{◌≡◌, ℕ, ◌<◌, ◌≤◌, List, [], ◌∷◌, ◌++◌, length, take, codes, decimal, Option, Some, None, ◌⊎◌, if◌then◌else◌}
 use Rattle.std.specs.Str.{bytes_eq}
 use Rattle.xti_io.specs.Faults.{Rose}
 use Rattle.xti_io.specs.Sink.{Takes}
@@ -11,6 +11,10 @@ use Rattle.xti_model.specs.Complete.{Follows, Each, workers}
 use Rattle.xti_script.specs.Grammar.{IsScript}
 use Rattle.xti_script.specs.Refused.{IsRefusedAt}
 use Rattle.xti_journal.specs.JournalText.{journal_text}
+use Rattle.tpi_grammar.specs.Frames.{IsFrames, IsFirstWrong}
+use Rattle.xti_frames.specs.FrameText.{IsShown}
+use Rattle.xti_run.specs.declared.words.Command.{Command}
+use Rattle.xti_run.specs.declared.words.Command.TheVariants.{Replay, Frames}
 
 -- the most bytes of an input
 abbrev pub limit : ℕ
@@ -23,16 +27,22 @@ replayed s = record { providers = s.providers; entries = robin s; stalls = [] }
 unfoldable pub refused_line : ℕ → List ℕ
 refused_line n = codes "refused line " ++ decimal n ++ codes "\n"
 
+unfoldable pub refused_byte : ℕ → List ℕ
+refused_byte at = codes "refused byte " ++ decimal at ++ codes "\n"
+
 unfoldable pub refused_words : List ℕ
 refused_words = codes "refused words\n"
 
 unfoldable pub refused_size : List ℕ
 refused_size = codes "refused size\n"
 
--- whether the words are the one word of the command
-abbrev pub is_replay : List (List ℕ) → Bool
-is_replay (word ∷ []) = bytes_eq word (codes "replay")
-is_replay other = false
+-- the command that the words are: one word that names it
+abbrev pub named : List ℕ → Option Command
+named word = if bytes_eq word (codes "replay") then Some Replay else if bytes_eq word (codes "frames") then Some Frames else None
+
+abbrev pub command_of : List (List ℕ) → Option Command
+command_of (word ∷ []) = named word
+command_of other = None
 
 -- the input spells a script: status 0 and the journal of its run, which is legal, has each worker's calls in script order, each once, and has all of them
 pub record IsReplayed (input : List ℕ) (status : ℕ) (text : List ℕ) : Type 0 where
@@ -51,15 +61,32 @@ pub record IsRefusedInput (input : List ℕ) (status : ℕ) (text : List ℕ) : 
   pub done : status ≡ 2
   pub printed : text ≡ refused_line line
 
+-- the input spells frames one after the other: status 0 and a line for each
+pub record IsListed (input : List ℕ) (status : ℕ) (text : List ℕ) : Type 0 where
+  pub done : status ≡ 0
+  pub shown : IsShown input text
+
+-- the input spells none: status 2, and the first byte by which it does not
+pub record IsRefusedByte (input : List ℕ) (status : ℕ) (text : List ℕ) : Type 0 where
+  pub at : ℕ
+  pub wrong : IsFirstWrong input at
+  pub done : status ≡ 2
+  pub printed : text ≡ refused_byte at
+
 -- the input is too long: status 2
 pub record IsTooLong (input : List ℕ) (status : ℕ) (text : List ℕ) : Type 0 where
   pub long : limit < length input
   pub done : status ≡ 2
   pub printed : text ≡ refused_size
 
+-- the status and the text for an input within the limit
+abbrev pub IsAnswered : Command → List ℕ → ℕ → List ℕ → Type 0
+IsAnswered Replay input status text = IsReplayed input status text ⊎ IsRefusedInput input status text
+IsAnswered Frames input status text = IsListed input status text ⊎ IsRefusedByte input status text
+
 -- the status and the text for an input
-abbrev pub IsAnswer : List ℕ → ℕ → List ℕ → Type 0
-IsAnswer input status text = ((length input ≤ limit) × (IsReplayed input status text ⊎ IsRefusedInput input status text)) ⊎ IsTooLong input status text
+abbrev pub IsAnswer : Command → List ℕ → ℕ → List ℕ → Type 0
+IsAnswer command input status text = ((length input ≤ limit) × IsAnswered command input status text) ⊎ IsTooLong input status text
 
 -- these are the bytes that a source had left, as far as it tells them
 abbrev pub IsLeft : Option (List ℕ) → List ℕ → Type 0
@@ -67,20 +94,24 @@ IsLeft None input = Unit {0}
 IsLeft (Some bytes) input = bytes ≡ input
 
 -- the status and the text for what a source had left
-pub record IsReplay (left : Option (List ℕ)) (status : ℕ) (text : List ℕ) : Type 0 where
+pub record IsRun (command : Command) (left : Option (List ℕ)) (status : ℕ) (text : List ℕ) : Type 0 where
   pub input : List ℕ
   pub is_left : IsLeft left input
-  pub answer : IsAnswer input status text
+  pub answer : IsAnswer command input status text
 
 -- the words are no command: status 1
-pub record IsRefusedWords (words : List (List ℕ)) (status : ℕ) (text : List ℕ) : Type 0 where
-  pub refused : is_replay words ≡ false
+pub record IsRefusedWords (status : ℕ) (text : List ℕ) : Type 0 where
   pub done : status ≡ 1
   pub printed : text ≡ refused_words
 
+-- the status and the text of a command, or where there is none
+abbrev pub IsOutputOf : Option Command → Option (List ℕ) → ℕ → List ℕ → Type 0
+IsOutputOf None left status text = IsRefusedWords status text
+IsOutputOf (Some command) left status text = IsRun command left status text
+
 -- the status and the text for these words and what the source had left
 abbrev pub IsOutput : List (List ℕ) → Option (List ℕ) → ℕ → List ℕ → Type 0
-IsOutput words left status text = ((is_replay words ≡ true) × IsReplay left status text) ⊎ IsRefusedWords words status text
+IsOutput words left status text = IsOutputOf (command_of words) left status text
 
 -- the whole text was written
 pub record IsWritten (words : List (List ℕ)) (left : Option (List ℕ)) (status : ℕ) (before now : Option (List ℕ)) : Type 0 where
@@ -104,6 +135,18 @@ pub record HasScript (left : Option (List ℕ)) : Type 0 where
   pub told : left ≡ Some input
   pub within : length input ≤ limit
   pub is_script : IsScript script input
+
+-- what a source that tells its bytes had left spells frames, within the limit
+pub record HasFrames (left : Option (List ℕ)) : Type 0 where
+  pub input : List ℕ
+  pub told : left ≡ Some input
+  pub within : length input ≤ limit
+  pub are_frames : IsFrames input
+
+-- what the command takes
+abbrev pub HasInput : Command → Option (List ℕ) → Type 0
+HasInput Replay left = HasScript left
+HasInput Frames left = HasFrames left
 
 -- no fault was counted
 abbrev pub NoFault : ℕ → ℕ → Type 0

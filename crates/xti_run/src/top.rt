@@ -1,19 +1,22 @@
 //! The top call.
 
-ghost use Rattle.std.specs.Prelude.{◌≡◌, ◌≢◌, ◌<◌, ◌≤◌, ◌+◌, ◌⊎◌, ℕ, List, Some, IfOk, IfErr, OnErr, length, true, false};
+ghost use Rattle.std.specs.Prelude.{◌≡◌, ◌≢◌, ◌<◌, ◌≤◌, ◌+◌, ◌⊎◌, ℕ, List, Some, None, IfOk, IfErr, OnErr, length};
 ghost use Rattle.xti_io.specs.Faults.{Rose};
 ghost use Rattle.xti_io.specs.Source.{GivesUpTo};
 ghost use Rattle.xti_model.specs.declared.script.Script.{Script};
 ghost use Rattle.xti_script.specs.Grammar.{IsScript};
-ghost use Rattle.xti_run.specs.Program.{IsReplayed, IsRefusedInput, IsAnswer, IsReplay, IsOutput, IsWritten, IsCutOff, IsRefusedWords, HasScript, NoFault, limit, refused_line, refused_words, refused_size, is_replay};
+ghost use Rattle.xti_run.specs.declared.words.Command.{Command};
+ghost use Rattle.xti_run.specs.Program.{IsReplayed, IsRefusedInput, IsListed, IsRefusedByte, IsAnswered, IsRun, IsOutput, IsRefusedWords, IsWritten, IsCutOff, HasInput, NoFault, limit, refused_line, refused_byte, refused_words, refused_size, command_of};
 
 use crate::gate::Gate;
 use crate::round_robin::replay;
-use crate::words::Words;
+use crate::words::{Command, Words};
 use std::alloc::{AllocError, Global};
 use std::sync::Wait;
 use std::thread::Threads;
+use tpi_grammar::frames_law;
 use xti_base::Octets;
+use xti_frames::{FramesFail, show_frames};
 use xti_io::{ReadEnd, Sink, Source, read_all, write_all};
 use xti_journal::write_journal;
 use xti_script::{ScriptFail, never_both, read_script};
@@ -43,8 +46,16 @@ fn line_text(alloc: Global, line: u64) -> Result<Octets, AllocError>
     Ok(Octets::from_vec(text.into_bytes()))
 }
 
-/// What is answered to an input within the limit.
-fn answer_to(alloc: Global, input: &[u8]) -> Result<Answer, AllocError>
+#[tactic(auto, unfolding(crate::specs::Program::refused_byte))]
+fn byte_text(alloc: Global, at: usize) -> Result<Octets, AllocError>
+    ensures { IfOk result (λ text. text ≡ refused_byte at) }
+{
+    let text = format!(in alloc; "refused byte {at}\n")?;
+    Ok(Octets::from_vec(text.into_bytes()))
+}
+
+/// What `replay` answers to an input within the limit.
+fn replay_answer(alloc: Global, input: &[u8]) -> Result<Answer, AllocError>
     ensures { IfOk result (λ a. IsReplayed input.now a.status a.text ⊎ IsRefusedInput input.now a.status a.text) }
 {
     match read_script(alloc, input) {
@@ -58,6 +69,30 @@ fn answer_to(alloc: Global, input: &[u8]) -> Result<Answer, AllocError>
             Ok(Answer { status: 2, text })
         }
         Err(ScriptFail::OutOfMemory) => Err(AllocError),
+    }
+}
+
+/// What `frames` answers to an input within the limit.
+fn frames_answer(alloc: Global, input: &[u8]) -> Result<Answer, AllocError>
+    ensures { IfOk result (λ a. IsListed input.now a.status a.text ⊎ IsRefusedByte input.now a.status a.text) }
+{
+    match show_frames(alloc, input) {
+        Ok(text) => Ok(Answer { status: 0, text }),
+        Err(FramesFail::WrongByte { at }) => {
+            let text = byte_text(alloc, at)?;
+            Ok(Answer { status: 2, text })
+        }
+        Err(FramesFail::OutOfMemory) => Err(AllocError),
+    }
+}
+
+/// What the command answers to an input within the limit.
+fn answer_to(alloc: Global, command: Command, input: &[u8]) -> Result<Answer, AllocError>
+    ensures { IfOk result (λ a. IsAnswered command input.now a.status a.text) }
+{
+    match command {
+        Command::Replay => replay_answer(alloc, input),
+        Command::Frames => frames_answer(alloc, input),
     }
 }
 
@@ -81,15 +116,15 @@ fn size_answer(alloc: Global) -> Result<Answer, AllocError>
     })
 }
 
-/// The answer to what the source has left.
-fn replay_answer<R: Source>(alloc: Global, source: &mut R) -> Result<Answer, Status>
-    ensures ok { IfOk result (λ a. IsReplay (R.left source.old) a.status a.text) }
+/// What the command answers to what the source has left.
+fn answer_from<R: Source>(alloc: Global, command: Command, source: &mut R) -> Result<Answer, Status>
+    ensures ok { IfOk result (λ a. IsRun command (R.left source.old) a.status a.text) }
     ensures err { IfErr result (λ s. (s.0 ≡ 4) ⊎ ((s.0 ≡ 5) × Rose (R.faults source.old) (R.faults source.new))) }
     ensures read { GivesUpTo (limit + 1) (R.left source.old) (R.left source.new) }
     ensures later { R.faults source.old ≤ R.faults source.new }
 {
     match read_all(alloc, source, LIMIT) {
-        Ok(input) => match answer_to(alloc, input.as_slice()) {
+        Ok(input) => match answer_to(alloc, command, input.as_slice()) {
             Ok(answer) => Ok(answer),
             Err(_) => Err(Status(4)),
         },
@@ -105,23 +140,23 @@ fn replay_answer<R: Source>(alloc: Global, source: &mut R) -> Result<Answer, Sta
 /// The answer to the words and what the source has left.
 fn output<R: Source>(alloc: Global, words: &Words, source: &mut R) -> Result<Answer, Status>
     ensures ok { IfOk result (λ a. IsOutput words.now (R.left source.old) a.status a.text) }
-    ensures err { IfErr result (λ s. (s.0 ≡ 4) ⊎ ((s.0 ≡ 5) × (is_replay words.now ≡ true) × Rose (R.faults source.old) (R.faults source.new))) }
-    ensures read { is_replay words.now ≡ true → GivesUpTo (limit + 1) (R.left source.old) (R.left source.new) }
-    ensures unread { is_replay words.now ≡ false → source.new ≡ source.old }
+    ensures err { IfErr result (λ s. (s.0 ≡ 4) ⊎ ((s.0 ≡ 5) × (command_of words.now ≢ None) × Rose (R.faults source.old) (R.faults source.new))) }
+    ensures read { command_of words.now ≢ None → GivesUpTo (limit + 1) (R.left source.old) (R.left source.new) }
+    ensures unread { command_of words.now ≡ None → source.new ≡ source.old }
 {
-    if words.is_replay() {
-        replay_answer(alloc, source)
-    } else {
-        match words_answer(alloc) {
+    match words.command() {
+        Some(command) => answer_from(alloc, command, source),
+        None => match words_answer(alloc) {
             Ok(answer) => Ok(answer),
             Err(_) => Err(Status(4)),
-        }
+        },
     }
 }
 
 /// Runs the command of the words over a source and a sink, and answers how it ended.
 ///
-/// The one command is `replay`: it reads a script, makes its calls one after the other, and writes the journal.
+/// The commands are `replay` and `frames`, one word each. `replay` reads a script, makes its calls one after the other, and
+/// writes the journal; `frames` reads TPI frames one after the other, and writes a line for each.
 /// The words are looked at first, then the source is read, and the whole text is made before the first write.
 pub fn program<T: Threads + Wait + Sync, R: Source, W: Sink, G: Gate>(
     _rt: &T,
@@ -131,26 +166,27 @@ pub fn program<T: Threads + Wait + Sync, R: Source, W: Sink, G: Gate>(
     sink: &mut W,
     _gate: &G,
 ) -> Status
-    // Below 4 the whole text was written: the journal of a legal run, or why there is none.
+    // Below 4 the whole text was written: the journal of a legal run, the lines of the frames, or why there are none.
     ensures written { result.0 < 4 → IsWritten words.now (R.left source.old) result.0 (W.held sink.old) (W.held sink.new) }
     ensures unwritten { (result.0 ≡ 4) ⊎ (result.0 ≡ 5) → W.held sink.new ≡ W.held sink.old }
     ensures cut_off { result.0 ≡ 6 → IsCutOff words.now (R.left source.old) (W.held sink.old) (W.held sink.new) }
 
     // Faults are answered only where their count rose.
-    ensures read_fault { result.0 ≡ 5 → (is_replay words.now ≡ true) × Rose (R.faults source.old) (R.faults source.new) }
+    ensures read_fault { result.0 ≡ 5 → (command_of words.now ≢ None) × Rose (R.faults source.old) (R.faults source.new) }
     ensures write_fault { result.0 ≡ 6 → Rose (W.faults sink.old) (W.faults sink.new) }
     ensures range { (result.0 < 7) × (result.0 ≢ 3) }
-    ensures words { result.0 ≡ 1 → is_replay words.now ≡ false }
+    ensures words { result.0 ≡ 1 → command_of words.now ≡ None }
 
     // With no fault the whole text is written, or memory was wanting.
     ensures settled { NoFault (R.faults source.old) (R.faults source.new) → NoFault (W.faults sink.old) (W.faults sink.new) → (result.0 ≡ 4) ⊎ IsWritten words.now (R.left source.old) result.0 (W.held sink.old) (W.held sink.new) }
-    ensures complete { is_replay words.now ≡ true → HasScript (R.left source.old) → NoFault (R.faults source.old) (R.faults source.new) → NoFault (W.faults sink.old) (W.faults sink.new) → (result.0 ≡ 0) ⊎ (result.0 ≡ 4) }
+    ensures complete { (command : Command) → command_of words.now ≡ Some command → HasInput command (R.left source.old) → NoFault (R.faults source.old) (R.faults source.new) → NoFault (W.faults sink.old) (W.faults sink.new) → (result.0 ≡ 0) ⊎ (result.0 ≡ 4) }
 
     // What is read.
-    ensures read { is_replay words.now ≡ true → GivesUpTo (limit + 1) (R.left source.old) (R.left source.new) }
-    ensures unread { is_replay words.now ≡ false → source.new ≡ source.old }
+    ensures read { command_of words.now ≢ None → GivesUpTo (limit + 1) (R.left source.old) (R.left source.new) }
+    ensures unread { command_of words.now ≡ None → source.new ≡ source.old }
 {
     never_both();
+    frames_law();
     match output(alloc, words, source) {
         Err(status) => status,
         Ok(answer) => match write_all(sink, answer.text.as_slice()) {

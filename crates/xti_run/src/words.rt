@@ -1,11 +1,32 @@
 //! The words of a command line.
 
 ghost use Rattle.std.specs.Prelude.{◌≡◌, ◌++◌, ◌∷◌, [], OnOk, OnErr};
-ghost use Rattle.xti_run.specs.Program.{is_replay};
+ghost use Rattle.xti_run.specs.Program.{command_of, named};
 
 use std::alloc::{AllocError, Global};
 use std::marker::Model;
 use xti_base::{Items, Octets};
+
+/// What the command does.
+#[derive(Clone, Copy, Debug, PartialEq, Eq)]
+pub enum Command {
+    /// Reads a script, makes its calls, and writes the journal.
+    Replay,
+    /// Reads frames one after the other, and writes a line for each.
+    Frames,
+}
+
+fn named(word: &[u8]) -> Option<Command>
+    ensures { result ≡ named word.now }
+{
+    if word == b"replay".as_slice() {
+        Some(Command::Replay)
+    } else if word == b"frames".as_slice() {
+        Some(Command::Frames)
+    } else {
+        None
+    }
+}
 
 /// The words of a command line, without the program's own name.
 #[derive(Drop)]
@@ -42,13 +63,13 @@ impl Words {
         self.words.push(copy)
     }
 
-    /// Whether the words are the one word `replay`.
-    pub(crate) fn is_replay(&self) -> bool
-        ensures { result ≡ is_replay self.now }
+    /// The command that the words are: the one word `replay`, or the one word `frames`.
+    pub(crate) fn command(&self) -> Option<Command>
+        ensures { result ≡ command_of self.now }
     {
         match self.words.as_slice() {
-            [word] => word.as_slice() == b"replay".as_slice(),
-            _ => false,
+            [word] => named(word.as_slice()),
+            _ => None,
         }
     }
 }

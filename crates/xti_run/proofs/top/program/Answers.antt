@@ -1,3 +1,5 @@
+use Rattle.std.proofs.Common.{inl}
+use Rattle.xti_run.proofs.Served.{served}
 use Rattle.std.specs.Prelude.{ℕ, List, Option}
 use Rattle.xti_io.specs.Sink.{TakesUpTo}
 use Rattle.xti_io.specs.declared.sink.WriteEnd.{WriteEnd}
@@ -12,3 +14,6 @@ pub returns-clause-cut_off : goal.returns-clause-cut_off
 returns-clause-cut_off g c six =
     let taken : TakesUpTo c.in-Err-write_all.field-0 (g.W.Sink.held c.args.sink.now) (g.W.Sink.held c.write_all.new.sink) c.in-Ok.answer.text = rw (← c.as_slice.ensures) c.in-Err-write_all.ensures.fault in
     cut_off _ _ _ _ _ _ _ c.in-Ok.ensures.ok taken
+
+pub returns-in-Ok-write_all-clause-complete : goal.returns-in-Ok-write_all-clause-complete
+returns-in-Ok-write_all-clause-complete g c command named input source_fault sink_fault = inl (served c.never_both.ensures c.frames_law.ensures.never_both c.args.words.now command (g.R.Source.left c.args.source.now) c.in-Ok.answer.status c.in-Ok.answer.text named input c.in-Ok.ensures.ok)

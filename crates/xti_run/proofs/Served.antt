@@ -1,0 +1,37 @@
+-- An input that the command takes is answered with status 0.
+use Rattle.std.proofs.Common.{◌≡◌, inl, inr, ℕ, List, Option, Some, None, length, ap, subst, arith}
+use Rattle.tpi_grammar.specs.Frames.{IsFrames, IsFirstWrong}
+use Rattle.xti_model.specs.declared.script.Script.{Script}
+use Rattle.xti_script.specs.Grammar.{IsScript}
+use Rattle.xti_script.specs.Refused.{IsRefusedAt}
+use Rattle.xti_run.specs.declared.words.Command.{Command}
+use Rattle.xti_run.specs.declared.words.Command.TheVariants.{Replay, Frames}
+use Rattle.xti_run.specs.Program.{IsLeft, IsRun, IsAnswer, IsOutput, IsOutputOf, HasInput, HasScript, HasFrames, command_of}
+
+-- no text is a script and refused at a line, and no bytes are frames and wrong first at a place
+abbrev pub NoScript : Type 0
+NoScript = (text : List ℕ) (s : Script) (line : ℕ) → IsScript s text → IsRefusedAt text line → ⊥
+
+abbrev pub NoFrames : Type 0
+NoFrames = (bs : List ℕ) (at : ℕ) → IsFirstWrong bs at → IsFrames bs → ⊥
+
+the_left : (left : Option (List ℕ)) (input told : List ℕ) → IsLeft left input → left ≡ Some told → told ≡ input
+the_left (Some bytes) input told h e = cc
+the_left None input told h e = cc
+
+script_served : NoScript → (left : Option (List ℕ)) (input : List ℕ) (status : ℕ) (text : List ℕ) → IsLeft left input → HasScript left → IsAnswer Replay input status text → status ≡ 0
+script_served never left input status text l h (inl (within, inl done)) = done.done
+script_served never left input status text l h (inl (within, inr refused)) = absurd (never input h.script refused.line (subst (λ bs. IsScript h.script bs) (the_left left input h.input l h.told) h.is_script) refused.refused)
+script_served never left input status text l h (inr long) = let same : length h.input ≡ length input = ap length (the_left left input h.input l h.told) in absurd (omega (arith, long.long, h.within, same))
+
+frames_served : NoFrames → (left : Option (List ℕ)) (input : List ℕ) (status : ℕ) (text : List ℕ) → IsLeft left input → HasFrames left → IsAnswer Frames input status text → status ≡ 0
+frames_served never left input status text l h (inl (within, inl done)) = done.done
+frames_served never left input status text l h (inl (within, inr refused)) = absurd (never input refused.at refused.wrong (subst IsFrames (the_left left input h.input l h.told) h.are_frames))
+frames_served never left input status text l h (inr long) = let same : length h.input ≡ length input = ap length (the_left left input h.input l h.told) in absurd (omega (arith, long.long, h.within, same))
+
+run_served : NoScript → NoFrames → (command : Command) (left : Option (List ℕ)) (status : ℕ) (text : List ℕ) → HasInput command left → IsRun command left status text → status ≡ 0
+run_served scripts frames Replay left status text h run = script_served scripts left run.input status text run.is_left h run.answer
+run_served scripts frames Frames left status text h run = frames_served frames left run.input status text run.is_left h run.answer
+
+pub served : NoScript → NoFrames → (words : List (List ℕ)) (command : Command) (left : Option (List ℕ)) (status : ℕ) (text : List ℕ) → command_of words ≡ Some command → HasInput command left → IsOutput words left status text → status ≡ 0
+served scripts frames words command left status text e h out = run_served scripts frames command left status text h (subst (λ o. IsOutputOf o left status text) e out)
