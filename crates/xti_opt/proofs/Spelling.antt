@@ -184,3 +184,8 @@ options_bytes_more os i o h e =
 pub parts_written : (old a b c d v z one two three four five six : List ℕ) → one ≡ old ++ a → two ≡ one ++ b → three ≡ two ++ c → four ≡ three ++ d → five ≡ four ++ v → six ≡ five ++ z
     → six ≡ old ++ (((((a ++ b) ++ c) ++ d) ++ v) ++ z)
 parts_written old a b c d v z one two three four five six e f g h i j = rw (j, i, h, g, f, e) (simp append_assoc)
+
+pub options_bytes_front : (os : List Opt) (k : ℕ) → length (options_bytes (take k os)) ≤ length (options_bytes os)
+options_bytes_front os k =
+    let whole : options_bytes (take k os) ++ options_bytes (drop k os) ≡ options_bytes os = sym (options_bytes-append (take k os) (drop k os)) ∙ ap options_bytes (take-append-drop k os) in
+    omega (arith, ap length whole, length-append (options_bytes (take k os)) (options_bytes (drop k os)))

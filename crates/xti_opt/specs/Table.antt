@@ -28,9 +28,15 @@ abbrev pub with_size : Side → ℕ → Settings → Settings
 with_size sending n s = record s { sndbuf = n }
 with_size receiving n s = record s { rcvbuf = n }
 
--- an option with this status and value, of XTI_GENERIC
+-- an option of XTI_GENERIC with this name, status and value, and the options for a buffer and for a low-water mark
 abbrev pub generic : ℕ → ℕ → List ℕ → Opt
 generic name status value = record { level = xti_generic; name = name; status = status; value = value }
+
+abbrev pub buffer : Side → ℕ → List ℕ → Opt
+buffer side status value = generic (buffer_name side) status value
+
+abbrev pub mark : Side → ℕ → List ℕ → Opt
+mark side status value = generic (mark_name side) status value
 
 -- one option answered: these settings, and the option with this result and value
 abbrev pub answers : Settings → Opt → ℕ → List ℕ → Negotiated

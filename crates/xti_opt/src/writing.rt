@@ -1,6 +1,6 @@
 //! Writing lists of options.
 
-ghost use Rattle.std.specs.Prelude.{◌≡◌, ◌≤◌, ◌+◌, ◌%◌, ◌++◌, All, length, IfOk, IfSome, OnOk};
+ghost use Rattle.std.specs.Prelude.{◌≡◌, ◌≤◌, ◌+◌, ◌%◌, ◌^◌, ◌++◌, All, length, IfOk, IfNone, IfSome, OnOk};
 ghost use Rattle.xti_base.specs.Options.{word_bytes, option_bytes, options_bytes, filling};
 ghost use Rattle.xti_opt.specs.Written.{IsWritable};
 
@@ -23,10 +23,11 @@ pub fn write_options(alloc: Global, list: &OptList) -> Result<Octets, AllocError
     Ok(Octets::from_vec(bytes))
 }
 
-/// How many bytes the options take; `None` if more than a memory has.
+/// How many bytes the options take; `None` exactly if no memory has as many.
 fn size_of_options(options: &[Opt]) -> Option<usize>
     requires { All IsWritable options.now }
-    ensures { IfSome result (λ size. size ≡ length (options_bytes options.now)) }
+    ensures size { IfSome result (λ size. size ≡ length (options_bytes options.now)) }
+    ensures none { IfNone result (2 ^ 64 ≤ length (options_bytes options.now)) }
 {
     let mut size = 0usize;
     for option in options {
