@@ -1,11 +1,11 @@
 //! Reading lists of options.
 
-ghost use Rattle.std.specs.Prelude.{◌≡◌, ◌≤◌, ◌<◌, ◌*◌, ◌+◌, ◌↔◌, ℕ, All, false, true, not, length, Some, IfOk, IsErrOf, MatchOption};
+ghost use Rattle.std.specs.Prelude.{◌≡◌, ◌≤◌, ◌<◌, ◌↔◌, ℕ, All, true, not, length, Some, IfOk, IsErrOf, MatchOption};
 ghost use Rattle.xti_base.specs.Options.{word, front_length, front_option, read_options, is_option_list, the_options, options_bytes, IsOption, IsFirstWrongOption};
 ghost use Rattle.xti_opt.specs.Read.{is_bad};
 
 use crate::OptList;
-use std::alloc::{AllocError, AllocFailed, Global};
+use std::alloc::{AllocError, Global};
 use thiserror::Error;
 use xti_base::{Octets, Opt, size_of_front};
 
@@ -31,6 +31,7 @@ impl From<AllocError> for OptRead {
 }
 
 /// The options of the bytes. The form is looked at first, without memory, so want of memory never hides a wrong option.
+/// Errors: `BadOption` exactly where the bytes are no list of options; `OutOfMemory` for want of memory.
 pub fn read_options(alloc: Global, bytes: &[u8]) -> Result<OptList, OptRead>
     ensures ok { IfOk result (λ list. read_options bytes.now ≡ Some list) }
     ensures bad { is_bad result ≡ not (is_option_list bytes.now) }

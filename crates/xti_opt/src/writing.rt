@@ -1,6 +1,6 @@
 //! Writing lists of options.
 
-ghost use Rattle.std.specs.Prelude.{◌≡◌, ◌≤◌, ◌+◌, ◌%◌, ◌^◌, ◌++◌, All, length, IfOk, IfNone, IfSome, OnOk};
+ghost use Rattle.std.specs.Prelude.{◌≡◌, ◌≤◌, ◌^◌, ◌++◌, All, length, IfOk, IfNone, IfSome, OnOk};
 ghost use Rattle.xti_base.specs.Options.{word_bytes, option_bytes, options_bytes, filling};
 ghost use Rattle.xti_opt.specs.Written.{IsWritable};
 
