@@ -1,0 +1,5 @@
+pub mod Words
+pub mod Fronts
+pub mod Lists
+pub mod Spelling
+pub mod Negotiating

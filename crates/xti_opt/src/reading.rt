@@ -1,0 +1,186 @@
+//! Reading lists of options.
+
+ghost use Rattle.std.specs.Prelude.{◌≡◌, ◌≤◌, ◌<◌, ◌↔◌, ℕ, All, true, not, length, Some, IfOk, IsErrOf, MatchOption};
+ghost use Rattle.xti_base.specs.Options.{word, front_length, front_option, read_options, is_option_list, the_options, options_bytes, IsOption, IsFirstWrongOption};
+ghost use Rattle.xti_opt.specs.Read.{is_bad};
+
+use crate::OptList;
+use std::alloc::{AllocError, Global};
+use thiserror::Error;
+use xti_base::{Octets, Opt, size_of_front};
+
+/// Why bytes were not read as a list of options.
+#[derive(Clone, Copy, Debug, PartialEq, Eq, Error)]
+pub enum OptRead {
+    /// The bytes are no list of options; the place where the first wrong option begins, from 0.
+    #[error("the option at byte {at} is wrong")]
+    BadOption { at: usize },
+    /// Want of memory.
+    #[error("out of memory")]
+    OutOfMemory,
+}
+
+impl From<AllocError> for OptRead {
+    ghost use Rattle.xti_opt.specs.declared.reading.OptRead.TheVariants.{OutOfMemory};
+
+    ghost from_gives = { λ _ e. e ≡ OutOfMemory };
+
+    fn from(_error: AllocError) -> OptRead {
+        OptRead::OutOfMemory
+    }
+}
+
+/// The options of the bytes. The form is looked at first, without memory, so want of memory never hides a wrong option.
+/// Errors: `BadOption` exactly where the bytes are no list of options; `OutOfMemory` for want of memory.
+pub fn read_options(alloc: Global, bytes: &[u8]) -> Result<OptList, OptRead>
+    ensures ok { IfOk result (λ list. read_options bytes.now ≡ Some list) }
+    ensures bad { is_bad result ≡ not (is_option_list bytes.now) }
+    ensures at { (at : ℕ) → IsErrOf result (OptRead.BadOption at) ↔ IsFirstWrongOption bytes.now at }
+
+    // What is read has these bytes again, and may be written.
+    ensures back { IfOk result (λ list. options_bytes list ≡ bytes.now) }
+    ensures options { IfOk result (λ list. All IsOption list) }
+{
+    match first_wrong_option(bytes) {
+        Some(at) => Err(OptRead::BadOption { at }),
+        None => Ok(read_whole(alloc, bytes)?),
+    }
+}
+
+/// The place where the first wrong option begins; `None` exactly if the bytes are a list of options.
+fn first_wrong_option(bytes: &[u8]) -> Option<usize>
+    ensures { MatchOption result (is_option_list bytes.now ≡ true) (IsFirstWrongOption bytes.now) }
+{
+    let mut at = 0;
+    while at < bytes.len() {
+        match size_of_front(&bytes[at..]) {
+            Some(size) => at += size,
+            None => return Some(at),
+        }
+    }
+    None
+}
+
+/// The options of bytes that are a list of them.
+fn read_whole(alloc: Global, bytes: &[u8]) -> Result<OptList, AllocError>
+    requires { is_option_list bytes.now ≡ true }
+    ensures { IfOk result (λ list. list ≡ the_options bytes.now) }
+{
+    let mut list = OptList::new(alloc);
+    let mut rest = bytes;
+    while let Some(size) = size_of_front(rest) {
+        list.push(option_at_front(alloc, rest)?)?;
+        rest = rest.split_at(size).1;
+    }
+    Ok(list)
+}
+
+/// The option that stands at the front.
+fn option_at_front(alloc: Global, bytes: &[u8]) -> Result<Opt, AllocError>
+    requires header { 16 ≤ front_length bytes.now }
+    requires value { front_length bytes.now ≤ length bytes.now }
+    ensures { IfOk result (λ option. option ≡ front_option bytes.now) }
+{
+    let length = word_at(bytes, 0) as usize;
+    Ok(Opt {
+        level: word_at(bytes, 1),
+        name: word_at(bytes, 2),
+        status: word_at(bytes, 3),
+        value: Octets::copy_of(alloc, &bytes[16..length])?,
+    })
+}
+
+/// The big-endian word at this place, from 0, of the four of an option's header.
+fn word_at(bytes: &[u8], place: usize) -> u32
+    requires header { 16 ≤ length bytes.now }
+    requires place { place < 4 }
+    ensures { result ≡ word place bytes.now }
+{
+    let at = 4 * place;
+    u32::from_be_bytes([bytes[at], bytes[at + 1], bytes[at + 2], bytes[at + 3]])
+}
+
+#[cfg(test)]
+mod tests {
+    use super::*;
+    use crate::write_options;
+    use std::test::Fail;
+
+    // Length 20, level 65535, name 4098, status 0, and a value of four bytes.
+    const WHOLE: &[u8] = b"\0\0\0\x14\0\0\xff\xff\0\0\x10\x02\0\0\0\0\0\0\0\x05";
+
+    /// The bytes and their first 19 once more.
+    fn with_its_front(alloc: Global) -> Result<Vec<u8>, AllocError> {
+        let mut bytes = Vec::from_slice(alloc, WHOLE)?;
+        bytes.extend_from_slice(&WHOLE[..19])?;
+        Ok(bytes)
+    }
+
+    #[test]
+    fn reads_and_writes(rt: HostRuntime) -> Result<(), Fail> {
+        let behind = with_its_front(rt.alloc())?;
+        // The bytes, how many options they are or where the first wrong one begins.
+        let table: [(&[u8], Result<usize, OptRead>, &str); 9] = [
+            (b"", Ok(0), "no bytes"),
+            (WHOLE, Ok(1), "one option"),
+            (
+                &WHOLE[..19],
+                Err(OptRead::BadOption { at: 0 }),
+                "a byte is missing",
+            ),
+            (
+                b"\0\0\0\x0f\0\0\0\0\0\0\0\0\0\0\0\0",
+                Err(OptRead::BadOption { at: 0 }),
+                "a length below 16",
+            ),
+            (
+                behind.as_slice(),
+                Err(OptRead::BadOption { at: 20 }),
+                "the second option is cut off",
+            ),
+            (
+                b"\0\0\0\x15\0\0\xff\xff\0\0\x10\x02\0\0\0\0\0\0\0\x05\x07\0\0\0",
+                Ok(1),
+                "filled up by zeros",
+            ),
+            (
+                b"\0\0\0\x15\0\0\xff\xff\0\0\x10\x02\0\0\0\0\0\0\0\x05\x07\0\0\x01",
+                Err(OptRead::BadOption { at: 0 }),
+                "filled up by another byte",
+            ),
+            (
+                b"\0\0\0\x18\0\0\xff\xff\0\0\x10\x02\0\0\0\0\0\0\0\x05",
+                Err(OptRead::BadOption { at: 0 }),
+                "a length over what is left",
+            ),
+            (
+                b"\0\0\0\x10\0\0\0\x01\0\0\0\x02\0\0\0\x03\0\0\0\x11\0\0\0\x04\0\0\0\x05\0\0\0\x06\x07\0\0\0",
+                Ok(2),
+                "two options",
+            ),
+        ];
+        for (bytes, expected, case) in table {
+            match read_options(rt.alloc(), bytes) {
+                Ok(list) => {
+                    assert_eq!(rt; Ok(list.len()), expected, "{case}");
+                    let written = write_options(rt.alloc(), &list)?;
+                    assert_eq!(rt; written.as_slice(), bytes, "{case}");
+                }
+                Err(wrong) => assert_eq!(rt; Err(wrong), expected, "{case}"),
+            }
+        }
+        Ok(())
+    }
+
+    #[test]
+    fn keeps_the_fields(rt: HostRuntime) -> Result<(), Fail> {
+        let list = read_options(rt.alloc(), WHOLE)?;
+        let option = list.get(0).ok_or("no option")?;
+        assert_eq!(rt;
+            (option.level, option.name, option.status),
+            (65535, 4098, 0)
+        );
+        assert_eq!(rt; option.value.as_slice(), b"\0\0\0\x05".as_slice());
+        Ok(())
+    }
+}
