@@ -25,7 +25,7 @@ both_filled : (fs gs : List Filled) → AreFilled fs → AreFilled gs → AreFil
 both_filled [] gs hf hg = hg
 both_filled (f ∷ fs) gs hf hg = (hf.0, both_filled fs gs hf.1 hg)
 
-both_frames : (a b : List ℕ) → IsFrames a → IsFrames b → IsFrames (a ++ b)
+pub both_frames : (a b : List ℕ) → IsFrames a → IsFrames b → IsFrames (a ++ b)
 both_frames a b ia ib = (ia.0 ++ ib.0, both_filled ia.0 ib.0 ia.1 ib.1, rw (ia.2, ib.2) (together ia.0 ib.0))
 
 one_frame : (a : List ℕ) → IsFrame a → IsFrames a
@@ -44,7 +44,7 @@ rest_is (f ∷ fs) (g ∷ gs) xs hf hg e =
     let one : spelling f ≡ spelling g = apart (spelling f) (spelling g) (spellings fs ++ xs) (spellings gs) (f, hf.0, refl) (g, hg.0, refl) same in
     rest_is fs gs xs hf.1 hg.1 (split_same (spelling f) (spelling g) (spellings fs ++ xs) (spellings gs) (ap length one) same).1
 
-behind : (front xs : List ℕ) → IsFrames front → IsFrames (front ++ xs) → IsFrames xs
+pub behind : (front xs : List ℕ) → IsFrames front → IsFrames (front ++ xs) → IsFrames xs
 behind front xs a b = rest_is a.0 b.0 xs a.1 b.1 (ap (λ ws. ws ++ xs) (sym a.2) ∙ b.2)
 
 pub one_reading : (fs gs : List Filled) → AreFilled fs → AreFilled gs → spellings fs ≡ spellings gs → fs ≡ gs

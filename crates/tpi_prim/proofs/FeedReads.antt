@@ -1,17 +1,18 @@
 -- Frames one after the other, read from bytes that come in pieces.
-use Rattle.std.proofs.Common.{◌≡◌, ◌≤◌, ◌<◌, ◌+◌, ◌-◌, ℕ, List, [], ◌∷◌, ◌++◌, length, take, drop, map, None, take-append-drop, append_assoc, length-append, length-take, length-drop, arith, refl, sym, ◌∙◌, ap, subst}
-use Rattle.std.proofs.Math.Seq.{take-add, take-append_seam}
+use Rattle.std.proofs.Common.{◌≡◌, ◌≤◌, ◌<◌, ◌+◌, ◌-◌, ℕ, List, [], ◌∷◌, ◌++◌, length, take, drop, map, suc, Option, None, MatchOption, Err, take-append-drop, append_assoc, length-append, length-take, length-drop, arith, refl, sym, ◌∙◌, ap, subst}
+use Rattle.std.proofs.Math.Seq.{take-add, take-append-add, take-append_seam}
 use Rattle.std.proofs.lemmas.List.{map-append, length-take-le, take_all}
 use Rattle.tpi_grammar.specs.Form.{short, bad}
 use Rattle.tpi_grammar.specs.Frame.{Filled, IsFilled, spelling}
 use Rattle.tpi_grammar.specs.Measured.{IsFrame, MeansFrame}
-use Rattle.tpi_grammar.specs.Frames.{spellings, AreFilled, IsFirstWrong}
+use Rattle.tpi_grammar.specs.Frames.{spellings, AreFilled, IsFrames, IsFirstWrong}
 use Rattle.tpi_grammar.specs.declared.kind.Kind.TheVariants as kind
-use Rattle.tpi_grammar.proofs.FrameLists.{bad_frame}
+use Rattle.tpi_grammar.proofs.FrameLists.{bad_frame, both_frames, behind}
 use Rattle.tpi_prim.specs.declared.primitive.Prim.{Prim}
 use Rattle.tpi_prim.specs.Primitive.{filled, of_kind, Spells}
 use Rattle.tpi_prim.specs.Fed.{Fed}
-use Rattle.tpi_prim.specs.Reading.{SpellAll, IsFront, GoesWrong, Takes, capped}
+use Rattle.tpi_prim.specs.Reading.{SpellAll, IsFront, GoesWrong, Takes, Fails, Feeds, HasRead, nothing, one_more, HasGiven, capped}
+use Rattle.tpi_prim.specs.declared.reading.FeedFail.TheVariants.{Bad}
 use Rattle.tpi_prim.proofs.FilledIn.{is_filled}
 
 -- no bytes are a proper prefix of a frame
@@ -78,3 +79,73 @@ as_before held old piece all long is = rw (long, is) (take-append_seam old piece
 pub is_front : (bs : List ℕ) (ps : List Prim) (used : ℕ) → used ≤ length bs → SpellAll ps (take used bs) → MeansFrame (rest_of used bs) short → IsFront bs ps used
 is_front bs ps used within s rest =
     record { within = within; frames = s; rest = subst (λ (xs : List ℕ). MeansFrame xs short) (rest_of-drop used bs) rest }
+
+-- ---- over any pieces
+
+AreFilled-both : (fs gs : List Filled) → AreFilled fs → AreFilled gs → AreFilled (fs ++ gs)
+AreFilled-both [] gs a b = b
+AreFilled-both (f ∷ fs) gs a b = (a.0, AreFilled-both fs gs a.1 b)
+
+SpellAll-both : (ps qs : List Prim) (a b : List ℕ) → SpellAll ps a → SpellAll qs b → SpellAll (ps ++ qs) (a ++ b)
+SpellAll-both ps qs a b s t = record {
+  each = rw (map-append filled ps qs) (AreFilled-both (map filled ps) (map filled qs) s.each t.each);
+  bytes = rw (s.bytes, t.bytes, map-append filled ps qs) (sym (spellings-append (map filled ps) (map filled qs)));
+}
+
+capped_twice : (a b c : ℕ) → c ≡ capped (capped a + b) → c ≡ capped (a + b)
+capped_twice a b c e = omega (arith, e)
+
+pub has_given : (fed : List ℕ) (ps : List Prim) (r : Fed) → HasRead fed ps r → HasGiven fed ps r
+has_given _ _ _ nothing = record { frames = ([], record { each = tt; bytes = refl }, refl, refl); rest = nothing_short; wrong = refl }
+has_given _ _ _ (one_more {fed} {ps} {old} h new piece qs f) =
+    let before = has_given fed ps old h in
+    let a : List ℕ = before.frames.0 in
+    let b : List ℕ = f.1.frames.0 in
+    record {
+      frames = (
+        a ++ b,
+        SpellAll-both ps qs a b before.frames.1 f.1.frames.1,
+        ap (λ (xs : List ℕ). xs ++ piece) before.frames.2 ∙ append_assoc a old.rest piece ∙ ap (λ (xs : List ℕ). a ++ xs) f.1.frames.2 ∙ sym (append_assoc a b new.rest),
+        capped_twice (length a) (length b) new.passed (f.1.frames.3 ∙ ap (λ n. capped (n + length b)) before.frames.3) ∙ ap capped (sym (length-append a b)),
+      );
+      rest = f.1.rest;
+      wrong = f.1.wrong;
+    }
+
+-- what goes wrong behind frames goes wrong as a whole
+wrong_behind : (front xs : List ℕ) (n : ℕ) → IsFrames front → GoesWrong xs n → GoesWrong (front ++ xs) (length front + n)
+wrong_behind front xs n hf g = record {
+  within = omega (arith, g.within, length-append front xs);
+  first = record {
+    within = omega (arith, g.within, length-append front xs);
+    begins =
+        let b = g.first.begins in
+        (b.0, rw (take-append-add front xs n, append_assoc front (take n xs) b.0) (both_frames front (take n xs ++ b.0) hf b.1));
+    wrong = λ lt b. g.first.wrong g.within (b.0, behind front (take (suc n) xs ++ b.0) hf (later b.0 b.1));
+    cut = λ e i. absurd (omega (arith, e, g.within, length-append front xs));
+  };
+}
+  where
+    later : (rest : List ℕ) → IsFrames (take (suc (length front + n)) (front ++ xs) ++ rest) → IsFrames (front ++ (take (suc n) xs ++ rest))
+    later rest i =
+        let same : suc (length front + n) ≡ length front + suc n = omega arith in
+        let cut : take (suc (length front + n)) (front ++ xs) ≡ front ++ take (suc n) xs = rw same (take-append-add front xs (suc n)) in
+        subst IsFrames (rw cut (append_assoc front (take (suc n) xs) rest)) i
+
+failed : (old new : Fed) (piece : List ℕ) (at : ℕ) → old.wrong ≡ None → Feeds old new piece (Err (Bad at)) → Fails old new piece at
+failed old new piece at none f = subst (λ (o : Option ℕ). MatchOption o (Fails old new piece at) (λ place. (at ≡ place) × (new ≡ old))) none f
+
+pub has_failed : (fed : List ℕ) (ps : List Prim) (old new : Fed) (piece : List ℕ) (at : ℕ) → HasRead fed ps old → Feeds old new piece (Err (Bad at))
+    → (n : ℕ) × GoesWrong (fed ++ piece) n × (at ≡ capped n)
+has_failed fed ps old new piece at h f =
+    let given = has_given fed ps old h in
+    let front : List ℕ = given.frames.0 in
+    let spelled = given.frames.1 in
+    let fail = failed old new piece at given.wrong f in
+    let n : ℕ = fail.place.0 in
+    (
+      length front + n,
+      subst (λ (xs : List ℕ). GoesWrong xs (length front + n)) (sym (append_assoc front old.rest piece) ∙ ap (λ (xs : List ℕ). xs ++ piece) (sym given.frames.2))
+      (wrong_behind front (old.rest ++ piece) n (map filled ps, spelled.each, spelled.bytes) fail.place.1),
+      capped_twice (length front) n at (fail.place.2 ∙ ap (λ k. capped (k + n)) given.frames.3),
+    )

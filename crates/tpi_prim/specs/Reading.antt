@@ -1,5 +1,5 @@
 -- What reading pieces of bytes as frames gives.
-use Rattle.std.specs.Prelude.{◌≡◌, ◌≤◌, ◌<◌, ◌+◌, ◌-◌, ◌^◌, ℕ, List, ◌++◌, length, take, drop, map, min, Option, Some, None, MatchOption, Result, Ok, Err}
+use Rattle.std.specs.Prelude.{◌≡◌, ◌≤◌, ◌<◌, ◌+◌, ◌-◌, ◌^◌, ℕ, List, [], ◌++◌, length, take, drop, map, min, Option, Some, None, MatchOption, Result, Ok, Err}
 use Rattle.tpi_grammar.specs.Form.{short}
 use Rattle.tpi_grammar.specs.Measured.{MeansFrame}
 use Rattle.tpi_grammar.specs.Frames.{spellings, AreFilled, IsFirstWrong}
@@ -51,3 +51,15 @@ abbrev pub Feeds : Fed → Fed → List ℕ → Result (List Prim) FeedFail → 
 Feeds old new piece (Ok ps) = (old.wrong ≡ None) × Takes old new piece ps
 Feeds old new piece (Err (fail.Bad at)) = MatchOption old.wrong (Fails old new piece at) (λ place. (at ≡ place) × (new ≡ old))
 Feeds old new piece (Err fail.OutOfMemory) = (old.wrong ≡ None) × (new ≡ old)
+
+-- a reader was fed these bytes in some pieces, gave these primitives, and no feed failed so that it changed
+pub data HasRead : List ℕ → List Prim → Fed → Type 0 where
+  nothing : HasRead [] [] (record { passed = 0; rest = []; wrong = None })
+  one_more : {fed : List ℕ} {ps : List Prim} {old : Fed} → HasRead fed ps old → (new : Fed) (piece : List ℕ) (qs : List Prim) → Feeds old new piece (Ok qs)
+      → HasRead (fed ++ piece) (ps ++ qs) new
+
+-- the bytes are the frames of the primitives, and then the reader's rest, which is a proper prefix of a frame
+pub record HasGiven (fed : List ℕ) (ps : List Prim) (r : Fed) : Type 0 where
+  pub frames : (front : List ℕ) × SpellAll ps front × (fed ≡ front ++ r.rest) × (r.passed ≡ capped (length front))
+  pub rest : MeansFrame r.rest short
+  pub wrong : r.wrong ≡ None

@@ -1,11 +1,14 @@
 //! What holds of every primitive and its frame.
 
-ghost use Rattle.std.specs.Prelude.{◌≡◌, List, ℕ};
+ghost use Rattle.std.specs.Prelude.{◌≡◌, ◌++◌, List, ℕ, Err};
 ghost use Rattle.tpi_grammar.specs.Frame.{Filled, IsFilled};
 ghost use Rattle.tpi_grammar.specs.Measured.{IsFrame};
 ghost use Rattle.tpi_prim.specs.declared.primitive.Prim.{Prim};
 ghost use Rattle.tpi_prim.specs.Primitive.{filled, kind_of, Spells};
 ghost use Rattle.tpi_prim.specs.Fields.{kind_in, primitive_in};
+ghost use Rattle.tpi_prim.specs.Fed.{Fed};
+ghost use Rattle.tpi_prim.specs.Reading.{Feeds, GoesWrong, HasGiven, HasRead, capped};
+ghost use Rattle.tpi_prim.specs.declared.reading.FeedFail.TheVariants.{Bad};
 
 /// Each row of the table that can be filled in is a primitive; each frame is that of the primitive that is read from its
 /// bytes, and of no other.
@@ -14,4 +17,12 @@ pub fn primitives_law()
     ensures frames { (bs : List ℕ) → IsFrame bs → Spells (primitive_in bs) bs }
     ensures only { (p : Prim) (bs : List ℕ) → Spells p bs → primitive_in bs ≡ p }
     ensures kinds { (bs : List ℕ) → kind_of (primitive_in bs) ≡ kind_in bs }
+{}
+
+/// Over any pieces a reader has given the primitives of the bytes that it was fed; and where a feed says `Bad`, all bytes ever
+/// fed can't go on as frames from the place that it tells.
+pub fn pieces_law()
+    ensures given { (fed : List ℕ) (ps : List Prim) (r : Fed) → HasRead fed ps r → HasGiven fed ps r }
+    ensures bad { (fed : List ℕ) (ps : List Prim) (old new : Fed) (piece : List ℕ) (at : ℕ) → HasRead fed ps old
+        → Feeds old new piece (Err (Bad at)) → (n : ℕ) × GoesWrong (fed ++ piece) n × (at ≡ capped n) }
 {}

@@ -12,7 +12,7 @@ mod reading;
 pub use decoding::{Decoded, decode};
 pub use encoding::{EncodeFail, encode};
 pub use frames::Frame;
-pub use laws::primitives_law;
+pub use laws::{pieces_law, primitives_law};
 pub use prims::Prims;
 pub use reading::{FeedFail, FrameReader};
 pub use tpi_grammar::Kind;

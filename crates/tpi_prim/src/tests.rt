@@ -23,15 +23,12 @@ fn encodes_and_decodes(rt: HostRuntime) -> Result<(), Fail> {
     let mut more = BytesMut::copy_from_slice(alloc, frame.bytes())?;
     more.extend_from_slice(b"!!")?;
     match decode(alloc, more.as_slice()) {
-        Decoded::Value {
-            prim: Prim::T_DATA_IND { more, user },
-            used,
-        } => {
+        Decoded::Value { prim, used } => {
             assert_eq!(rt; used, 18);
-            assert!(rt; !more);
-            assert_eq!(rt; user.as_slice(), b"hi".as_slice());
+            assert_eq!(rt; prim.kind(), Kind::T_DATA_IND);
+            assert_eq!(rt; encode(alloc, &prim)?.bytes(), DATA);
         }
-        _ => panic!(rt; "no T_DATA_IND"),
+        _ => panic!(rt; "no primitive"),
     }
     assert!(rt; matches!(decode(alloc, &DATA[..17]), Decoded::Short));
     Ok(())
