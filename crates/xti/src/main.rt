@@ -15,10 +15,13 @@ const VERSION: &str = "xti 0.1.0\n";
 
 const USAGE: &str = "\
 usage: xti replay
+       xti frames
        xti --help | -h | --version
 
 replay  reads a script of XTI calls from standard input, makes the calls one
         after the other, and prints their journal on standard output
+frames  reads TPI frames one after the other from standard input, and prints a
+        line for each on standard output
 
 status: 0 done, 1 the words are no command, 2 the input is refused,
         4 want of memory, 5 reading failed, 6 writing failed
