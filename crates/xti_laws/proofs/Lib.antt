@@ -4,4 +4,7 @@ mod Others
 mod Touched
 mod Changes
 mod Kept
+mod Blocking
+mod Waiting
+mod Arguments
 mod histories

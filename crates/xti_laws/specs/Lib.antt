@@ -1,2 +1,3 @@
 pub mod Updates
 pub mod Laws
+pub mod Waiting

@@ -11,6 +11,7 @@ ghost use Rattle.xti_model.specs.Step.{plan, step};
 ghost use Rattle.xti_model.specs.Touched.{named};
 ghost use Rattle.xti_model.specs.History.{after_from, left_by};
 ghost use Rattle.xti_laws.specs.Updates.{PlanKinds};
+ghost use Rattle.xti_laws.specs.Waiting.{BlockedAsWanted, BlockedHasGoodArguments};
 ghost use Rattle.xti_laws.specs.Laws.{Within, restrict, AllCells, Keeps};
 
 /// A step is settled by the cells that its call names, and leaves all others as they are.
@@ -30,4 +31,14 @@ pub fn steps_are_local()
 pub fn changes_are_named()
     ensures kinds { (p : Providers) (w : World) (c : Call) (g : Go) → PlanKinds (plan p w c g) }
     ensures kept { (p : Providers) (test : Cell → Bool) → Keeps p (λ cell. test cell ≡ true) → (w : World) (past entries : List Entry) → AllCells (λ cell. test cell ≡ true) w → AllCells (λ cell. test cell ≡ true) (after_from p w past entries) }
+{}
+
+/// What a wait depends on settles whether a step is blocked.
+///
+/// `as_wanted`: where the rows that look at the arguments alone pass, and a send that goes on has bytes left, a
+/// step is blocked exactly where its want is; a step that has no want never is. `good`: a blocked step's call
+/// passes those rows, which no later world changes.
+pub fn steps_wait_for_their_wants()
+    ensures as_wanted { (p : Providers) (w : World) (c : Call) (g : Go) → BlockedAsWanted p w c g }
+    ensures good { (p : Providers) (w : World) (c : Call) (g : Go) → BlockedHasGoodArguments p w c g }
 {}
