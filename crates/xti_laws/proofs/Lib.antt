@@ -4,6 +4,17 @@ mod Others
 mod Touched
 mod Changes
 mod Kept
+mod View
+mod Steady
+mod Effects
+mod TableRows
+mod Taken
+mod Opening
+mod StatesOfConnections
+mod Leaving
+mod OtherStates
+mod TableWalk
+mod Initialised
 mod Blocking
 mod Waiting
 mod Arguments

@@ -6,11 +6,12 @@ ghost use Rattle.xti_model.specs.declared.call.Call.{Call};
 ghost use Rattle.xti_model.specs.declared.entry.Go.{Go};
 ghost use Rattle.xti_model.specs.declared.entry.Entry.{Entry};
 ghost use Rattle.xti_model.specs.declared.profile.Providers.{Providers};
-ghost use Rattle.xti_model.specs.World.{World, Cell, is_among, only, without, place_of};
+ghost use Rattle.xti_model.specs.World.{World, Cell, endpoint, is_among, only, without, place_of};
 ghost use Rattle.xti_model.specs.Step.{plan, step};
 ghost use Rattle.xti_model.specs.Touched.{named};
-ghost use Rattle.xti_model.specs.History.{after_from, left_by};
+ghost use Rattle.xti_model.specs.History.{after, after_from, left_by};
 ghost use Rattle.xti_laws.specs.Updates.{PlanKinds};
+ghost use Rattle.xti_laws.specs.States.{TakesByTheTable, PassesByTheTable, KeepsEveryState, KeepsOtherStates, is_initialised};
 ghost use Rattle.xti_laws.specs.Waiting.{BlockedAsWanted, BlockedHasGoodArguments};
 ghost use Rattle.xti_laws.specs.Laws.{Within, restrict, AllCells, Keeps};
 
@@ -41,4 +42,19 @@ pub fn changes_are_named()
 pub fn steps_wait_for_their_wants()
     ensures as_wanted { (p : Providers) (w : World) (c : Call) (g : Go) → BlockedAsWanted p w c g }
     ensures good { (p : Providers) (w : World) (c : Call) (g : Go) → BlockedHasGoodArguments p w c g }
+{}
+
+/// The states before and after a step are a row of the state table.
+///
+/// `taken`: whatever the world, a step that has an effect, with TBUFOVFLW too, takes the call's endpoint by a row
+/// of the table. Where a place opens, the switch is to agree with its cell; and an open endpoint is to be in
+/// another state than T_UNINIT, which `begun` says of every world after any entries. `passed`: of the responding
+/// endpoint of an accept, where it isn't the listener itself. `refused`: a step without an effect leaves every
+/// state. `others`: every step leaves the states of all other endpoints.
+pub fn states_follow_the_table()
+    ensures taken { (p : Providers) (w : World) (c : Call) (g : Go) → TakesByTheTable p w c g }
+    ensures passed { (p : Providers) (w : World) (c : Call) (g : Go) → PassesByTheTable p w c g }
+    ensures refused { (p : Providers) (w : World) (c : Call) (g : Go) → KeepsEveryState p w c g }
+    ensures others { (p : Providers) (w : World) (c : Call) (g : Go) → KeepsOtherStates p w c g }
+    ensures begun { (p : Providers) (entries : List Entry) (fd : ℕ) → is_initialised (endpoint p (after p entries) fd) ≡ true }
 {}
