@@ -15,6 +15,8 @@ mod Leaving
 mod OtherStates
 mod TableWalk
 mod Initialised
+mod TouchedCells
+mod TouchedAgain
 mod Blocking
 mod Waiting
 mod Arguments

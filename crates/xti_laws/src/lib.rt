@@ -8,12 +8,12 @@ ghost use Rattle.xti_model.specs.declared.entry.Entry.{Entry};
 ghost use Rattle.xti_model.specs.declared.profile.Providers.{Providers};
 ghost use Rattle.xti_model.specs.World.{World, Cell, endpoint, is_among, only, without, place_of};
 ghost use Rattle.xti_model.specs.Step.{plan, step};
-ghost use Rattle.xti_model.specs.Touched.{named};
+ghost use Rattle.xti_model.specs.Touched.{named, touched};
 ghost use Rattle.xti_model.specs.History.{after, after_from, left_by};
 ghost use Rattle.xti_laws.specs.Updates.{PlanKinds};
 ghost use Rattle.xti_laws.specs.States.{TakesByTheTable, PassesByTheTable, KeepsEveryState, KeepsOtherStates, is_initialised};
 ghost use Rattle.xti_laws.specs.Waiting.{BlockedAsWanted, BlockedHasGoodArguments};
-ghost use Rattle.xti_laws.specs.Laws.{Within, restrict, AllCells, Keeps};
+ghost use Rattle.xti_laws.specs.Laws.{Within, restrict, AllCells, Keeps, KnowsNoMore, TellsNone};
 
 /// A step is settled by the cells that its call names, and leaves all others as they are.
 ///
@@ -23,6 +23,17 @@ ghost use Rattle.xti_laws.specs.Laws.{Within, restrict, AllCells, Keeps};
 pub fn steps_are_local()
     ensures reads { (p : Providers) (t : List ℕ) (w : World) (c : Call) (g : Go) → Within t (named p w c) → is_among t (place_of p (plan p w c g).fd) ≡ true → step p (only t w) c g ≡ option_map (restrict t) (step p w c g) }
     ensures changes { (p : Providers) (t : List ℕ) (w : World) (c : Call) (g : Go) → Within t (named p w c) → without t (left_by w (step p w c g)) ≡ without t w }
+{}
+
+/// A step is settled by the touched cells of its call, and changes no others.
+///
+/// Of worlds whose switch knows no more places than there are. `reads`: the step on the touched cells alone is the
+/// step on all, an open that no place can take being one that tells the state of no open endpoint. `changes`: all
+/// other cells stay. `again`: on its touched cells alone a call touches just these.
+pub fn touched_cells_settle_a_step()
+    ensures reads { (p : Providers) (w : World) (c : Call) (g : Go) → KnowsNoMore p w → TellsNone p w c → step p (only (touched p w c) w) c g ≡ option_map (restrict (touched p w c)) (step p w c g) }
+    ensures changes { (p : Providers) (w : World) (c : Call) (g : Go) → KnowsNoMore p w → without (touched p w c) (left_by w (step p w c g)) ≡ without (touched p w c) w }
+    ensures again { (p : Providers) (w : World) (c : Call) → KnowsNoMore p w → touched p (only (touched p w c) w) c ≡ touched p w c }
 {}
 
 /// Each change that a call may make is one of the named kinds.
