@@ -78,7 +78,7 @@ within-left : (t ns ms : List ℕ) → Within t (ns ++ ms) → Within t ns
 within-left t [] ms h = tt
 within-left t (n ∷ ns) ms h = (h.0, within-left t ns ms h.1)
 
-within-right : (t ns ms : List ℕ) → Within t (ns ++ ms) → Within t ms
+pub within-right : (t ns ms : List ℕ) → Within t (ns ++ ms) → Within t ms
 within-right t [] ms h = h
 within-right t (n ∷ ns) ms h = within-right t ns ms h.1
 

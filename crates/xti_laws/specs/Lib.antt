@@ -1,2 +1,4 @@
 pub mod Updates
 pub mod Laws
+pub mod Waiting
+pub mod States

@@ -6,12 +6,14 @@ ghost use Rattle.xti_model.specs.declared.call.Call.{Call};
 ghost use Rattle.xti_model.specs.declared.entry.Go.{Go};
 ghost use Rattle.xti_model.specs.declared.entry.Entry.{Entry};
 ghost use Rattle.xti_model.specs.declared.profile.Providers.{Providers};
-ghost use Rattle.xti_model.specs.World.{World, Cell, is_among, only, without, place_of};
+ghost use Rattle.xti_model.specs.World.{World, Cell, endpoint, is_among, only, without, place_of};
 ghost use Rattle.xti_model.specs.Step.{plan, step};
-ghost use Rattle.xti_model.specs.Touched.{named};
-ghost use Rattle.xti_model.specs.History.{after_from, left_by};
+ghost use Rattle.xti_model.specs.Touched.{named, touched};
+ghost use Rattle.xti_model.specs.History.{after, after_from, left_by};
 ghost use Rattle.xti_laws.specs.Updates.{PlanKinds};
-ghost use Rattle.xti_laws.specs.Laws.{Within, restrict, AllCells, Keeps};
+ghost use Rattle.xti_laws.specs.States.{TakesByTheTable, PassesByTheTable, KeepsEveryState, KeepsOtherStates, is_initialised};
+ghost use Rattle.xti_laws.specs.Waiting.{BlockedAsWanted, BlockedHasGoodArguments};
+ghost use Rattle.xti_laws.specs.Laws.{Within, restrict, AllCells, Keeps, KnowsNoMore, TellsNone};
 
 /// A step is settled by the cells that its call names, and leaves all others as they are.
 ///
@@ -23,6 +25,17 @@ pub fn steps_are_local()
     ensures changes { (p : Providers) (t : List ℕ) (w : World) (c : Call) (g : Go) → Within t (named p w c) → without t (left_by w (step p w c g)) ≡ without t w }
 {}
 
+/// A step is settled by the touched cells of its call, and changes no others.
+///
+/// Of worlds whose switch knows no more places than there are. `reads`: the step on the touched cells alone is the
+/// step on all, an open that no place can take being one that tells the state of no open endpoint. `changes`: all
+/// other cells stay. `again`: on its touched cells alone a call touches just these.
+pub fn touched_cells_settle_a_step()
+    ensures reads { (p : Providers) (w : World) (c : Call) (g : Go) → KnowsNoMore p w → TellsNone p w c → step p (only (touched p w c) w) c g ≡ option_map (restrict (touched p w c)) (step p w c g) }
+    ensures changes { (p : Providers) (w : World) (c : Call) (g : Go) → KnowsNoMore p w → without (touched p w c) (left_by w (step p w c g)) ≡ without (touched p w c) w }
+    ensures again { (p : Providers) (w : World) (c : Call) → KnowsNoMore p w → touched p (only (touched p w c) w) c ≡ touched p w c }
+{}
+
 /// Each change that a call may make is one of the named kinds.
 ///
 /// `kinds`: of every call, in every world. `kept`: so what each kind keeps of a single cell holds of every
@@ -30,4 +43,29 @@ pub fn steps_are_local()
 pub fn changes_are_named()
     ensures kinds { (p : Providers) (w : World) (c : Call) (g : Go) → PlanKinds (plan p w c g) }
     ensures kept { (p : Providers) (test : Cell → Bool) → Keeps p (λ cell. test cell ≡ true) → (w : World) (past entries : List Entry) → AllCells (λ cell. test cell ≡ true) w → AllCells (λ cell. test cell ≡ true) (after_from p w past entries) }
+{}
+
+/// What a wait depends on settles whether a step is blocked.
+///
+/// `as_wanted`: where the rows that look at the arguments alone pass, and a send that goes on has bytes left, a
+/// step is blocked exactly where its want is; a step that has no want never is. `good`: a blocked step's call
+/// passes those rows, which no later world changes.
+pub fn steps_wait_for_their_wants()
+    ensures as_wanted { (p : Providers) (w : World) (c : Call) (g : Go) → BlockedAsWanted p w c g }
+    ensures good { (p : Providers) (w : World) (c : Call) (g : Go) → BlockedHasGoodArguments p w c g }
+{}
+
+/// The states before and after a step are a row of the state table.
+///
+/// `taken`: whatever the world, a step that has an effect, with TBUFOVFLW too, takes the call's endpoint by a row
+/// of the table. Where a place opens, the switch is to agree with its cell; and an open endpoint is to be in
+/// another state than T_UNINIT, which `begun` says of every world after any entries. `passed`: of the responding
+/// endpoint of an accept, where it isn't the listener itself. `refused`: a step without an effect leaves every
+/// state. `others`: every step leaves the states of all other endpoints.
+pub fn states_follow_the_table()
+    ensures taken { (p : Providers) (w : World) (c : Call) (g : Go) → TakesByTheTable p w c g }
+    ensures passed { (p : Providers) (w : World) (c : Call) (g : Go) → PassesByTheTable p w c g }
+    ensures refused { (p : Providers) (w : World) (c : Call) (g : Go) → KeepsEveryState p w c g }
+    ensures others { (p : Providers) (w : World) (c : Call) (g : Go) → KeepsOtherStates p w c g }
+    ensures begun { (p : Providers) (entries : List Entry) (fd : ℕ) → is_initialised (endpoint p (after p entries) fd) ≡ true }
 {}

@@ -20,3 +20,6 @@ pub mod Work
 pub mod Complete
 pub mod Streams
 pub mod Families
+pub mod StateTable
+pub mod Sound
+pub mod Wants

@@ -1,0 +1,145 @@
+-- A place opens where the switch agrees with its cell.
+use Rattle.std.proofs.Common.{ℕ, Bool, true, false, List, [], ◌∷◌, ◌≡◌, refl, sym, ap, ◌∙◌, cond, not, eqb, ◌&&◌, ◌+◌, ◌*◌, ◌<◌, length, Option, Some, None, arith}
+use Rattle.std.proofs.lemmas.Bool.{false≢true, eqb-true, eq-eqb, eqb-false}
+use Rattle.std.proofs.lemmas.List.Quantifiers.{position-Some}
+use Rattle.std.specs.Prelude.{is_none, is_some, option_map, option_and_then, unwrap_or, ◌%◌, ◌/◌}
+use Rattle.xti_base.specs.declared.kinds.Prov.{Prov}
+use Rattle.xti_base.specs.declared.kinds.State.TheVariants.{T_UNINIT, T_UNBND}
+use Rattle.xti_base.specs.declared.errno.Errno.TheVariants.{TBADNAME, TSYSERR}
+use Rattle.xti_model.specs.declared.call.Call.TheVariants as call
+use Rattle.xti_model.specs.declared.entry.Go.{Go}
+use Rattle.xti_model.specs.declared.profile.Providers.{Providers}
+use Rattle.xti_model.specs.Provider.{is_provider, profile}
+use Rattle.xti_model.specs.Endpoint.{Endpoint, opened}
+use Rattle.xti_model.specs.World.{World, Switch, Cell, Numbered, endpoint_cell, switch_cell, change, open_cell, opens_place, at_switch, changed, cell_at, endpoint, endpoint_in, state_of, places, descriptor, place_of, generation_of, the_switch, closed_place}
+use Rattle.xti_model.specs.Switch.{free_place, opening_place, if_provider, is_free, place_at, mark_open}
+use Rattle.xti_model.specs.Plan.{Plan, Row, first, refuses}
+use Rattle.xti_model.specs.Step.{step, plan, step_of, step_by, first_refusal}
+use Rattle.xti_model.specs.History.{left_by}
+use Rattle.xti_model.specs.Sound.{AgreesAt, ThereAgrees, CellAgrees, Agrees}
+use Rattle.xti_model.specs.StateTable.{by_open, is_in_table}
+use Rattle.xti_model.specs.Calls.Open as Open
+use Rattle.xti_laws.specs.States.{state_at, ocnt_of, has_effect, TakesByTheTable, KeepsOtherStates, OpensWhereItAgrees}
+use Rattle.xti_laws.proofs.View.{cell_at-same, cell_at-other, recell, switch-other}
+
+-- where no row of an open refuses, a place opens
+open-some : (b : Bool) (o : Option ℕ) → has_effect (first (refuses (not b) TBADNAME ∷ refuses (is_none o) TSYSERR ∷ [])) ≡ true → if_provider b o ≡ None → ⊥
+open-some false o h k = false≢true h
+open-some true None h k = false≢true h
+open-some true (Some n) h k = false≢true (ap is_none (sym (sym k)))
+
+open-rows : (p : Providers) (s : Switch) (prov : Prov) (nonblock : Bool) (o : Option ℕ) → (Open.plan_where p s prov nonblock o).rows ≡ Open.rows p s prov
+open-rows p s prov nonblock None = refl
+open-rows p s prov nonblock (Some n) = refl
+
+-- the effect is then made
+open-made : (P : World → Type 0) (p : Providers) (w : World) (x : Plan) (b d : Bool) → P (changed p w x.changes) → has_effect (first (refuses b TBADNAME ∷ refuses d TSYSERR ∷ [])) ≡ true → P (left_by w (step_by p w x (first (refuses b TBADNAME ∷ refuses d TSYSERR ∷ []))))
+open-made P p w x true d h k = absurd (false≢true k)
+open-made P p w x false true h k = absurd (false≢true k)
+open-made P p w x false false h k = h
+
+-- the place that opens is closed, as the switch knows it
+free-closed : (p : Providers) (s : Switch) (prov : Prov) (n : ℕ) → opening_place p s prov ≡ Some n → (place_at s n).is_open ≡ false
+free-closed p s prov n h = go (is_provider prov) h
+  where
+    not-open : (b d : Bool) → (not b && d) ≡ true → b ≡ false
+    not-open true d j = absurd (false≢true j)
+    not-open false d j = refl
+    go : (b : Bool) → if_provider b (free_place p s) ≡ Some n → (place_at s n).is_open ≡ false
+    go true j = not-open (place_at s n).is_open _ (position-Some (is_free p) s.places n closed_place j).1
+    go false j = absurd (false≢true (ap is_none (sym j)))
+
+-- what the cell of that place has
+record Closed (w : World) (n g : ℕ) : Type 0 where
+  there : Numbered
+  is_there : cell_at w n ≡ Some there
+  is_closed : there.cell ≡ endpoint_cell g None
+
+closed-cell : (p : Providers) (s : Switch) (n : ℕ) → (place_at s n).is_open ≡ false → (c : Cell) → CellAgrees p s n c → c ≡ endpoint_cell (place_at s n).generation None
+closed-cell p s n k (endpoint_cell g None) a = ap (λ x. endpoint_cell x None) (sym a.generation_known)
+closed-cell p s n k (endpoint_cell g (Some e)) a = absurd (false≢true (sym k ∙ a.openness_known))
+closed-cell p s n k (switch_cell other) a = absurd a
+
+closed-there : (p : Providers) (s : Switch) (w : World) (n : ℕ) → (place_at s n).is_open ≡ false → ThereAgrees p s n (cell_at w n) → Closed w n (place_at s n).generation
+closed-there p s w n k = go (cell_at w n) refl
+  where
+    go : (o : Option Numbered) → cell_at w n ≡ o → ThereAgrees p s n o → Closed w n (place_at s n).generation
+    go None h a = absurd a
+    go (Some c) h a = record { there = c; is_there = h; is_closed = closed-cell p s n k c.cell a }
+
+place-of : (g n : ℕ) → n < 64 → (64 * g + n) % 64 ≡ n
+place-of g n h = omega (arith, h)
+
+generation-of : (g n : ℕ) → n < 64 → (64 * g + n) / 64 ≡ g
+generation-of g n h = omega (arith, h)
+
+-- a descriptor is its place and generation
+looked : (p : Providers) (w : World) (g n : ℕ) → n < 64 → endpoint p w (64 * g + n) ≡ option_and_then (λ c. endpoint_in g c.cell) (cell_at w n)
+looked p w g n h = ap (λ z. option_and_then (λ c. endpoint_in ((64 * g + n) / 64) c.cell) (cell_at w z)) (place-of g n h) ∙ ap (λ z. option_and_then (λ c. endpoint_in z c.cell) (cell_at w n)) (generation-of g n h)
+
+none-either : (b : Bool) → cond {A = Option Endpoint} b None None ≡ None
+none-either true = refl
+none-either false = refl
+
+before : (p : Providers) (w : World) (g n : ℕ) → n < 64 → Closed w n g → endpoint p w (64 * g + n) ≡ None
+before p w g n h c = looked p w g n h ∙ (ap (option_and_then (λ z. endpoint_in g z.cell)) c.is_there ∙ (ap (endpoint_in g) c.is_closed ∙ none-either (eqb g g)))
+
+after : (p : Providers) (w : World) (g n : ℕ) (e : Endpoint) → n < 64 → Closed w n g → endpoint p (change n (open_cell e) w) (64 * g + n) ≡ Some e
+after p w g n e h c =
+    looked p (change n (open_cell e) w) g n h ∙ (ap (option_and_then (λ z. endpoint_in g z.cell)) (cell_at-same n (open_cell e) w ∙ ap (option_map (recell (open_cell e))) c.is_there) ∙
+    (ap (λ z. endpoint_in g (open_cell e z)) c.is_closed ∙ ap (λ b. cond b (Some e) None) (eq-eqb g g refl)))
+
+descriptor-of : (x g n : ℕ) → x % 64 ≡ n → x / 64 ≡ g → x ≡ 64 * g + n
+descriptor-of x g n h k = omega (arith, h, k)
+
+-- any other descriptor has what it had
+elsewhere : (p : Providers) (w : World) (g n x : ℕ) (e : Endpoint) → Closed w n g → eqb x (64 * g + n) ≡ false → endpoint p (change n (open_cell e) w) x ≡ endpoint p w x
+elsewhere p w g n x e c k = go (eqb (place_of p x) n) refl
+  where
+    other-generation : place_of p x ≡ n → (b : Bool) → eqb g (generation_of p x) ≡ b → cond b (Some e) None ≡ cond {A = Option Endpoint} b None None
+    other-generation i true j = absurd (eqb-false x (64 * g + n) k (descriptor-of x g n i (sym (eqb-true g (generation_of p x) j))))
+    other-generation i false j = refl
+    here : place_of p x ≡ n → endpoint p (change n (open_cell e) w) x ≡ endpoint p w x
+    here i =
+        ap (λ z. option_and_then (λ c. endpoint_in (generation_of p x) c.cell) (cell_at (change n (open_cell e) w) z)) i ∙
+        (ap (option_and_then (λ z. endpoint_in (generation_of p x) z.cell)) (cell_at-same n (open_cell e) w ∙ ap (option_map (recell (open_cell e))) c.is_there) ∙
+        (ap (λ z. endpoint_in (generation_of p x) (open_cell e z)) c.is_closed ∙ (other-generation i (eqb g (generation_of p x)) refl ∙
+        (sym (ap (endpoint_in (generation_of p x)) c.is_closed) ∙ (sym (ap (option_and_then (λ z. endpoint_in (generation_of p x) z.cell)) c.is_there) ∙
+        ap (λ z. option_and_then (λ c. endpoint_in (generation_of p x) c.cell) (cell_at w z)) (sym i))))))
+    go : (b : Bool) → eqb (place_of p x) n ≡ b → endpoint p (change n (open_cell e) w) x ≡ endpoint p w x
+    go true i = here (eqb-true (place_of p x) n i)
+    go false i = ap (option_and_then (λ c. endpoint_in (generation_of p x) c.cell)) (cell_at-other n (place_of p x) i (open_cell e) w)
+
+opened-at : (p : Providers) (w : World) (prov : Prov) (nonblock : Bool) (g n : ℕ) → n < 64 → Closed w n g
+    → is_in_table by_open (state_at p w (64 * g + n)) (ocnt_of (endpoint p w (64 * g + n))) (state_at p (changed p w (opens_place n (opened (profile p prov) prov nonblock) ∷ at_switch (mark_open n) ∷ [])) (64 * g + n)) ≡ true
+opened-at p w prov nonblock g n h c =
+    ap (λ x. is_in_table by_open (state_of x) (ocnt_of x) (state_at p (changed p w (opens_place n (opened (profile p prov) prov nonblock) ∷ at_switch (mark_open n) ∷ [])) (64 * g + n))) (before p w g n h c) ∙
+    ap (λ x. is_in_table by_open T_UNINIT 0 (state_of x)) (switch-other p (mark_open n) (64 * g + n) (change n (open_cell (opened (profile p prov) prov nonblock)) w) ∙ after p w g n (opened (profile p prov) prov nonblock) h c)
+
+pub open-takes : (p : Providers) (w : World) (prov : Prov) (nonblock : Bool) (g : Go) → TakesByTheTable p w (call.TOpen prov nonblock) g
+unfolding step plan
+open-takes p w prov nonblock g a i = go (opening_place p (the_switch p w) prov) refl
+  where
+    s : Switch
+    s = the_switch p w
+    go : (o : Option ℕ) → opening_place p s prov ≡ o → has_effect (first (Open.plan_where p s prov nonblock o).rows) ≡ true
+        → is_in_table by_open (state_at p w (Open.plan_where p s prov nonblock o).fd) (ocnt_of (endpoint p w (Open.plan_where p s prov nonblock o).fd)) (state_at p (left_by w (step_of p w (Open.plan_where p s prov nonblock o))) (Open.plan_where p s prov nonblock o).fd) ≡ true
+    go None h j = absurd (open-some (is_provider prov) (free_place p s) j h)
+    go (Some n) h j = open-made (λ z. is_in_table by_open (state_at p w (Open.fd_at p s n)) (ocnt_of (endpoint p w (Open.fd_at p s n))) (state_at p z (Open.fd_at p s n)) ≡ true) p w (Open.plan_at p s prov nonblock n) (not (is_provider prov)) (is_none (free_place p s))
+        (opened-at p w prov nonblock (place_at s n).generation n (a n h).0 (closed-there p s w n (free-closed p s prov n h) (a n h).1)) j
+
+pub open-others : (p : Providers) (w : World) (prov : Prov) (nonblock : Bool) (g : Go) → KeepsOtherStates p w (call.TOpen prov nonblock) g
+unfolding step plan
+open-others p w prov nonblock g a x = go (opening_place p (the_switch p w) prov) refl
+  where
+    s : Switch
+    s = the_switch p w
+    steps : (b d : Bool) (y : Plan) → state_at p (changed p w y.changes) x ≡ state_at p w x → state_at p (left_by w (step_by p w y (first (refuses b TBADNAME ∷ refuses d TSYSERR ∷ [])))) x ≡ state_at p w x
+    steps true d y k = refl
+    steps false true y k = refl
+    steps false false y k = k
+    go : (o : Option ℕ) → opening_place p s prov ≡ o → eqb x (Open.plan_where p s prov nonblock o).fd ≡ false → false ≡ false → state_at p (left_by w (step_of p w (Open.plan_where p s prov nonblock o))) x ≡ state_at p w x
+    go None h k r = steps (not (is_provider prov)) (is_none (free_place p s)) (Open.refused_plan p s prov nonblock) refl
+    go (Some n) h k r = steps (not (is_provider prov)) (is_none (free_place p s)) (Open.plan_at p s prov nonblock n)
+        (ap state_of (switch-other p (mark_open n) x (change n (open_cell (opened (profile p prov) prov nonblock)) w) ∙
+        elsewhere p w (place_at s n).generation n x (opened (profile p prov) prov nonblock) (closed-there p s w n (free-closed p s prov n h) (a n h).1) k))

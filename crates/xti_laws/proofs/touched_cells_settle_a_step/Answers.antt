@@ -1,0 +1,12 @@
+use Rattle.xti_laws.proofs.TouchedCells.{touched-reads, touched-changes}
+use Rattle.xti_laws.proofs.TouchedAgain.{touched-again}
+use Rattle.xti_laws.proofs.touched_cells_settle_a_step.Goals as goal
+
+pub returns-clause-reads : goal.returns-clause-reads
+returns-clause-reads c = touched-reads
+
+pub returns-clause-changes : goal.returns-clause-changes
+returns-clause-changes c = touched-changes
+
+pub returns-clause-again : goal.returns-clause-again
+returns-clause-again c = touched-again
