@@ -8,6 +8,8 @@ mod examples;
 #[cfg(test)]
 mod faults;
 #[cfg(test)]
+mod frames;
+#[cfg(test)]
 mod memory;
 #[cfg(test)]
 mod running;

@@ -17,6 +17,19 @@ provider ticlts tsdu=8192 sendzero=1 same_addr=0 sndbuf=16384 rcvbuf=16384
 end 0
 ";
 
+/// The status of the command of one word over this source and sink.
+pub(crate) fn run_status<T: Threads + Wait + Sync, R: Source, W: Sink>(
+    rt: &T,
+    alloc: Global,
+    word: &str,
+    source: &mut R,
+    sink: &mut W,
+) -> Result<u8, AllocError> {
+    let mut words = Words::new(alloc);
+    words.push(word)?;
+    Ok(program(rt, alloc, &words, source, sink, &NoGate).0)
+}
+
 /// The status of `replay` over this source and sink.
 pub(crate) fn replay_status<T: Threads + Wait + Sync, R: Source, W: Sink>(
     rt: &T,
@@ -24,9 +37,7 @@ pub(crate) fn replay_status<T: Threads + Wait + Sync, R: Source, W: Sink>(
     source: &mut R,
     sink: &mut W,
 ) -> Result<u8, AllocError> {
-    let mut words = Words::new(alloc);
-    words.push("replay")?;
-    Ok(program(rt, alloc, &words, source, sink, &NoGate).0)
+    run_status(rt, alloc, "replay", source, sink)
 }
 
 /// Asserts the status and the output of `replay` over this input, which is read and written a few bytes at a time.

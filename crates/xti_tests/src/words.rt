@@ -6,7 +6,7 @@ use xti_base::{Calls, Octets};
 use xti_io::{MemSource, ReadEnd, SureSink, read_all};
 use xti_run::{NoGate, Status, Words, program};
 
-const NO_COMMANDS: [&[&str]; 7] = [
+const NO_COMMANDS: [&[&str]; 9] = [
     &["play"],
     &[],
     &["replay", "replay"],
@@ -14,6 +14,8 @@ const NO_COMMANDS: [&[&str]; 7] = [
     &["replay", ""],
     &["replay "],
     &["repla"],
+    &["frames", "replay"],
+    &["frame"],
 ];
 
 fn words_of(alloc: Global, texts: &[&str]) -> Result<Words, AllocError> {
