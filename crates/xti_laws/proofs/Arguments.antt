@@ -1,6 +1,6 @@
 -- A call whose step is blocked has good arguments.
-use Rattle.std.proofs.Common.{ℕ, Bool, true, false, List, [], ◌∷◌, ◌≡◌, refl, sym, ◌∙◌, not, length, Option, drop}
-use Rattle.std.specs.Prelude.{is_none, sum, option_and_then}
+use Rattle.std.proofs.Common.{ℕ, Bool, true, false, List, [], ◌∷◌, ◌≡◌, refl, sym, ◌∙◌, length, drop}
+use Rattle.std.specs.Prelude.{is_none, sum}
 use Rattle.std.specs.List.{concat}
 use Rattle.std.proofs.lemmas.Bool.{false≢true}
 use Rattle.xti_base.specs.declared.errno.Errno.TheVariants.{TBADADDR, TBADFLAG, TBADOPT, TBADDATA}
@@ -10,13 +10,12 @@ use Rattle.xti_model.specs.declared.call.Call.TheVariants as call
 use Rattle.xti_model.specs.declared.entry.Go.{Go}
 use Rattle.xti_model.specs.declared.entry.Go.TheVariants as go
 use Rattle.xti_model.specs.declared.profile.Providers.{Providers}
-use Rattle.xti_model.specs.Endpoint.{Endpoint}
 use Rattle.xti_model.specs.Events.{sending, receiving, some_wait}
 use Rattle.xti_model.specs.Arguments.{bad_address, bad_options, is_too_many, has_other_flags}
-use Rattle.xti_model.specs.World.{World, at_endpoint, endpoint, the_switch}
+use Rattle.xti_model.specs.World.{World, at_endpoint, the_switch}
 use Rattle.xti_model.specs.Switch.{bound}
 use Rattle.xti_model.specs.Links.{linked}
-use Rattle.xti_model.specs.Plan.{Row, Plan, first, refuses, outside, without_connections, without_datagrams, later_plan, plan_of}
+use Rattle.xti_model.specs.Plan.{Row, first, refuses, outside, without_connections, without_datagrams, later_plan, plan_of}
 use Rattle.xti_model.specs.declared.entry.Outcome.TheVariants.{Done}
 use Rattle.xti_model.specs.Step.{plan, step, step_of, send}
 use Rattle.xti_model.specs.Wants.{is_waiting, send_arguments, datagram_arguments}

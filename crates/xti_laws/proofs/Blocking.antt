@@ -2,12 +2,11 @@
 use Rattle.std.proofs.Common.{ℕ, Bool, true, false, List, [], ◌∷◌, ◌≡◌, refl, sym, ap, ◌∙◌, cond, not, ◌&&◌, map, Option, Some, None}
 use Rattle.std.specs.Prelude.{is_none}
 use Rattle.std.proofs.lemmas.Bool.{false≢true}
-use Rattle.xti_model.specs.declared.entry.Outcome.TheVariants.{Done}
 use Rattle.xti_model.specs.declared.profile.Providers.{Providers}
 use Rattle.xti_model.specs.Endpoint.{Endpoint}
-use Rattle.xti_model.specs.World.{World, endpoint, changed}
-use Rattle.xti_model.specs.Plan.{Row, Plan, Refusal, answers, waits, loses, first, later, later_row, later_plan, if_open, on_open}
-use Rattle.xti_model.specs.Step.{step_by, step_of, made}
+use Rattle.xti_model.specs.World.{World, endpoint}
+use Rattle.xti_model.specs.Plan.{Row, Plan, Refusal, answers, waits, loses, first, later, later_row, if_open, on_open}
+use Rattle.xti_model.specs.Step.{step_by, step_of}
 use Rattle.xti_model.specs.Wants.{is_waiting}
 
 -- the step of a plan is blocked where the first row that holds waits, in blocking mode

@@ -7,7 +7,7 @@ use Rattle.xti_base.specs.declared.kinds.State.TheVariants.{T_UNINIT}
 use Rattle.xti_model.specs.declared.profile.Providers.{Providers}
 use Rattle.xti_model.specs.declared.entry.Outcome.TheVariants.{Done}
 use Rattle.xti_model.specs.Endpoint.{Endpoint, Indication, Target}
-use Rattle.xti_model.specs.World.{World, Switch, Change, at_endpoint, at_switch, opens_place, closes_endpoint, changed, change, cell_number, new_cell, endpoint, state_of}
+use Rattle.xti_model.specs.World.{World, Switch, Change, at_endpoint, at_switch, closes_endpoint, changed, change, cell_number, new_cell, endpoint, state_of}
 use Rattle.xti_model.specs.Links.{at_linked, take_back, break, broken, taken_back, if_names}
 use Rattle.xti_model.specs.Plan.{Plan, Refusal, answers, waits, loses, first, if_open, on_open}
 use Rattle.xti_model.specs.Step.{step_of, step_by, made}
@@ -50,6 +50,7 @@ leaves-one p x c (steady fd f h) w = go (eqb x fd) refl
   where
     here : x ≡ fd → state_in p (change (cell_number p (at_endpoint fd f)) (new_cell p (at_endpoint fd f)) w) x ≡ state_in p w x
     here i = ap (state_in p (change (cell_number p (at_endpoint fd f)) (new_cell p (at_endpoint fd f)) w)) i ∙ (ap (option_map (λ e. e.state)) (endpoint-same p fd f w) ∙ (map-steady f h (endpoint p w fd) ∙ ap (state_in p w) (sym i)))
+
     go : (b : Bool) → eqb x fd ≡ b → state_in p (change (cell_number p (at_endpoint fd f)) (new_cell p (at_endpoint fd f)) w) x ≡ state_in p w x
     go true i = here (eqb-true x fd i)
     go false i = ap (option_map (λ e. e.state)) (endpoint-other p fd x i f w)
@@ -131,6 +132,7 @@ step-any P p w x z h m k = go (first x.rows)
     wait : (reply : _) (b : Bool) → P (left_by w (cond b (Some (made p x.fd (Done reply) (changed p w x.marks))) None))
     wait reply true = m
     wait reply false = z
+
     go : (r : Option Refusal) → P (left_by w (step_by p w x r))
     go None = h
     go (Some loses) = k
@@ -144,6 +146,7 @@ step-refused P p w x z m = go (first x.rows)
     wait : (reply : _) (b : Bool) → P (left_by w (cond b (Some (made p x.fd (Done reply) (changed p w x.marks))) None))
     wait reply true = m
     wait reply false = z
+
     go : (r : Option Refusal) → has_effect r ≡ false → P (left_by w (step_by p w x r))
     go None j = absurd (false≢true (sym j))
     go (Some loses) j = absurd (false≢true (sym j))

@@ -1,5 +1,5 @@
 -- No open endpoint is ever in T_UNINIT.
-use Rattle.std.proofs.Common.{ℕ, zero, suc, Bool, true, false, List, [], ◌∷◌, ◌++◌, ◌+◌, ◌≡◌, refl, sym, ap, ◌∙◌, cond, not, eqb, Option, Some, None}
+use Rattle.std.proofs.Common.{ℕ, zero, suc, Bool, true, false, List, [], ◌∷◌, ◌++◌, ◌+◌, ◌≡◌, refl, ap, ◌∙◌, cond, not, eqb, Some, None}
 use Rattle.std.specs.Prelude.{option_and_then}
 use Rattle.std.specs.List.{list_any}
 use Rattle.xti_base.specs.Kinds.{same_state}
@@ -8,14 +8,14 @@ use Rattle.xti_base.specs.declared.kinds.State.TheVariants.{T_UNINIT, T_IDLE, T_
 use Rattle.xti_model.specs.declared.entry.Entry.{Entry}
 use Rattle.xti_model.specs.declared.profile.Providers.{Providers}
 use Rattle.xti_model.specs.Endpoint.{Endpoint, ocnt}
-use Rattle.xti_model.specs.World.{World, Cell, Change, Numbered, endpoint_cell, switch_cell, change_endpoint, new_cell, cell_at, endpoint, endpoint_in, generation_of, place_of, closed_places, opening, opening_switch, places}
+use Rattle.xti_model.specs.World.{World, Cell, endpoint_cell, switch_cell, change_endpoint, cell_at, endpoint, endpoint_in, generation_of, place_of, closed_places, opening, opening_switch}
 use Rattle.xti_model.specs.Links.{names, if_names}
 use Rattle.xti_model.specs.History.{after}
 use Rattle.xti_laws.specs.Laws.{AllCells, Keeps}
 use Rattle.xti_laws.specs.States.{is_initialised, is_initialised_cell}
-use Rattle.xti_laws.specs.Updates.{Update, Kind, updates, updates_peer, opens, closes, switches, binds, unbinds, is_asked, is_asking, is_turned_away, confirms, listens, loses_indication, binds_like, responds, is_accepted, marks_flow, sends, gets_symbols, reads, breaks, takes_back, is_given_up, is_rejected, idles, reads_disconnect, is_released, releases, reads_release, marks_datagram, gets_datagram, gets_error, reads_datagram, drops_datagram, reads_error, is_shown, changes_mode, changes_settings}
+use Rattle.xti_laws.specs.Updates.{Update, updates, updates_peer, opens, closes, switches, binds, unbinds, is_asked, is_asking, is_turned_away, confirms, listens, loses_indication, binds_like, responds, is_accepted, marks_flow, sends, gets_symbols, reads, breaks, takes_back, is_given_up, is_rejected, idles, reads_disconnect, is_released, releases, reads_release, marks_datagram, gets_datagram, gets_error, reads_datagram, drops_datagram, reads_error, is_shown, changes_mode, changes_settings}
 use Rattle.xti_laws.proofs.Kept.{after_from-kept}
-use Rattle.xti_laws.proofs.Steady.{Steady, after_sndrel, after_rcvrel, after_rcvdis, after_last, mark_flow-steady, sent-steady, symbols-steady, received-steady, taken_back-steady, given_up-steady, bound_like-steady, datagram-steady, shown-steady, send_release-sets, receive_release-sets, disconnect-state}
+use Rattle.xti_laws.proofs.Steady.{after_sndrel, after_rcvrel, after_rcvdis, after_last, mark_flow-steady, sent-steady, symbols-steady, received-steady, taken_back-steady, given_up-steady, bound_like-steady, datagram-steady, shown-steady, send_release-sets, receive_release-sets, disconnect-state}
 
 abbrev Begun : State → Type 0
 Begun s = not (same_state s T_UNINIT) ≡ true

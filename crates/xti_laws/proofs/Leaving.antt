@@ -1,14 +1,13 @@
 -- Which changes of a plan leave the state of a descriptor.
 use Rattle.std.proofs.Common.{ℕ, Bool, true, false, List, [], ◌∷◌, ◌++◌, ◌≡◌, refl, sym, ap, ◌∙◌, cond, not, subst, eqb, ◌+◌, ◌-◌, length, map, Option, Some, None}
-use Rattle.std.specs.Prelude.{sum, unwrap_or}
-use Rattle.std.specs.List.{concat}
+use Rattle.std.specs.Prelude.{unwrap_or}
 use Rattle.xti_base.specs.declared.kinds.State.TheVariants.{T_UNINIT}
 use Rattle.xti_model.specs.declared.profile.Providers.{Providers}
 use Rattle.xti_model.specs.Endpoint.{Endpoint, Indication, find_number, address_of}
-use Rattle.xti_model.specs.World.{World, Change, at_endpoint, at_switch, changed, endpoint}
+use Rattle.xti_model.specs.World.{World, Change, at_endpoint, changed, endpoint}
 use Rattle.xti_model.specs.Links.{at_linked, break}
 use Rattle.xti_model.specs.Arguments.{is_expedited}
-use Rattle.xti_model.specs.Plan.{Plan, if_open, on_open, later_plan}
+use Rattle.xti_model.specs.Plan.{Plan, if_open, on_open}
 use Rattle.xti_model.specs.Step.{send}
 use Rattle.xti_model.specs.Links.{linked}
 use Rattle.xti_model.specs.declared.entry.Go.{Go}
@@ -64,9 +63,11 @@ request-leave x fd options udata e (Some l) k = reach-leave x fd l.fd options ud
 
 found-leave : (x fd resfd : ℕ) (o : Option Indication) (options udata : List ℕ) (e r : Endpoint) → eqb x fd ≡ false → eqb x resfd ≡ false → AllLeave x (Listen.accept_found fd resfd o options udata e r)
 found-leave x fd resfd None options udata e r k j = tt
-found-leave x fd resfd (Some i) options udata e r k j =
-    (elsewhere fd (Listen.taken_out i.number) k, append-leave x (Listen.bind_like e resfd r) (Listen.linking resfd i (address_of (Listen.bound_like e r)) options udata) (bind_like-leave x e resfd r)
-    (elsewhere resfd (Listen.responding i) j, (steady i.caller (Listen.accepted resfd (address_of (Listen.bound_like e r)) options udata) (λ z. refl), tt)))
+found-leave x fd resfd (Some i) options udata e r k j = (
+  elsewhere fd (Listen.taken_out i.number) k,
+  append-leave x (Listen.bind_like e resfd r) (Listen.linking resfd i (address_of (Listen.bound_like e r)) options udata) (bind_like-leave x e resfd r)
+      (elsewhere resfd (Listen.responding i) j, (steady i.caller (Listen.accepted resfd (address_of (Listen.bound_like e r)) options udata) (λ z. refl), tt)),
+)
 
 pub accept-leave : (p : Providers) (x fd resfd number : ℕ) (options udata : List ℕ) (e : Endpoint) (o : Option Endpoint) → eqb x fd ≡ false → eqb x resfd ≡ false → PlanLeaves x (Listen.accept_with p fd resfd number options udata e o)
 accept-leave p x fd resfd number options udata e None k j = (tt, tt, tt)
@@ -99,6 +100,7 @@ send-leave p w x fd parts bytes flags g = by_go g
     plan-leave : (taken : ℕ) (o : Option Endpoint) → PlanLeaves x (if_open fd o (λ e. Send.plan_to p fd parts bytes flags taken e (linked p w fd e)))
     plan-leave taken None = (tt, tt, tt)
     plan-leave taken (Some e) = send_to-leave p x fd parts bytes flags taken e (linked p w fd e)
+
     by_go : (g : Go) → PlanLeaves x (send p w fd parts bytes flags g)
     by_go go.Begin = plan-leave 0 (endpoint p w fd)
     by_go (go.More n) = let h = plan-leave n (endpoint p w fd) in (h.0, tt, h.2)

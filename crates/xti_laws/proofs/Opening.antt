@@ -1,25 +1,25 @@
 -- A place opens where the switch agrees with its cell.
-use Rattle.std.proofs.Common.{ℕ, Bool, true, false, List, [], ◌∷◌, ◌≡◌, refl, sym, ap, ◌∙◌, cond, not, eqb, ◌&&◌, ◌+◌, ◌*◌, ◌<◌, length, Option, Some, None, arith}
+use Rattle.std.proofs.Common.{ℕ, Bool, true, false, [], ◌∷◌, ◌≡◌, refl, sym, ap, ◌∙◌, cond, not, eqb, ◌&&◌, ◌+◌, ◌*◌, ◌<◌, Option, Some, None, arith}
 use Rattle.std.proofs.lemmas.Bool.{false≢true, eqb-true, eq-eqb, eqb-false}
 use Rattle.std.proofs.lemmas.List.Quantifiers.{position-Some}
-use Rattle.std.specs.Prelude.{is_none, is_some, option_map, option_and_then, unwrap_or, ◌%◌, ◌/◌}
+use Rattle.std.specs.Prelude.{is_none, option_map, option_and_then, ◌%◌, ◌/◌}
 use Rattle.xti_base.specs.declared.kinds.Prov.{Prov}
-use Rattle.xti_base.specs.declared.kinds.State.TheVariants.{T_UNINIT, T_UNBND}
+use Rattle.xti_base.specs.declared.kinds.State.TheVariants.{T_UNINIT}
 use Rattle.xti_base.specs.declared.errno.Errno.TheVariants.{TBADNAME, TSYSERR}
 use Rattle.xti_model.specs.declared.call.Call.TheVariants as call
 use Rattle.xti_model.specs.declared.entry.Go.{Go}
 use Rattle.xti_model.specs.declared.profile.Providers.{Providers}
 use Rattle.xti_model.specs.Provider.{is_provider, profile}
 use Rattle.xti_model.specs.Endpoint.{Endpoint, opened}
-use Rattle.xti_model.specs.World.{World, Switch, Cell, Numbered, endpoint_cell, switch_cell, change, open_cell, opens_place, at_switch, changed, cell_at, endpoint, endpoint_in, state_of, places, descriptor, place_of, generation_of, the_switch, closed_place}
+use Rattle.xti_model.specs.World.{World, Switch, Cell, Numbered, endpoint_cell, switch_cell, change, open_cell, opens_place, at_switch, changed, cell_at, endpoint, endpoint_in, state_of, place_of, generation_of, the_switch, closed_place}
 use Rattle.xti_model.specs.Switch.{free_place, opening_place, if_provider, is_free, place_at, mark_open}
-use Rattle.xti_model.specs.Plan.{Plan, Row, first, refuses}
-use Rattle.xti_model.specs.Step.{step, plan, step_of, step_by, first_refusal}
+use Rattle.xti_model.specs.Plan.{Plan, first, refuses}
+use Rattle.xti_model.specs.Step.{step, plan, step_of, step_by}
 use Rattle.xti_model.specs.History.{left_by}
-use Rattle.xti_model.specs.Sound.{AgreesAt, ThereAgrees, CellAgrees, Agrees}
+use Rattle.xti_model.specs.Sound.{ThereAgrees, CellAgrees}
 use Rattle.xti_model.specs.StateTable.{by_open, is_in_table}
 use Rattle.xti_model.specs.Calls.Open as Open
-use Rattle.xti_laws.specs.States.{state_at, ocnt_of, has_effect, TakesByTheTable, KeepsOtherStates, OpensWhereItAgrees}
+use Rattle.xti_laws.specs.States.{state_at, ocnt_of, has_effect, TakesByTheTable, KeepsOtherStates}
 use Rattle.xti_laws.proofs.View.{cell_at-same, cell_at-other, recell, switch-other}
 
 -- where no row of an open refuses, a place opens
@@ -45,6 +45,7 @@ free-closed p s prov n h = go (is_provider prov) h
     not-open : (b d : Bool) → (not b && d) ≡ true → b ≡ false
     not-open true d j = absurd (false≢true j)
     not-open false d j = refl
+
     go : (b : Bool) → if_provider b (free_place p s) ≡ Some n → (place_at s n).is_open ≡ false
     go true j = not-open (place_at s n).is_open _ (position-Some (is_free p) s.places n closed_place j).1
     go false j = absurd (false≢true (ap is_none (sym j)))
@@ -99,6 +100,7 @@ elsewhere p w g n x e c k = go (eqb (place_of p x) n) refl
     other-generation : place_of p x ≡ n → (b : Bool) → eqb g (generation_of p x) ≡ b → cond b (Some e) None ≡ cond {A = Option Endpoint} b None None
     other-generation i true j = absurd (eqb-false x (64 * g + n) k (descriptor-of x g n i (sym (eqb-true g (generation_of p x) j))))
     other-generation i false j = refl
+
     here : place_of p x ≡ n → endpoint p (change n (open_cell e) w) x ≡ endpoint p w x
     here i =
         ap (λ z. option_and_then (λ c. endpoint_in (generation_of p x) c.cell) (cell_at (change n (open_cell e) w) z)) i ∙
@@ -106,6 +108,7 @@ elsewhere p w g n x e c k = go (eqb (place_of p x) n) refl
         (ap (λ z. endpoint_in (generation_of p x) (open_cell e z)) c.is_closed ∙ (other-generation i (eqb g (generation_of p x)) refl ∙
         (sym (ap (endpoint_in (generation_of p x)) c.is_closed) ∙ (sym (ap (option_and_then (λ z. endpoint_in (generation_of p x) z.cell)) c.is_there) ∙
         ap (λ z. option_and_then (λ c. endpoint_in (generation_of p x) c.cell) (cell_at w z)) (sym i))))))
+
     go : (b : Bool) → eqb (place_of p x) n ≡ b → endpoint p (change n (open_cell e) w) x ≡ endpoint p w x
     go true i = here (eqb-true (place_of p x) n i)
     go false i = ap (option_and_then (λ c. endpoint_in (generation_of p x) c.cell)) (cell_at-other n (place_of p x) i (open_cell e) w)
@@ -122,6 +125,7 @@ open-takes p w prov nonblock g a i = go (opening_place p (the_switch p w) prov) 
   where
     s : Switch
     s = the_switch p w
+
     go : (o : Option ℕ) → opening_place p s prov ≡ o → has_effect (first (Open.plan_where p s prov nonblock o).rows) ≡ true
         → is_in_table by_open (state_at p w (Open.plan_where p s prov nonblock o).fd) (ocnt_of (endpoint p w (Open.plan_where p s prov nonblock o).fd)) (state_at p (left_by w (step_of p w (Open.plan_where p s prov nonblock o))) (Open.plan_where p s prov nonblock o).fd) ≡ true
     go None h j = absurd (open-some (is_provider prov) (free_place p s) j h)
@@ -134,10 +138,12 @@ open-others p w prov nonblock g a x = go (opening_place p (the_switch p w) prov)
   where
     s : Switch
     s = the_switch p w
+
     steps : (b d : Bool) (y : Plan) → state_at p (changed p w y.changes) x ≡ state_at p w x → state_at p (left_by w (step_by p w y (first (refuses b TBADNAME ∷ refuses d TSYSERR ∷ [])))) x ≡ state_at p w x
     steps true d y k = refl
     steps false true y k = refl
     steps false false y k = k
+
     go : (o : Option ℕ) → opening_place p s prov ≡ o → eqb x (Open.plan_where p s prov nonblock o).fd ≡ false → false ≡ false → state_at p (left_by w (step_of p w (Open.plan_where p s prov nonblock o))) x ≡ state_at p w x
     go None h k r = steps (not (is_provider prov)) (is_none (free_place p s)) (Open.refused_plan p s prov nonblock) refl
     go (Some n) h k r = steps (not (is_provider prov)) (is_none (free_place p s)) (Open.plan_at p s prov nonblock n)

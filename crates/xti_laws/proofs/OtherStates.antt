@@ -1,5 +1,5 @@
 -- A step leaves the states of all endpoints but those that it takes by the table, and a refused one every state.
-use Rattle.std.proofs.Common.{ℕ, Bool, true, false, List, [], ◌∷◌, ◌++◌, ◌≡◌, refl, sym, ap, ◌∙◌, eqb, length, Option, Some, None}
+use Rattle.std.proofs.Common.{ℕ, Bool, false, List, ◌≡◌, refl, eqb, length, Option, Some, None}
 use Rattle.std.specs.Prelude.{sum, option_and_then}
 use Rattle.std.specs.List.{concat}
 use Rattle.xti_model.specs.declared.call.Call.{Call}
@@ -7,27 +7,24 @@ use Rattle.xti_model.specs.declared.call.Call.TheVariants as call
 use Rattle.xti_model.specs.declared.entry.Go.{Go}
 use Rattle.xti_model.specs.declared.entry.Go.TheVariants as go
 use Rattle.xti_model.specs.declared.profile.Providers.{Providers}
-use Rattle.xti_model.specs.Endpoint.{Endpoint, ocnt}
-use Rattle.xti_model.specs.World.{World, Change, Switch, at_endpoint, at_switch, closes_endpoint, changed, endpoint, the_switch, state_of}
-use Rattle.xti_model.specs.Switch.{opening_place, bound, chosen, give_address, give_up_address}
-use Rattle.xti_model.specs.Links.{linked, break}
-use Rattle.xti_model.specs.Events.{is_state, around, sending, receiving}
-use Rattle.xti_model.specs.Plan.{Plan, first, if_open, on_open, later_plan}
-use Rattle.xti_model.specs.Step.{plan, step, step_of, send, connect, first_refusal}
+use Rattle.xti_model.specs.Endpoint.{Endpoint}
+use Rattle.xti_model.specs.World.{World, Switch, endpoint, the_switch}
+use Rattle.xti_model.specs.Switch.{opening_place, bound, give_up_address}
+use Rattle.xti_model.specs.Events.{around}
+use Rattle.xti_model.specs.Plan.{Plan, if_open, on_open}
+use Rattle.xti_model.specs.Step.{plan, step, step_of, send, connect}
 use Rattle.xti_model.specs.History.{left_by}
 use Rattle.xti_model.specs.Calls.Open as Open
 use Rattle.xti_model.specs.Calls.Close as Close
 use Rattle.xti_model.specs.Calls.Bind as Bind
 use Rattle.xti_model.specs.Calls.Connect as Connect
 use Rattle.xti_model.specs.Calls.Listen as Listen
-use Rattle.xti_model.specs.Calls.Send as Send
 use Rattle.xti_model.specs.Calls.Receive as Receive
 use Rattle.xti_model.specs.Calls.Disconnect as Disconnect
 use Rattle.xti_model.specs.Calls.Release as Release
 use Rattle.xti_model.specs.Calls.Datagrams as Datagrams
 use Rattle.xti_model.specs.Calls.Show as Show
-use Rattle.xti_laws.specs.States.{state_at, has_effect, KeepsEveryState, KeepsOtherStates}
-use Rattle.xti_laws.proofs.Steady.{received-steady, datagram-steady, shown-steady}
+use Rattle.xti_laws.specs.States.{state_at, KeepsEveryState, KeepsOtherStates}
 use Rattle.xti_laws.proofs.Effects.{AllLeave, elsewhere, steady, in_switch, linked-leave, append-leave, step-any, step-refused}
 use Rattle.xti_laws.proofs.Leaving.{leaves-state, PlanLeaves, both, one, on_open-leave, close-leave, request-leave, accept-leave, snddis-leave, datagram-leave, send-leave}
 use Rattle.xti_laws.proofs.Opening.{open-others}

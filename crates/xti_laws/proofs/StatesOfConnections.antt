@@ -1,28 +1,25 @@
 -- The states of connect, rcvconnect, listen, accept, snddis, rcvdis, sndrel and rcvrel.
 use Rattle.std.proofs.Common.{ℕ, Bool, true, false, List, [], ◌∷◌, ◌++◌, ◌≡◌, refl, sym, ap, ◌∙◌, cond, not, subst, eqb, ◌&&◌, ◌+◌, ◌<◌, length, Option, Some, None, arith}
 use Rattle.std.proofs.lemmas.Bool.{false≢true, eqb-true, eqb-false, ne_eqb}
-use Rattle.std.specs.Prelude.{is_none, option_map, unwrap_or, find, nat_lt}
+use Rattle.std.specs.Prelude.{is_none, option_map, unwrap_or, nat_lt}
 use Rattle.xti_base.specs.declared.kinds.State.{State}
 use Rattle.xti_base.specs.declared.kinds.State.TheVariants.{T_UNINIT, T_UNBND, T_IDLE, T_OUTCON, T_INCON, T_DATAXFER}
 use Rattle.xti_model.specs.declared.profile.Providers.{Providers}
 use Rattle.xti_model.specs.Endpoint.{Endpoint, Indication, ocnt, find_number, address_of}
-use Rattle.xti_model.specs.World.{World, Change, at_endpoint, at_switch, changed, endpoint, state_of}
+use Rattle.xti_model.specs.World.{World, at_endpoint, at_switch, changed, endpoint, state_of}
 use Rattle.xti_model.specs.Switch.{give_address}
 use Rattle.xti_model.specs.Links.{at_linked, break}
 use Rattle.xti_model.specs.Events.{is_state, connected_or_asking}
-use Rattle.xti_model.specs.Plan.{Plan, first}
-use Rattle.xti_model.specs.Step.{step_of}
-use Rattle.xti_model.specs.History.{left_by}
-use Rattle.xti_model.specs.StateTable.{Move, by_connect, by_rcvconnect, by_listen, by_accept_here, by_accept_there, passed, by_snddis, by_rcvdis, by_sndrel, by_rcvrel, is_in_table}
+use Rattle.xti_model.specs.StateTable.{by_connect, by_rcvconnect, by_listen, by_accept_here, by_accept_there, passed, by_snddis, by_rcvdis, by_sndrel, by_rcvrel, is_in_table}
 use Rattle.xti_model.specs.Calls.Connect as Connect
 use Rattle.xti_model.specs.Calls.Listen as Listen
 use Rattle.xti_model.specs.Calls.Disconnect as Disconnect
 use Rattle.xti_model.specs.Calls.Release as Release
-use Rattle.xti_laws.specs.States.{state_at, ocnt_of, has_effect}
-use Rattle.xti_laws.proofs.Steady.{Steady, bound_like-steady, after_sndrel, after_rcvrel, after_last, send_release-sets, receive_release-sets, disconnect-state}
-use Rattle.xti_laws.proofs.Effects.{state_in, told-state, AllLeave, elsewhere, steady, in_switch, append-leave, leaves, puts, puts-first, sets-after, linked-leave, break-leave, open-effect}
+use Rattle.xti_laws.specs.States.{state_at, ocnt_of}
+use Rattle.xti_laws.proofs.Steady.{bound_like-steady, after_sndrel, after_rcvrel, after_last, send_release-sets, receive_release-sets, disconnect-state}
+use Rattle.xti_laws.proofs.Effects.{state_in, told-state, AllLeave, elsewhere, steady, in_switch, append-leave, leaves, puts, puts-first, sets-after, linked-leave, break-leave}
 use Rattle.xti_laws.proofs.TableRows.{connect-row, confirm-row, listen-row, passed-row, snddis-row, rcvdis-row, sndrel-row, rcvrel-row, reject-row, accept_there-row, accept_here-row}
-use Rattle.xti_laws.proofs.Taken.{Taken, Cleared, cleared, un-not, own, leads_to}
+use Rattle.xti_laws.proofs.Taken.{Taken, Cleared, un-not, own, leads_to}
 
 here : (p : Providers) (w : World) (fd : ℕ) (e : Endpoint) → endpoint p w fd ≡ Some e → state_in p w fd ≡ Some e.state
 here p w fd e o = ap (option_map (λ x. x.state)) o
@@ -116,6 +113,7 @@ accept-taken p w fd resfd number options udata e (Some r) o c = go (eqb fd resfd
   where
     in_incon : is_state (T_INCON ∷ []) e ≡ true
     in_incon = un-not (is_state (T_INCON ∷ []) e) c.1.0
+
     go : (b : Bool) → eqb fd resfd ≡ b → (f : Option Indication) → find_number number e.outstanding ≡ f → is_none f ≡ false → (b && nat_lt 1 (ocnt e)) ≡ false
         → Taken p w fd (cond b by_accept_here by_accept_there) e (Listen.accept_found fd resfd f options udata e r) (Listen.accept_found fd resfd f options udata e r)
     go b h None k j l = absurd (false≢true (sym j))
@@ -130,6 +128,7 @@ passed-taken p w fd resfd number options udata e (Some r) h n c = go (find_numbe
   where
     fits : is_state (T_UNBND ∷ T_IDLE ∷ []) r ≡ true
     fits = un-not (is_state (T_UNBND ∷ T_IDLE ∷ []) r) (ap (λ b. not b && not (is_state (T_UNBND ∷ T_IDLE ∷ []) r)) (sym (ne_eqb fd resfd (λ i. eqb-false resfd fd n (sym i)))) ∙ c.1.1.1.0)
+
     go : (f : Option Indication) → is_none f ≡ false → is_in_table passed (state_at p w resfd) (ocnt_of (endpoint p w resfd)) (state_at p (changed p w (Listen.accept_found fd resfd f options udata e r)) resfd) ≡ true
     go None j = absurd (false≢true (sym j))
     go (Some i) j =

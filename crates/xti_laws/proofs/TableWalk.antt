@@ -1,5 +1,5 @@
 -- A step with an effect takes the call's endpoint from state to state by the table.
-use Rattle.std.proofs.Common.{ℕ, Bool, true, false, List, [], ◌∷◌, ◌++◌, ◌-◌, ◌≡◌, refl, sym, ap, ◌∙◌, cond, subst, eqb, length, map, Option, Some, None}
+use Rattle.std.proofs.Common.{ℕ, true, false, List, [], ◌∷◌, ◌++◌, ◌≡◌, refl, sym, cond, subst, eqb, length, map, Option, Some, None}
 use Rattle.std.specs.Prelude.{sum, option_and_then, is_none}
 use Rattle.std.specs.List.{concat}
 use Rattle.xti_base.specs.declared.kinds.State.TheVariants.{T_UNBND, T_IDLE}
@@ -9,12 +9,12 @@ use Rattle.xti_model.specs.declared.entry.Go.{Go}
 use Rattle.xti_model.specs.declared.entry.Go.TheVariants as go
 use Rattle.xti_model.specs.declared.profile.Providers.{Providers}
 use Rattle.xti_model.specs.Endpoint.{Endpoint, ocnt}
-use Rattle.xti_model.specs.World.{World, Change, Switch, at_endpoint, at_switch, closes_endpoint, changed, endpoint, the_switch, state_of}
-use Rattle.xti_model.specs.Switch.{bound, chosen, give_address, give_up_address}
+use Rattle.xti_model.specs.World.{World, at_endpoint, at_switch, changed, endpoint, the_switch}
+use Rattle.xti_model.specs.Switch.{bound, chosen, give_up_address}
 use Rattle.xti_model.specs.Links.{linked, break}
 use Rattle.xti_model.specs.Events.{is_state, around, sending, receiving}
-use Rattle.xti_model.specs.Plan.{Plan, first, if_open, on_open, later_plan}
-use Rattle.xti_model.specs.Step.{plan, step, step_of, send, connect, first_refusal}
+use Rattle.xti_model.specs.Plan.{Plan, first, if_open, on_open}
+use Rattle.xti_model.specs.Step.{plan, step, step_of, send, connect}
 use Rattle.xti_model.specs.History.{left_by}
 use Rattle.xti_model.specs.Touched.{fd_of}
 use Rattle.std.proofs.lemmas.Bool.{false≢true}
@@ -24,12 +24,10 @@ use Rattle.xti_model.specs.Calls.Connect as Connect
 use Rattle.xti_model.specs.Calls.Listen as Listen
 use Rattle.xti_model.specs.Calls.Send as Send
 use Rattle.xti_model.specs.Calls.Receive as Receive
-use Rattle.xti_model.specs.Calls.Disconnect as Disconnect
-use Rattle.xti_model.specs.Calls.Release as Release
 use Rattle.xti_model.specs.Calls.Datagrams as Datagrams
 use Rattle.xti_model.specs.Calls.Show as Show
-use Rattle.xti_model.specs.StateTable.{Move, move_of, by_close, by_bind, by_unbind, by_connect, by_rcvconnect, by_listen, by_accept_here, by_accept_there, by_snd, by_rcv, by_snddis, by_rcvdis, by_sndrel, by_rcvrel, by_datagram, by_show, passed, is_in_table}
-use Rattle.xti_laws.specs.States.{state_at, ocnt_of, has_effect, is_initialised, told, next, TakesByTheTable, PassesByTheTable}
+use Rattle.xti_model.specs.StateTable.{move_of, by_close, by_bind, by_unbind, by_connect, by_rcvconnect, by_listen, by_accept_here, by_accept_there, by_snd, by_rcv, by_snddis, by_rcvdis, by_sndrel, by_rcvrel, by_datagram, by_show, passed, is_in_table}
+use Rattle.xti_laws.specs.States.{state_at, ocnt_of, has_effect, is_initialised, TakesByTheTable, PassesByTheTable}
 use Rattle.xti_laws.proofs.Steady.{received-steady, datagram-steady, shown-steady}
 use Rattle.xti_laws.proofs.Effects.{AllLeave, steady, in_switch, closed-state, open-effect}
 use Rattle.xti_laws.proofs.TableRows.{bind-row, unbind-row, snd-row, rcv-row, datagram-row, show-row, close-row}

@@ -83,6 +83,7 @@ take-later p w fd n m f h = go (endpoint p w fd) refl
   where
     at : (e : Endpoint) → endpoint p w fd ≡ Some e → (o : Option State) → is_in_table m e.state (ocnt e) (unwrap_or o T_UNINIT) ≡ true → (z : World) → state_in p z fd ≡ o → is_in_table m (state_at p w fd) (ocnt_of (endpoint p w fd)) (state_at p z fd) ≡ true
     at e i o r z k = ap (λ x. is_in_table m (state_of x) (ocnt_of x) (state_at p z fd)) i ∙ (ap (is_in_table m e.state (ocnt e)) (told-state p z fd ∙ ap (λ x. unwrap_or x T_UNINIT) k) ∙ r)
+
     go : (o : Option Endpoint) → endpoint p w fd ≡ o → has_effect (first (later_plan n (if_open fd o f)).rows) ≡ true → is_in_table m (state_at p w fd) (ocnt_of (endpoint p w fd)) (state_at p (left_by w (step_of p w (later_plan n (if_open fd o f)))) fd) ≡ true
     go None i j = absurd (false≢true j)
     go (Some e) i j =

@@ -1,5 +1,5 @@
 -- On the touched cells alone a call touches the same cells.
-use Rattle.std.proofs.Common.{ℕ, Bool, true, List, [], ◌∷◌, ◌++◌, ◌≡◌, refl, ap, ◌∙◌, map, ◌+◌, Option, Some, None}
+use Rattle.std.proofs.Common.{ℕ, true, List, ◌∷◌, ◌++◌, ◌≡◌, refl, ap, ◌∙◌, ◌+◌, Option, Some, None}
 use Rattle.std.specs.List.{filter}
 use Rattle.std.specs.Prelude.{option_to_list}
 use Rattle.xti_model.specs.declared.call.Call.{Call}
@@ -7,7 +7,7 @@ use Rattle.xti_model.specs.declared.call.Call.TheVariants as call
 use Rattle.xti_model.specs.declared.profile.Providers.{Providers}
 use Rattle.xti_model.specs.Endpoint.{Endpoint}
 use Rattle.xti_model.specs.Robin.{numbers}
-use Rattle.xti_model.specs.World.{World, Switch, endpoint, is_among, only, place_of, places, switch_number, the_switch}
+use Rattle.xti_model.specs.World.{World, endpoint, is_among, only, place_of, places, switch_number}
 use Rattle.xti_model.specs.Switch.{bound, listener, opening_place}
 use Rattle.xti_model.specs.Touched.{named, touched, others, fd_of, cell_of, of_some, peer_cell, target_cell, caller_cells, listener_cell, bound_cell, marked_cells, cells_to, caller_cell}
 use Rattle.xti_laws.specs.Laws.{Within, KnowsNoMore}

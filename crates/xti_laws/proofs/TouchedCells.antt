@@ -10,17 +10,17 @@ use Rattle.xti_model.specs.declared.entry.Go.{Go}
 use Rattle.xti_model.specs.declared.entry.Outcome.{Outcome}
 use Rattle.xti_model.specs.declared.profile.Providers.{Providers}
 use Rattle.xti_model.specs.Provider.{is_provider}
-use Rattle.xti_model.specs.Endpoint.{Endpoint, Indication, find_number}
-use Rattle.xti_model.specs.World.{World, Switch, Place, closed_place, cell_at, endpoint, endpoint_in, generation_of, is_among, only, without, place_of, places, state_of, switch_number, the_switch}
+use Rattle.xti_model.specs.Endpoint.{Endpoint, Indication}
+use Rattle.xti_model.specs.World.{World, Switch, closed_place, cell_at, endpoint, endpoint_in, generation_of, is_among, only, without, place_of, state_of, the_switch}
 use Rattle.xti_model.specs.Switch.{bound, listener, free_place, opening_place, if_provider, is_free, place_at}
-use Rattle.xti_model.specs.Plan.{Plan, Refusal, answers, waits, loses, first}
+use Rattle.xti_model.specs.Plan.{Refusal, answers, waits, loses, first}
 use Rattle.xti_model.specs.Step.{plan, step, step_of, step_by, made}
 use Rattle.xti_model.specs.History.{left_by}
-use Rattle.xti_model.specs.Touched.{named, touched, others, fd_of, cell_of, of_some, peer_cell, target_cell, caller_cell, caller_cells, bound_cell, listener_cell, marked_cells, cells_to}
+use Rattle.xti_model.specs.Touched.{named, touched, others, fd_of, cell_of, of_some, peer_cell, target_cell, caller_cell, caller_cells, bound_cell, marked_cells, cells_to}
 use Rattle.xti_model.specs.Calls.Open as Open
 use Rattle.xti_laws.specs.Laws.{Within, restrict, KnowsNoMore, TellsNone}
-use Rattle.xti_laws.proofs.Only.{cell_at-only, endpoint-only, the_switch-only}
-use Rattle.xti_laws.proofs.Local.{plan-local, step-local}
+use Rattle.xti_laws.proofs.Only.{endpoint-only, the_switch-only}
+use Rattle.xti_laws.proofs.Local.{step-local}
 use Rattle.xti_laws.proofs.Others.{step-others}
 use Rattle.xti_laws.proofs.Touched.{Below, touched-within}
 use Rattle.xti_laws.proofs.TableWalk.{told-fd, ToldIs}
@@ -137,8 +137,10 @@ open-reads p w prov nonblock g k n = go (opening_place p (the_switch p w) prov) 
   where
     t : List ℕ
     t = touched p w (call.TOpen prov nonblock)
+
     same : the_switch p (only t w) ≡ the_switch p w
     same = the_switch-only p t (named-within p w (call.TOpen prov nonblock) k).0 w
+
     go : (o : Option ℕ) → opening_place p (the_switch p w) prov ≡ o → step p (only t w) (call.TOpen prov nonblock) g ≡ option_map (restrict t) (step p w (call.TOpen prov nonblock) g)
     go (Some m) h =
         let i : m < 64 = opening-small p (the_switch p w) prov m k h in

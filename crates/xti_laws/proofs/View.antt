@@ -74,6 +74,7 @@ in-closed-other g k h (endpoint_cell m (Some e)) = go (eqb m g) refl
     gone : eqb m g ≡ true → (b : Bool) → eqb m k ≡ b → endpoint_in k (endpoint_cell (m + 1) None) ≡ cond b (Some e) None
     gone i true j = absurd (false≢true (sym h ∙ (ap (λ z. eqb z g) (sym (eqb-true m k j)) ∙ i)))
     gone i false j = none-either (eqb (m + 1) k)
+
     go : (b : Bool) → eqb m g ≡ b → endpoint_in k (cond b (endpoint_cell (m + 1) None) (endpoint_cell m (Some e))) ≡ cond (eqb m k) (Some e) None
     go true i = gone i (eqb m k) refl
     go false i = refl
@@ -95,8 +96,10 @@ at-other p fd x k f h w = go (eqb (place_of p x) (place_of p fd)) refl (eqb (gen
     kept : eqb (generation_of p x) (generation_of p fd) ≡ false → (o : Option Numbered) → option_and_then (λ c. endpoint_in (generation_of p x) c.cell) (option_map (recell f) o) ≡ option_and_then (λ c. endpoint_in (generation_of p x) c.cell) o
     kept j None = refl
     kept j (Some c) = h c.cell j
+
     there : place_of p x ≡ place_of p fd → cell_at (change (place_of p fd) f w) (place_of p x) ≡ option_map (recell f) (cell_at w (place_of p x))
     there i = ap (cell_at (change (place_of p fd) f w)) i ∙ (cell_at-same (place_of p fd) f w ∙ ap (λ z. option_map (recell f) (cell_at w z)) (sym i))
+
     go : (b : Bool) → eqb (place_of p x) (place_of p fd) ≡ b → (d : Bool) → eqb (generation_of p x) (generation_of p fd) ≡ d → endpoint p (change (place_of p fd) f w) x ≡ endpoint p w x
     go false i d j = ap (option_and_then (λ c. endpoint_in (generation_of p x) c.cell)) (cell_at-other (place_of p fd) (place_of p x) i f w)
     go true i true j = absurd (false≢true (sym k ∙ (ap (eqb x) (sym (same-fd x fd (eqb-true (place_of p x) (place_of p fd) i) (eqb-true (generation_of p x) (generation_of p fd) j))) ∙ eq-eqb x x refl)))

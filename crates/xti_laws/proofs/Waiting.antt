@@ -1,6 +1,6 @@
 -- A step is blocked exactly where its want is.
-use Rattle.std.proofs.Common.{ℕ, Bool, true, false, List, [], ◌∷◌, ◌≡◌, refl, sym, ap, ◌∙◌, ◌+◌, ◌++◌, ◌-◌, ◌<◌, ◌||◌, ◌&&◌, not, map, length, eqb, Option, Some, None, arith}
-use Rattle.std.specs.Prelude.{is_none, sum, option_and_then}
+use Rattle.std.proofs.Common.{ℕ, Bool, true, false, List, [], ◌∷◌, ◌≡◌, refl, sym, ap, ◌∙◌, ◌+◌, ◌++◌, ◌-◌, ◌<◌, ◌||◌, ◌&&◌, not, length, eqb, Option, Some, None, arith}
+use Rattle.std.specs.Prelude.{is_none, option_and_then}
 use Rattle.std.specs.List.{concat}
 use Rattle.std.proofs.lemmas.Bool.{ne_eqb, false≢true}
 use Rattle.xti_base.specs.declared.errno.Errno.TheVariants.{TBADFLAG, TBADDATA, TBADADDR, TBADOPT, TBADQLEN, TQFULL, TFLOW, TNODATA}
@@ -18,8 +18,8 @@ use Rattle.xti_model.specs.Arguments.{bad_address, bad_options, is_too_many, is_
 use Rattle.xti_model.specs.World.{World, Switch, endpoint, the_switch}
 use Rattle.xti_model.specs.Switch.{bound, opening_place}
 use Rattle.xti_model.specs.Links.{linked}
-use Rattle.xti_model.specs.Plan.{Row, Plan, Field, first, refuses, not_ready, overflows, outside, looks, without_connections, without_datagrams, later_plan}
-use Rattle.xti_model.specs.Step.{plan, step, step_of, send, connect}
+use Rattle.xti_model.specs.Plan.{Row, Field, first, refuses, not_ready, overflows, outside, looks, without_connections, without_datagrams, later_plan}
+use Rattle.xti_model.specs.Step.{plan, step, step_of, send}
 use Rattle.xti_model.specs.Wants.{Want, want_of, want_rows, want_to_send, taken_before, is_bad_left, is_bad_length, is_waiting, send_arguments, datagram_arguments}
 use Rattle.xti_model.specs.Wants as Wants
 use Rattle.xti_model.specs.Calls.Connect as Connect

@@ -1,5 +1,5 @@
 -- What the law of waiting says.
-use Rattle.std.specs.Prelude.{ℕ, Bool, true, false, ◌≡◌, Option, Some, None}
+use Rattle.std.specs.Prelude.{true, false, ◌≡◌, Option, Some, None}
 use Rattle.xti_model.specs.declared.call.Call.{Call}
 use Rattle.xti_model.specs.declared.entry.Go.{Go}
 use Rattle.xti_model.specs.declared.profile.Providers.{Providers}

@@ -1,18 +1,16 @@
 -- blocking send in two steps
-use Rattle.std.specs.Prelude.{ℕ, zero, suc, ◌+◌, ◌%◌, true, false, List, [], ◌∷◌, ◌≡◌, refl, codes, Some, None}
+use Rattle.std.specs.Prelude.{true, false, List, [], ◌∷◌, ◌≡◌, refl, codes}
 use Rattle.std.specs.Fmt.{digits}
 use Rattle.xti_base.specs.Options.{begins_option, is_option_list, options_within}
-use Rattle.xti_base.specs.declared.errno.Errno.TheVariants.{TBADADDR, TBADOPT, TACCES, TBADF, TNOADDR, TOUTSTATE, TBADSEQ, TSYSERR, TLOOK, TBADDATA, TBUFOVFLW, TFLOW, TNODATA, TNODIS, TNOUDERR, TBADFLAG, TNOREL, TNOTSUPPORT, TSTATECHNG, TNOSTRUCTYPE, TBADNAME, TBADQLEN, TADDRBUSY, TINDOUT, TPROVMISMATCH, TRESQLEN, TRESADDR, TQFULL, TPROTO}
-use Rattle.xti_base.specs.declared.kinds.Event.TheVariants.{T_LISTEN, T_CONNECT, T_DATA, T_EXDATA, T_DISCONNECT, T_UDERR, T_ORDREL, T_GODATA, T_GOEXDATA}
-use Rattle.xti_base.specs.declared.kinds.Prov.TheVariants.{Ticots, Ticotsord, Ticlts, Other}
-use Rattle.xti_base.specs.declared.kinds.ServType.TheVariants.{T_COTS, T_COTS_ORD, T_CLTS}
-use Rattle.xti_base.specs.declared.kinds.State.TheVariants.{T_UNINIT, T_UNBND, T_IDLE, T_OUTCON, T_INCON, T_DATAXFER, T_OUTREL, T_INREL}
-use Rattle.xti_base.specs.declared.limit.Limit.TheVariants.{At, Infinite, Invalid}
+use Rattle.xti_base.specs.declared.errno.Errno.TheVariants.{TNODATA}
+use Rattle.xti_base.specs.declared.kinds.Prov.TheVariants.{Ticots}
+use Rattle.xti_base.specs.declared.kinds.State.TheVariants.{T_UNBND, T_IDLE, T_OUTCON, T_INCON, T_DATAXFER}
+use Rattle.xti_base.specs.declared.limit.Limit.TheVariants.{At}
 use Rattle.xti_model.specs.declared.call.Call.TheVariants as call
 use Rattle.xti_model.specs.declared.entry.Act.TheVariants as act
 use Rattle.xti_model.specs.declared.entry.Entry.{Entry}
 use Rattle.xti_model.specs.declared.entry.Outcome.TheVariants.{Done, Part}
-use Rattle.xti_model.specs.declared.entry.Reply.TheVariants.{Plain, Opened, Bound, Connected, Listened, Sent, Got, Discon, UData, UDErr, Seen, Stands, Limits, Addresses, Options, Refused, Look, Overflow}
+use Rattle.xti_model.specs.declared.entry.Reply.TheVariants.{Plain, Opened, Bound, Connected, Listened, Sent, Got, Refused}
 use Rattle.xti_model.specs.declared.profile.Providers.{Providers}
 use Rattle.xti_model.specs.declared.script.Line.{Line}
 use Rattle.xti_model.specs.declared.script.NamedCall.TheVariants as named
@@ -21,50 +19,53 @@ use Rattle.xti_model.specs.Step.{plan, step}
 use Rattle.xti_model.specs.World.{opening}
 
 providers : Providers
-providers = record { ticots = record { tsdu = At 65536; sendzero = true; same_addr = false; sndbuf = 16384; rcvbuf = 16384 }; ticotsord = record { tsdu = At 0; sendzero = false; same_addr = false; sndbuf = 16384; rcvbuf = 16384 }; ticlts = record { tsdu = At 8192; sendzero = true; same_addr = false; sndbuf = 16384; rcvbuf = 16384 } }
-
--- so many bytes that rise by one each
-counted : ℕ → ℕ → List ℕ
-counted from zero = []
-counted from (suc n) = from ∷ counted ((from + 1) % 256) n
+providers = record { ticots = record { tsdu = At 65536; sendzero = true; same_addr = false; sndbuf = 3; rcvbuf = 2 }; ticotsord = record { tsdu = At 0; sendzero = false; same_addr = false; sndbuf = 16384; rcvbuf = 16384 }; ticlts = record { tsdu = At 8192; sendzero = true; same_addr = false; sndbuf = 16384; rcvbuf = 16384 } }
 
 lines : List Line
 lines =
-    record { worker = 0; call = named.TOpen (codes "l") Ticotsord false } ∷
+    record { worker = 0; call = named.TOpen (codes "l") Ticots false } ∷
     record { worker = 0; call = named.TBind (codes "l") (codes "l") 1 64 } ∷
-    record { worker = 0; call = named.TOpen (codes "c") Ticotsord true } ∷
+    record { worker = 0; call = named.TOpen (codes "c") Ticots true } ∷
     record { worker = 0; call = named.TBind (codes "c") [] 0 64 } ∷
-    record { worker = 0; call = named.TOpen (codes "r") Ticotsord true } ∷
+    record { worker = 0; call = named.TOpen (codes "r") Ticots true } ∷
     record { worker = 0; call = named.TConnect (codes "c") (codes "l") [] [] 64 256 64 } ∷
     record { worker = 0; call = named.TListen (codes "l") (codes "q") 64 256 64 } ∷
     record { worker = 0; call = named.TAccept (codes "l") (codes "r") (codes "q") [] [] } ∷
     record { worker = 0; call = named.TRcvConnect (codes "c") 64 256 64 } ∷
     record { worker = 0; call = named.SetMode (codes "c") false } ∷
     record { worker = 0; call = named.SetMode (codes "r") false } ∷
-    record { worker = 1; call = named.TSnd (codes "c") (counted 0 40000) 0 } ∷
+    record { worker = 1; call = named.TSnd (codes "c") (codes "abcdefgh") 0 } ∷
+    record { worker = 1; call = named.TSnd (codes "c") (codes "ij") 1 } ∷
+    record { worker = 1; call = named.TSnd (codes "c") (codes "k") 0 } ∷
+    record { worker = 2; call = named.TRcv (codes "r") 65536 } ∷
+    record { worker = 2; call = named.TRcv (codes "r") 65536 } ∷
     record { worker = 2; call = named.TRcv (codes "r") 65536 } ∷
     record { worker = 2; call = named.TRcv (codes "r") 65536 } ∷
     []
 
 entries : List Entry
 entries =
-    record { worker = 0; act = act.Begin (call.TOpen Ticotsord false); outcome = Done (Opened (record { 0 = 0 })); after = T_UNBND } ∷
+    record { worker = 0; act = act.Begin (call.TOpen Ticots false); outcome = Done (Opened (record { 0 = 0 })); after = T_UNBND } ∷
     record { worker = 0; act = act.Begin (call.TBind (record { 0 = 0 }) (codes "l") 1 64); outcome = Done (Bound (codes "l") 1); after = T_IDLE } ∷
-    record { worker = 0; act = act.Begin (call.TOpen Ticotsord true); outcome = Done (Opened (record { 0 = 1 })); after = T_UNBND } ∷
+    record { worker = 0; act = act.Begin (call.TOpen Ticots true); outcome = Done (Opened (record { 0 = 1 })); after = T_UNBND } ∷
     record { worker = 0; act = act.Begin (call.TBind (record { 0 = 1 }) [] 0 64); outcome = Done (Bound (codes "#0") 0); after = T_IDLE } ∷
-    record { worker = 0; act = act.Begin (call.TOpen Ticotsord true); outcome = Done (Opened (record { 0 = 2 })); after = T_UNBND } ∷
+    record { worker = 0; act = act.Begin (call.TOpen Ticots true); outcome = Done (Opened (record { 0 = 2 })); after = T_UNBND } ∷
     record { worker = 0; act = act.Begin (call.TConnect (record { 0 = 1 }) (codes "l") [] [] 64 256 64); outcome = Done (Refused TNODATA); after = T_OUTCON } ∷
     record { worker = 0; act = act.Begin (call.TListen (record { 0 = 0 }) 64 256 64); outcome = Done (Listened (record { 0 = 1 }) (codes "#0") [] []); after = T_INCON } ∷
     record { worker = 0; act = act.Begin (call.TAccept (record { 0 = 0 }) (record { 0 = 2 }) (record { 0 = 1 }) [] []); outcome = Done Plain; after = T_IDLE } ∷
     record { worker = 0; act = act.Begin (call.TRcvConnect (record { 0 = 1 }) 64 256 64); outcome = Done (Connected (codes "l") [] []); after = T_DATAXFER } ∷
     record { worker = 0; act = act.Begin (call.SetMode (record { 0 = 1 }) false); outcome = Done Plain; after = T_DATAXFER } ∷
     record { worker = 0; act = act.Begin (call.SetMode (record { 0 = 2 }) false); outcome = Done Plain; after = T_DATAXFER } ∷
-    record { worker = 1; act = act.Begin (call.TSnd (record { 0 = 1 }) (counted 0 40000) 0); outcome = Part 32768; after = T_DATAXFER } ∷
-    record { worker = 2; act = act.Begin (call.TRcv (record { 0 = 2 }) 65536); outcome = Done (Got (counted 0 32768) 0); after = T_DATAXFER } ∷
-    record { worker = 1; act = act.More; outcome = Done (Sent 40000); after = T_DATAXFER } ∷
-    record { worker = 2; act = act.Begin (call.TRcv (record { 0 = 2 }) 65536); outcome = Done (Got (counted 0 7232) 0); after = T_DATAXFER } ∷
+    record { worker = 1; act = act.Begin (call.TSnd (record { 0 = 1 }) (codes "abcdefgh") 0); outcome = Part 5; after = T_DATAXFER } ∷
+    record { worker = 2; act = act.Begin (call.TRcv (record { 0 = 2 }) 65536); outcome = Done (Got (codes "abcde") 1); after = T_DATAXFER } ∷
+    record { worker = 1; act = act.More; outcome = Done (Sent 8); after = T_DATAXFER } ∷
+    record { worker = 2; act = act.Begin (call.TRcv (record { 0 = 2 }) 65536); outcome = Done (Got (codes "fgh") 0); after = T_DATAXFER } ∷
+    record { worker = 1; act = act.Begin (call.TSnd (record { 0 = 1 }) (codes "ij") 1); outcome = Done (Sent 2); after = T_DATAXFER } ∷
+    record { worker = 2; act = act.Begin (call.TRcv (record { 0 = 2 }) 65536); outcome = Done (Got (codes "ij") 1); after = T_DATAXFER } ∷
+    record { worker = 1; act = act.Begin (call.TSnd (record { 0 = 1 }) (codes "k") 0); outcome = Done (Sent 1); after = T_DATAXFER } ∷
+    record { worker = 2; act = act.Begin (call.TRcv (record { 0 = 2 }) 65536); outcome = Done (Got (codes "k") 0); after = T_DATAXFER } ∷
     []
 
 the_history : robin (record { providers = providers; lines = lines }) ≡ entries
-unfolding providers lines entries counted digits opening step plan is_option_list options_within begins_option
+unfolding providers lines entries digits opening step plan is_option_list options_within begins_option
 the_history = refl

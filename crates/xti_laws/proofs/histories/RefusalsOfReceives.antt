@@ -1,0 +1,99 @@
+-- refusals of receives
+use Rattle.std.specs.Prelude.{true, false, List, [], ◌∷◌, ◌≡◌, refl, codes, Some}
+use Rattle.std.specs.Fmt.{digits}
+use Rattle.xti_base.specs.Options.{begins_option, is_option_list, options_within}
+use Rattle.xti_base.specs.declared.errno.Errno.TheVariants.{TBADF, TOUTSTATE, TBADDATA, TNODATA, TNOTSUPPORT}
+use Rattle.xti_base.specs.declared.kinds.Event.TheVariants.{T_DISCONNECT, T_ORDREL}
+use Rattle.xti_base.specs.declared.kinds.Prov.TheVariants.{Ticots, Ticotsord, Ticlts}
+use Rattle.xti_base.specs.declared.kinds.State.TheVariants.{T_UNINIT, T_UNBND, T_IDLE, T_OUTCON, T_INCON, T_DATAXFER, T_OUTREL}
+use Rattle.xti_base.specs.declared.limit.Limit.TheVariants.{At}
+use Rattle.xti_model.specs.declared.call.Call.TheVariants as call
+use Rattle.xti_model.specs.declared.entry.Act.TheVariants as act
+use Rattle.xti_model.specs.declared.entry.Entry.{Entry}
+use Rattle.xti_model.specs.declared.entry.Outcome.TheVariants.{Done}
+use Rattle.xti_model.specs.declared.entry.Reply.TheVariants.{Plain, Opened, Bound, Connected, Listened, Sent, Got, Seen, Refused, Look}
+use Rattle.xti_model.specs.declared.profile.Providers.{Providers}
+use Rattle.xti_model.specs.declared.script.Line.{Line}
+use Rattle.xti_model.specs.declared.script.NamedCall.TheVariants as named
+use Rattle.xti_model.specs.Robin.{robin}
+use Rattle.xti_model.specs.Step.{plan, step}
+use Rattle.xti_model.specs.World.{opening}
+
+providers : Providers
+providers = record { ticots = record { tsdu = At 65536; sendzero = true; same_addr = false; sndbuf = 16384; rcvbuf = 16384 }; ticotsord = record { tsdu = At 0; sendzero = false; same_addr = false; sndbuf = 16384; rcvbuf = 16384 }; ticlts = record { tsdu = At 8192; sendzero = true; same_addr = false; sndbuf = 16384; rcvbuf = 16384 } }
+
+lines : List Line
+lines =
+    record { worker = 0; call = named.TOpen (codes "z") Ticots false } ∷
+    record { worker = 0; call = named.TClose (codes "z") } ∷
+    record { worker = 0; call = named.TRcv (codes "z") 65536 } ∷
+    record { worker = 0; call = named.TRcvV (codes "z") (1 ∷ []) } ∷
+    record { worker = 0; call = named.TOpen (codes "u") Ticlts false } ∷
+    record { worker = 0; call = named.TRcv (codes "u") 65536 } ∷
+    record { worker = 0; call = named.TRcvV (codes "u") (1 ∷ []) } ∷
+    record { worker = 0; call = named.TOpen (codes "n") Ticots false } ∷
+    record { worker = 0; call = named.TRcv (codes "n") 65536 } ∷
+    record { worker = 0; call = named.TRcvV (codes "n") (1 ∷ []) } ∷
+    record { worker = 0; call = named.TOpen (codes "l") Ticotsord false } ∷
+    record { worker = 0; call = named.TBind (codes "l") (codes "l") 1 64 } ∷
+    record { worker = 0; call = named.TOpen (codes "c") Ticotsord true } ∷
+    record { worker = 0; call = named.TBind (codes "c") [] 0 64 } ∷
+    record { worker = 0; call = named.TConnect (codes "c") (codes "l") [] [] 64 256 64 } ∷
+    record { worker = 0; call = named.TListen (codes "l") (codes "ql") 64 256 64 } ∷
+    record { worker = 0; call = named.TOpen (codes "r") Ticotsord false } ∷
+    record { worker = 0; call = named.TAccept (codes "l") (codes "r") (codes "ql") [] [] } ∷
+    record { worker = 0; call = named.TRcvConnect (codes "c") 64 256 64 } ∷
+    record { worker = 0; call = named.TRcvV (codes "c") (1 ∷ 1 ∷ 1 ∷ 1 ∷ 1 ∷ 1 ∷ 1 ∷ 1 ∷ 1 ∷ 1 ∷ 1 ∷ 1 ∷ 1 ∷ 1 ∷ 1 ∷ 1 ∷ 1 ∷ []) } ∷
+    record { worker = 0; call = named.TRcv (codes "c") 65536 } ∷
+    record { worker = 0; call = named.TRcvV (codes "c") (2 ∷ 3 ∷ []) } ∷
+    record { worker = 0; call = named.TSnd (codes "r") (codes "abcdef") 0 } ∷
+    record { worker = 0; call = named.TRcvV (codes "c") (2 ∷ 3 ∷ []) } ∷
+    record { worker = 0; call = named.TSndRel (codes "r") } ∷
+    record { worker = 0; call = named.TRcv (codes "c") 4 } ∷
+    record { worker = 0; call = named.TRcv (codes "c") 65536 } ∷
+    record { worker = 0; call = named.TRcvV (codes "c") (1 ∷ []) } ∷
+    record { worker = 0; call = named.TClose (codes "r") } ∷
+    record { worker = 0; call = named.TRcv (codes "c") 65536 } ∷
+    record { worker = 0; call = named.TRcvV (codes "c") (1 ∷ []) } ∷
+    record { worker = 0; call = named.TLookAt (codes "c") } ∷
+    []
+
+entries : List Entry
+entries =
+    record { worker = 0; act = act.Begin (call.TOpen Ticots false); outcome = Done (Opened (record { 0 = 0 })); after = T_UNBND } ∷
+    record { worker = 0; act = act.Begin (call.TClose (record { 0 = 0 })); outcome = Done Plain; after = T_UNINIT } ∷
+    record { worker = 0; act = act.Begin (call.TRcv (record { 0 = 0 }) 65536); outcome = Done (Refused TBADF); after = T_UNINIT } ∷
+    record { worker = 0; act = act.Begin (call.TRcvV (record { 0 = 0 }) (1 ∷ [])); outcome = Done (Refused TBADF); after = T_UNINIT } ∷
+    record { worker = 0; act = act.Begin (call.TOpen Ticlts false); outcome = Done (Opened (record { 0 = 64 })); after = T_UNBND } ∷
+    record { worker = 0; act = act.Begin (call.TRcv (record { 0 = 64 }) 65536); outcome = Done (Refused TNOTSUPPORT); after = T_UNBND } ∷
+    record { worker = 0; act = act.Begin (call.TRcvV (record { 0 = 64 }) (1 ∷ [])); outcome = Done (Refused TNOTSUPPORT); after = T_UNBND } ∷
+    record { worker = 0; act = act.Begin (call.TOpen Ticots false); outcome = Done (Opened (record { 0 = 1 })); after = T_UNBND } ∷
+    record { worker = 0; act = act.Begin (call.TRcv (record { 0 = 1 }) 65536); outcome = Done (Refused TOUTSTATE); after = T_UNBND } ∷
+    record { worker = 0; act = act.Begin (call.TRcvV (record { 0 = 1 }) (1 ∷ [])); outcome = Done (Refused TOUTSTATE); after = T_UNBND } ∷
+    record { worker = 0; act = act.Begin (call.TOpen Ticotsord false); outcome = Done (Opened (record { 0 = 2 })); after = T_UNBND } ∷
+    record { worker = 0; act = act.Begin (call.TBind (record { 0 = 2 }) (codes "l") 1 64); outcome = Done (Bound (codes "l") 1); after = T_IDLE } ∷
+    record { worker = 0; act = act.Begin (call.TOpen Ticotsord true); outcome = Done (Opened (record { 0 = 3 })); after = T_UNBND } ∷
+    record { worker = 0; act = act.Begin (call.TBind (record { 0 = 3 }) [] 0 64); outcome = Done (Bound (codes "#0") 0); after = T_IDLE } ∷
+    record { worker = 0; act = act.Begin (call.TConnect (record { 0 = 3 }) (codes "l") [] [] 64 256 64); outcome = Done (Refused TNODATA); after = T_OUTCON } ∷
+    record { worker = 0; act = act.Begin (call.TListen (record { 0 = 2 }) 64 256 64); outcome = Done (Listened (record { 0 = 1 }) (codes "#0") [] []); after = T_INCON } ∷
+    record { worker = 0; act = act.Begin (call.TOpen Ticotsord false); outcome = Done (Opened (record { 0 = 4 })); after = T_UNBND } ∷
+    record { worker = 0; act = act.Begin (call.TAccept (record { 0 = 2 }) (record { 0 = 4 }) (record { 0 = 1 }) [] []); outcome = Done Plain; after = T_IDLE } ∷
+    record { worker = 0; act = act.Begin (call.TRcvConnect (record { 0 = 3 }) 64 256 64); outcome = Done (Connected (codes "l") [] []); after = T_DATAXFER } ∷
+    record { worker = 0; act = act.Begin (call.TRcvV (record { 0 = 3 }) (1 ∷ 1 ∷ 1 ∷ 1 ∷ 1 ∷ 1 ∷ 1 ∷ 1 ∷ 1 ∷ 1 ∷ 1 ∷ 1 ∷ 1 ∷ 1 ∷ 1 ∷ 1 ∷ 1 ∷ [])); outcome = Done (Refused TBADDATA); after = T_DATAXFER } ∷
+    record { worker = 0; act = act.Begin (call.TRcv (record { 0 = 3 }) 65536); outcome = Done (Refused TNODATA); after = T_DATAXFER } ∷
+    record { worker = 0; act = act.Begin (call.TRcvV (record { 0 = 3 }) (2 ∷ 3 ∷ [])); outcome = Done (Refused TNODATA); after = T_DATAXFER } ∷
+    record { worker = 0; act = act.Begin (call.TSnd (record { 0 = 4 }) (codes "abcdef") 0); outcome = Done (Sent 6); after = T_DATAXFER } ∷
+    record { worker = 0; act = act.Begin (call.TRcvV (record { 0 = 3 }) (2 ∷ 3 ∷ [])); outcome = Done (Got (codes "abcde") 0); after = T_DATAXFER } ∷
+    record { worker = 0; act = act.Begin (call.TSndRel (record { 0 = 4 })); outcome = Done Plain; after = T_OUTREL } ∷
+    record { worker = 0; act = act.Begin (call.TRcv (record { 0 = 3 }) 4); outcome = Done (Got (codes "f") 0); after = T_DATAXFER } ∷
+    record { worker = 0; act = act.Begin (call.TRcv (record { 0 = 3 }) 65536); outcome = Done (Look T_ORDREL); after = T_DATAXFER } ∷
+    record { worker = 0; act = act.Begin (call.TRcvV (record { 0 = 3 }) (1 ∷ [])); outcome = Done (Look T_ORDREL); after = T_DATAXFER } ∷
+    record { worker = 0; act = act.Begin (call.TClose (record { 0 = 4 })); outcome = Done Plain; after = T_UNINIT } ∷
+    record { worker = 0; act = act.Begin (call.TRcv (record { 0 = 3 }) 65536); outcome = Done (Look T_DISCONNECT); after = T_DATAXFER } ∷
+    record { worker = 0; act = act.Begin (call.TRcvV (record { 0 = 3 }) (1 ∷ [])); outcome = Done (Look T_DISCONNECT); after = T_DATAXFER } ∷
+    record { worker = 0; act = act.Begin (call.TLookAt (record { 0 = 3 })); outcome = Done (Seen (Some T_DISCONNECT)); after = T_DATAXFER } ∷
+    []
+
+the_history : robin (record { providers = providers; lines = lines }) ≡ entries
+unfolding providers lines entries digits opening step plan is_option_list options_within begins_option
+the_history = refl
