@@ -341,14 +341,14 @@ pub spelled_by : (bs : List ℕ) → IsFrame bs → Spells (primitive_in bs) bs
 spelled_by bs frame =
     let f = is_spelled bs frame in
     let same = primitive_is bs f in
-    (subst IsFilled (sym same) f.good, f.text ∙ ap spelling (sym same))
+    record { good = subst IsFilled (sym same) f.good; text = f.text ∙ ap spelling (sym same) }
 
 pub each_filled : (f : Filled) → IsFilled f → (p : Prim) × (filled p ≡ f)
 each_filled f good =
     let bs : List ℕ = spelling f in
     let frame : IsFrame bs = (f, good, refl) in
     let read = spelled_by bs frame in
-    (primitive_in bs, one_filled (filled (primitive_in bs)) f read.0 good (sym read.1))
+    (primitive_in bs, one_filled (filled (primitive_in bs)) f read.good good (sym read.text))
 
 pub user_is : (bs : List ℕ) → IsFrame bs → user_of (primitive_in bs) ≡ user_in bs
 user_is bs frame = let f = is_spelled bs frame in ap (λ (x : Filled). x.user) (primitive_is bs f) ∙ sym f.read.user
@@ -378,9 +378,13 @@ pub of_its_kind : (p : Prim) → filled p ≡ of_kind (kind_of p) (filled p).val
 of_its_kind prim.T_UNBIND_REQ = refl
 of_its_kind _ = refl
 
+-- what spells the row that a primitive fills in spells the primitive
+pub by_row : (p : Prim) (f : Filled) (bs : List ℕ) → f ≡ filled p → IsFilled f → bs ≡ spelling f → Spells p bs
+by_row p f bs same good spelled = record { good = subst IsFilled same good; text = spelled ∙ ap spelling same }
+
 pub reads_back : (p : Prim) (bs : List ℕ) → Spells p bs → primitive_in bs ≡ p
 unfolding primitive_in
 reads_back p bs s =
     let own = of_its_kind p in
-    let read = kind_read (kind_of p) (filled p).values (filled p).user bs (subst IsFilled own s.0) (s.1 ∙ ap spelling own) in
+    let read = kind_read (kind_of p) (filled p).values (filled p).user bs (subst IsFilled own s.good) (s.text ∙ ap spelling own) in
     rw (← kind_found bs (kind_of p) (word_in bs 8) read.prim_type refl) (read_back p bs read)
