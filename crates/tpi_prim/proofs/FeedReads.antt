@@ -4,7 +4,7 @@ use Rattle.std.proofs.Math.Seq.{take-add, take-append-add, take-append_seam}
 use Rattle.std.proofs.lemmas.List.{map-append, length-take-le, take_all}
 use Rattle.tpi_grammar.specs.Form.{short, bad}
 use Rattle.tpi_grammar.specs.Frame.{Filled, IsFilled, spelling}
-use Rattle.tpi_grammar.specs.Measured.{IsFrame, MeansFrame}
+use Rattle.tpi_grammar.specs.Measured.{MeansFrame}
 use Rattle.tpi_grammar.specs.Frames.{spellings, AreFilled, IsFrames, IsFirstWrong}
 use Rattle.tpi_grammar.specs.declared.kind.Kind.TheVariants as kind
 use Rattle.tpi_grammar.proofs.FrameLists.{bad_frame, both_frames, behind}

@@ -1,21 +1,21 @@
 -- What is read from a frame is what it spells.
 use Rattle.std.proofs.Common.{◌≡◌, ◌≤◌, ◌<◌, ◌+◌, ℕ, suc, zero, Bool, true, false, List, [], ◌∷◌, ◌++◌, length, take, drop, map, length-append, append_assoc, nat_eq, not, cond, refl, sym, ◌∙◌, ap, arith, subst, inl, inr}
 use Rattle.std.proofs.Math.Seq.{drop-append_seam, take-append_seam}
-use Rattle.std.specs.Int.{w32, to_be_bytes, from_be_bytes}
+use Rattle.std.specs.Int.{w32, from_be_bytes}
 use Rattle.std.specs.List.{AllByRecursion}
 use Rattle.std.proofs.lemmas.Nat.{from_be_bytes-to_be_bytes_4}
 use Rattle.tpi_grammar.specs.Frame.{Row, Slot, upto, part, Value, num, text, Filled, IsFilled, IsIn, Fit, table, spelling, be, words, parts, offset, head, slots_size, control_size}
 use Rattle.tpi_grammar.specs.Kinds.{row_of}
 use Rattle.tpi_grammar.specs.Measured.{IsFrame}
-use Rattle.tpi_grammar.proofs.Finished.{IsSlot, IsRow, table_is}
+use Rattle.tpi_grammar.proofs.Finished.{IsSlot, table_is}
 use Rattle.tpi_grammar.proofs.Spellings.{row_is}
 use Rattle.tpi_grammar.proofs.OneSpelling.{one_filled}
 use Rattle.tpi_grammar.specs.declared.kind.Kind.{Kind}
 use Rattle.tpi_grammar.specs.declared.kind.Kind.TheVariants as kind
 use Rattle.tpi_prim.specs.declared.primitive.Prim.{Prim}
 use Rattle.tpi_prim.specs.declared.primitive.Prim.TheVariants as prim
-use Rattle.tpi_prim.specs.Primitive.{user_of, of_kind, flag_value, filled, numbered, kinds_by_number, kind_of, Spells}
-use Rattle.tpi_prim.specs.Fields.{word_in, part_in, user_in, flag_in, read_as, kind_in, primitive_in, LiesIn}
+use Rattle.tpi_prim.specs.Primitive.{user_of, of_kind, flag_value, filled, numbered, kind_of, Spells}
+use Rattle.tpi_prim.specs.Fields.{word_in, part_in, user_in, read_as, kind_in, primitive_in, LiesIn}
 
 -- ---- words and parts
 

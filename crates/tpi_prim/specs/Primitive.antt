@@ -1,6 +1,6 @@
 -- The primitives as rows of the table of frames.
 use Rattle.std.specs.Prelude.{◌≡◌, ℕ, Bool, true, false, List, [], ◌∷◌, Option, Some, None, if◌then◌else◌, slice_index_or}
-use Rattle.tpi_grammar.specs.Frame.{Row, Value, num, text, Filled, IsFilled, spelling}
+use Rattle.tpi_grammar.specs.Frame.{Value, num, text, Filled, IsFilled, spelling}
 use Rattle.tpi_grammar.specs.Kinds.{row_of}
 use Rattle.tpi_grammar.specs.declared.kind.Kind.{Kind}
 use Rattle.tpi_grammar.specs.declared.kind.Kind.TheVariants as kind
