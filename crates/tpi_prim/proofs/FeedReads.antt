@@ -142,10 +142,9 @@ has_failed fed ps old new piece at h f =
     let front : List ℕ = given.frames.0 in
     let spelled = given.frames.1 in
     let fail = failed old new piece at given.wrong f in
-    let n : ℕ = fail.place.0 in
-    (
+    let n : ℕ = fail.place.0 in (
       length front + n,
       subst (λ (xs : List ℕ). GoesWrong xs (length front + n)) (sym (append_assoc front old.rest piece) ∙ ap (λ (xs : List ℕ). xs ++ piece) (sym given.frames.2))
-      (wrong_behind front (old.rest ++ piece) n (map filled ps, spelled.each, spelled.bytes) fail.place.1),
+          (wrong_behind front (old.rest ++ piece) n (map filled ps, spelled.each, spelled.bytes) fail.place.1),
       capped_twice (length front) n at (fail.place.2 ∙ ap (λ k. capped (k + n)) given.frames.3),
     )
