@@ -1,5 +1,5 @@
 -- What is decoded is what was encoded.
-use Rattle.std.proofs.Common.{◌≡◌, ◌≤◌, ℕ, List, ◌++◌, length, take, drop, take-append-drop, length-append, arith, refl, sym, ◌∙◌, ap, subst}
+use Rattle.std.proofs.Common.{◌≡◌, ◌≤◌, ℕ, List, ◌++◌, length, take, drop, take-append-drop, length-append, arith, refl, sym, ◌∙◌, ap}
 use Rattle.std.proofs.Math.Seq.{take-append_seam}
 use Rattle.std.proofs.lemmas.List.{length-take-le}
 use Rattle.tpi_grammar.specs.Frame.{IsFilled, spelling}
@@ -26,7 +26,7 @@ pub value_back : (bs : List ℕ) (used : ℕ) (prim : Prim) → used ≤ length 
     → (p : Prim) (rest : List ℕ) → IsFilled (filled p) → bs ≡ spelling (filled p) ++ rest → GivesBack p (Value prim used)
 value_back bs used prim within framed is p rest good at =
     let same = same_front bs used p rest framed good at in
-    (is ∙ reads_back p (take used bs) (good, same), sym (length-take-le used bs within) ∙ ap length same)
+    (is ∙ reads_back p (take used bs) (record { good = good; text = same }), sym (length-take-le used bs within) ∙ ap length same)
 
 pub none_back : (bs : List ℕ) → HasNoFrame bs → (p : Prim) (rest : List ℕ) → IsFilled (filled p) → bs ≡ spelling (filled p) ++ rest → ⊥
 none_back bs none p rest good at =

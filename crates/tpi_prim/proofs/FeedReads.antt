@@ -4,7 +4,7 @@ use Rattle.std.proofs.Math.Seq.{take-add, take-append-add, take-append_seam}
 use Rattle.std.proofs.lemmas.List.{map-append, length-take-le, take_all}
 use Rattle.tpi_grammar.specs.Form.{short, bad}
 use Rattle.tpi_grammar.specs.Frame.{Filled, IsFilled, spelling}
-use Rattle.tpi_grammar.specs.Measured.{IsFrame, MeansFrame}
+use Rattle.tpi_grammar.specs.Measured.{MeansFrame}
 use Rattle.tpi_grammar.specs.Frames.{spellings, AreFilled, IsFrames, IsFirstWrong}
 use Rattle.tpi_grammar.specs.declared.kind.Kind.TheVariants as kind
 use Rattle.tpi_grammar.proofs.FrameLists.{bad_frame, both_frames, behind}
@@ -44,13 +44,13 @@ rest_of-drop used bs = take_all (length bs - used) (drop used bs) (omega (arith,
 pub spell_more : (bs : List ℕ) (ps : List Prim) (used : ℕ) (p : Prim) (more : ℕ) → SpellAll ps (take used bs) → Spells p (take more (rest_of used bs))
     → SpellAll (ps ++ p ∷ []) (take (used + more) bs)
 spell_more bs ps used p more s one' = let one = subst (λ (xs : List ℕ). Spells p (take more xs)) (rest_of-drop used bs) one' in record {
-  each = subst AreFilled (sym (map-append filled ps (p ∷ []))) (AreFilled-append (map filled ps) (filled p) s.each one.0);
-  bytes = take-add used more bs ∙ rw (s.bytes, one.1, map-append filled ps (p ∷ []), spellings-append (map filled ps) (filled p ∷ []))
+  each = subst AreFilled (sym (map-append filled ps (p ∷ []))) (AreFilled-append (map filled ps) (filled p) s.each one.good);
+  bytes = take-add used more bs ∙ rw (s.bytes, one.text, map-append filled ps (p ∷ []), spellings-append (map filled ps) (filled p ∷ []))
       (ap (λ (xs : List ℕ). spellings (map filled ps) ++ xs) (sym (append_nil (spelling (filled p)))));
 }
 
 pub grows : (bs : List ℕ) (p : Prim) (more : ℕ) → Spells p (take more bs) → 0 < more
-grows bs p more one = omega (arith, ap length one.1, length-take more bs)
+grows bs p more one = omega (arith, ap length one.text, length-take more bs)
 
 pub goes_wrong : (bs : List ℕ) (ps : List Prim) (used at : ℕ) → used ≤ length bs → SpellAll ps (take used bs) → MeansFrame (rest_of used bs) (bad at) → GoesWrong bs (used + at)
 goes_wrong bs ps used at within s wrong' = let wrong = subst (λ (xs : List ℕ). MeansFrame xs (bad at)) (rest_of-drop used bs) wrong' in record {
@@ -142,10 +142,9 @@ has_failed fed ps old new piece at h f =
     let front : List ℕ = given.frames.0 in
     let spelled = given.frames.1 in
     let fail = failed old new piece at given.wrong f in
-    let n : ℕ = fail.place.0 in
-    (
+    let n : ℕ = fail.place.0 in (
       length front + n,
       subst (λ (xs : List ℕ). GoesWrong xs (length front + n)) (sym (append_assoc front old.rest piece) ∙ ap (λ (xs : List ℕ). xs ++ piece) (sym given.frames.2))
-      (wrong_behind front (old.rest ++ piece) n (map filled ps, spelled.each, spelled.bytes) fail.place.1),
+          (wrong_behind front (old.rest ++ piece) n (map filled ps, spelled.each, spelled.bytes) fail.place.1),
       capped_twice (length front) n at (fail.place.2 ∙ ap (λ k. capped (k + n)) given.frames.3),
     )

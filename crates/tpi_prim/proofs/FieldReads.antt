@@ -1,5 +1,5 @@
 -- The fields of a frame's primitive stand where they are read.
-use Rattle.std.proofs.Common.{◌≡◌, ◌≤◌, ◌+◌, ℕ, Bool, true, false, List, [], ◌∷◌, length, nat_eq, not, Option, Some, None, refl, arith}
+use Rattle.std.proofs.Common.{◌≡◌, ◌≤◌, ◌+◌, ℕ, true, List, length, Some, refl, arith}
 use Rattle.tpi_grammar.specs.Kinds.{row_of}
 use Rattle.tpi_grammar.specs.Measured.{IsFrame}
 use Rattle.tpi_grammar.specs.declared.kind.Kind.{Kind}

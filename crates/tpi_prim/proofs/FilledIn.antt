@@ -1,6 +1,6 @@
 -- What is encoded has a spelling.
-use Rattle.std.proofs.Common.{◌≡◌, ◌≤◌, ◌<◌, ◌+◌, ℕ, suc, zero, List, [], ◌∷◌, ◌++◌, length, get_or, refl, inl, inr}
-use Rattle.tpi_grammar.specs.Frame.{Row, Slot, upto, part, Value, num, text, IsFilled, IsIn, Fit, AreBytes, table, parts, control_size}
+use Rattle.std.proofs.Common.{◌≤◌, ◌<◌, ℕ, suc, List, [], ◌∷◌, ◌++◌, length, get_or, refl, inl, inr}
+use Rattle.tpi_grammar.specs.Frame.{Slot, upto, part, Value, num, text, IsFilled, IsIn, Fit, AreBytes, table, parts, control_size}
 use Rattle.tpi_grammar.specs.Kinds.{row_of}
 use Rattle.tpi_grammar.specs.declared.kind.Kind.{Kind}
 use Rattle.tpi_grammar.specs.declared.kind.Kind.TheVariants as kind

@@ -1,21 +1,21 @@
 -- What is read from a frame is what it spells.
 use Rattle.std.proofs.Common.{◌≡◌, ◌≤◌, ◌<◌, ◌+◌, ℕ, suc, zero, Bool, true, false, List, [], ◌∷◌, ◌++◌, length, take, drop, map, length-append, append_assoc, nat_eq, not, cond, refl, sym, ◌∙◌, ap, arith, subst, inl, inr}
 use Rattle.std.proofs.Math.Seq.{drop-append_seam, take-append_seam}
-use Rattle.std.specs.Int.{w32, to_be_bytes, from_be_bytes}
+use Rattle.std.specs.Int.{w32, from_be_bytes}
 use Rattle.std.specs.List.{AllByRecursion}
 use Rattle.std.proofs.lemmas.Nat.{from_be_bytes-to_be_bytes_4}
 use Rattle.tpi_grammar.specs.Frame.{Row, Slot, upto, part, Value, num, text, Filled, IsFilled, IsIn, Fit, table, spelling, be, words, parts, offset, head, slots_size, control_size}
 use Rattle.tpi_grammar.specs.Kinds.{row_of}
 use Rattle.tpi_grammar.specs.Measured.{IsFrame}
-use Rattle.tpi_grammar.proofs.Finished.{IsSlot, IsRow, table_is}
+use Rattle.tpi_grammar.proofs.Finished.{IsSlot, table_is}
 use Rattle.tpi_grammar.proofs.Spellings.{row_is}
 use Rattle.tpi_grammar.proofs.OneSpelling.{one_filled}
 use Rattle.tpi_grammar.specs.declared.kind.Kind.{Kind}
 use Rattle.tpi_grammar.specs.declared.kind.Kind.TheVariants as kind
 use Rattle.tpi_prim.specs.declared.primitive.Prim.{Prim}
 use Rattle.tpi_prim.specs.declared.primitive.Prim.TheVariants as prim
-use Rattle.tpi_prim.specs.Primitive.{user_of, of_kind, flag_value, filled, numbered, kinds_by_number, kind_of, Spells}
-use Rattle.tpi_prim.specs.Fields.{word_in, part_in, user_in, flag_in, read_as, kind_in, primitive_in, LiesIn}
+use Rattle.tpi_prim.specs.Primitive.{user_of, of_kind, flag_value, filled, numbered, kind_of, Spells}
+use Rattle.tpi_prim.specs.Fields.{word_in, part_in, user_in, read_as, kind_in, primitive_in, LiesIn}
 
 -- ---- words and parts
 
@@ -341,14 +341,14 @@ pub spelled_by : (bs : List ℕ) → IsFrame bs → Spells (primitive_in bs) bs
 spelled_by bs frame =
     let f = is_spelled bs frame in
     let same = primitive_is bs f in
-    (subst IsFilled (sym same) f.good, f.text ∙ ap spelling (sym same))
+    record { good = subst IsFilled (sym same) f.good; text = f.text ∙ ap spelling (sym same) }
 
 pub each_filled : (f : Filled) → IsFilled f → (p : Prim) × (filled p ≡ f)
 each_filled f good =
     let bs : List ℕ = spelling f in
     let frame : IsFrame bs = (f, good, refl) in
     let read = spelled_by bs frame in
-    (primitive_in bs, one_filled (filled (primitive_in bs)) f read.0 good (sym read.1))
+    (primitive_in bs, one_filled (filled (primitive_in bs)) f read.good good (sym read.text))
 
 pub user_is : (bs : List ℕ) → IsFrame bs → user_of (primitive_in bs) ≡ user_in bs
 user_is bs frame = let f = is_spelled bs frame in ap (λ (x : Filled). x.user) (primitive_is bs f) ∙ sym f.read.user
@@ -378,9 +378,13 @@ pub of_its_kind : (p : Prim) → filled p ≡ of_kind (kind_of p) (filled p).val
 of_its_kind prim.T_UNBIND_REQ = refl
 of_its_kind _ = refl
 
+-- what spells the row that a primitive fills in spells the primitive
+pub by_row : (p : Prim) (f : Filled) (bs : List ℕ) → f ≡ filled p → IsFilled f → bs ≡ spelling f → Spells p bs
+by_row p f bs same good spelled = record { good = subst IsFilled same good; text = spelled ∙ ap spelling same }
+
 pub reads_back : (p : Prim) (bs : List ℕ) → Spells p bs → primitive_in bs ≡ p
 unfolding primitive_in
 reads_back p bs s =
     let own = of_its_kind p in
-    let read = kind_read (kind_of p) (filled p).values (filled p).user bs (subst IsFilled own s.0) (s.1 ∙ ap spelling own) in
+    let read = kind_read (kind_of p) (filled p).values (filled p).user bs (subst IsFilled own s.good) (s.text ∙ ap spelling own) in
     rw (← kind_found bs (kind_of p) (word_in bs 8) read.prim_type refl) (read_back p bs read)

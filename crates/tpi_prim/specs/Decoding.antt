@@ -2,7 +2,7 @@
 use Rattle.std.specs.Prelude.{◌≡◌, ◌≤◌, ℕ, List, length, take}
 use Rattle.tpi_grammar.specs.Form.{whole, short, bad}
 use Rattle.tpi_grammar.specs.Frame.{spelling}
-use Rattle.tpi_grammar.specs.Measured.{IsFrame, MeansFrame}
+use Rattle.tpi_grammar.specs.Measured.{MeansFrame}
 use Rattle.tpi_prim.specs.declared.primitive.Prim.{Prim}
 use Rattle.tpi_prim.specs.Primitive.{filled, Spells}
 use Rattle.tpi_prim.specs.declared.decoding.Decoded.{Decoded}

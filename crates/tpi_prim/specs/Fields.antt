@@ -1,13 +1,13 @@
 -- The primitive of a frame, by the frame's bytes. Of bytes that are no frame nothing is meant.
-use Rattle.std.specs.Prelude.{◌≡◌, ◌≤◌, ◌+◌, ℕ, Bool, List, [], ◌∷◌, length, take, drop, nat_eq, not}
+use Rattle.std.specs.Prelude.{◌≤◌, ◌+◌, ℕ, Bool, List, [], ◌∷◌, length, take, drop, nat_eq, not}
 use Rattle.std.specs.Int.{w32, from_be_bytes}
-use Rattle.tpi_grammar.specs.Frame.{Slot, upto, part, Value, num, text, Filled}
+use Rattle.tpi_grammar.specs.Frame.{Slot, upto, part}
 use Rattle.tpi_grammar.specs.declared.kind.Kind.{Kind}
 use Rattle.tpi_grammar.specs.declared.kind.Kind.TheVariants as kind
 use Rattle.tpi_prim.specs.declared.primitive.Prim.{Prim}
 use Rattle.tpi_prim.specs.declared.primitive.Prim.TheVariants as prim
 use Rattle.tpi_prim.specs.declared.primitive.Part.{Part}
-use Rattle.tpi_prim.specs.declared.primitive.Part.TheVariants.{Dest, Src, Res, Addr, Opt}
+use Rattle.tpi_prim.specs.declared.primitive.Part.TheVariants.{Opt}
 use Rattle.tpi_prim.specs.Primitive.{numbered}
 
 -- the word at a place

@@ -1,5 +1,5 @@
 -- A primitive whose fields are lent, and which primitives get no frame.
-use Rattle.std.specs.Prelude.{ℕ, ◌<◌, ◌≤◌, ◌⊎◌, List, [], ◌∷◌, ◌++◌, length, flat_map}
+use Rattle.std.specs.Prelude.{◌<◌, ◌≤◌, ◌⊎◌, List, [], ◌∷◌, length, flat_map}
 use Rattle.tpi_grammar.specs.Frame.{Slot, upto, part, Value, num, text, Filled, control_size}
 use Rattle.tpi_prim.specs.Primitive.{of_kind}
 use Rattle.tpi_prim.specs.declared.encoding.Field.{Field}

@@ -1,6 +1,6 @@
 -- The primitives as rows of the table of frames.
 use Rattle.std.specs.Prelude.{◌≡◌, ℕ, Bool, true, false, List, [], ◌∷◌, Option, Some, None, if◌then◌else◌, slice_index_or}
-use Rattle.tpi_grammar.specs.Frame.{Row, Value, num, text, Filled, IsFilled, spelling}
+use Rattle.tpi_grammar.specs.Frame.{Value, num, text, Filled, IsFilled, spelling}
 use Rattle.tpi_grammar.specs.Kinds.{row_of}
 use Rattle.tpi_grammar.specs.declared.kind.Kind.{Kind}
 use Rattle.tpi_grammar.specs.declared.kind.Kind.TheVariants as kind
@@ -55,8 +55,9 @@ abbrev pub kind_of : Prim → Kind
 kind_of p = numbered (filled p).row.number
 
 -- the bytes are the frame of the primitive
-abbrev pub Spells : Prim → List ℕ → Type 0
-Spells p bs = IsFilled (filled p) × (bs ≡ spelling (filled p))
+pub record Spells (p : Prim) (bs : List ℕ) : Type 0 where
+  pub good : IsFilled (filled p)
+  pub text : bs ≡ spelling (filled p)
 
 -- MORE_flag
 abbrev pub more_of : Prim → Option Bool

@@ -1,5 +1,5 @@
 -- What reading pieces of bytes as frames gives.
-use Rattle.std.specs.Prelude.{◌≡◌, ◌≤◌, ◌<◌, ◌+◌, ◌-◌, ◌^◌, ℕ, List, [], ◌++◌, length, take, drop, map, min, Option, Some, None, MatchOption, Result, Ok, Err}
+use Rattle.std.specs.Prelude.{◌≡◌, ◌≤◌, ◌<◌, ◌+◌, ◌-◌, ◌^◌, ℕ, List, [], ◌++◌, length, take, drop, map, min, Some, None, MatchOption, Result, Ok, Err}
 use Rattle.tpi_grammar.specs.Form.{short}
 use Rattle.tpi_grammar.specs.Measured.{MeansFrame}
 use Rattle.tpi_grammar.specs.Frames.{spellings, AreFilled, IsFirstWrong}

@@ -1,9 +1,12 @@
-use Rattle.std.proofs.Common.{subst, ap, ◌∙◌}
-use Rattle.tpi_grammar.specs.Frame.{IsFilled, spelling}
-use Rattle.tpi_prim.proofs.FrameReads.{reads_back}
+use Rattle.tpi_prim.specs.Lent.{filled_by}
+use Rattle.tpi_prim.proofs.FrameReads.{by_row, reads_back}
 use Rattle.tpi_prim.proofs.encoding.encode.Goals as goal
+
+pub returns-clause-spelled : goal.returns-clause-spelled
+returns-clause-spelled c =
+    by_row c.args.prim.now (filled_by c.of-lent.result) c.in_ok-frame.frame c.of-lent.ensures.same c.in_ok-frame.ensures.filled c.in_ok-frame.ensures.spelled
 
 pub returns-clause-read : goal.returns-clause-read
 returns-clause-read c =
-    let same = c.of-lent.ensures.same in
-    reads_back c.args.prim.now c.in_ok-frame.frame (subst IsFilled same c.in_ok-frame.ensures.filled, c.in_ok-frame.ensures.spelled ∙ ap spelling same)
+    reads_back c.args.prim.now c.in_ok-frame.frame
+    (by_row c.args.prim.now (filled_by c.of-lent.result) c.in_ok-frame.frame c.of-lent.ensures.same c.in_ok-frame.ensures.filled c.in_ok-frame.ensures.spelled)

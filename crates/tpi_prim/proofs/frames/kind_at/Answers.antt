@@ -1,5 +1,4 @@
 use Rattle.std.proofs.Common.{subst, sym}
-use Rattle.std.specs.Prelude.{List, ℕ}
 use Rattle.tpi_grammar.specs.Kinds.{row_of}
 use Rattle.tpi_grammar.specs.declared.kind.Kind.{Kind}
 use Rattle.tpi_prim.specs.Fields.{LiesIn}

@@ -1,4 +1,4 @@
-use Rattle.std.proofs.Common.{arith, length-drop, length-take, ℕ}
+use Rattle.std.proofs.Common.{arith, length-drop}
 use Rattle.tpi_prim.proofs.FeedReads.{spell_more, goes_wrong, is_front}
 use Rattle.tpi_prim.proofs.reading.read_frames.Goals as goal
 
