@@ -11,8 +11,20 @@ const DATA: &[u8] = b"\0\0\0\x08\0\0\0\x02\0\0\0\x0e\0\0\0\0hi";
 const STREAM: &[u8] =
     b"\0\0\0\x08\0\0\0\x02\0\0\0\x0e\0\0\0\0hi\0\0\0\x08\0\0\0\x02\0\0\0\x0e\0\0\0\0hi\0\0\0";
 
+// T_UNITDATA_REQ to `b`, five bytes of user data.
+const REQUEST: &[u8] = b"\0\0\0\x15\0\0\0\x05\0\0\0\x08\0\0\0\x01\0\0\0\x14\0\0\0\0\0\0\0\0bhello";
+
 fn data(user: Bytes) -> Prim {
     Prim::T_DATA_IND { more: false, user }
+}
+
+fn indication() -> Prim {
+    Prim::T_CONN_IND {
+        src: Bytes::from_static(b"ab"),
+        opt: Bytes::from_static(b"xyz"),
+        seq_number: 7,
+        user: Bytes::new(),
+    }
 }
 
 fn zeros(alloc: Global, len: usize) -> Result<Bytes, AllocError> {
@@ -90,13 +102,7 @@ fn refuses_what_is_too_big(rt: HostRuntime) -> Result<(), Fail> {
 
 #[test]
 fn reads_fields(rt: HostRuntime) -> Result<(), Fail> {
-    let indication = Prim::T_CONN_IND {
-        src: Bytes::from_static(b"ab"),
-        opt: Bytes::from_static(b"xyz"),
-        seq_number: 7,
-        user: Bytes::new(),
-    };
-    let frame = encode(rt.alloc(), &indication)?;
+    let frame = encode(rt.alloc(), &indication())?;
     assert_eq!(rt; part_of(&frame, Part::Src), b"ab".as_slice());
     assert_eq!(rt; part_of(&frame, Part::Opt), b"xyz".as_slice());
     assert_eq!(rt; seq_of(&frame), Some(7));
@@ -123,4 +129,13 @@ fn feeds_in_pieces(rt: HostRuntime) {
     assert_eq!(rt; reader.rest(), 3);
     assert_eq!(rt; fails_at(&mut reader, b"\x05"), Some(39));
     assert_eq!(rt; fails_at(&mut reader, DATA), Some(39));
+}
+
+#[test]
+fn feeds_byte_by_byte(rt: HostRuntime) {
+    let mut reader = FrameReader::new(rt.alloc());
+    for (place, byte) in REQUEST.iter().enumerate() {
+        let wanted = if place == 33 { 1 } else { 0 };
+        assert_eq!(rt; completed(&mut reader, &[*byte]), Some(wanted), "{place}");
+    }
 }
