@@ -11,7 +11,7 @@ use Rattle.xti_model.specs.declared.call.Call.TheVariants as call
 use Rattle.xti_model.specs.declared.entry.Act.TheVariants as act
 use Rattle.xti_model.specs.declared.entry.Entry.{Entry}
 use Rattle.xti_model.specs.declared.entry.Outcome.TheVariants.{Done}
-use Rattle.xti_model.specs.declared.entry.Reply.TheVariants.{Plain, Opened, Bound, Listened, Discon, Seen, Refused, Look, Overflow}
+use Rattle.xti_model.specs.declared.entry.Reply.TheVariants.{Plain, Opened, Bound, Listened, Discon, Seen, Addresses, Refused, Look, Overflow}
 use Rattle.xti_model.specs.declared.profile.Providers.{Providers}
 use Rattle.xti_model.specs.declared.script.Line.{Line}
 use Rattle.xti_model.specs.declared.script.NamedCall.TheVariants as named
@@ -50,7 +50,10 @@ lines =
     record { worker = 0; call = named.TBind (codes "r") (codes "rr") 0 64 } ∷
     record { worker = 0; call = named.TAccept (codes "l") (codes "r") (codes "q") [] (codes "yes") } ∷
     record { worker = 0; call = named.TLookAt (codes "c") } ∷
+    record { worker = 0; call = named.TGetProtAddr (codes "c") 64 64 } ∷
     record { worker = 0; call = named.TRcvConnect (codes "c") 1 256 64 } ∷
+    record { worker = 0; call = named.TGetProtAddr (codes "r") 64 0 } ∷
+    record { worker = 0; call = named.TGetProtAddr (codes "r") 64 64 } ∷
     record { worker = 0; call = named.TOpen (codes "d") Ticots true } ∷
     record { worker = 0; call = named.TBind (codes "d") [] 0 64 } ∷
     record { worker = 0; call = named.TConnect (codes "d") (codes "nobody") [] [] 64 256 64 } ∷
@@ -91,7 +94,10 @@ entries =
     record { worker = 0; act = act.Begin (call.TBind (record { 0 = 3 }) (codes "rr") 0 64); outcome = Done (Bound (codes "rr") 0); after = T_IDLE } ∷
     record { worker = 0; act = act.Begin (call.TAccept (record { 0 = 1 }) (record { 0 = 3 }) (record { 0 = 1 }) [] (codes "yes")); outcome = Done Plain; after = T_IDLE } ∷
     record { worker = 0; act = act.Begin (call.TLookAt (record { 0 = 2 })); outcome = Done (Seen (Some T_CONNECT)); after = T_OUTCON } ∷
+    record { worker = 0; act = act.Begin (call.TGetProtAddr (record { 0 = 2 }) 64 64); outcome = Done (Addresses (codes "#0") (codes "rr")); after = T_OUTCON } ∷
     record { worker = 0; act = act.Begin (call.TRcvConnect (record { 0 = 2 }) 1 256 64); outcome = Done (Overflow (record { 0 = 0 })); after = T_DATAXFER } ∷
+    record { worker = 0; act = act.Begin (call.TGetProtAddr (record { 0 = 3 }) 64 0); outcome = Done (Addresses (codes "rr") []); after = T_DATAXFER } ∷
+    record { worker = 0; act = act.Begin (call.TGetProtAddr (record { 0 = 3 }) 64 64); outcome = Done (Addresses (codes "rr") (codes "#0")); after = T_DATAXFER } ∷
     record { worker = 0; act = act.Begin (call.TOpen Ticots true); outcome = Done (Opened (record { 0 = 4 })); after = T_UNBND } ∷
     record { worker = 0; act = act.Begin (call.TBind (record { 0 = 4 }) [] 0 64); outcome = Done (Bound (codes "#1") 0); after = T_IDLE } ∷
     record { worker = 0; act = act.Begin (call.TConnect (record { 0 = 4 }) (codes "nobody") [] [] 64 256 64); outcome = Done (Refused TNODATA); after = T_OUTCON } ∷

@@ -1,5 +1,5 @@
 -- refusals of sends
-use Rattle.std.specs.Prelude.{ℕ, zero, suc, ◌+◌, ◌%◌, true, false, List, [], ◌∷◌, ◌≡◌, refl, codes, None}
+use Rattle.std.specs.Prelude.{ℕ, zero, suc, ◌+◌, ◌%◌, true, false, List, [], ◌∷◌, ◌≡◌, refl, codes, Some, None}
 use Rattle.std.specs.Fmt.{digits}
 use Rattle.xti_base.specs.Options.{begins_option, is_option_list, options_within}
 use Rattle.xti_base.specs.declared.errno.Errno.TheVariants.{TBADF, TOUTSTATE, TBADDATA, TFLOW, TNODATA, TBADFLAG, TNOTSUPPORT}
@@ -11,7 +11,7 @@ use Rattle.xti_model.specs.declared.call.Call.TheVariants as call
 use Rattle.xti_model.specs.declared.entry.Act.TheVariants as act
 use Rattle.xti_model.specs.declared.entry.Entry.{Entry}
 use Rattle.xti_model.specs.declared.entry.Outcome.TheVariants.{Done}
-use Rattle.xti_model.specs.declared.entry.Reply.TheVariants.{Plain, Opened, Bound, Connected, Listened, Sent, Got, Discon, Seen, Refused, Look}
+use Rattle.xti_model.specs.declared.entry.Reply.TheVariants.{Plain, Opened, Bound, Connected, Listened, Sent, Got, Discon, Seen, Addresses, Refused, Look}
 use Rattle.xti_model.specs.declared.profile.Providers.{Providers}
 use Rattle.xti_model.specs.declared.script.Line.{Line}
 use Rattle.xti_model.specs.declared.script.NamedCall.TheVariants as named
@@ -62,7 +62,11 @@ lines =
     record { worker = 0; call = named.TRcv (codes "r") 9 } ∷
     record { worker = 0; call = named.TSnd (codes "c") (codes "9") 1 } ∷
     record { worker = 0; call = named.TSnd (codes "c") (codes "12345678") 0 } ∷
+    record { worker = 0; call = named.TSndV (codes "r") ((codes "a") ∷ (codes "b") ∷ []) 0 } ∷
     record { worker = 0; call = named.TSndDis (codes "r") None (codes "bye") } ∷
+    record { worker = 0; call = named.TGetProtAddr (codes "c") 64 64 } ∷
+    record { worker = 0; call = named.TLookAt (codes "c") } ∷
+    record { worker = 0; call = named.TSnd (codes "c") (codes "123456789") 0 } ∷
     record { worker = 0; call = named.TSnd (codes "c") (codes "x") 0 } ∷
     record { worker = 0; call = named.TSndV (codes "c") ((codes "x") ∷ []) 0 } ∷
     record { worker = 0; call = named.TRcvDis (codes "c") 64 } ∷
@@ -121,7 +125,11 @@ entries =
     record { worker = 0; act = act.Begin (call.TRcv (record { 0 = 4 }) 9); outcome = Done (Got (codes "1234") 1); after = T_DATAXFER } ∷
     record { worker = 0; act = act.Begin (call.TSnd (record { 0 = 3 }) (codes "9") 1); outcome = Done (Sent 1); after = T_DATAXFER } ∷
     record { worker = 0; act = act.Begin (call.TSnd (record { 0 = 3 }) (codes "12345678") 0); outcome = Done (Refused TBADDATA); after = T_DATAXFER } ∷
+    record { worker = 0; act = act.Begin (call.TSndV (record { 0 = 4 }) ((codes "a") ∷ (codes "b") ∷ []) 0); outcome = Done (Sent 2); after = T_DATAXFER } ∷
     record { worker = 0; act = act.Begin (call.TSndDis (record { 0 = 4 }) (record { 0 = 0 }) (codes "bye")); outcome = Done Plain; after = T_IDLE } ∷
+    record { worker = 0; act = act.Begin (call.TGetProtAddr (record { 0 = 3 }) 64 64); outcome = Done (Addresses (codes "#0") []); after = T_DATAXFER } ∷
+    record { worker = 0; act = act.Begin (call.TLookAt (record { 0 = 3 })); outcome = Done (Seen (Some T_DISCONNECT)); after = T_DATAXFER } ∷
+    record { worker = 0; act = act.Begin (call.TSnd (record { 0 = 3 }) (codes "123456789") 0); outcome = Done (Refused TBADDATA); after = T_DATAXFER } ∷
     record { worker = 0; act = act.Begin (call.TSnd (record { 0 = 3 }) (codes "x") 0); outcome = Done (Look T_DISCONNECT); after = T_DATAXFER } ∷
     record { worker = 0; act = act.Begin (call.TSndV (record { 0 = 3 }) ((codes "x") ∷ []) 0); outcome = Done (Look T_DISCONNECT); after = T_DATAXFER } ∷
     record { worker = 0; act = act.Begin (call.TRcvDis (record { 0 = 3 }) 64); outcome = Done (Discon 4 (record { 0 = 0 }) (codes "bye")); after = T_IDLE } ∷
