@@ -4,14 +4,14 @@ use Rattle.std.specs.Fmt.{digits}
 use Rattle.xti_base.specs.Options.{begins_option, is_option_list, options_within}
 use Rattle.xti_base.specs.declared.errno.Errno.TheVariants.{TFLOW, TNODATA}
 use Rattle.xti_base.specs.declared.kinds.Event.TheVariants.{T_DISCONNECT, T_GODATA, T_GOEXDATA}
-use Rattle.xti_base.specs.declared.kinds.Prov.TheVariants.{Ticots}
+use Rattle.xti_base.specs.declared.kinds.Prov.TheVariants.{Ticots, Ticlts}
 use Rattle.xti_base.specs.declared.kinds.State.TheVariants.{T_UNBND, T_IDLE, T_OUTCON, T_INCON, T_DATAXFER}
 use Rattle.xti_base.specs.declared.limit.Limit.TheVariants.{At}
 use Rattle.xti_model.specs.declared.call.Call.TheVariants as call
 use Rattle.xti_model.specs.declared.entry.Act.TheVariants as act
 use Rattle.xti_model.specs.declared.entry.Entry.{Entry}
 use Rattle.xti_model.specs.declared.entry.Outcome.TheVariants.{Done}
-use Rattle.xti_model.specs.declared.entry.Reply.TheVariants.{Plain, Opened, Bound, Connected, Listened, Sent, Got, Discon, Seen, Refused}
+use Rattle.xti_model.specs.declared.entry.Reply.TheVariants.{Plain, Opened, Bound, Connected, Listened, Sent, Got, Discon, UData, UDErr, Seen, Refused}
 use Rattle.xti_model.specs.declared.profile.Providers.{Providers}
 use Rattle.xti_model.specs.declared.script.Line.{Line}
 use Rattle.xti_model.specs.declared.script.NamedCall.TheVariants as named
@@ -90,6 +90,47 @@ lines =
     record { worker = 0; call = named.TSndDis (codes "c") None (codes "gone") } ∷
     record { worker = 0; call = named.TLookAt (codes "r") } ∷
     record { worker = 0; call = named.TRcvDis (codes "r") 64 } ∷
+    record { worker = 0; call = named.TOpen (codes "s") Ticlts true } ∷
+    record { worker = 0; call = named.TBind (codes "s") (codes "s") 0 64 } ∷
+    record { worker = 0; call = named.TOpen (codes "v") Ticlts true } ∷
+    record { worker = 0; call = named.TBind (codes "v") (codes "v") 0 64 } ∷
+    record { worker = 0; call = named.TSndUData (codes "s") (codes "v") [] (codes "x") } ∷
+    record { worker = 0; call = named.TSndUData (codes "s") (codes "v") [] (codes "x") } ∷
+    record { worker = 0; call = named.TSndUData (codes "s") (codes "v") [] (codes "x") } ∷
+    record { worker = 0; call = named.TSndUData (codes "s") (codes "v") [] (codes "x") } ∷
+    record { worker = 0; call = named.TSndUData (codes "s") (codes "v") [] (codes "x") } ∷
+    record { worker = 0; call = named.TSndUData (codes "s") (codes "v") [] (codes "x") } ∷
+    record { worker = 0; call = named.TSndUData (codes "s") (codes "v") [] (codes "x") } ∷
+    record { worker = 0; call = named.TSndUData (codes "s") (codes "v") [] (codes "x") } ∷
+    record { worker = 0; call = named.TSndUData (codes "s") (codes "v") [] (codes "x") } ∷
+    record { worker = 0; call = named.TSndUData (codes "s") (codes "v") [] (codes "x") } ∷
+    record { worker = 0; call = named.TSndUData (codes "s") (codes "v") [] (codes "x") } ∷
+    record { worker = 0; call = named.TSndUData (codes "s") (codes "v") [] (codes "x") } ∷
+    record { worker = 0; call = named.TSndUData (codes "s") (codes "v") [] (codes "x") } ∷
+    record { worker = 0; call = named.TSndUData (codes "s") (codes "v") [] (codes "x") } ∷
+    record { worker = 0; call = named.TSndUData (codes "s") (codes "v") [] (codes "x") } ∷
+    record { worker = 0; call = named.TSndUData (codes "s") (codes "v") [] (codes "x") } ∷
+    record { worker = 0; call = named.TSndUData (codes "s") (codes "v") [] (codes "x") } ∷
+    record { worker = 0; call = named.TLookAt (codes "s") } ∷
+    record { worker = 0; call = named.TSndUData (codes "s") (codes "nobody") [] (codes "y") } ∷
+    record { worker = 0; call = named.TRcvUDErr (codes "s") 64 256 } ∷
+    record { worker = 0; call = named.TRcvUData (codes "v") 65536 64 256 } ∷
+    record { worker = 0; call = named.TLookAt (codes "s") } ∷
+    record { worker = 0; call = named.TSndUData (codes "s") (codes "v") [] (codes "x") } ∷
+    record { worker = 0; call = named.TSndUData (codes "s") (codes "v") [] (codes "x") } ∷
+    record { worker = 0; call = named.TRcvUData (codes "v") 65536 64 256 } ∷
+    record { worker = 0; call = named.TLookAt (codes "s") } ∷
+    record { worker = 0; call = named.TLookAt (codes "s") } ∷
+    record { worker = 0; call = named.TSndUData (codes "s") (codes "v") [] (codes "x") } ∷
+    record { worker = 0; call = named.TSndUData (codes "s") (codes "v") [] (codes "x") } ∷
+    record { worker = 0; call = named.TRcvUData (codes "v") 65536 64 256 } ∷
+    record { worker = 0; call = named.TSndUData (codes "s") (codes "v") [] (codes "x") } ∷
+    record { worker = 0; call = named.TRcvUData (codes "v") 65536 64 256 } ∷
+    record { worker = 0; call = named.TLookAt (codes "s") } ∷
+    record { worker = 0; call = named.TSndUData (codes "s") (codes "nobody") [] (codes "y") } ∷
+    record { worker = 0; call = named.TUnbind (codes "s") } ∷
+    record { worker = 0; call = named.TBind (codes "s") (codes "s") 0 64 } ∷
+    record { worker = 0; call = named.TLookAt (codes "s") } ∷
     []
 
 entries : List Entry
@@ -160,6 +201,47 @@ entries =
     record { worker = 0; act = act.Begin (call.TSndDis (record { 0 = 1 }) (record { 0 = 0 }) (codes "gone")); outcome = Done Plain; after = T_IDLE } ∷
     record { worker = 0; act = act.Begin (call.TLookAt (record { 0 = 2 })); outcome = Done (Seen (Some T_DISCONNECT)); after = T_DATAXFER } ∷
     record { worker = 0; act = act.Begin (call.TRcvDis (record { 0 = 2 }) 64); outcome = Done (Discon 4 (record { 0 = 0 }) (codes "gone")); after = T_IDLE } ∷
+    record { worker = 0; act = act.Begin (call.TOpen Ticlts true); outcome = Done (Opened (record { 0 = 3 })); after = T_UNBND } ∷
+    record { worker = 0; act = act.Begin (call.TBind (record { 0 = 3 }) (codes "s") 0 64); outcome = Done (Bound (codes "s") 0); after = T_IDLE } ∷
+    record { worker = 0; act = act.Begin (call.TOpen Ticlts true); outcome = Done (Opened (record { 0 = 4 })); after = T_UNBND } ∷
+    record { worker = 0; act = act.Begin (call.TBind (record { 0 = 4 }) (codes "v") 0 64); outcome = Done (Bound (codes "v") 0); after = T_IDLE } ∷
+    record { worker = 0; act = act.Begin (call.TSndUData (record { 0 = 3 }) (codes "v") [] (codes "x")); outcome = Done Plain; after = T_IDLE } ∷
+    record { worker = 0; act = act.Begin (call.TSndUData (record { 0 = 3 }) (codes "v") [] (codes "x")); outcome = Done Plain; after = T_IDLE } ∷
+    record { worker = 0; act = act.Begin (call.TSndUData (record { 0 = 3 }) (codes "v") [] (codes "x")); outcome = Done Plain; after = T_IDLE } ∷
+    record { worker = 0; act = act.Begin (call.TSndUData (record { 0 = 3 }) (codes "v") [] (codes "x")); outcome = Done Plain; after = T_IDLE } ∷
+    record { worker = 0; act = act.Begin (call.TSndUData (record { 0 = 3 }) (codes "v") [] (codes "x")); outcome = Done Plain; after = T_IDLE } ∷
+    record { worker = 0; act = act.Begin (call.TSndUData (record { 0 = 3 }) (codes "v") [] (codes "x")); outcome = Done Plain; after = T_IDLE } ∷
+    record { worker = 0; act = act.Begin (call.TSndUData (record { 0 = 3 }) (codes "v") [] (codes "x")); outcome = Done Plain; after = T_IDLE } ∷
+    record { worker = 0; act = act.Begin (call.TSndUData (record { 0 = 3 }) (codes "v") [] (codes "x")); outcome = Done Plain; after = T_IDLE } ∷
+    record { worker = 0; act = act.Begin (call.TSndUData (record { 0 = 3 }) (codes "v") [] (codes "x")); outcome = Done Plain; after = T_IDLE } ∷
+    record { worker = 0; act = act.Begin (call.TSndUData (record { 0 = 3 }) (codes "v") [] (codes "x")); outcome = Done Plain; after = T_IDLE } ∷
+    record { worker = 0; act = act.Begin (call.TSndUData (record { 0 = 3 }) (codes "v") [] (codes "x")); outcome = Done Plain; after = T_IDLE } ∷
+    record { worker = 0; act = act.Begin (call.TSndUData (record { 0 = 3 }) (codes "v") [] (codes "x")); outcome = Done Plain; after = T_IDLE } ∷
+    record { worker = 0; act = act.Begin (call.TSndUData (record { 0 = 3 }) (codes "v") [] (codes "x")); outcome = Done Plain; after = T_IDLE } ∷
+    record { worker = 0; act = act.Begin (call.TSndUData (record { 0 = 3 }) (codes "v") [] (codes "x")); outcome = Done Plain; after = T_IDLE } ∷
+    record { worker = 0; act = act.Begin (call.TSndUData (record { 0 = 3 }) (codes "v") [] (codes "x")); outcome = Done Plain; after = T_IDLE } ∷
+    record { worker = 0; act = act.Begin (call.TSndUData (record { 0 = 3 }) (codes "v") [] (codes "x")); outcome = Done Plain; after = T_IDLE } ∷
+    record { worker = 0; act = act.Begin (call.TSndUData (record { 0 = 3 }) (codes "v") [] (codes "x")); outcome = Done (Refused TFLOW); after = T_IDLE } ∷
+    record { worker = 0; act = act.Begin (call.TLookAt (record { 0 = 3 })); outcome = Done (Seen None); after = T_IDLE } ∷
+    record { worker = 0; act = act.Begin (call.TSndUData (record { 0 = 3 }) (codes "nobody") [] (codes "y")); outcome = Done Plain; after = T_IDLE } ∷
+    record { worker = 0; act = act.Begin (call.TRcvUDErr (record { 0 = 3 }) 64 256); outcome = Done (UDErr (codes "nobody") [] 1); after = T_IDLE } ∷
+    record { worker = 0; act = act.Begin (call.TRcvUData (record { 0 = 4 }) 65536 64 256); outcome = Done (UData (codes "s") [] (codes "x") 0); after = T_IDLE } ∷
+    record { worker = 0; act = act.Begin (call.TLookAt (record { 0 = 3 })); outcome = Done (Seen None); after = T_IDLE } ∷
+    record { worker = 0; act = act.Begin (call.TSndUData (record { 0 = 3 }) (codes "v") [] (codes "x")); outcome = Done Plain; after = T_IDLE } ∷
+    record { worker = 0; act = act.Begin (call.TSndUData (record { 0 = 3 }) (codes "v") [] (codes "x")); outcome = Done (Refused TFLOW); after = T_IDLE } ∷
+    record { worker = 0; act = act.Begin (call.TRcvUData (record { 0 = 4 }) 65536 64 256); outcome = Done (UData (codes "s") [] (codes "x") 0); after = T_IDLE } ∷
+    record { worker = 0; act = act.Begin (call.TLookAt (record { 0 = 3 })); outcome = Done (Seen (Some T_GODATA)); after = T_IDLE } ∷
+    record { worker = 0; act = act.Begin (call.TLookAt (record { 0 = 3 })); outcome = Done (Seen None); after = T_IDLE } ∷
+    record { worker = 0; act = act.Begin (call.TSndUData (record { 0 = 3 }) (codes "v") [] (codes "x")); outcome = Done Plain; after = T_IDLE } ∷
+    record { worker = 0; act = act.Begin (call.TSndUData (record { 0 = 3 }) (codes "v") [] (codes "x")); outcome = Done (Refused TFLOW); after = T_IDLE } ∷
+    record { worker = 0; act = act.Begin (call.TRcvUData (record { 0 = 4 }) 65536 64 256); outcome = Done (UData (codes "s") [] (codes "x") 0); after = T_IDLE } ∷
+    record { worker = 0; act = act.Begin (call.TSndUData (record { 0 = 3 }) (codes "v") [] (codes "x")); outcome = Done Plain; after = T_IDLE } ∷
+    record { worker = 0; act = act.Begin (call.TRcvUData (record { 0 = 4 }) 65536 64 256); outcome = Done (UData (codes "s") [] (codes "x") 0); after = T_IDLE } ∷
+    record { worker = 0; act = act.Begin (call.TLookAt (record { 0 = 3 })); outcome = Done (Seen None); after = T_IDLE } ∷
+    record { worker = 0; act = act.Begin (call.TSndUData (record { 0 = 3 }) (codes "nobody") [] (codes "y")); outcome = Done Plain; after = T_IDLE } ∷
+    record { worker = 0; act = act.Begin (call.TUnbind (record { 0 = 3 })); outcome = Done Plain; after = T_UNBND } ∷
+    record { worker = 0; act = act.Begin (call.TBind (record { 0 = 3 }) (codes "s") 0 64); outcome = Done (Bound (codes "s") 0); after = T_IDLE } ∷
+    record { worker = 0; act = act.Begin (call.TLookAt (record { 0 = 3 })); outcome = Done (Seen None); after = T_IDLE } ∷
     []
 
 the_history : robin (record { providers = providers; lines = lines }) ≡ entries

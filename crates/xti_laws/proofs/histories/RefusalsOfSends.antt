@@ -20,7 +20,7 @@ use Rattle.xti_model.specs.Step.{plan, step}
 use Rattle.xti_model.specs.World.{opening}
 
 providers : Providers
-providers = record { ticots = record { tsdu = At 8; sendzero = true; same_addr = false; sndbuf = 2; rcvbuf = 2 }; ticotsord = record { tsdu = At 0; sendzero = false; same_addr = false; sndbuf = 16384; rcvbuf = 16384 }; ticlts = record { tsdu = At 8192; sendzero = true; same_addr = false; sndbuf = 16384; rcvbuf = 16384 } }
+providers = record { ticots = record { tsdu = At 8; sendzero = true; same_addr = false; sndbuf = 2; rcvbuf = 2 }; ticotsord = record { tsdu = At 0; sendzero = false; same_addr = false; sndbuf = 2; rcvbuf = 2 }; ticlts = record { tsdu = At 8192; sendzero = true; same_addr = false; sndbuf = 16384; rcvbuf = 16384 } }
 
 -- so many bytes that rise by one each
 counted : ℕ → ℕ → List ℕ
@@ -34,13 +34,13 @@ lines =
     record { worker = 0; call = named.TSnd (codes "z") (codes "x") 0 } ∷
     record { worker = 0; call = named.TSndV (codes "z") ((codes "x") ∷ []) 0 } ∷
     record { worker = 0; call = named.TOpen (codes "u") Ticlts false } ∷
-    record { worker = 0; call = named.TSnd (codes "u") (codes "x") 0 } ∷
-    record { worker = 0; call = named.TSndV (codes "u") ((codes "x") ∷ []) 0 } ∷
+    record { worker = 0; call = named.TSnd (codes "u") (codes "x") 4 } ∷
+    record { worker = 0; call = named.TSndV (codes "u") ((codes "x") ∷ []) 4 } ∷
     record { worker = 0; call = named.TOpen (codes "n") Ticots false } ∷
     record { worker = 0; call = named.TSnd (codes "n") (codes "x") 4 } ∷
     record { worker = 0; call = named.TSndV (codes "n") ((codes "x") ∷ []) 4 } ∷
     record { worker = 0; call = named.TSnd (codes "n") (codes "x") 0 } ∷
-    record { worker = 0; call = named.TSndV (codes "n") ((codes "x") ∷ []) 0 } ∷
+    record { worker = 0; call = named.TSndV (codes "n") ((codes "a") ∷ (codes "b") ∷ (codes "c") ∷ (codes "d") ∷ (codes "e") ∷ (codes "f") ∷ (codes "g") ∷ (codes "h") ∷ (codes "i") ∷ (codes "j") ∷ (codes "k") ∷ (codes "l") ∷ (codes "m") ∷ (codes "n") ∷ (codes "o") ∷ (codes "p") ∷ (codes "q") ∷ []) 0 } ∷
     record { worker = 0; call = named.TOpen (codes "l") Ticots false } ∷
     record { worker = 0; call = named.TBind (codes "l") (codes "l") 1 64 } ∷
     record { worker = 0; call = named.TOpen (codes "c") Ticots true } ∷
@@ -81,12 +81,16 @@ lines =
     record { worker = 0; call = named.TRcvConnect (codes "d") 64 256 64 } ∷
     record { worker = 0; call = named.TSnd (codes "d") [] 0 } ∷
     record { worker = 0; call = named.TSndV (codes "d") ([] ∷ []) 0 } ∷
+    record { worker = 0; call = named.SetMode (codes "s") true } ∷
+    record { worker = 0; call = named.TSnd (codes "s") (codes "abcd") 0 } ∷
     record { worker = 0; call = named.TSndRel (codes "d") } ∷
     record { worker = 0; call = named.TSnd (codes "d") (codes "x") 0 } ∷
     record { worker = 0; call = named.TSnd (codes "s") (codes "x") 0 } ∷
     record { worker = 0; call = named.TSndV (codes "s") ((codes "x") ∷ []) 0 } ∷
+    record { worker = 0; call = named.TSnd (codes "s") [] 0 } ∷
     record { worker = 0; call = named.TRcvRel (codes "s") } ∷
-    record { worker = 0; call = named.TSnd (codes "s") (codes "still") 0 } ∷
+    record { worker = 0; call = named.TRcv (codes "d") 65536 } ∷
+    record { worker = 0; call = named.TSnd (codes "s") (codes "on") 0 } ∷
     record { worker = 0; call = named.TRcv (codes "d") 65536 } ∷
     []
 
@@ -97,13 +101,13 @@ entries =
     record { worker = 0; act = act.Begin (call.TSnd (record { 0 = 0 }) (codes "x") 0); outcome = Done (Refused TBADF); after = T_UNINIT } ∷
     record { worker = 0; act = act.Begin (call.TSndV (record { 0 = 0 }) ((codes "x") ∷ []) 0); outcome = Done (Refused TBADF); after = T_UNINIT } ∷
     record { worker = 0; act = act.Begin (call.TOpen Ticlts false); outcome = Done (Opened (record { 0 = 64 })); after = T_UNBND } ∷
-    record { worker = 0; act = act.Begin (call.TSnd (record { 0 = 64 }) (codes "x") 0); outcome = Done (Refused TNOTSUPPORT); after = T_UNBND } ∷
-    record { worker = 0; act = act.Begin (call.TSndV (record { 0 = 64 }) ((codes "x") ∷ []) 0); outcome = Done (Refused TNOTSUPPORT); after = T_UNBND } ∷
+    record { worker = 0; act = act.Begin (call.TSnd (record { 0 = 64 }) (codes "x") 4); outcome = Done (Refused TNOTSUPPORT); after = T_UNBND } ∷
+    record { worker = 0; act = act.Begin (call.TSndV (record { 0 = 64 }) ((codes "x") ∷ []) 4); outcome = Done (Refused TNOTSUPPORT); after = T_UNBND } ∷
     record { worker = 0; act = act.Begin (call.TOpen Ticots false); outcome = Done (Opened (record { 0 = 1 })); after = T_UNBND } ∷
     record { worker = 0; act = act.Begin (call.TSnd (record { 0 = 1 }) (codes "x") 4); outcome = Done (Refused TBADFLAG); after = T_UNBND } ∷
     record { worker = 0; act = act.Begin (call.TSndV (record { 0 = 1 }) ((codes "x") ∷ []) 4); outcome = Done (Refused TBADFLAG); after = T_UNBND } ∷
     record { worker = 0; act = act.Begin (call.TSnd (record { 0 = 1 }) (codes "x") 0); outcome = Done (Refused TOUTSTATE); after = T_UNBND } ∷
-    record { worker = 0; act = act.Begin (call.TSndV (record { 0 = 1 }) ((codes "x") ∷ []) 0); outcome = Done (Refused TOUTSTATE); after = T_UNBND } ∷
+    record { worker = 0; act = act.Begin (call.TSndV (record { 0 = 1 }) ((codes "a") ∷ (codes "b") ∷ (codes "c") ∷ (codes "d") ∷ (codes "e") ∷ (codes "f") ∷ (codes "g") ∷ (codes "h") ∷ (codes "i") ∷ (codes "j") ∷ (codes "k") ∷ (codes "l") ∷ (codes "m") ∷ (codes "n") ∷ (codes "o") ∷ (codes "p") ∷ (codes "q") ∷ []) 0); outcome = Done (Refused TOUTSTATE); after = T_UNBND } ∷
     record { worker = 0; act = act.Begin (call.TOpen Ticots false); outcome = Done (Opened (record { 0 = 2 })); after = T_UNBND } ∷
     record { worker = 0; act = act.Begin (call.TBind (record { 0 = 2 }) (codes "l") 1 64); outcome = Done (Bound (codes "l") 1); after = T_IDLE } ∷
     record { worker = 0; act = act.Begin (call.TOpen Ticots true); outcome = Done (Opened (record { 0 = 3 })); after = T_UNBND } ∷
@@ -144,13 +148,17 @@ entries =
     record { worker = 0; act = act.Begin (call.TRcvConnect (record { 0 = 6 }) 64 256 64); outcome = Done (Connected (codes "m") [] []); after = T_DATAXFER } ∷
     record { worker = 0; act = act.Begin (call.TSnd (record { 0 = 6 }) [] 0); outcome = Done (Refused TBADDATA); after = T_DATAXFER } ∷
     record { worker = 0; act = act.Begin (call.TSndV (record { 0 = 6 }) ([] ∷ []) 0); outcome = Done (Refused TBADDATA); after = T_DATAXFER } ∷
+    record { worker = 0; act = act.Begin (call.SetMode (record { 0 = 7 }) true); outcome = Done Plain; after = T_DATAXFER } ∷
+    record { worker = 0; act = act.Begin (call.TSnd (record { 0 = 7 }) (codes "abcd") 0); outcome = Done (Sent 4); after = T_DATAXFER } ∷
     record { worker = 0; act = act.Begin (call.TSndRel (record { 0 = 6 })); outcome = Done Plain; after = T_OUTREL } ∷
     record { worker = 0; act = act.Begin (call.TSnd (record { 0 = 6 }) (codes "x") 0); outcome = Done (Refused TOUTSTATE); after = T_OUTREL } ∷
     record { worker = 0; act = act.Begin (call.TSnd (record { 0 = 7 }) (codes "x") 0); outcome = Done (Look T_ORDREL); after = T_DATAXFER } ∷
     record { worker = 0; act = act.Begin (call.TSndV (record { 0 = 7 }) ((codes "x") ∷ []) 0); outcome = Done (Look T_ORDREL); after = T_DATAXFER } ∷
+    record { worker = 0; act = act.Begin (call.TSnd (record { 0 = 7 }) [] 0); outcome = Done (Refused TBADDATA); after = T_DATAXFER } ∷
     record { worker = 0; act = act.Begin (call.TRcvRel (record { 0 = 7 })); outcome = Done Plain; after = T_INREL } ∷
-    record { worker = 0; act = act.Begin (call.TSnd (record { 0 = 7 }) (codes "still") 0); outcome = Done (Sent 5); after = T_INREL } ∷
-    record { worker = 0; act = act.Begin (call.TRcv (record { 0 = 6 }) 65536); outcome = Done (Got (codes "still") 0); after = T_OUTREL } ∷
+    record { worker = 0; act = act.Begin (call.TRcv (record { 0 = 6 }) 65536); outcome = Done (Got (codes "abcd") 0); after = T_OUTREL } ∷
+    record { worker = 0; act = act.Begin (call.TSnd (record { 0 = 7 }) (codes "on") 0); outcome = Done (Sent 2); after = T_INREL } ∷
+    record { worker = 0; act = act.Begin (call.TRcv (record { 0 = 6 }) 65536); outcome = Done (Got (codes "on") 0); after = T_OUTREL } ∷
     []
 
 the_history : robin (record { providers = providers; lines = lines }) ≡ entries
