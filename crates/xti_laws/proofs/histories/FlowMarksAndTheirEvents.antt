@@ -90,6 +90,13 @@ lines =
     record { worker = 0; call = named.TSndDis (codes "c") None (codes "gone") } ∷
     record { worker = 0; call = named.TLookAt (codes "r") } ∷
     record { worker = 0; call = named.TRcvDis (codes "r") 64 } ∷
+    record { worker = 0; call = named.SetMode (codes "r") true } ∷
+    record { worker = 0; call = named.TConnect (codes "c") (codes "l") [] [] 64 256 64 } ∷
+    record { worker = 0; call = named.TListen (codes "l") (codes "again") 64 256 64 } ∷
+    record { worker = 0; call = named.TAccept (codes "l") (codes "r") (codes "again") [] [] } ∷
+    record { worker = 0; call = named.TRcvConnect (codes "c") 64 256 64 } ∷
+    record { worker = 0; call = named.TRcv (codes "r") 65536 } ∷
+    record { worker = 0; call = named.TLookAt (codes "r") } ∷
     record { worker = 0; call = named.TOpen (codes "s") Ticlts true } ∷
     record { worker = 0; call = named.TBind (codes "s") (codes "s") 0 64 } ∷
     record { worker = 0; call = named.TOpen (codes "v") Ticlts true } ∷
@@ -201,6 +208,13 @@ entries =
     record { worker = 0; act = act.Begin (call.TSndDis (record { 0 = 1 }) (record { 0 = 0 }) (codes "gone")); outcome = Done Plain; after = T_IDLE } ∷
     record { worker = 0; act = act.Begin (call.TLookAt (record { 0 = 2 })); outcome = Done (Seen (Some T_DISCONNECT)); after = T_DATAXFER } ∷
     record { worker = 0; act = act.Begin (call.TRcvDis (record { 0 = 2 }) 64); outcome = Done (Discon 4 (record { 0 = 0 }) (codes "gone")); after = T_IDLE } ∷
+    record { worker = 0; act = act.Begin (call.SetMode (record { 0 = 2 }) true); outcome = Done Plain; after = T_IDLE } ∷
+    record { worker = 0; act = act.Begin (call.TConnect (record { 0 = 1 }) (codes "l") [] [] 64 256 64); outcome = Done (Refused TNODATA); after = T_OUTCON } ∷
+    record { worker = 0; act = act.Begin (call.TListen (record { 0 = 0 }) 64 256 64); outcome = Done (Listened (record { 0 = 2 }) (codes "#0") [] []); after = T_INCON } ∷
+    record { worker = 0; act = act.Begin (call.TAccept (record { 0 = 0 }) (record { 0 = 2 }) (record { 0 = 2 }) [] []); outcome = Done Plain; after = T_IDLE } ∷
+    record { worker = 0; act = act.Begin (call.TRcvConnect (record { 0 = 1 }) 64 256 64); outcome = Done (Connected (codes "l") [] []); after = T_DATAXFER } ∷
+    record { worker = 0; act = act.Begin (call.TRcv (record { 0 = 2 }) 65536); outcome = Done (Refused TNODATA); after = T_DATAXFER } ∷
+    record { worker = 0; act = act.Begin (call.TLookAt (record { 0 = 2 })); outcome = Done (Seen None); after = T_DATAXFER } ∷
     record { worker = 0; act = act.Begin (call.TOpen Ticlts true); outcome = Done (Opened (record { 0 = 3 })); after = T_UNBND } ∷
     record { worker = 0; act = act.Begin (call.TBind (record { 0 = 3 }) (codes "s") 0 64); outcome = Done (Bound (codes "s") 0); after = T_IDLE } ∷
     record { worker = 0; act = act.Begin (call.TOpen Ticlts true); outcome = Done (Opened (record { 0 = 4 })); after = T_UNBND } ∷

@@ -70,6 +70,13 @@ lines =
     record { worker = 0; call = named.TSnd (codes "c") (codes "x") 0 } ∷
     record { worker = 0; call = named.TSndV (codes "c") ((codes "x") ∷ []) 0 } ∷
     record { worker = 0; call = named.TRcvDis (codes "c") 64 } ∷
+    record { worker = 0; call = named.TOpen (codes "r2") Ticots false } ∷
+    record { worker = 0; call = named.TConnect (codes "c") (codes "l") [] [] 64 256 64 } ∷
+    record { worker = 0; call = named.TListen (codes "l") (codes "again") 64 256 64 } ∷
+    record { worker = 0; call = named.TAccept (codes "l") (codes "r2") (codes "again") [] [] } ∷
+    record { worker = 0; call = named.TRcvConnect (codes "c") 64 256 64 } ∷
+    record { worker = 0; call = named.TSnd (codes "c") (codes "12345678") 0 } ∷
+    record { worker = 0; call = named.TRcv (codes "r2") 65536 } ∷
     record { worker = 0; call = named.TOpen (codes "m") Ticotsord false } ∷
     record { worker = 0; call = named.TBind (codes "m") (codes "m") 1 64 } ∷
     record { worker = 0; call = named.TOpen (codes "d") Ticotsord true } ∷
@@ -137,28 +144,35 @@ entries =
     record { worker = 0; act = act.Begin (call.TSnd (record { 0 = 3 }) (codes "x") 0); outcome = Done (Look T_DISCONNECT); after = T_DATAXFER } ∷
     record { worker = 0; act = act.Begin (call.TSndV (record { 0 = 3 }) ((codes "x") ∷ []) 0); outcome = Done (Look T_DISCONNECT); after = T_DATAXFER } ∷
     record { worker = 0; act = act.Begin (call.TRcvDis (record { 0 = 3 }) 64); outcome = Done (Discon 4 (record { 0 = 0 }) (codes "bye")); after = T_IDLE } ∷
-    record { worker = 0; act = act.Begin (call.TOpen Ticotsord false); outcome = Done (Opened (record { 0 = 5 })); after = T_UNBND } ∷
-    record { worker = 0; act = act.Begin (call.TBind (record { 0 = 5 }) (codes "m") 1 64); outcome = Done (Bound (codes "m") 1); after = T_IDLE } ∷
-    record { worker = 0; act = act.Begin (call.TOpen Ticotsord true); outcome = Done (Opened (record { 0 = 6 })); after = T_UNBND } ∷
-    record { worker = 0; act = act.Begin (call.TBind (record { 0 = 6 }) [] 0 64); outcome = Done (Bound (codes "#0") 0); after = T_IDLE } ∷
-    record { worker = 0; act = act.Begin (call.TConnect (record { 0 = 6 }) (codes "m") [] [] 64 256 64); outcome = Done (Refused TNODATA); after = T_OUTCON } ∷
-    record { worker = 0; act = act.Begin (call.TListen (record { 0 = 5 }) 64 256 64); outcome = Done (Listened (record { 0 = 1 }) (codes "#0") [] []); after = T_INCON } ∷
-    record { worker = 0; act = act.Begin (call.TOpen Ticotsord false); outcome = Done (Opened (record { 0 = 7 })); after = T_UNBND } ∷
-    record { worker = 0; act = act.Begin (call.TAccept (record { 0 = 5 }) (record { 0 = 7 }) (record { 0 = 1 }) [] []); outcome = Done Plain; after = T_IDLE } ∷
-    record { worker = 0; act = act.Begin (call.TRcvConnect (record { 0 = 6 }) 64 256 64); outcome = Done (Connected (codes "m") [] []); after = T_DATAXFER } ∷
-    record { worker = 0; act = act.Begin (call.TSnd (record { 0 = 6 }) [] 0); outcome = Done (Refused TBADDATA); after = T_DATAXFER } ∷
-    record { worker = 0; act = act.Begin (call.TSndV (record { 0 = 6 }) ([] ∷ []) 0); outcome = Done (Refused TBADDATA); after = T_DATAXFER } ∷
-    record { worker = 0; act = act.Begin (call.SetMode (record { 0 = 7 }) true); outcome = Done Plain; after = T_DATAXFER } ∷
-    record { worker = 0; act = act.Begin (call.TSnd (record { 0 = 7 }) (codes "abcd") 0); outcome = Done (Sent 4); after = T_DATAXFER } ∷
-    record { worker = 0; act = act.Begin (call.TSndRel (record { 0 = 6 })); outcome = Done Plain; after = T_OUTREL } ∷
-    record { worker = 0; act = act.Begin (call.TSnd (record { 0 = 6 }) (codes "x") 0); outcome = Done (Refused TOUTSTATE); after = T_OUTREL } ∷
-    record { worker = 0; act = act.Begin (call.TSnd (record { 0 = 7 }) (codes "x") 0); outcome = Done (Look T_ORDREL); after = T_DATAXFER } ∷
-    record { worker = 0; act = act.Begin (call.TSndV (record { 0 = 7 }) ((codes "x") ∷ []) 0); outcome = Done (Look T_ORDREL); after = T_DATAXFER } ∷
+    record { worker = 0; act = act.Begin (call.TOpen Ticots false); outcome = Done (Opened (record { 0 = 5 })); after = T_UNBND } ∷
+    record { worker = 0; act = act.Begin (call.TConnect (record { 0 = 3 }) (codes "l") [] [] 64 256 64); outcome = Done (Refused TNODATA); after = T_OUTCON } ∷
+    record { worker = 0; act = act.Begin (call.TListen (record { 0 = 2 }) 64 256 64); outcome = Done (Listened (record { 0 = 2 }) (codes "#0") [] []); after = T_INCON } ∷
+    record { worker = 0; act = act.Begin (call.TAccept (record { 0 = 2 }) (record { 0 = 5 }) (record { 0 = 2 }) [] []); outcome = Done Plain; after = T_IDLE } ∷
+    record { worker = 0; act = act.Begin (call.TRcvConnect (record { 0 = 3 }) 64 256 64); outcome = Done (Connected (codes "l") [] []); after = T_DATAXFER } ∷
+    record { worker = 0; act = act.Begin (call.TSnd (record { 0 = 3 }) (codes "12345678") 0); outcome = Done (Sent 4); after = T_DATAXFER } ∷
+    record { worker = 0; act = act.Begin (call.TRcv (record { 0 = 5 }) 65536); outcome = Done (Got (codes "1234") 1); after = T_DATAXFER } ∷
+    record { worker = 0; act = act.Begin (call.TOpen Ticotsord false); outcome = Done (Opened (record { 0 = 6 })); after = T_UNBND } ∷
+    record { worker = 0; act = act.Begin (call.TBind (record { 0 = 6 }) (codes "m") 1 64); outcome = Done (Bound (codes "m") 1); after = T_IDLE } ∷
+    record { worker = 0; act = act.Begin (call.TOpen Ticotsord true); outcome = Done (Opened (record { 0 = 7 })); after = T_UNBND } ∷
+    record { worker = 0; act = act.Begin (call.TBind (record { 0 = 7 }) [] 0 64); outcome = Done (Bound (codes "#0") 0); after = T_IDLE } ∷
+    record { worker = 0; act = act.Begin (call.TConnect (record { 0 = 7 }) (codes "m") [] [] 64 256 64); outcome = Done (Refused TNODATA); after = T_OUTCON } ∷
+    record { worker = 0; act = act.Begin (call.TListen (record { 0 = 6 }) 64 256 64); outcome = Done (Listened (record { 0 = 1 }) (codes "#0") [] []); after = T_INCON } ∷
+    record { worker = 0; act = act.Begin (call.TOpen Ticotsord false); outcome = Done (Opened (record { 0 = 8 })); after = T_UNBND } ∷
+    record { worker = 0; act = act.Begin (call.TAccept (record { 0 = 6 }) (record { 0 = 8 }) (record { 0 = 1 }) [] []); outcome = Done Plain; after = T_IDLE } ∷
+    record { worker = 0; act = act.Begin (call.TRcvConnect (record { 0 = 7 }) 64 256 64); outcome = Done (Connected (codes "m") [] []); after = T_DATAXFER } ∷
     record { worker = 0; act = act.Begin (call.TSnd (record { 0 = 7 }) [] 0); outcome = Done (Refused TBADDATA); after = T_DATAXFER } ∷
-    record { worker = 0; act = act.Begin (call.TRcvRel (record { 0 = 7 })); outcome = Done Plain; after = T_INREL } ∷
-    record { worker = 0; act = act.Begin (call.TRcv (record { 0 = 6 }) 65536); outcome = Done (Got (codes "abcd") 0); after = T_OUTREL } ∷
-    record { worker = 0; act = act.Begin (call.TSnd (record { 0 = 7 }) (codes "on") 0); outcome = Done (Sent 2); after = T_INREL } ∷
-    record { worker = 0; act = act.Begin (call.TRcv (record { 0 = 6 }) 65536); outcome = Done (Got (codes "on") 0); after = T_OUTREL } ∷
+    record { worker = 0; act = act.Begin (call.TSndV (record { 0 = 7 }) ([] ∷ []) 0); outcome = Done (Refused TBADDATA); after = T_DATAXFER } ∷
+    record { worker = 0; act = act.Begin (call.SetMode (record { 0 = 8 }) true); outcome = Done Plain; after = T_DATAXFER } ∷
+    record { worker = 0; act = act.Begin (call.TSnd (record { 0 = 8 }) (codes "abcd") 0); outcome = Done (Sent 4); after = T_DATAXFER } ∷
+    record { worker = 0; act = act.Begin (call.TSndRel (record { 0 = 7 })); outcome = Done Plain; after = T_OUTREL } ∷
+    record { worker = 0; act = act.Begin (call.TSnd (record { 0 = 7 }) (codes "x") 0); outcome = Done (Refused TOUTSTATE); after = T_OUTREL } ∷
+    record { worker = 0; act = act.Begin (call.TSnd (record { 0 = 8 }) (codes "x") 0); outcome = Done (Look T_ORDREL); after = T_DATAXFER } ∷
+    record { worker = 0; act = act.Begin (call.TSndV (record { 0 = 8 }) ((codes "x") ∷ []) 0); outcome = Done (Look T_ORDREL); after = T_DATAXFER } ∷
+    record { worker = 0; act = act.Begin (call.TSnd (record { 0 = 8 }) [] 0); outcome = Done (Refused TBADDATA); after = T_DATAXFER } ∷
+    record { worker = 0; act = act.Begin (call.TRcvRel (record { 0 = 8 })); outcome = Done Plain; after = T_INREL } ∷
+    record { worker = 0; act = act.Begin (call.TRcv (record { 0 = 7 }) 65536); outcome = Done (Got (codes "abcd") 0); after = T_OUTREL } ∷
+    record { worker = 0; act = act.Begin (call.TSnd (record { 0 = 8 }) (codes "on") 0); outcome = Done (Sent 2); after = T_INREL } ∷
+    record { worker = 0; act = act.Begin (call.TRcv (record { 0 = 7 }) 65536); outcome = Done (Got (codes "on") 0); after = T_OUTREL } ∷
     []
 
 the_history : robin (record { providers = providers; lines = lines }) ≡ entries
