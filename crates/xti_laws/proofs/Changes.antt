@@ -1,6 +1,6 @@
 -- Each change that a call may make is one of the named kinds.
 use Rattle.std.proofs.Common.{ℕ, Bool, true, false, List, [], ◌∷◌, ◌++◌, Option, Some, None, map, cond, not}
-use Rattle.std.specs.Prelude.{length, sum, ◌+◌, ◌-◌, option_and_then}
+use Rattle.std.specs.Prelude.{nat_lt, length, sum, ◌+◌, ◌-◌, option_and_then}
 use Rattle.std.specs.List.{concat}
 use Rattle.xti_model.specs.declared.call.Call.{Call}
 use Rattle.xti_model.specs.declared.call.Call.TheVariants as call
@@ -29,7 +29,7 @@ use Rattle.xti_model.specs.Calls.Release as Release
 use Rattle.xti_model.specs.Calls.Datagrams as Datagrams
 use Rattle.xti_model.specs.Calls.Show as Show
 use Rattle.xti_model.specs.Provider.{profile}
-use Rattle.xti_laws.specs.Updates.{Update, AllKinds, PlanKinds, updates, updates_peer, opens, closes, switches, binds, unbinds, is_asked, is_asking, is_turned_away, confirms, listens, loses_indication, binds_like, responds, is_accepted, marks_flow, sends, gets_symbols, reads, breaks, takes_back, is_given_up, is_rejected, idles, reads_disconnect, is_released, releases, reads_release, marks_datagram, gets_datagram, gets_error, reads_datagram, drops_datagram, reads_error, is_shown, changes_mode, changes_settings}
+use Rattle.xti_laws.specs.Updates.{Update, SwitchUpdate, gives_address, gives_up_address, marks_open, forgets, AllKinds, PlanKinds, updates, updates_peer, opens, closes, switches, binds, unbinds, is_asked, is_asking, is_turned_away, confirms, listens, loses_indication, binds_like, responds, is_accepted, marks_flow, sends, gets_symbols, reads, breaks, takes_back, is_given_up, is_rejected, idles, reads_disconnect, is_released, releases, reads_release, marks_datagram, gets_datagram, gets_error, reads_datagram, drops_datagram, reads_error, is_shown, changes_mode, changes_settings}
 
 -- Each change that a call may make is one of a few kinds.
 
@@ -69,14 +69,14 @@ callers-kinds fd (i ∷ is) = (updates i.caller (Close.given_up fd i.number) (is
 close-changes : (p : Providers) (fd : ℕ) (e : Endpoint) → AllKinds (Close.changes p fd e)
 close-changes p fd e = append-kinds (break fd e 5 [] ++ map (Close.give_up_caller fd) (e.pending ++ e.outstanding)) (Close.closing p fd)
     (append-kinds (break fd e 5 []) (map (Close.give_up_caller fd) (e.pending ++ e.outstanding)) (break-kinds fd e 5 []) (callers-kinds fd (e.pending ++ e.outstanding)))
-    (closes fd, (switches (Close.forget p fd), tt))
+    (closes fd, (switches (Close.forget p fd) (forgets p fd), tt))
 
-two : (fd : ℕ) (f : Endpoint → Endpoint) (g : Switch → Switch) → Update f → AllKinds (at_endpoint fd f ∷ at_switch g ∷ []) × AllKinds [] × AllKinds (at_endpoint fd f ∷ at_switch g ∷ [])
-two fd f g k = ((updates fd f k, (switches g, tt)), tt, (updates fd f k, (switches g, tt)))
+two : (fd : ℕ) (f : Endpoint → Endpoint) (g : Switch → Switch) → Update f → SwitchUpdate g → AllKinds (at_endpoint fd f ∷ at_switch g ∷ []) × AllKinds [] × AllKinds (at_endpoint fd f ∷ at_switch g ∷ [])
+two fd f g k h = ((updates fd f k, (switches g h, tt)), tt, (updates fd f k, (switches g h, tt)))
 
 open-plan : (p : Providers) (s : Switch) (prov : Prov) (nonblock : Bool) (o : Option ℕ) → PlanKinds (Open.plan_where p s prov nonblock o)
 open-plan p s prov nonblock None = (tt, tt, tt)
-open-plan p s prov nonblock (Some n) = ((opens n (profile p prov) prov nonblock, (switches (mark_open n), tt)), tt, tt)
+open-plan p s prov nonblock (Some n) = ((opens n (profile p prov) prov nonblock, (switches (mark_open n) (marks_open n), tt)), tt, tt)
 
 reach-kinds : (fd l : ℕ) (options udata : List ℕ) (e le : Endpoint) → AllKinds (Connect.reach fd l options udata e le)
 reach-kinds fd l options udata e le = go (not (Connect.is_listening le)) (Connect.is_full le)
@@ -98,7 +98,7 @@ bind_like-kinds : (e : Endpoint) (resfd : ℕ) (r : Endpoint) → AllKinds (List
 bind_like-kinds e resfd r = go (is_state (T_UNBND ∷ []) r)
   where
     go : (b : Bool) → AllKinds (cond b (at_endpoint resfd (Listen.bound_like e) ∷ at_switch (give_address r.prov (address_of e) resfd false) ∷ []) [])
-    go true = (updates resfd (Listen.bound_like e) (binds_like e), (switches (give_address r.prov (address_of e) resfd false), tt))
+    go true = (updates resfd (Listen.bound_like e) (binds_like e), (switches (give_address r.prov (address_of e) resfd false) (gives_address r.prov (address_of e) resfd false), tt))
     go false = tt
 
 linking-kinds : (resfd : ℕ) (i : Indication) (address options udata : List ℕ) → AllKinds (Listen.linking resfd i address options udata)
@@ -149,8 +149,8 @@ pub plan-kinds : (p : Providers) (w : World) (c : Call) (g : Go) → PlanKinds (
 unfolding plan
 plan-kinds p w (call.TOpen prov nonblock) g = open-plan p (the_switch p w) prov nonblock (opening_place p (the_switch p w) prov)
 plan-kinds p w (call.TClose fd) g = on_open-kinds p w fd.0 _ (λ e. both (Close.changes p fd.0 e) (close-changes p fd.0 e))
-plan-kinds p w (call.TBind fd addr qlen amax) g = on_open-kinds p w fd.0 _ (λ e. two fd.0 (Bind.bound_to (chosen (the_switch p w) e.prov addr) (Bind.queue e.prov qlen)) _ (binds (chosen (the_switch p w) e.prov addr) qlen e.prov))
-plan-kinds p w (call.TUnbind fd) g = on_open-kinds p w fd.0 _ (λ e. two fd.0 Bind.unbound (give_up_address fd.0) unbinds)
+plan-kinds p w (call.TBind fd addr qlen amax) g = on_open-kinds p w fd.0 _ (λ e. two fd.0 (Bind.bound_to (chosen (the_switch p w) e.prov addr) (Bind.queue e.prov qlen)) _ (binds (chosen (the_switch p w) e.prov addr) qlen e.prov) (gives_address e.prov (chosen (the_switch p w) e.prov addr) fd.0 (nat_lt 0 (Bind.queue e.prov qlen))))
+plan-kinds p w (call.TUnbind fd) g = on_open-kinds p w fd.0 _ (λ e. two fd.0 Bind.unbound (give_up_address fd.0) unbinds (gives_up_address fd.0))
 plan-kinds p w (call.TConnect fd addr opt udata amax omax umax) g = connect-kinds p w fd.0 addr opt udata amax omax umax g
 plan-kinds p w (call.TRcvConnect fd amax omax umax) g = on_open-kinds p w fd.0 _ (λ e. one fd.0 Connect.confirmed confirms)
 plan-kinds p w (call.TListen fd amax omax umax) g = on_open-kinds p w fd.0 _ (λ e. one fd.0 Listen.listened listens)

@@ -86,8 +86,8 @@ cell-begun fd p f k (endpoint_cell g (Some e)) h = go (eqb g (generation_of p fd
 kind-begun : (p : Providers) → Keeps p (λ cell. is_initialised_cell cell ≡ true)
 kind-begun p c (updates fd f u) x h = cell-begun fd p f (update-begun f u) x h
 kind-begun p c (updates_peer fd peer f u) x h = cell-begun peer p (if_names fd f) (named-begun fd f (update-begun f u)) x h
-kind-begun p c (switches f) (endpoint_cell g body) h = h
-kind-begun p c (switches f) (switch_cell s) h = refl
+kind-begun p c (switches f u) (endpoint_cell g body) h = h
+kind-begun p c (switches f u) (switch_cell s) h = refl
 kind-begun p c (opens place profile prov nonblock) (endpoint_cell g None) h = refl
 kind-begun p c (opens place profile prov nonblock) (endpoint_cell g (Some e)) h = h
 kind-begun p c (opens place profile prov nonblock) (switch_cell s) h = refl

@@ -17,6 +17,7 @@ mod TableWalk
 mod Initialised
 mod TouchedCells
 mod TouchedAgain
+mod KnownPlaces
 mod Blocking
 mod Waiting
 mod Arguments

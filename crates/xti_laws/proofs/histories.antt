@@ -2,6 +2,7 @@ mod AbortWithUnreadData
 mod AcceptWithTwoIndications
 mod BlockingSendInTwoSteps
 mod ExpeditedAndNormalDataWithMore
+mod FlowMarksAndTheirEvents
 mod MoreEndpointsThanPlaces
 mod OptionNegotiation
 mod OrderlyReleaseBothWays
@@ -17,4 +18,5 @@ mod RefusalsOfReceives
 mod RefusalsOfReleases
 mod RefusalsOfSecondStepsOfConnect
 mod RefusalsOfSends
+mod RequestsThatAreGivenUp
 mod ServerAndThreeClients

@@ -7,6 +7,7 @@ use Rattle.xti_model.specs.declared.profile.Profile.{Profile}
 use Rattle.xti_model.specs.declared.profile.Providers.{Providers}
 use Rattle.xti_model.specs.Endpoint.{Endpoint, Datagram, DatagramError, Indication, opened}
 use Rattle.xti_model.specs.World.{Change, Switch, at_endpoint, at_switch, opens_place, closes_endpoint}
+use Rattle.xti_model.specs.Switch.{give_address, give_up_address, mark_open}
 use Rattle.xti_model.specs.Links.{broken, taken_back, if_names}
 use Rattle.xti_model.specs.Plan.{Plan}
 use Rattle.xti_model.specs.Calls.Close as Close
@@ -63,13 +64,20 @@ pub data Update : (Endpoint → Endpoint) → Type 0 where
   changes_mode : (nonblock : Bool) → Update (Show.in_mode nonblock)
   changes_settings : (s : Settings) → Update (Show.with_settings s)
 
--- a change is an update of an endpoint, or of one that names the call's endpoint as its peer; a place opens or closes; or the switch changes
+-- what a call may do to the switch
+pub data SwitchUpdate : (Switch → Switch) → Type 0 where
+  gives_address : (prov : Prov) (address : List ℕ) (fd : ℕ) (listening : Bool) → SwitchUpdate (give_address prov address fd listening)
+  gives_up_address : (fd : ℕ) → SwitchUpdate (give_up_address fd)
+  marks_open : (place : ℕ) → SwitchUpdate (mark_open place)
+  forgets : (p : Providers) (fd : ℕ) → SwitchUpdate (Close.forget p fd)
+
+-- a change is an update of an endpoint, or of one that names the call's endpoint as its peer; a place opens or closes; or it is an update of the switch
 pub data Kind : Change → Type 0 where
   updates : (fd : ℕ) (f : Endpoint → Endpoint) → Update f → Kind (at_endpoint fd f)
   updates_peer : (fd peer : ℕ) (f : Endpoint → Endpoint) → Update f → Kind (at_endpoint peer (if_names fd f))
   opens : (place : ℕ) (profile : Profile) (prov : Prov) (nonblock : Bool) → Kind (opens_place place (opened profile prov nonblock))
   closes : (fd : ℕ) → Kind (closes_endpoint fd)
-  switches : (f : Switch → Switch) → Kind (at_switch f)
+  switches : (f : Switch → Switch) → SwitchUpdate f → Kind (at_switch f)
 
 abbrev pub AllKinds : List Change → Type 0
 AllKinds [] = Unit

@@ -35,28 +35,33 @@ lines =
     record { worker = 0; call = named.TAccept (codes "z") (codes "l") (codes "q") [] [] } ∷
     record { worker = 0; call = named.TAccept (codes "l") (codes "z") (codes "q") [] [] } ∷
     record { worker = 0; call = named.TOpen (codes "u") Ticlts false } ∷
+    record { worker = 0; call = named.TAccept (codes "u") (codes "z") (codes "q") [] [] } ∷
     record { worker = 0; call = named.TAccept (codes "u") (codes "l") (codes "q") [] [] } ∷
     record { worker = 0; call = named.TOpen (codes "r") Ticots true } ∷
-    record { worker = 0; call = named.TAccept (codes "r") (codes "l") (codes "q") [] [] } ∷
-    record { worker = 0; call = named.TOpen (codes "o") Ticotsord false } ∷
+    record { worker = 0; call = named.TOpen (codes "o") Ticotsord true } ∷
+    record { worker = 0; call = named.TAccept (codes "r") (codes "o") (codes "q") [] [] } ∷
+    record { worker = 0; call = named.TBind (codes "o") [] 0 64 } ∷
+    record { worker = 0; call = named.TConnect (codes "o") (codes "none") [] [] 64 256 64 } ∷
     record { worker = 0; call = named.TAccept (codes "l") (codes "o") (codes "q") [] [] } ∷
-    record { worker = 0; call = named.TAccept (codes "l") (codes "c") (codes "q") [] [] } ∷
     record { worker = 0; call = named.TListen (codes "l") (codes "p") 64 256 64 } ∷
-    record { worker = 0; call = named.TAccept (codes "l") (codes "r") (codes "p") [] [] } ∷
+    record { worker = 0; call = named.TAccept (codes "l") (codes "c") (codes "p") [] [] } ∷
+    record { worker = 0; call = named.TOpen (codes "k") Ticots false } ∷
+    record { worker = 0; call = named.TBind (codes "k") (codes "k") 1 64 } ∷
+    record { worker = 0; call = named.TAccept (codes "l") (codes "k") (codes "p") [] [] } ∷
+    record { worker = 0; call = named.TAccept (codes "l") (codes "r") (codes "p") (0 ∷ []) [] } ∷
     record { worker = 0; call = named.TOpen (codes "d") Ticots true } ∷
     record { worker = 0; call = named.TBind (codes "d") [] 0 64 } ∷
     record { worker = 0; call = named.TConnect (codes "d") (codes "l") [] [] 64 256 64 } ∷
+    record { worker = 0; call = named.TAccept (codes "l") (codes "r") (codes "q") [] (0 ∷ 1 ∷ 2 ∷ 3 ∷ 4 ∷ 5 ∷ 6 ∷ 7 ∷ 8 ∷ 9 ∷ 10 ∷ 11 ∷ 12 ∷ 13 ∷ 14 ∷ 15 ∷ 16 ∷ 17 ∷ 18 ∷ 19 ∷ 20 ∷ 21 ∷ 22 ∷ 23 ∷ 24 ∷ 25 ∷ 26 ∷ 27 ∷ 28 ∷ 29 ∷ 30 ∷ 31 ∷ 32 ∷ 33 ∷ 34 ∷ 35 ∷ 36 ∷ 37 ∷ 38 ∷ 39 ∷ 40 ∷ 41 ∷ 42 ∷ 43 ∷ 44 ∷ 45 ∷ 46 ∷ 47 ∷ 48 ∷ 49 ∷ 50 ∷ 51 ∷ 52 ∷ 53 ∷ 54 ∷ 55 ∷ 56 ∷ 57 ∷ 58 ∷ 59 ∷ 60 ∷ 61 ∷ 62 ∷ 63 ∷ 64 ∷ []) } ∷
     record { worker = 0; call = named.TAccept (codes "l") (codes "r") (codes "q") [] [] } ∷
     record { worker = 0; call = named.TListen (codes "l") (codes "s") 64 256 64 } ∷
-    record { worker = 0; call = named.TAccept (codes "l") (codes "l") (codes "q") [] [] } ∷
-    record { worker = 0; call = named.TOpen (codes "k") Ticots false } ∷
-    record { worker = 0; call = named.TBind (codes "k") (codes "k") 1 64 } ∷
+    record { worker = 0; call = named.TAccept (codes "l") (codes "l") (codes "p") [] [] } ∷
+    record { worker = 0; call = named.TAccept (codes "l") (codes "l") (codes "q") (0 ∷ []) [] } ∷
     record { worker = 0; call = named.TAccept (codes "l") (codes "k") (codes "q") [] [] } ∷
     record { worker = 0; call = named.TOpen (codes "e") Ticots false } ∷
     record { worker = 0; call = named.TBind (codes "e") (codes "e") 0 64 } ∷
-    record { worker = 0; call = named.TAccept (codes "l") (codes "e") (codes "q") [] [] } ∷
-    record { worker = 0; call = named.TAccept (codes "l") (codes "r") (codes "q") (0 ∷ []) [] } ∷
-    record { worker = 0; call = named.TAccept (codes "l") (codes "r") (codes "q") [] (0 ∷ 1 ∷ 2 ∷ 3 ∷ 4 ∷ 5 ∷ 6 ∷ 7 ∷ 8 ∷ 9 ∷ 10 ∷ 11 ∷ 12 ∷ 13 ∷ 14 ∷ 15 ∷ 16 ∷ 17 ∷ 18 ∷ 19 ∷ 20 ∷ 21 ∷ 22 ∷ 23 ∷ 24 ∷ 25 ∷ 26 ∷ 27 ∷ 28 ∷ 29 ∷ 30 ∷ 31 ∷ 32 ∷ 33 ∷ 34 ∷ 35 ∷ 36 ∷ 37 ∷ 38 ∷ 39 ∷ 40 ∷ 41 ∷ 42 ∷ 43 ∷ 44 ∷ 45 ∷ 46 ∷ 47 ∷ 48 ∷ 49 ∷ 50 ∷ 51 ∷ 52 ∷ 53 ∷ 54 ∷ 55 ∷ 56 ∷ 57 ∷ 58 ∷ 59 ∷ 60 ∷ 61 ∷ 62 ∷ 63 ∷ 64 ∷ []) } ∷
+    record { worker = 0; call = named.TAccept (codes "l") (codes "e") (codes "q") (0 ∷ []) [] } ∷
+    record { worker = 0; call = named.TAccept (codes "l") (codes "r") (codes "q") (0 ∷ []) (0 ∷ 1 ∷ 2 ∷ 3 ∷ 4 ∷ 5 ∷ 6 ∷ 7 ∷ 8 ∷ 9 ∷ 10 ∷ 11 ∷ 12 ∷ 13 ∷ 14 ∷ 15 ∷ 16 ∷ 17 ∷ 18 ∷ 19 ∷ 20 ∷ 21 ∷ 22 ∷ 23 ∷ 24 ∷ 25 ∷ 26 ∷ 27 ∷ 28 ∷ 29 ∷ 30 ∷ 31 ∷ 32 ∷ 33 ∷ 34 ∷ 35 ∷ 36 ∷ 37 ∷ 38 ∷ 39 ∷ 40 ∷ 41 ∷ 42 ∷ 43 ∷ 44 ∷ 45 ∷ 46 ∷ 47 ∷ 48 ∷ 49 ∷ 50 ∷ 51 ∷ 52 ∷ 53 ∷ 54 ∷ 55 ∷ 56 ∷ 57 ∷ 58 ∷ 59 ∷ 60 ∷ 61 ∷ 62 ∷ 63 ∷ 64 ∷ []) } ∷
     record { worker = 0; call = named.TClose (codes "c") } ∷
     record { worker = 0; call = named.TAccept (codes "l") (codes "r") (codes "s") [] [] } ∷
     record { worker = 0; call = named.TRcvDis (codes "l") 64 } ∷
@@ -77,33 +82,38 @@ entries =
     record { worker = 0; act = act.Begin (call.TAccept (record { 0 = 0 }) (record { 0 = 64 }) (record { 0 = 1 }) [] []); outcome = Done (Refused TBADF); after = T_UNINIT } ∷
     record { worker = 0; act = act.Begin (call.TAccept (record { 0 = 64 }) (record { 0 = 0 }) (record { 0 = 1 }) [] []); outcome = Done (Refused TBADF); after = T_INCON } ∷
     record { worker = 0; act = act.Begin (call.TOpen Ticlts false); outcome = Done (Opened (record { 0 = 2 })); after = T_UNBND } ∷
+    record { worker = 0; act = act.Begin (call.TAccept (record { 0 = 2 }) (record { 0 = 0 }) (record { 0 = 1 }) [] []); outcome = Done (Refused TBADF); after = T_UNBND } ∷
     record { worker = 0; act = act.Begin (call.TAccept (record { 0 = 2 }) (record { 0 = 64 }) (record { 0 = 1 }) [] []); outcome = Done (Refused TNOTSUPPORT); after = T_UNBND } ∷
     record { worker = 0; act = act.Begin (call.TOpen Ticots true); outcome = Done (Opened (record { 0 = 3 })); after = T_UNBND } ∷
-    record { worker = 0; act = act.Begin (call.TAccept (record { 0 = 3 }) (record { 0 = 64 }) (record { 0 = 1 }) [] []); outcome = Done (Refused TOUTSTATE); after = T_UNBND } ∷
-    record { worker = 0; act = act.Begin (call.TOpen Ticotsord false); outcome = Done (Opened (record { 0 = 4 })); after = T_UNBND } ∷
+    record { worker = 0; act = act.Begin (call.TOpen Ticotsord true); outcome = Done (Opened (record { 0 = 4 })); after = T_UNBND } ∷
+    record { worker = 0; act = act.Begin (call.TAccept (record { 0 = 3 }) (record { 0 = 4 }) (record { 0 = 1 }) [] []); outcome = Done (Refused TOUTSTATE); after = T_UNBND } ∷
+    record { worker = 0; act = act.Begin (call.TBind (record { 0 = 4 }) [] 0 64); outcome = Done (Bound (codes "#0") 0); after = T_IDLE } ∷
+    record { worker = 0; act = act.Begin (call.TConnect (record { 0 = 4 }) (codes "none") [] [] 64 256 64); outcome = Done (Refused TNODATA); after = T_OUTCON } ∷
     record { worker = 0; act = act.Begin (call.TAccept (record { 0 = 64 }) (record { 0 = 4 }) (record { 0 = 1 }) [] []); outcome = Done (Refused TPROVMISMATCH); after = T_INCON } ∷
-    record { worker = 0; act = act.Begin (call.TAccept (record { 0 = 64 }) (record { 0 = 1 }) (record { 0 = 1 }) [] []); outcome = Done (Refused TOUTSTATE); after = T_INCON } ∷
     record { worker = 0; act = act.Begin (call.TListen (record { 0 = 64 }) 64 256 64); outcome = Done (Refused TNODATA); after = T_INCON } ∷
-    record { worker = 0; act = act.Begin (call.TAccept (record { 0 = 64 }) (record { 0 = 3 }) (record { 0 = 0 }) [] []); outcome = Done (Refused TBADSEQ); after = T_INCON } ∷
-    record { worker = 0; act = act.Begin (call.TOpen Ticots true); outcome = Done (Opened (record { 0 = 5 })); after = T_UNBND } ∷
-    record { worker = 0; act = act.Begin (call.TBind (record { 0 = 5 }) [] 0 64); outcome = Done (Bound (codes "#1") 0); after = T_IDLE } ∷
-    record { worker = 0; act = act.Begin (call.TConnect (record { 0 = 5 }) (codes "l") [] [] 64 256 64); outcome = Done (Refused TNODATA); after = T_OUTCON } ∷
+    record { worker = 0; act = act.Begin (call.TAccept (record { 0 = 64 }) (record { 0 = 1 }) (record { 0 = 0 }) [] []); outcome = Done (Refused TOUTSTATE); after = T_INCON } ∷
+    record { worker = 0; act = act.Begin (call.TOpen Ticots false); outcome = Done (Opened (record { 0 = 5 })); after = T_UNBND } ∷
+    record { worker = 0; act = act.Begin (call.TBind (record { 0 = 5 }) (codes "k") 1 64); outcome = Done (Bound (codes "k") 1); after = T_IDLE } ∷
+    record { worker = 0; act = act.Begin (call.TAccept (record { 0 = 64 }) (record { 0 = 5 }) (record { 0 = 0 }) [] []); outcome = Done (Refused TBADSEQ); after = T_INCON } ∷
+    record { worker = 0; act = act.Begin (call.TAccept (record { 0 = 64 }) (record { 0 = 3 }) (record { 0 = 0 }) (0 ∷ []) []); outcome = Done (Refused TBADSEQ); after = T_INCON } ∷
+    record { worker = 0; act = act.Begin (call.TOpen Ticots true); outcome = Done (Opened (record { 0 = 6 })); after = T_UNBND } ∷
+    record { worker = 0; act = act.Begin (call.TBind (record { 0 = 6 }) [] 0 64); outcome = Done (Bound (codes "#1") 0); after = T_IDLE } ∷
+    record { worker = 0; act = act.Begin (call.TConnect (record { 0 = 6 }) (codes "l") [] [] 64 256 64); outcome = Done (Refused TNODATA); after = T_OUTCON } ∷
+    record { worker = 0; act = act.Begin (call.TAccept (record { 0 = 64 }) (record { 0 = 3 }) (record { 0 = 1 }) [] (0 ∷ 1 ∷ 2 ∷ 3 ∷ 4 ∷ 5 ∷ 6 ∷ 7 ∷ 8 ∷ 9 ∷ 10 ∷ 11 ∷ 12 ∷ 13 ∷ 14 ∷ 15 ∷ 16 ∷ 17 ∷ 18 ∷ 19 ∷ 20 ∷ 21 ∷ 22 ∷ 23 ∷ 24 ∷ 25 ∷ 26 ∷ 27 ∷ 28 ∷ 29 ∷ 30 ∷ 31 ∷ 32 ∷ 33 ∷ 34 ∷ 35 ∷ 36 ∷ 37 ∷ 38 ∷ 39 ∷ 40 ∷ 41 ∷ 42 ∷ 43 ∷ 44 ∷ 45 ∷ 46 ∷ 47 ∷ 48 ∷ 49 ∷ 50 ∷ 51 ∷ 52 ∷ 53 ∷ 54 ∷ 55 ∷ 56 ∷ 57 ∷ 58 ∷ 59 ∷ 60 ∷ 61 ∷ 62 ∷ 63 ∷ 64 ∷ [])); outcome = Done (Refused TBADDATA); after = T_INCON } ∷
     record { worker = 0; act = act.Begin (call.TAccept (record { 0 = 64 }) (record { 0 = 3 }) (record { 0 = 1 }) [] []); outcome = Done (Look T_LISTEN); after = T_INCON } ∷
     record { worker = 0; act = act.Begin (call.TListen (record { 0 = 64 }) 64 256 64); outcome = Done (Listened (record { 0 = 2 }) (codes "#1") [] []); after = T_INCON } ∷
-    record { worker = 0; act = act.Begin (call.TAccept (record { 0 = 64 }) (record { 0 = 64 }) (record { 0 = 1 }) [] []); outcome = Done (Refused TINDOUT); after = T_INCON } ∷
-    record { worker = 0; act = act.Begin (call.TOpen Ticots false); outcome = Done (Opened (record { 0 = 6 })); after = T_UNBND } ∷
-    record { worker = 0; act = act.Begin (call.TBind (record { 0 = 6 }) (codes "k") 1 64); outcome = Done (Bound (codes "k") 1); after = T_IDLE } ∷
-    record { worker = 0; act = act.Begin (call.TAccept (record { 0 = 64 }) (record { 0 = 6 }) (record { 0 = 1 }) [] []); outcome = Done (Refused TRESQLEN); after = T_INCON } ∷
+    record { worker = 0; act = act.Begin (call.TAccept (record { 0 = 64 }) (record { 0 = 64 }) (record { 0 = 0 }) [] []); outcome = Done (Refused TBADSEQ); after = T_INCON } ∷
+    record { worker = 0; act = act.Begin (call.TAccept (record { 0 = 64 }) (record { 0 = 64 }) (record { 0 = 1 }) (0 ∷ []) []); outcome = Done (Refused TINDOUT); after = T_INCON } ∷
+    record { worker = 0; act = act.Begin (call.TAccept (record { 0 = 64 }) (record { 0 = 5 }) (record { 0 = 1 }) [] []); outcome = Done (Refused TRESQLEN); after = T_INCON } ∷
     record { worker = 0; act = act.Begin (call.TOpen Ticots false); outcome = Done (Opened (record { 0 = 7 })); after = T_UNBND } ∷
     record { worker = 0; act = act.Begin (call.TBind (record { 0 = 7 }) (codes "e") 0 64); outcome = Done (Bound (codes "e") 0); after = T_IDLE } ∷
-    record { worker = 0; act = act.Begin (call.TAccept (record { 0 = 64 }) (record { 0 = 7 }) (record { 0 = 1 }) [] []); outcome = Done (Refused TRESADDR); after = T_INCON } ∷
-    record { worker = 0; act = act.Begin (call.TAccept (record { 0 = 64 }) (record { 0 = 3 }) (record { 0 = 1 }) (0 ∷ []) []); outcome = Done (Refused TBADOPT); after = T_INCON } ∷
-    record { worker = 0; act = act.Begin (call.TAccept (record { 0 = 64 }) (record { 0 = 3 }) (record { 0 = 1 }) [] (0 ∷ 1 ∷ 2 ∷ 3 ∷ 4 ∷ 5 ∷ 6 ∷ 7 ∷ 8 ∷ 9 ∷ 10 ∷ 11 ∷ 12 ∷ 13 ∷ 14 ∷ 15 ∷ 16 ∷ 17 ∷ 18 ∷ 19 ∷ 20 ∷ 21 ∷ 22 ∷ 23 ∷ 24 ∷ 25 ∷ 26 ∷ 27 ∷ 28 ∷ 29 ∷ 30 ∷ 31 ∷ 32 ∷ 33 ∷ 34 ∷ 35 ∷ 36 ∷ 37 ∷ 38 ∷ 39 ∷ 40 ∷ 41 ∷ 42 ∷ 43 ∷ 44 ∷ 45 ∷ 46 ∷ 47 ∷ 48 ∷ 49 ∷ 50 ∷ 51 ∷ 52 ∷ 53 ∷ 54 ∷ 55 ∷ 56 ∷ 57 ∷ 58 ∷ 59 ∷ 60 ∷ 61 ∷ 62 ∷ 63 ∷ 64 ∷ [])); outcome = Done (Refused TBADDATA); after = T_INCON } ∷
+    record { worker = 0; act = act.Begin (call.TAccept (record { 0 = 64 }) (record { 0 = 7 }) (record { 0 = 1 }) (0 ∷ []) []); outcome = Done (Refused TRESADDR); after = T_INCON } ∷
+    record { worker = 0; act = act.Begin (call.TAccept (record { 0 = 64 }) (record { 0 = 3 }) (record { 0 = 1 }) (0 ∷ []) (0 ∷ 1 ∷ 2 ∷ 3 ∷ 4 ∷ 5 ∷ 6 ∷ 7 ∷ 8 ∷ 9 ∷ 10 ∷ 11 ∷ 12 ∷ 13 ∷ 14 ∷ 15 ∷ 16 ∷ 17 ∷ 18 ∷ 19 ∷ 20 ∷ 21 ∷ 22 ∷ 23 ∷ 24 ∷ 25 ∷ 26 ∷ 27 ∷ 28 ∷ 29 ∷ 30 ∷ 31 ∷ 32 ∷ 33 ∷ 34 ∷ 35 ∷ 36 ∷ 37 ∷ 38 ∷ 39 ∷ 40 ∷ 41 ∷ 42 ∷ 43 ∷ 44 ∷ 45 ∷ 46 ∷ 47 ∷ 48 ∷ 49 ∷ 50 ∷ 51 ∷ 52 ∷ 53 ∷ 54 ∷ 55 ∷ 56 ∷ 57 ∷ 58 ∷ 59 ∷ 60 ∷ 61 ∷ 62 ∷ 63 ∷ 64 ∷ [])); outcome = Done (Refused TBADOPT); after = T_INCON } ∷
     record { worker = 0; act = act.Begin (call.TClose (record { 0 = 1 })); outcome = Done Plain; after = T_UNINIT } ∷
     record { worker = 0; act = act.Begin (call.TAccept (record { 0 = 64 }) (record { 0 = 3 }) (record { 0 = 2 }) [] []); outcome = Done (Look T_DISCONNECT); after = T_INCON } ∷
     record { worker = 0; act = act.Begin (call.TRcvDis (record { 0 = 64 }) 64); outcome = Done (Discon 5 (record { 0 = 1 }) []); after = T_INCON } ∷
     record { worker = 0; act = act.Begin (call.TAccept (record { 0 = 64 }) (record { 0 = 64 }) (record { 0 = 2 }) [] []); outcome = Done Plain; after = T_DATAXFER } ∷
-    record { worker = 0; act = act.Begin (call.TRcvConnect (record { 0 = 5 }) 64 256 64); outcome = Done (Connected (codes "l") [] []); after = T_DATAXFER } ∷
+    record { worker = 0; act = act.Begin (call.TRcvConnect (record { 0 = 6 }) 64 256 64); outcome = Done (Connected (codes "l") [] []); after = T_DATAXFER } ∷
     []
 
 the_history : robin (record { providers = providers; lines = lines }) ≡ entries

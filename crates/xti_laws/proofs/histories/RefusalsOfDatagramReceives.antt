@@ -35,7 +35,7 @@ lines =
     record { worker = 0; call = named.TRcvUDErr (codes "t") 64 256 } ∷
     record { worker = 0; call = named.TOpen (codes "a") Ticlts true } ∷
     record { worker = 0; call = named.TRcvUData (codes "a") 65536 64 256 } ∷
-    record { worker = 0; call = named.TRcvVUData (codes "a") (1 ∷ []) 64 256 } ∷
+    record { worker = 0; call = named.TRcvVUData (codes "a") (1 ∷ 1 ∷ 1 ∷ 1 ∷ 1 ∷ 1 ∷ 1 ∷ 1 ∷ 1 ∷ 1 ∷ 1 ∷ 1 ∷ 1 ∷ 1 ∷ 1 ∷ 1 ∷ 1 ∷ []) 64 256 } ∷
     record { worker = 0; call = named.TRcvUDErr (codes "a") 64 256 } ∷
     record { worker = 0; call = named.TBind (codes "a") (codes "aa") 0 64 } ∷
     record { worker = 0; call = named.TRcvUDErr (codes "a") 64 256 } ∷
@@ -43,6 +43,7 @@ lines =
     record { worker = 0; call = named.TRcvVUData (codes "a") (1 ∷ []) 64 256 } ∷
     record { worker = 0; call = named.TRcvVUData (codes "a") (1 ∷ 1 ∷ 1 ∷ 1 ∷ 1 ∷ 1 ∷ 1 ∷ 1 ∷ 1 ∷ 1 ∷ 1 ∷ 1 ∷ 1 ∷ 1 ∷ 1 ∷ 1 ∷ 1 ∷ []) 64 256 } ∷
     record { worker = 0; call = named.TSndUData (codes "a") (codes "nobody") [] (codes "x") } ∷
+    record { worker = 0; call = named.TRcvVUData (codes "a") (1 ∷ 1 ∷ 1 ∷ 1 ∷ 1 ∷ 1 ∷ 1 ∷ 1 ∷ 1 ∷ 1 ∷ 1 ∷ 1 ∷ 1 ∷ 1 ∷ 1 ∷ 1 ∷ 1 ∷ []) 64 256 } ∷
     record { worker = 0; call = named.TRcvUData (codes "a") 65536 64 256 } ∷
     record { worker = 0; call = named.TRcvVUData (codes "a") (1 ∷ []) 64 256 } ∷
     record { worker = 0; call = named.TRcvUDErr (codes "a") 1 256 } ∷
@@ -71,7 +72,7 @@ entries =
     record { worker = 0; act = act.Begin (call.TRcvUDErr (record { 0 = 64 }) 64 256); outcome = Done (Refused TNOTSUPPORT); after = T_UNBND } ∷
     record { worker = 0; act = act.Begin (call.TOpen Ticlts true); outcome = Done (Opened (record { 0 = 1 })); after = T_UNBND } ∷
     record { worker = 0; act = act.Begin (call.TRcvUData (record { 0 = 1 }) 65536 64 256); outcome = Done (Refused TOUTSTATE); after = T_UNBND } ∷
-    record { worker = 0; act = act.Begin (call.TRcvVUData (record { 0 = 1 }) (1 ∷ []) 64 256); outcome = Done (Refused TOUTSTATE); after = T_UNBND } ∷
+    record { worker = 0; act = act.Begin (call.TRcvVUData (record { 0 = 1 }) (1 ∷ 1 ∷ 1 ∷ 1 ∷ 1 ∷ 1 ∷ 1 ∷ 1 ∷ 1 ∷ 1 ∷ 1 ∷ 1 ∷ 1 ∷ 1 ∷ 1 ∷ 1 ∷ 1 ∷ []) 64 256); outcome = Done (Refused TOUTSTATE); after = T_UNBND } ∷
     record { worker = 0; act = act.Begin (call.TRcvUDErr (record { 0 = 1 }) 64 256); outcome = Done (Refused TOUTSTATE); after = T_UNBND } ∷
     record { worker = 0; act = act.Begin (call.TBind (record { 0 = 1 }) (codes "aa") 0 64); outcome = Done (Bound (codes "aa") 0); after = T_IDLE } ∷
     record { worker = 0; act = act.Begin (call.TRcvUDErr (record { 0 = 1 }) 64 256); outcome = Done (Refused TNOUDERR); after = T_IDLE } ∷
@@ -79,6 +80,7 @@ entries =
     record { worker = 0; act = act.Begin (call.TRcvVUData (record { 0 = 1 }) (1 ∷ []) 64 256); outcome = Done (Refused TNODATA); after = T_IDLE } ∷
     record { worker = 0; act = act.Begin (call.TRcvVUData (record { 0 = 1 }) (1 ∷ 1 ∷ 1 ∷ 1 ∷ 1 ∷ 1 ∷ 1 ∷ 1 ∷ 1 ∷ 1 ∷ 1 ∷ 1 ∷ 1 ∷ 1 ∷ 1 ∷ 1 ∷ 1 ∷ []) 64 256); outcome = Done (Refused TBADDATA); after = T_IDLE } ∷
     record { worker = 0; act = act.Begin (call.TSndUData (record { 0 = 1 }) (codes "nobody") [] (codes "x")); outcome = Done Plain; after = T_IDLE } ∷
+    record { worker = 0; act = act.Begin (call.TRcvVUData (record { 0 = 1 }) (1 ∷ 1 ∷ 1 ∷ 1 ∷ 1 ∷ 1 ∷ 1 ∷ 1 ∷ 1 ∷ 1 ∷ 1 ∷ 1 ∷ 1 ∷ 1 ∷ 1 ∷ 1 ∷ 1 ∷ []) 64 256); outcome = Done (Refused TBADDATA); after = T_IDLE } ∷
     record { worker = 0; act = act.Begin (call.TRcvUData (record { 0 = 1 }) 65536 64 256); outcome = Done (Look T_UDERR); after = T_IDLE } ∷
     record { worker = 0; act = act.Begin (call.TRcvVUData (record { 0 = 1 }) (1 ∷ []) 64 256); outcome = Done (Look T_UDERR); after = T_IDLE } ∷
     record { worker = 0; act = act.Begin (call.TRcvUDErr (record { 0 = 1 }) 1 256); outcome = Done (Overflow (record { 0 = 0 })); after = T_IDLE } ∷

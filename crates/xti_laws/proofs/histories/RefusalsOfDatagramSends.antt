@@ -32,19 +32,20 @@ lines =
     record { worker = 0; call = named.TSndUData (codes "t") (codes "a") [] (codes "x") } ∷
     record { worker = 0; call = named.TSndVUData (codes "t") (codes "a") [] ((codes "x") ∷ []) } ∷
     record { worker = 0; call = named.TOpen (codes "a") Ticlts true } ∷
-    record { worker = 0; call = named.TSndUData (codes "a") (codes "a") [] (codes "x") } ∷
-    record { worker = 0; call = named.TSndVUData (codes "a") (codes "a") [] ((codes "x") ∷ []) } ∷
+    record { worker = 0; call = named.TSndUData (codes "a") [] (0 ∷ []) [] } ∷
+    record { worker = 0; call = named.TSndVUData (codes "a") [] (0 ∷ []) ([] ∷ []) } ∷
     record { worker = 0; call = named.TBind (codes "a") (codes "a") 0 64 } ∷
-    record { worker = 0; call = named.TSndUData (codes "a") [] [] (codes "x") } ∷
-    record { worker = 0; call = named.TSndVUData (codes "a") (0 ∷ 1 ∷ 2 ∷ 3 ∷ 4 ∷ 5 ∷ 6 ∷ 7 ∷ 8 ∷ 9 ∷ 10 ∷ 11 ∷ 12 ∷ 13 ∷ 14 ∷ 15 ∷ 16 ∷ 17 ∷ 18 ∷ 19 ∷ 20 ∷ 21 ∷ 22 ∷ 23 ∷ 24 ∷ 25 ∷ 26 ∷ 27 ∷ 28 ∷ 29 ∷ 30 ∷ 31 ∷ 32 ∷ 33 ∷ 34 ∷ 35 ∷ 36 ∷ 37 ∷ 38 ∷ 39 ∷ 40 ∷ 41 ∷ 42 ∷ 43 ∷ 44 ∷ 45 ∷ 46 ∷ 47 ∷ 48 ∷ 49 ∷ 50 ∷ 51 ∷ 52 ∷ 53 ∷ 54 ∷ 55 ∷ 56 ∷ 57 ∷ 58 ∷ 59 ∷ 60 ∷ 61 ∷ 62 ∷ 63 ∷ 64 ∷ []) [] ((codes "x") ∷ []) } ∷
-    record { worker = 0; call = named.TSndUData (codes "a") (codes "a") (0 ∷ []) (codes "x") } ∷
-    record { worker = 0; call = named.TSndVUData (codes "a") (codes "a") (0 ∷ []) ((codes "x") ∷ []) } ∷
+    record { worker = 0; call = named.TSndUData (codes "a") [] (0 ∷ []) [] } ∷
+    record { worker = 0; call = named.TSndVUData (codes "a") (0 ∷ 1 ∷ 2 ∷ 3 ∷ 4 ∷ 5 ∷ 6 ∷ 7 ∷ 8 ∷ 9 ∷ 10 ∷ 11 ∷ 12 ∷ 13 ∷ 14 ∷ 15 ∷ 16 ∷ 17 ∷ 18 ∷ 19 ∷ 20 ∷ 21 ∷ 22 ∷ 23 ∷ 24 ∷ 25 ∷ 26 ∷ 27 ∷ 28 ∷ 29 ∷ 30 ∷ 31 ∷ 32 ∷ 33 ∷ 34 ∷ 35 ∷ 36 ∷ 37 ∷ 38 ∷ 39 ∷ 40 ∷ 41 ∷ 42 ∷ 43 ∷ 44 ∷ 45 ∷ 46 ∷ 47 ∷ 48 ∷ 49 ∷ 50 ∷ 51 ∷ 52 ∷ 53 ∷ 54 ∷ 55 ∷ 56 ∷ 57 ∷ 58 ∷ 59 ∷ 60 ∷ 61 ∷ 62 ∷ 63 ∷ 64 ∷ []) (0 ∷ []) ([] ∷ []) } ∷
+    record { worker = 0; call = named.TSndUData (codes "a") (codes "a") (0 ∷ []) (codes "12345") } ∷
+    record { worker = 0; call = named.TSndVUData (codes "a") (codes "a") (0 ∷ []) ((codes "12345") ∷ []) } ∷
     record { worker = 0; call = named.TSndVUData (codes "a") (codes "a") [] ((codes "a") ∷ (codes "b") ∷ (codes "c") ∷ (codes "d") ∷ (codes "e") ∷ (codes "f") ∷ (codes "g") ∷ (codes "h") ∷ (codes "i") ∷ (codes "j") ∷ (codes "k") ∷ (codes "l") ∷ (codes "m") ∷ (codes "n") ∷ (codes "o") ∷ (codes "p") ∷ (codes "q") ∷ []) } ∷
     record { worker = 0; call = named.TSndUData (codes "a") (codes "a") [] (codes "12345") } ∷
     record { worker = 0; call = named.TSndVUData (codes "a") (codes "a") [] ((codes "123") ∷ (codes "45") ∷ []) } ∷
     record { worker = 0; call = named.TSndUData (codes "a") (codes "a") [] [] } ∷
     record { worker = 0; call = named.TSndVUData (codes "a") (codes "a") [] ([] ∷ []) } ∷
     record { worker = 0; call = named.TSndUData (codes "a") (codes "nobody") [] (codes "x") } ∷
+    record { worker = 0; call = named.TSndUData (codes "a") (codes "a") [] (codes "12345") } ∷
     record { worker = 0; call = named.TSndUData (codes "a") (codes "a") [] (codes "x") } ∷
     record { worker = 0; call = named.TSndVUData (codes "a") (codes "a") [] ((codes "x") ∷ []) } ∷
     record { worker = 0; call = named.TRcvUDErr (codes "a") 64 256 } ∷
@@ -66,7 +67,11 @@ lines =
     record { worker = 0; call = named.TSndUData (codes "a") (codes "a") [] (codes "15") } ∷
     record { worker = 0; call = named.TSndUData (codes "a") (codes "a") [] (codes "x") } ∷
     record { worker = 0; call = named.TSndVUData (codes "a") (codes "a") [] ((codes "x") ∷ []) } ∷
+    record { worker = 0; call = named.TSndUData (codes "a") (codes "nobody") [] (codes "y") } ∷
+    record { worker = 0; call = named.TSndUData (codes "a") (codes "a") [] (codes "x") } ∷
+    record { worker = 0; call = named.TRcvUDErr (codes "a") 64 256 } ∷
     record { worker = 0; call = named.TLookAt (codes "a") } ∷
+    record { worker = 0; call = named.TSndUData (codes "a") (codes "a") [] (codes "x") } ∷
     record { worker = 0; call = named.TRcvUData (codes "a") 65536 64 256 } ∷
     record { worker = 0; call = named.TLookAt (codes "a") } ∷
     record { worker = 0; call = named.TLookAt (codes "a") } ∷
@@ -83,19 +88,20 @@ entries =
     record { worker = 0; act = act.Begin (call.TSndUData (record { 0 = 64 }) (codes "a") [] (codes "x")); outcome = Done (Refused TNOTSUPPORT); after = T_UNBND } ∷
     record { worker = 0; act = act.Begin (call.TSndVUData (record { 0 = 64 }) (codes "a") [] ((codes "x") ∷ [])); outcome = Done (Refused TNOTSUPPORT); after = T_UNBND } ∷
     record { worker = 0; act = act.Begin (call.TOpen Ticlts true); outcome = Done (Opened (record { 0 = 1 })); after = T_UNBND } ∷
-    record { worker = 0; act = act.Begin (call.TSndUData (record { 0 = 1 }) (codes "a") [] (codes "x")); outcome = Done (Refused TOUTSTATE); after = T_UNBND } ∷
-    record { worker = 0; act = act.Begin (call.TSndVUData (record { 0 = 1 }) (codes "a") [] ((codes "x") ∷ [])); outcome = Done (Refused TOUTSTATE); after = T_UNBND } ∷
+    record { worker = 0; act = act.Begin (call.TSndUData (record { 0 = 1 }) [] (0 ∷ []) []); outcome = Done (Refused TOUTSTATE); after = T_UNBND } ∷
+    record { worker = 0; act = act.Begin (call.TSndVUData (record { 0 = 1 }) [] (0 ∷ []) ([] ∷ [])); outcome = Done (Refused TOUTSTATE); after = T_UNBND } ∷
     record { worker = 0; act = act.Begin (call.TBind (record { 0 = 1 }) (codes "a") 0 64); outcome = Done (Bound (codes "a") 0); after = T_IDLE } ∷
-    record { worker = 0; act = act.Begin (call.TSndUData (record { 0 = 1 }) [] [] (codes "x")); outcome = Done (Refused TBADADDR); after = T_IDLE } ∷
-    record { worker = 0; act = act.Begin (call.TSndVUData (record { 0 = 1 }) (0 ∷ 1 ∷ 2 ∷ 3 ∷ 4 ∷ 5 ∷ 6 ∷ 7 ∷ 8 ∷ 9 ∷ 10 ∷ 11 ∷ 12 ∷ 13 ∷ 14 ∷ 15 ∷ 16 ∷ 17 ∷ 18 ∷ 19 ∷ 20 ∷ 21 ∷ 22 ∷ 23 ∷ 24 ∷ 25 ∷ 26 ∷ 27 ∷ 28 ∷ 29 ∷ 30 ∷ 31 ∷ 32 ∷ 33 ∷ 34 ∷ 35 ∷ 36 ∷ 37 ∷ 38 ∷ 39 ∷ 40 ∷ 41 ∷ 42 ∷ 43 ∷ 44 ∷ 45 ∷ 46 ∷ 47 ∷ 48 ∷ 49 ∷ 50 ∷ 51 ∷ 52 ∷ 53 ∷ 54 ∷ 55 ∷ 56 ∷ 57 ∷ 58 ∷ 59 ∷ 60 ∷ 61 ∷ 62 ∷ 63 ∷ 64 ∷ []) [] ((codes "x") ∷ [])); outcome = Done (Refused TBADADDR); after = T_IDLE } ∷
-    record { worker = 0; act = act.Begin (call.TSndUData (record { 0 = 1 }) (codes "a") (0 ∷ []) (codes "x")); outcome = Done (Refused TBADOPT); after = T_IDLE } ∷
-    record { worker = 0; act = act.Begin (call.TSndVUData (record { 0 = 1 }) (codes "a") (0 ∷ []) ((codes "x") ∷ [])); outcome = Done (Refused TBADOPT); after = T_IDLE } ∷
+    record { worker = 0; act = act.Begin (call.TSndUData (record { 0 = 1 }) [] (0 ∷ []) []); outcome = Done (Refused TBADADDR); after = T_IDLE } ∷
+    record { worker = 0; act = act.Begin (call.TSndVUData (record { 0 = 1 }) (0 ∷ 1 ∷ 2 ∷ 3 ∷ 4 ∷ 5 ∷ 6 ∷ 7 ∷ 8 ∷ 9 ∷ 10 ∷ 11 ∷ 12 ∷ 13 ∷ 14 ∷ 15 ∷ 16 ∷ 17 ∷ 18 ∷ 19 ∷ 20 ∷ 21 ∷ 22 ∷ 23 ∷ 24 ∷ 25 ∷ 26 ∷ 27 ∷ 28 ∷ 29 ∷ 30 ∷ 31 ∷ 32 ∷ 33 ∷ 34 ∷ 35 ∷ 36 ∷ 37 ∷ 38 ∷ 39 ∷ 40 ∷ 41 ∷ 42 ∷ 43 ∷ 44 ∷ 45 ∷ 46 ∷ 47 ∷ 48 ∷ 49 ∷ 50 ∷ 51 ∷ 52 ∷ 53 ∷ 54 ∷ 55 ∷ 56 ∷ 57 ∷ 58 ∷ 59 ∷ 60 ∷ 61 ∷ 62 ∷ 63 ∷ 64 ∷ []) (0 ∷ []) ([] ∷ [])); outcome = Done (Refused TBADADDR); after = T_IDLE } ∷
+    record { worker = 0; act = act.Begin (call.TSndUData (record { 0 = 1 }) (codes "a") (0 ∷ []) (codes "12345")); outcome = Done (Refused TBADOPT); after = T_IDLE } ∷
+    record { worker = 0; act = act.Begin (call.TSndVUData (record { 0 = 1 }) (codes "a") (0 ∷ []) ((codes "12345") ∷ [])); outcome = Done (Refused TBADOPT); after = T_IDLE } ∷
     record { worker = 0; act = act.Begin (call.TSndVUData (record { 0 = 1 }) (codes "a") [] ((codes "a") ∷ (codes "b") ∷ (codes "c") ∷ (codes "d") ∷ (codes "e") ∷ (codes "f") ∷ (codes "g") ∷ (codes "h") ∷ (codes "i") ∷ (codes "j") ∷ (codes "k") ∷ (codes "l") ∷ (codes "m") ∷ (codes "n") ∷ (codes "o") ∷ (codes "p") ∷ (codes "q") ∷ [])); outcome = Done (Refused TBADDATA); after = T_IDLE } ∷
     record { worker = 0; act = act.Begin (call.TSndUData (record { 0 = 1 }) (codes "a") [] (codes "12345")); outcome = Done (Refused TBADDATA); after = T_IDLE } ∷
     record { worker = 0; act = act.Begin (call.TSndVUData (record { 0 = 1 }) (codes "a") [] ((codes "123") ∷ (codes "45") ∷ [])); outcome = Done (Refused TBADDATA); after = T_IDLE } ∷
     record { worker = 0; act = act.Begin (call.TSndUData (record { 0 = 1 }) (codes "a") [] []); outcome = Done (Refused TBADDATA); after = T_IDLE } ∷
     record { worker = 0; act = act.Begin (call.TSndVUData (record { 0 = 1 }) (codes "a") [] ([] ∷ [])); outcome = Done (Refused TBADDATA); after = T_IDLE } ∷
     record { worker = 0; act = act.Begin (call.TSndUData (record { 0 = 1 }) (codes "nobody") [] (codes "x")); outcome = Done Plain; after = T_IDLE } ∷
+    record { worker = 0; act = act.Begin (call.TSndUData (record { 0 = 1 }) (codes "a") [] (codes "12345")); outcome = Done (Refused TBADDATA); after = T_IDLE } ∷
     record { worker = 0; act = act.Begin (call.TSndUData (record { 0 = 1 }) (codes "a") [] (codes "x")); outcome = Done (Look T_UDERR); after = T_IDLE } ∷
     record { worker = 0; act = act.Begin (call.TSndVUData (record { 0 = 1 }) (codes "a") [] ((codes "x") ∷ [])); outcome = Done (Look T_UDERR); after = T_IDLE } ∷
     record { worker = 0; act = act.Begin (call.TRcvUDErr (record { 0 = 1 }) 64 256); outcome = Done (UDErr (codes "nobody") [] 1); after = T_IDLE } ∷
@@ -117,7 +123,11 @@ entries =
     record { worker = 0; act = act.Begin (call.TSndUData (record { 0 = 1 }) (codes "a") [] (codes "15")); outcome = Done Plain; after = T_IDLE } ∷
     record { worker = 0; act = act.Begin (call.TSndUData (record { 0 = 1 }) (codes "a") [] (codes "x")); outcome = Done (Refused TFLOW); after = T_IDLE } ∷
     record { worker = 0; act = act.Begin (call.TSndVUData (record { 0 = 1 }) (codes "a") [] ((codes "x") ∷ [])); outcome = Done (Refused TFLOW); after = T_IDLE } ∷
+    record { worker = 0; act = act.Begin (call.TSndUData (record { 0 = 1 }) (codes "nobody") [] (codes "y")); outcome = Done Plain; after = T_IDLE } ∷
+    record { worker = 0; act = act.Begin (call.TSndUData (record { 0 = 1 }) (codes "a") [] (codes "x")); outcome = Done (Look T_UDERR); after = T_IDLE } ∷
+    record { worker = 0; act = act.Begin (call.TRcvUDErr (record { 0 = 1 }) 64 256); outcome = Done (UDErr (codes "nobody") [] 1); after = T_IDLE } ∷
     record { worker = 0; act = act.Begin (call.TLookAt (record { 0 = 1 })); outcome = Done (Seen (Some T_DATA)); after = T_IDLE } ∷
+    record { worker = 0; act = act.Begin (call.TSndUData (record { 0 = 1 }) (codes "a") [] (codes "x")); outcome = Done (Refused TFLOW); after = T_IDLE } ∷
     record { worker = 0; act = act.Begin (call.TRcvUData (record { 0 = 1 }) 65536 64 256); outcome = Done (UData (codes "a") [] (codes "0") 0); after = T_IDLE } ∷
     record { worker = 0; act = act.Begin (call.TLookAt (record { 0 = 1 })); outcome = Done (Seen (Some T_DATA)); after = T_IDLE } ∷
     record { worker = 0; act = act.Begin (call.TLookAt (record { 0 = 1 })); outcome = Done (Seen (Some T_DATA)); after = T_IDLE } ∷

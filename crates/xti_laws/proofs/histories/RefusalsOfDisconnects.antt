@@ -32,7 +32,7 @@ lines =
     record { worker = 0; call = named.TSndDis (codes "u") None [] } ∷
     record { worker = 0; call = named.TRcvDis (codes "u") 64 } ∷
     record { worker = 0; call = named.TOpen (codes "l") Ticots true } ∷
-    record { worker = 0; call = named.TSndDis (codes "l") None [] } ∷
+    record { worker = 0; call = named.TSndDis (codes "l") None (0 ∷ 1 ∷ 2 ∷ 3 ∷ 4 ∷ 5 ∷ 6 ∷ 7 ∷ 8 ∷ 9 ∷ 10 ∷ 11 ∷ 12 ∷ 13 ∷ 14 ∷ 15 ∷ 16 ∷ 17 ∷ 18 ∷ 19 ∷ 20 ∷ 21 ∷ 22 ∷ 23 ∷ 24 ∷ 25 ∷ 26 ∷ 27 ∷ 28 ∷ 29 ∷ 30 ∷ 31 ∷ 32 ∷ 33 ∷ 34 ∷ 35 ∷ 36 ∷ 37 ∷ 38 ∷ 39 ∷ 40 ∷ 41 ∷ 42 ∷ 43 ∷ 44 ∷ 45 ∷ 46 ∷ 47 ∷ 48 ∷ 49 ∷ 50 ∷ 51 ∷ 52 ∷ 53 ∷ 54 ∷ 55 ∷ 56 ∷ 57 ∷ 58 ∷ 59 ∷ 60 ∷ 61 ∷ 62 ∷ 63 ∷ 64 ∷ []) } ∷
     record { worker = 0; call = named.TRcvDis (codes "l") 64 } ∷
     record { worker = 0; call = named.TBind (codes "l") (codes "l") 2 64 } ∷
     record { worker = 0; call = named.TOpen (codes "c") Ticots true } ∷
@@ -40,7 +40,7 @@ lines =
     record { worker = 0; call = named.TConnect (codes "c") (codes "l") [] [] 64 256 64 } ∷
     record { worker = 0; call = named.TRcvDis (codes "c") 64 } ∷
     record { worker = 0; call = named.TListen (codes "l") (codes "q") 64 256 64 } ∷
-    record { worker = 0; call = named.TSndDis (codes "l") None [] } ∷
+    record { worker = 0; call = named.TSndDis (codes "l") None (0 ∷ 1 ∷ 2 ∷ 3 ∷ 4 ∷ 5 ∷ 6 ∷ 7 ∷ 8 ∷ 9 ∷ 10 ∷ 11 ∷ 12 ∷ 13 ∷ 14 ∷ 15 ∷ 16 ∷ 17 ∷ 18 ∷ 19 ∷ 20 ∷ 21 ∷ 22 ∷ 23 ∷ 24 ∷ 25 ∷ 26 ∷ 27 ∷ 28 ∷ 29 ∷ 30 ∷ 31 ∷ 32 ∷ 33 ∷ 34 ∷ 35 ∷ 36 ∷ 37 ∷ 38 ∷ 39 ∷ 40 ∷ 41 ∷ 42 ∷ 43 ∷ 44 ∷ 45 ∷ 46 ∷ 47 ∷ 48 ∷ 49 ∷ 50 ∷ 51 ∷ 52 ∷ 53 ∷ 54 ∷ 55 ∷ 56 ∷ 57 ∷ 58 ∷ 59 ∷ 60 ∷ 61 ∷ 62 ∷ 63 ∷ 64 ∷ []) } ∷
     record { worker = 0; call = named.TSndDis (codes "l") (Some (codes "q")) (0 ∷ 1 ∷ 2 ∷ 3 ∷ 4 ∷ 5 ∷ 6 ∷ 7 ∷ 8 ∷ 9 ∷ 10 ∷ 11 ∷ 12 ∷ 13 ∷ 14 ∷ 15 ∷ 16 ∷ 17 ∷ 18 ∷ 19 ∷ 20 ∷ 21 ∷ 22 ∷ 23 ∷ 24 ∷ 25 ∷ 26 ∷ 27 ∷ 28 ∷ 29 ∷ 30 ∷ 31 ∷ 32 ∷ 33 ∷ 34 ∷ 35 ∷ 36 ∷ 37 ∷ 38 ∷ 39 ∷ 40 ∷ 41 ∷ 42 ∷ 43 ∷ 44 ∷ 45 ∷ 46 ∷ 47 ∷ 48 ∷ 49 ∷ 50 ∷ 51 ∷ 52 ∷ 53 ∷ 54 ∷ 55 ∷ 56 ∷ 57 ∷ 58 ∷ 59 ∷ 60 ∷ 61 ∷ 62 ∷ 63 ∷ 64 ∷ []) } ∷
     record { worker = 0; call = named.TRcvDis (codes "l") 64 } ∷
     record { worker = 0; call = named.TOpen (codes "d") Ticots true } ∷
@@ -48,6 +48,7 @@ lines =
     record { worker = 0; call = named.TConnect (codes "d") (codes "l") [] [] 64 256 64 } ∷
     record { worker = 0; call = named.TListen (codes "l") (codes "p") 64 256 64 } ∷
     record { worker = 0; call = named.TSndDis (codes "c") None (codes "never") } ∷
+    record { worker = 0; call = named.TSndDis (codes "l") (Some (codes "p")) (0 ∷ 1 ∷ 2 ∷ 3 ∷ 4 ∷ 5 ∷ 6 ∷ 7 ∷ 8 ∷ 9 ∷ 10 ∷ 11 ∷ 12 ∷ 13 ∷ 14 ∷ 15 ∷ 16 ∷ 17 ∷ 18 ∷ 19 ∷ 20 ∷ 21 ∷ 22 ∷ 23 ∷ 24 ∷ 25 ∷ 26 ∷ 27 ∷ 28 ∷ 29 ∷ 30 ∷ 31 ∷ 32 ∷ 33 ∷ 34 ∷ 35 ∷ 36 ∷ 37 ∷ 38 ∷ 39 ∷ 40 ∷ 41 ∷ 42 ∷ 43 ∷ 44 ∷ 45 ∷ 46 ∷ 47 ∷ 48 ∷ 49 ∷ 50 ∷ 51 ∷ 52 ∷ 53 ∷ 54 ∷ 55 ∷ 56 ∷ 57 ∷ 58 ∷ 59 ∷ 60 ∷ 61 ∷ 62 ∷ 63 ∷ 64 ∷ []) } ∷
     record { worker = 0; call = named.TSndDis (codes "l") (Some (codes "p")) [] } ∷
     record { worker = 0; call = named.TRcvDis (codes "l") 1 } ∷
     record { worker = 0; call = named.TRcvDis (codes "l") 64 } ∷
@@ -67,7 +68,7 @@ entries =
     record { worker = 0; act = act.Begin (call.TSndDis (record { 0 = 64 }) (record { 0 = 0 }) []); outcome = Done (Refused TNOTSUPPORT); after = T_UNBND } ∷
     record { worker = 0; act = act.Begin (call.TRcvDis (record { 0 = 64 }) 64); outcome = Done (Refused TNOTSUPPORT); after = T_UNBND } ∷
     record { worker = 0; act = act.Begin (call.TOpen Ticots true); outcome = Done (Opened (record { 0 = 1 })); after = T_UNBND } ∷
-    record { worker = 0; act = act.Begin (call.TSndDis (record { 0 = 1 }) (record { 0 = 0 }) []); outcome = Done (Refused TOUTSTATE); after = T_UNBND } ∷
+    record { worker = 0; act = act.Begin (call.TSndDis (record { 0 = 1 }) (record { 0 = 0 }) (0 ∷ 1 ∷ 2 ∷ 3 ∷ 4 ∷ 5 ∷ 6 ∷ 7 ∷ 8 ∷ 9 ∷ 10 ∷ 11 ∷ 12 ∷ 13 ∷ 14 ∷ 15 ∷ 16 ∷ 17 ∷ 18 ∷ 19 ∷ 20 ∷ 21 ∷ 22 ∷ 23 ∷ 24 ∷ 25 ∷ 26 ∷ 27 ∷ 28 ∷ 29 ∷ 30 ∷ 31 ∷ 32 ∷ 33 ∷ 34 ∷ 35 ∷ 36 ∷ 37 ∷ 38 ∷ 39 ∷ 40 ∷ 41 ∷ 42 ∷ 43 ∷ 44 ∷ 45 ∷ 46 ∷ 47 ∷ 48 ∷ 49 ∷ 50 ∷ 51 ∷ 52 ∷ 53 ∷ 54 ∷ 55 ∷ 56 ∷ 57 ∷ 58 ∷ 59 ∷ 60 ∷ 61 ∷ 62 ∷ 63 ∷ 64 ∷ [])); outcome = Done (Refused TOUTSTATE); after = T_UNBND } ∷
     record { worker = 0; act = act.Begin (call.TRcvDis (record { 0 = 1 }) 64); outcome = Done (Refused TOUTSTATE); after = T_UNBND } ∷
     record { worker = 0; act = act.Begin (call.TBind (record { 0 = 1 }) (codes "l") 2 64); outcome = Done (Bound (codes "l") 2); after = T_IDLE } ∷
     record { worker = 0; act = act.Begin (call.TOpen Ticots true); outcome = Done (Opened (record { 0 = 2 })); after = T_UNBND } ∷
@@ -75,7 +76,7 @@ entries =
     record { worker = 0; act = act.Begin (call.TConnect (record { 0 = 2 }) (codes "l") [] [] 64 256 64); outcome = Done (Refused TNODATA); after = T_OUTCON } ∷
     record { worker = 0; act = act.Begin (call.TRcvDis (record { 0 = 2 }) 64); outcome = Done (Refused TNODIS); after = T_OUTCON } ∷
     record { worker = 0; act = act.Begin (call.TListen (record { 0 = 1 }) 64 256 64); outcome = Done (Listened (record { 0 = 1 }) (codes "#0") [] []); after = T_INCON } ∷
-    record { worker = 0; act = act.Begin (call.TSndDis (record { 0 = 1 }) (record { 0 = 0 }) []); outcome = Done (Refused TBADSEQ); after = T_INCON } ∷
+    record { worker = 0; act = act.Begin (call.TSndDis (record { 0 = 1 }) (record { 0 = 0 }) (0 ∷ 1 ∷ 2 ∷ 3 ∷ 4 ∷ 5 ∷ 6 ∷ 7 ∷ 8 ∷ 9 ∷ 10 ∷ 11 ∷ 12 ∷ 13 ∷ 14 ∷ 15 ∷ 16 ∷ 17 ∷ 18 ∷ 19 ∷ 20 ∷ 21 ∷ 22 ∷ 23 ∷ 24 ∷ 25 ∷ 26 ∷ 27 ∷ 28 ∷ 29 ∷ 30 ∷ 31 ∷ 32 ∷ 33 ∷ 34 ∷ 35 ∷ 36 ∷ 37 ∷ 38 ∷ 39 ∷ 40 ∷ 41 ∷ 42 ∷ 43 ∷ 44 ∷ 45 ∷ 46 ∷ 47 ∷ 48 ∷ 49 ∷ 50 ∷ 51 ∷ 52 ∷ 53 ∷ 54 ∷ 55 ∷ 56 ∷ 57 ∷ 58 ∷ 59 ∷ 60 ∷ 61 ∷ 62 ∷ 63 ∷ 64 ∷ [])); outcome = Done (Refused TBADSEQ); after = T_INCON } ∷
     record { worker = 0; act = act.Begin (call.TSndDis (record { 0 = 1 }) (record { 0 = 1 }) (0 ∷ 1 ∷ 2 ∷ 3 ∷ 4 ∷ 5 ∷ 6 ∷ 7 ∷ 8 ∷ 9 ∷ 10 ∷ 11 ∷ 12 ∷ 13 ∷ 14 ∷ 15 ∷ 16 ∷ 17 ∷ 18 ∷ 19 ∷ 20 ∷ 21 ∷ 22 ∷ 23 ∷ 24 ∷ 25 ∷ 26 ∷ 27 ∷ 28 ∷ 29 ∷ 30 ∷ 31 ∷ 32 ∷ 33 ∷ 34 ∷ 35 ∷ 36 ∷ 37 ∷ 38 ∷ 39 ∷ 40 ∷ 41 ∷ 42 ∷ 43 ∷ 44 ∷ 45 ∷ 46 ∷ 47 ∷ 48 ∷ 49 ∷ 50 ∷ 51 ∷ 52 ∷ 53 ∷ 54 ∷ 55 ∷ 56 ∷ 57 ∷ 58 ∷ 59 ∷ 60 ∷ 61 ∷ 62 ∷ 63 ∷ 64 ∷ [])); outcome = Done (Refused TBADDATA); after = T_INCON } ∷
     record { worker = 0; act = act.Begin (call.TRcvDis (record { 0 = 1 }) 64); outcome = Done (Refused TNODIS); after = T_INCON } ∷
     record { worker = 0; act = act.Begin (call.TOpen Ticots true); outcome = Done (Opened (record { 0 = 3 })); after = T_UNBND } ∷
@@ -83,6 +84,7 @@ entries =
     record { worker = 0; act = act.Begin (call.TConnect (record { 0 = 3 }) (codes "l") [] [] 64 256 64); outcome = Done (Refused TNODATA); after = T_OUTCON } ∷
     record { worker = 0; act = act.Begin (call.TListen (record { 0 = 1 }) 64 256 64); outcome = Done (Listened (record { 0 = 2 }) (codes "#1") [] []); after = T_INCON } ∷
     record { worker = 0; act = act.Begin (call.TSndDis (record { 0 = 2 }) (record { 0 = 0 }) (codes "never")); outcome = Done Plain; after = T_IDLE } ∷
+    record { worker = 0; act = act.Begin (call.TSndDis (record { 0 = 1 }) (record { 0 = 2 }) (0 ∷ 1 ∷ 2 ∷ 3 ∷ 4 ∷ 5 ∷ 6 ∷ 7 ∷ 8 ∷ 9 ∷ 10 ∷ 11 ∷ 12 ∷ 13 ∷ 14 ∷ 15 ∷ 16 ∷ 17 ∷ 18 ∷ 19 ∷ 20 ∷ 21 ∷ 22 ∷ 23 ∷ 24 ∷ 25 ∷ 26 ∷ 27 ∷ 28 ∷ 29 ∷ 30 ∷ 31 ∷ 32 ∷ 33 ∷ 34 ∷ 35 ∷ 36 ∷ 37 ∷ 38 ∷ 39 ∷ 40 ∷ 41 ∷ 42 ∷ 43 ∷ 44 ∷ 45 ∷ 46 ∷ 47 ∷ 48 ∷ 49 ∷ 50 ∷ 51 ∷ 52 ∷ 53 ∷ 54 ∷ 55 ∷ 56 ∷ 57 ∷ 58 ∷ 59 ∷ 60 ∷ 61 ∷ 62 ∷ 63 ∷ 64 ∷ [])); outcome = Done (Refused TBADDATA); after = T_INCON } ∷
     record { worker = 0; act = act.Begin (call.TSndDis (record { 0 = 1 }) (record { 0 = 2 }) []); outcome = Done (Look T_DISCONNECT); after = T_INCON } ∷
     record { worker = 0; act = act.Begin (call.TRcvDis (record { 0 = 1 }) 1); outcome = Done (Overflow (record { 0 = 0 })); after = T_INCON } ∷
     record { worker = 0; act = act.Begin (call.TRcvDis (record { 0 = 1 }) 64); outcome = Done (Refused TNODIS); after = T_INCON } ∷

@@ -10,7 +10,7 @@ use Rattle.xti_model.specs.declared.call.Call.TheVariants as call
 use Rattle.xti_model.specs.declared.entry.Act.TheVariants as act
 use Rattle.xti_model.specs.declared.entry.Entry.{Entry}
 use Rattle.xti_model.specs.declared.entry.Outcome.TheVariants.{Done, Part}
-use Rattle.xti_model.specs.declared.entry.Reply.TheVariants.{Plain, Opened, Bound, Connected, Listened, Sent, Got, Refused}
+use Rattle.xti_model.specs.declared.entry.Reply.TheVariants.{Plain, Opened, Bound, Connected, Listened, Sent, Got, Seen, Refused}
 use Rattle.xti_model.specs.declared.profile.Providers.{Providers}
 use Rattle.xti_model.specs.declared.script.Line.{Line}
 use Rattle.xti_model.specs.declared.script.NamedCall.TheVariants as named
@@ -89,6 +89,8 @@ lines =
     record { worker = 4; call = named.TSndDis (codes "b1") None [] } ∷
     record { worker = 5; call = named.TSnd (codes "a2") (codes "abcdef") 0 } ∷
     record { worker = 6; call = named.SetMode (codes "a2") true } ∷
+    record { worker = 6; call = named.TRcv (codes "b2") 65536 } ∷
+    record { worker = 6; call = named.TLookAt (codes "a2") } ∷
     record { worker = 7; call = named.TSnd (codes "a3") (codes "abcdef") 0 } ∷
     record { worker = 8; call = named.TSndRel (codes "a3") } ∷
     record { worker = 9; call = named.TSndV (codes "a4") ((codes "abc") ∷ (codes "def") ∷ []) 0 } ∷
@@ -176,9 +178,11 @@ entries =
     record { worker = 1; act = act.More; outcome = Done (Sent 2); after = T_UNINIT } ∷
     record { worker = 3; act = act.More; outcome = Done (Sent 2); after = T_DATAXFER } ∷
     record { worker = 5; act = act.More; outcome = Done (Sent 2); after = T_DATAXFER } ∷
+    record { worker = 6; act = act.Begin (call.TRcv (record { 0 = 8 }) 65536); outcome = Done (Got (codes "ab") 0); after = T_DATAXFER } ∷
     record { worker = 7; act = act.More; outcome = Done (Sent 2); after = T_OUTREL } ∷
     record { worker = 9; act = act.More; outcome = Done (Sent 2); after = T_DATAXFER } ∷
     record { worker = 11; act = act.More; outcome = Done (Sent 2); after = T_DATAXFER } ∷
+    record { worker = 6; act = act.Begin (call.TLookAt (record { 0 = 7 })); outcome = Done (Seen None); after = T_DATAXFER } ∷
     []
 
 the_history : robin (record { providers = providers; lines = lines }) ≡ entries

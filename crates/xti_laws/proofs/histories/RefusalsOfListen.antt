@@ -41,7 +41,9 @@ lines =
     record { worker = 0; call = named.TConnect (codes "c") (codes "l") [] [] 64 256 64 } ∷
     record { worker = 0; call = named.TListen (codes "l") (codes "q5") 1 256 64 } ∷
     record { worker = 0; call = named.TListen (codes "l") (codes "q6") 64 256 64 } ∷
+    record { worker = 0; call = named.TUnbind (codes "l") } ∷
     record { worker = 0; call = named.TClose (codes "c") } ∷
+    record { worker = 0; call = named.TListen (codes "l") (codes "q9") 64 256 64 } ∷
     record { worker = 0; call = named.TOpen (codes "k") Ticots true } ∷
     record { worker = 0; call = named.TBind (codes "k") (codes "k") 2 64 } ∷
     record { worker = 0; call = named.TOpen (codes "d") Ticots true } ∷
@@ -73,7 +75,9 @@ entries =
     record { worker = 0; act = act.Begin (call.TConnect (record { 0 = 3 }) (codes "l") [] [] 64 256 64); outcome = Done (Refused TNODATA); after = T_OUTCON } ∷
     record { worker = 0; act = act.Begin (call.TListen (record { 0 = 1 }) 1 256 64); outcome = Done (Overflow (record { 0 = 1 })); after = T_INCON } ∷
     record { worker = 0; act = act.Begin (call.TListen (record { 0 = 1 }) 64 256 64); outcome = Done (Refused TQFULL); after = T_INCON } ∷
+    record { worker = 0; act = act.Begin (call.TUnbind (record { 0 = 1 })); outcome = Done (Refused TOUTSTATE); after = T_INCON } ∷
     record { worker = 0; act = act.Begin (call.TClose (record { 0 = 3 })); outcome = Done Plain; after = T_UNINIT } ∷
+    record { worker = 0; act = act.Begin (call.TListen (record { 0 = 1 }) 64 256 64); outcome = Done (Refused TQFULL); after = T_INCON } ∷
     record { worker = 0; act = act.Begin (call.TOpen Ticots true); outcome = Done (Opened (record { 0 = 67 })); after = T_UNBND } ∷
     record { worker = 0; act = act.Begin (call.TBind (record { 0 = 67 }) (codes "k") 2 64); outcome = Done (Bound (codes "k") 2); after = T_IDLE } ∷
     record { worker = 0; act = act.Begin (call.TOpen Ticots true); outcome = Done (Opened (record { 0 = 4 })); after = T_UNBND } ∷

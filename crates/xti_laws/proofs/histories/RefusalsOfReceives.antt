@@ -33,7 +33,7 @@ lines =
     record { worker = 0; call = named.TRcvV (codes "u") (1 ∷ []) } ∷
     record { worker = 0; call = named.TOpen (codes "n") Ticots false } ∷
     record { worker = 0; call = named.TRcv (codes "n") 65536 } ∷
-    record { worker = 0; call = named.TRcvV (codes "n") (1 ∷ []) } ∷
+    record { worker = 0; call = named.TRcvV (codes "n") (1 ∷ 1 ∷ 1 ∷ 1 ∷ 1 ∷ 1 ∷ 1 ∷ 1 ∷ 1 ∷ 1 ∷ 1 ∷ 1 ∷ 1 ∷ 1 ∷ 1 ∷ 1 ∷ 1 ∷ []) } ∷
     record { worker = 0; call = named.TOpen (codes "l") Ticotsord false } ∷
     record { worker = 0; call = named.TBind (codes "l") (codes "l") 1 64 } ∷
     record { worker = 0; call = named.TOpen (codes "c") Ticotsord true } ∷
@@ -52,6 +52,7 @@ lines =
     record { worker = 0; call = named.TRcv (codes "c") 4 } ∷
     record { worker = 0; call = named.TRcv (codes "c") 65536 } ∷
     record { worker = 0; call = named.TRcvV (codes "c") (1 ∷ []) } ∷
+    record { worker = 0; call = named.TRcvV (codes "c") (1 ∷ 1 ∷ 1 ∷ 1 ∷ 1 ∷ 1 ∷ 1 ∷ 1 ∷ 1 ∷ 1 ∷ 1 ∷ 1 ∷ 1 ∷ 1 ∷ 1 ∷ 1 ∷ 1 ∷ []) } ∷
     record { worker = 0; call = named.TClose (codes "r") } ∷
     record { worker = 0; call = named.TRcv (codes "c") 65536 } ∷
     record { worker = 0; call = named.TRcvV (codes "c") (1 ∷ []) } ∷
@@ -69,7 +70,7 @@ entries =
     record { worker = 0; act = act.Begin (call.TRcvV (record { 0 = 64 }) (1 ∷ [])); outcome = Done (Refused TNOTSUPPORT); after = T_UNBND } ∷
     record { worker = 0; act = act.Begin (call.TOpen Ticots false); outcome = Done (Opened (record { 0 = 1 })); after = T_UNBND } ∷
     record { worker = 0; act = act.Begin (call.TRcv (record { 0 = 1 }) 65536); outcome = Done (Refused TOUTSTATE); after = T_UNBND } ∷
-    record { worker = 0; act = act.Begin (call.TRcvV (record { 0 = 1 }) (1 ∷ [])); outcome = Done (Refused TOUTSTATE); after = T_UNBND } ∷
+    record { worker = 0; act = act.Begin (call.TRcvV (record { 0 = 1 }) (1 ∷ 1 ∷ 1 ∷ 1 ∷ 1 ∷ 1 ∷ 1 ∷ 1 ∷ 1 ∷ 1 ∷ 1 ∷ 1 ∷ 1 ∷ 1 ∷ 1 ∷ 1 ∷ 1 ∷ [])); outcome = Done (Refused TOUTSTATE); after = T_UNBND } ∷
     record { worker = 0; act = act.Begin (call.TOpen Ticotsord false); outcome = Done (Opened (record { 0 = 2 })); after = T_UNBND } ∷
     record { worker = 0; act = act.Begin (call.TBind (record { 0 = 2 }) (codes "l") 1 64); outcome = Done (Bound (codes "l") 1); after = T_IDLE } ∷
     record { worker = 0; act = act.Begin (call.TOpen Ticotsord true); outcome = Done (Opened (record { 0 = 3 })); after = T_UNBND } ∷
@@ -88,6 +89,7 @@ entries =
     record { worker = 0; act = act.Begin (call.TRcv (record { 0 = 3 }) 4); outcome = Done (Got (codes "f") 0); after = T_DATAXFER } ∷
     record { worker = 0; act = act.Begin (call.TRcv (record { 0 = 3 }) 65536); outcome = Done (Look T_ORDREL); after = T_DATAXFER } ∷
     record { worker = 0; act = act.Begin (call.TRcvV (record { 0 = 3 }) (1 ∷ [])); outcome = Done (Look T_ORDREL); after = T_DATAXFER } ∷
+    record { worker = 0; act = act.Begin (call.TRcvV (record { 0 = 3 }) (1 ∷ 1 ∷ 1 ∷ 1 ∷ 1 ∷ 1 ∷ 1 ∷ 1 ∷ 1 ∷ 1 ∷ 1 ∷ 1 ∷ 1 ∷ 1 ∷ 1 ∷ 1 ∷ 1 ∷ [])); outcome = Done (Refused TBADDATA); after = T_DATAXFER } ∷
     record { worker = 0; act = act.Begin (call.TClose (record { 0 = 4 })); outcome = Done Plain; after = T_UNINIT } ∷
     record { worker = 0; act = act.Begin (call.TRcv (record { 0 = 3 }) 65536); outcome = Done (Look T_DISCONNECT); after = T_DATAXFER } ∷
     record { worker = 0; act = act.Begin (call.TRcvV (record { 0 = 3 }) (1 ∷ [])); outcome = Done (Look T_DISCONNECT); after = T_DATAXFER } ∷

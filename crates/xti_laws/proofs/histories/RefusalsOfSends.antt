@@ -1,5 +1,5 @@
 -- refusals of sends
-use Rattle.std.specs.Prelude.{ℕ, zero, suc, ◌+◌, ◌%◌, true, false, List, [], ◌∷◌, ◌≡◌, refl, codes, None}
+use Rattle.std.specs.Prelude.{ℕ, zero, suc, ◌+◌, ◌%◌, true, false, List, [], ◌∷◌, ◌≡◌, refl, codes, Some, None}
 use Rattle.std.specs.Fmt.{digits}
 use Rattle.xti_base.specs.Options.{begins_option, is_option_list, options_within}
 use Rattle.xti_base.specs.declared.errno.Errno.TheVariants.{TBADF, TOUTSTATE, TBADDATA, TFLOW, TNODATA, TBADFLAG, TNOTSUPPORT}
@@ -11,7 +11,7 @@ use Rattle.xti_model.specs.declared.call.Call.TheVariants as call
 use Rattle.xti_model.specs.declared.entry.Act.TheVariants as act
 use Rattle.xti_model.specs.declared.entry.Entry.{Entry}
 use Rattle.xti_model.specs.declared.entry.Outcome.TheVariants.{Done}
-use Rattle.xti_model.specs.declared.entry.Reply.TheVariants.{Plain, Opened, Bound, Connected, Listened, Sent, Got, Discon, Seen, Refused, Look}
+use Rattle.xti_model.specs.declared.entry.Reply.TheVariants.{Plain, Opened, Bound, Connected, Listened, Sent, Got, Discon, Seen, Addresses, Refused, Look}
 use Rattle.xti_model.specs.declared.profile.Providers.{Providers}
 use Rattle.xti_model.specs.declared.script.Line.{Line}
 use Rattle.xti_model.specs.declared.script.NamedCall.TheVariants as named
@@ -20,7 +20,7 @@ use Rattle.xti_model.specs.Step.{plan, step}
 use Rattle.xti_model.specs.World.{opening}
 
 providers : Providers
-providers = record { ticots = record { tsdu = At 8; sendzero = true; same_addr = false; sndbuf = 2; rcvbuf = 2 }; ticotsord = record { tsdu = At 0; sendzero = false; same_addr = false; sndbuf = 16384; rcvbuf = 16384 }; ticlts = record { tsdu = At 8192; sendzero = true; same_addr = false; sndbuf = 16384; rcvbuf = 16384 } }
+providers = record { ticots = record { tsdu = At 8; sendzero = true; same_addr = false; sndbuf = 2; rcvbuf = 2 }; ticotsord = record { tsdu = At 0; sendzero = false; same_addr = false; sndbuf = 2; rcvbuf = 2 }; ticlts = record { tsdu = At 8192; sendzero = true; same_addr = false; sndbuf = 16384; rcvbuf = 16384 } }
 
 -- so many bytes that rise by one each
 counted : ℕ → ℕ → List ℕ
@@ -34,13 +34,13 @@ lines =
     record { worker = 0; call = named.TSnd (codes "z") (codes "x") 0 } ∷
     record { worker = 0; call = named.TSndV (codes "z") ((codes "x") ∷ []) 0 } ∷
     record { worker = 0; call = named.TOpen (codes "u") Ticlts false } ∷
-    record { worker = 0; call = named.TSnd (codes "u") (codes "x") 0 } ∷
-    record { worker = 0; call = named.TSndV (codes "u") ((codes "x") ∷ []) 0 } ∷
+    record { worker = 0; call = named.TSnd (codes "u") (codes "x") 4 } ∷
+    record { worker = 0; call = named.TSndV (codes "u") ((codes "x") ∷ []) 4 } ∷
     record { worker = 0; call = named.TOpen (codes "n") Ticots false } ∷
     record { worker = 0; call = named.TSnd (codes "n") (codes "x") 4 } ∷
     record { worker = 0; call = named.TSndV (codes "n") ((codes "x") ∷ []) 4 } ∷
     record { worker = 0; call = named.TSnd (codes "n") (codes "x") 0 } ∷
-    record { worker = 0; call = named.TSndV (codes "n") ((codes "x") ∷ []) 0 } ∷
+    record { worker = 0; call = named.TSndV (codes "n") ((codes "a") ∷ (codes "b") ∷ (codes "c") ∷ (codes "d") ∷ (codes "e") ∷ (codes "f") ∷ (codes "g") ∷ (codes "h") ∷ (codes "i") ∷ (codes "j") ∷ (codes "k") ∷ (codes "l") ∷ (codes "m") ∷ (codes "n") ∷ (codes "o") ∷ (codes "p") ∷ (codes "q") ∷ []) 0 } ∷
     record { worker = 0; call = named.TOpen (codes "l") Ticots false } ∷
     record { worker = 0; call = named.TBind (codes "l") (codes "l") 1 64 } ∷
     record { worker = 0; call = named.TOpen (codes "c") Ticots true } ∷
@@ -62,10 +62,21 @@ lines =
     record { worker = 0; call = named.TRcv (codes "r") 9 } ∷
     record { worker = 0; call = named.TSnd (codes "c") (codes "9") 1 } ∷
     record { worker = 0; call = named.TSnd (codes "c") (codes "12345678") 0 } ∷
+    record { worker = 0; call = named.TSndV (codes "r") ((codes "a") ∷ (codes "b") ∷ []) 0 } ∷
     record { worker = 0; call = named.TSndDis (codes "r") None (codes "bye") } ∷
+    record { worker = 0; call = named.TGetProtAddr (codes "c") 64 64 } ∷
+    record { worker = 0; call = named.TLookAt (codes "c") } ∷
+    record { worker = 0; call = named.TSnd (codes "c") (codes "123456789") 0 } ∷
     record { worker = 0; call = named.TSnd (codes "c") (codes "x") 0 } ∷
     record { worker = 0; call = named.TSndV (codes "c") ((codes "x") ∷ []) 0 } ∷
     record { worker = 0; call = named.TRcvDis (codes "c") 64 } ∷
+    record { worker = 0; call = named.TOpen (codes "r2") Ticots false } ∷
+    record { worker = 0; call = named.TConnect (codes "c") (codes "l") [] [] 64 256 64 } ∷
+    record { worker = 0; call = named.TListen (codes "l") (codes "again") 64 256 64 } ∷
+    record { worker = 0; call = named.TAccept (codes "l") (codes "r2") (codes "again") [] [] } ∷
+    record { worker = 0; call = named.TRcvConnect (codes "c") 64 256 64 } ∷
+    record { worker = 0; call = named.TSnd (codes "c") (codes "12345678") 0 } ∷
+    record { worker = 0; call = named.TRcv (codes "r2") 65536 } ∷
     record { worker = 0; call = named.TOpen (codes "m") Ticotsord false } ∷
     record { worker = 0; call = named.TBind (codes "m") (codes "m") 1 64 } ∷
     record { worker = 0; call = named.TOpen (codes "d") Ticotsord true } ∷
@@ -77,12 +88,16 @@ lines =
     record { worker = 0; call = named.TRcvConnect (codes "d") 64 256 64 } ∷
     record { worker = 0; call = named.TSnd (codes "d") [] 0 } ∷
     record { worker = 0; call = named.TSndV (codes "d") ([] ∷ []) 0 } ∷
+    record { worker = 0; call = named.SetMode (codes "s") true } ∷
+    record { worker = 0; call = named.TSnd (codes "s") (codes "abcd") 0 } ∷
     record { worker = 0; call = named.TSndRel (codes "d") } ∷
     record { worker = 0; call = named.TSnd (codes "d") (codes "x") 0 } ∷
     record { worker = 0; call = named.TSnd (codes "s") (codes "x") 0 } ∷
     record { worker = 0; call = named.TSndV (codes "s") ((codes "x") ∷ []) 0 } ∷
+    record { worker = 0; call = named.TSnd (codes "s") [] 0 } ∷
     record { worker = 0; call = named.TRcvRel (codes "s") } ∷
-    record { worker = 0; call = named.TSnd (codes "s") (codes "still") 0 } ∷
+    record { worker = 0; call = named.TRcv (codes "d") 65536 } ∷
+    record { worker = 0; call = named.TSnd (codes "s") (codes "on") 0 } ∷
     record { worker = 0; call = named.TRcv (codes "d") 65536 } ∷
     []
 
@@ -93,13 +108,13 @@ entries =
     record { worker = 0; act = act.Begin (call.TSnd (record { 0 = 0 }) (codes "x") 0); outcome = Done (Refused TBADF); after = T_UNINIT } ∷
     record { worker = 0; act = act.Begin (call.TSndV (record { 0 = 0 }) ((codes "x") ∷ []) 0); outcome = Done (Refused TBADF); after = T_UNINIT } ∷
     record { worker = 0; act = act.Begin (call.TOpen Ticlts false); outcome = Done (Opened (record { 0 = 64 })); after = T_UNBND } ∷
-    record { worker = 0; act = act.Begin (call.TSnd (record { 0 = 64 }) (codes "x") 0); outcome = Done (Refused TNOTSUPPORT); after = T_UNBND } ∷
-    record { worker = 0; act = act.Begin (call.TSndV (record { 0 = 64 }) ((codes "x") ∷ []) 0); outcome = Done (Refused TNOTSUPPORT); after = T_UNBND } ∷
+    record { worker = 0; act = act.Begin (call.TSnd (record { 0 = 64 }) (codes "x") 4); outcome = Done (Refused TNOTSUPPORT); after = T_UNBND } ∷
+    record { worker = 0; act = act.Begin (call.TSndV (record { 0 = 64 }) ((codes "x") ∷ []) 4); outcome = Done (Refused TNOTSUPPORT); after = T_UNBND } ∷
     record { worker = 0; act = act.Begin (call.TOpen Ticots false); outcome = Done (Opened (record { 0 = 1 })); after = T_UNBND } ∷
     record { worker = 0; act = act.Begin (call.TSnd (record { 0 = 1 }) (codes "x") 4); outcome = Done (Refused TBADFLAG); after = T_UNBND } ∷
     record { worker = 0; act = act.Begin (call.TSndV (record { 0 = 1 }) ((codes "x") ∷ []) 4); outcome = Done (Refused TBADFLAG); after = T_UNBND } ∷
     record { worker = 0; act = act.Begin (call.TSnd (record { 0 = 1 }) (codes "x") 0); outcome = Done (Refused TOUTSTATE); after = T_UNBND } ∷
-    record { worker = 0; act = act.Begin (call.TSndV (record { 0 = 1 }) ((codes "x") ∷ []) 0); outcome = Done (Refused TOUTSTATE); after = T_UNBND } ∷
+    record { worker = 0; act = act.Begin (call.TSndV (record { 0 = 1 }) ((codes "a") ∷ (codes "b") ∷ (codes "c") ∷ (codes "d") ∷ (codes "e") ∷ (codes "f") ∷ (codes "g") ∷ (codes "h") ∷ (codes "i") ∷ (codes "j") ∷ (codes "k") ∷ (codes "l") ∷ (codes "m") ∷ (codes "n") ∷ (codes "o") ∷ (codes "p") ∷ (codes "q") ∷ []) 0); outcome = Done (Refused TOUTSTATE); after = T_UNBND } ∷
     record { worker = 0; act = act.Begin (call.TOpen Ticots false); outcome = Done (Opened (record { 0 = 2 })); after = T_UNBND } ∷
     record { worker = 0; act = act.Begin (call.TBind (record { 0 = 2 }) (codes "l") 1 64); outcome = Done (Bound (codes "l") 1); after = T_IDLE } ∷
     record { worker = 0; act = act.Begin (call.TOpen Ticots true); outcome = Done (Opened (record { 0 = 3 })); after = T_UNBND } ∷
@@ -121,28 +136,43 @@ entries =
     record { worker = 0; act = act.Begin (call.TRcv (record { 0 = 4 }) 9); outcome = Done (Got (codes "1234") 1); after = T_DATAXFER } ∷
     record { worker = 0; act = act.Begin (call.TSnd (record { 0 = 3 }) (codes "9") 1); outcome = Done (Sent 1); after = T_DATAXFER } ∷
     record { worker = 0; act = act.Begin (call.TSnd (record { 0 = 3 }) (codes "12345678") 0); outcome = Done (Refused TBADDATA); after = T_DATAXFER } ∷
+    record { worker = 0; act = act.Begin (call.TSndV (record { 0 = 4 }) ((codes "a") ∷ (codes "b") ∷ []) 0); outcome = Done (Sent 2); after = T_DATAXFER } ∷
     record { worker = 0; act = act.Begin (call.TSndDis (record { 0 = 4 }) (record { 0 = 0 }) (codes "bye")); outcome = Done Plain; after = T_IDLE } ∷
+    record { worker = 0; act = act.Begin (call.TGetProtAddr (record { 0 = 3 }) 64 64); outcome = Done (Addresses (codes "#0") []); after = T_DATAXFER } ∷
+    record { worker = 0; act = act.Begin (call.TLookAt (record { 0 = 3 })); outcome = Done (Seen (Some T_DISCONNECT)); after = T_DATAXFER } ∷
+    record { worker = 0; act = act.Begin (call.TSnd (record { 0 = 3 }) (codes "123456789") 0); outcome = Done (Refused TBADDATA); after = T_DATAXFER } ∷
     record { worker = 0; act = act.Begin (call.TSnd (record { 0 = 3 }) (codes "x") 0); outcome = Done (Look T_DISCONNECT); after = T_DATAXFER } ∷
     record { worker = 0; act = act.Begin (call.TSndV (record { 0 = 3 }) ((codes "x") ∷ []) 0); outcome = Done (Look T_DISCONNECT); after = T_DATAXFER } ∷
     record { worker = 0; act = act.Begin (call.TRcvDis (record { 0 = 3 }) 64); outcome = Done (Discon 4 (record { 0 = 0 }) (codes "bye")); after = T_IDLE } ∷
-    record { worker = 0; act = act.Begin (call.TOpen Ticotsord false); outcome = Done (Opened (record { 0 = 5 })); after = T_UNBND } ∷
-    record { worker = 0; act = act.Begin (call.TBind (record { 0 = 5 }) (codes "m") 1 64); outcome = Done (Bound (codes "m") 1); after = T_IDLE } ∷
-    record { worker = 0; act = act.Begin (call.TOpen Ticotsord true); outcome = Done (Opened (record { 0 = 6 })); after = T_UNBND } ∷
-    record { worker = 0; act = act.Begin (call.TBind (record { 0 = 6 }) [] 0 64); outcome = Done (Bound (codes "#0") 0); after = T_IDLE } ∷
-    record { worker = 0; act = act.Begin (call.TConnect (record { 0 = 6 }) (codes "m") [] [] 64 256 64); outcome = Done (Refused TNODATA); after = T_OUTCON } ∷
-    record { worker = 0; act = act.Begin (call.TListen (record { 0 = 5 }) 64 256 64); outcome = Done (Listened (record { 0 = 1 }) (codes "#0") [] []); after = T_INCON } ∷
-    record { worker = 0; act = act.Begin (call.TOpen Ticotsord false); outcome = Done (Opened (record { 0 = 7 })); after = T_UNBND } ∷
-    record { worker = 0; act = act.Begin (call.TAccept (record { 0 = 5 }) (record { 0 = 7 }) (record { 0 = 1 }) [] []); outcome = Done Plain; after = T_IDLE } ∷
-    record { worker = 0; act = act.Begin (call.TRcvConnect (record { 0 = 6 }) 64 256 64); outcome = Done (Connected (codes "m") [] []); after = T_DATAXFER } ∷
-    record { worker = 0; act = act.Begin (call.TSnd (record { 0 = 6 }) [] 0); outcome = Done (Refused TBADDATA); after = T_DATAXFER } ∷
-    record { worker = 0; act = act.Begin (call.TSndV (record { 0 = 6 }) ([] ∷ []) 0); outcome = Done (Refused TBADDATA); after = T_DATAXFER } ∷
-    record { worker = 0; act = act.Begin (call.TSndRel (record { 0 = 6 })); outcome = Done Plain; after = T_OUTREL } ∷
-    record { worker = 0; act = act.Begin (call.TSnd (record { 0 = 6 }) (codes "x") 0); outcome = Done (Refused TOUTSTATE); after = T_OUTREL } ∷
-    record { worker = 0; act = act.Begin (call.TSnd (record { 0 = 7 }) (codes "x") 0); outcome = Done (Look T_ORDREL); after = T_DATAXFER } ∷
-    record { worker = 0; act = act.Begin (call.TSndV (record { 0 = 7 }) ((codes "x") ∷ []) 0); outcome = Done (Look T_ORDREL); after = T_DATAXFER } ∷
-    record { worker = 0; act = act.Begin (call.TRcvRel (record { 0 = 7 })); outcome = Done Plain; after = T_INREL } ∷
-    record { worker = 0; act = act.Begin (call.TSnd (record { 0 = 7 }) (codes "still") 0); outcome = Done (Sent 5); after = T_INREL } ∷
-    record { worker = 0; act = act.Begin (call.TRcv (record { 0 = 6 }) 65536); outcome = Done (Got (codes "still") 0); after = T_OUTREL } ∷
+    record { worker = 0; act = act.Begin (call.TOpen Ticots false); outcome = Done (Opened (record { 0 = 5 })); after = T_UNBND } ∷
+    record { worker = 0; act = act.Begin (call.TConnect (record { 0 = 3 }) (codes "l") [] [] 64 256 64); outcome = Done (Refused TNODATA); after = T_OUTCON } ∷
+    record { worker = 0; act = act.Begin (call.TListen (record { 0 = 2 }) 64 256 64); outcome = Done (Listened (record { 0 = 2 }) (codes "#0") [] []); after = T_INCON } ∷
+    record { worker = 0; act = act.Begin (call.TAccept (record { 0 = 2 }) (record { 0 = 5 }) (record { 0 = 2 }) [] []); outcome = Done Plain; after = T_IDLE } ∷
+    record { worker = 0; act = act.Begin (call.TRcvConnect (record { 0 = 3 }) 64 256 64); outcome = Done (Connected (codes "l") [] []); after = T_DATAXFER } ∷
+    record { worker = 0; act = act.Begin (call.TSnd (record { 0 = 3 }) (codes "12345678") 0); outcome = Done (Sent 4); after = T_DATAXFER } ∷
+    record { worker = 0; act = act.Begin (call.TRcv (record { 0 = 5 }) 65536); outcome = Done (Got (codes "1234") 1); after = T_DATAXFER } ∷
+    record { worker = 0; act = act.Begin (call.TOpen Ticotsord false); outcome = Done (Opened (record { 0 = 6 })); after = T_UNBND } ∷
+    record { worker = 0; act = act.Begin (call.TBind (record { 0 = 6 }) (codes "m") 1 64); outcome = Done (Bound (codes "m") 1); after = T_IDLE } ∷
+    record { worker = 0; act = act.Begin (call.TOpen Ticotsord true); outcome = Done (Opened (record { 0 = 7 })); after = T_UNBND } ∷
+    record { worker = 0; act = act.Begin (call.TBind (record { 0 = 7 }) [] 0 64); outcome = Done (Bound (codes "#0") 0); after = T_IDLE } ∷
+    record { worker = 0; act = act.Begin (call.TConnect (record { 0 = 7 }) (codes "m") [] [] 64 256 64); outcome = Done (Refused TNODATA); after = T_OUTCON } ∷
+    record { worker = 0; act = act.Begin (call.TListen (record { 0 = 6 }) 64 256 64); outcome = Done (Listened (record { 0 = 1 }) (codes "#0") [] []); after = T_INCON } ∷
+    record { worker = 0; act = act.Begin (call.TOpen Ticotsord false); outcome = Done (Opened (record { 0 = 8 })); after = T_UNBND } ∷
+    record { worker = 0; act = act.Begin (call.TAccept (record { 0 = 6 }) (record { 0 = 8 }) (record { 0 = 1 }) [] []); outcome = Done Plain; after = T_IDLE } ∷
+    record { worker = 0; act = act.Begin (call.TRcvConnect (record { 0 = 7 }) 64 256 64); outcome = Done (Connected (codes "m") [] []); after = T_DATAXFER } ∷
+    record { worker = 0; act = act.Begin (call.TSnd (record { 0 = 7 }) [] 0); outcome = Done (Refused TBADDATA); after = T_DATAXFER } ∷
+    record { worker = 0; act = act.Begin (call.TSndV (record { 0 = 7 }) ([] ∷ []) 0); outcome = Done (Refused TBADDATA); after = T_DATAXFER } ∷
+    record { worker = 0; act = act.Begin (call.SetMode (record { 0 = 8 }) true); outcome = Done Plain; after = T_DATAXFER } ∷
+    record { worker = 0; act = act.Begin (call.TSnd (record { 0 = 8 }) (codes "abcd") 0); outcome = Done (Sent 4); after = T_DATAXFER } ∷
+    record { worker = 0; act = act.Begin (call.TSndRel (record { 0 = 7 })); outcome = Done Plain; after = T_OUTREL } ∷
+    record { worker = 0; act = act.Begin (call.TSnd (record { 0 = 7 }) (codes "x") 0); outcome = Done (Refused TOUTSTATE); after = T_OUTREL } ∷
+    record { worker = 0; act = act.Begin (call.TSnd (record { 0 = 8 }) (codes "x") 0); outcome = Done (Look T_ORDREL); after = T_DATAXFER } ∷
+    record { worker = 0; act = act.Begin (call.TSndV (record { 0 = 8 }) ((codes "x") ∷ []) 0); outcome = Done (Look T_ORDREL); after = T_DATAXFER } ∷
+    record { worker = 0; act = act.Begin (call.TSnd (record { 0 = 8 }) [] 0); outcome = Done (Refused TBADDATA); after = T_DATAXFER } ∷
+    record { worker = 0; act = act.Begin (call.TRcvRel (record { 0 = 8 })); outcome = Done Plain; after = T_INREL } ∷
+    record { worker = 0; act = act.Begin (call.TRcv (record { 0 = 7 }) 65536); outcome = Done (Got (codes "abcd") 0); after = T_OUTREL } ∷
+    record { worker = 0; act = act.Begin (call.TSnd (record { 0 = 8 }) (codes "on") 0); outcome = Done (Sent 2); after = T_INREL } ∷
+    record { worker = 0; act = act.Begin (call.TRcv (record { 0 = 7 }) 65536); outcome = Done (Got (codes "on") 0); after = T_OUTREL } ∷
     []
 
 the_history : robin (record { providers = providers; lines = lines }) ≡ entries

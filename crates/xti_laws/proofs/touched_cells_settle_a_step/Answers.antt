@@ -1,5 +1,6 @@
 use Rattle.xti_laws.proofs.TouchedCells.{touched-reads, touched-changes}
 use Rattle.xti_laws.proofs.TouchedAgain.{touched-again}
+use Rattle.xti_laws.proofs.KnownPlaces.{known-places}
 use Rattle.xti_laws.proofs.touched_cells_settle_a_step.Goals as goal
 
 pub returns-clause-reads : goal.returns-clause-reads
@@ -10,3 +11,6 @@ returns-clause-changes c = touched-changes
 
 pub returns-clause-again : goal.returns-clause-again
 returns-clause-again c = touched-again
+
+pub returns-clause-known : goal.returns-clause-known
+returns-clause-known c = known-places
