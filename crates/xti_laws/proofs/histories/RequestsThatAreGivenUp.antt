@@ -50,11 +50,12 @@ lines =
     record { worker = 0; call = named.TConnect (codes "d") (codes "l") [] [] 64 256 64 } ∷
     record { worker = 0; call = named.TListen (codes "l") (codes "s") 64 256 64 } ∷
     record { worker = 0; call = named.TConnect (codes "c") (codes "l") [] [] 64 256 64 } ∷
+    record { worker = 0; call = named.TSndDis (codes "d") None [] } ∷
     record { worker = 0; call = named.TClose (codes "l") } ∷
     record { worker = 0; call = named.TLookAt (codes "b") } ∷
+    record { worker = 0; call = named.TLookAt (codes "d") } ∷
     record { worker = 0; call = named.TRcvDis (codes "b") 64 } ∷
     record { worker = 0; call = named.TRcvDis (codes "c") 64 } ∷
-    record { worker = 0; call = named.TRcvDis (codes "d") 64 } ∷
     record { worker = 0; call = named.TOpen (codes "l2") Ticotsord true } ∷
     record { worker = 0; call = named.TBind (codes "l2") (codes "l") 1 64 } ∷
     record { worker = 0; call = named.TConnect (codes "d") (codes "l") [] [] 64 256 64 } ∷
@@ -105,11 +106,12 @@ entries =
     record { worker = 0; act = act.Begin (call.TConnect (record { 0 = 4 }) (codes "l") [] [] 64 256 64); outcome = Done (Refused TNODATA); after = T_OUTCON } ∷
     record { worker = 0; act = act.Begin (call.TListen (record { 0 = 0 }) 64 256 64); outcome = Done (Listened (record { 0 = 4 }) (codes "#3") [] []); after = T_INCON } ∷
     record { worker = 0; act = act.Begin (call.TConnect (record { 0 = 3 }) (codes "l") [] [] 64 256 64); outcome = Done (Refused TNODATA); after = T_OUTCON } ∷
+    record { worker = 0; act = act.Begin (call.TSndDis (record { 0 = 4 }) (record { 0 = 0 }) []); outcome = Done Plain; after = T_IDLE } ∷
     record { worker = 0; act = act.Begin (call.TClose (record { 0 = 0 })); outcome = Done Plain; after = T_UNINIT } ∷
     record { worker = 0; act = act.Begin (call.TLookAt (record { 0 = 2 })); outcome = Done (Seen (Some T_DISCONNECT)); after = T_OUTCON } ∷
+    record { worker = 0; act = act.Begin (call.TLookAt (record { 0 = 4 })); outcome = Done (Seen None); after = T_IDLE } ∷
     record { worker = 0; act = act.Begin (call.TRcvDis (record { 0 = 2 }) 64); outcome = Done (Discon 5 (record { 0 = 0 }) []); after = T_IDLE } ∷
     record { worker = 0; act = act.Begin (call.TRcvDis (record { 0 = 3 }) 64); outcome = Done (Discon 5 (record { 0 = 0 }) []); after = T_IDLE } ∷
-    record { worker = 0; act = act.Begin (call.TRcvDis (record { 0 = 4 }) 64); outcome = Done (Discon 5 (record { 0 = 0 }) []); after = T_IDLE } ∷
     record { worker = 0; act = act.Begin (call.TOpen Ticotsord true); outcome = Done (Opened (record { 0 = 64 })); after = T_UNBND } ∷
     record { worker = 0; act = act.Begin (call.TBind (record { 0 = 64 }) (codes "l") 1 64); outcome = Done (Bound (codes "l") 1); after = T_IDLE } ∷
     record { worker = 0; act = act.Begin (call.TConnect (record { 0 = 4 }) (codes "l") [] [] 64 256 64); outcome = Done (Refused TNODATA); after = T_OUTCON } ∷
