@@ -1,0 +1,3 @@
+pub mod Indicated
+pub mod Fronts
+pub mod Steps

@@ -18,7 +18,7 @@ pub(crate) fn rest_of(frame: &Frame, taken: usize) -> &[u8]
     requires { taken ≤ length (user_of (primitive_in frame.now)) }
     ensures rest { result.now ≡ drop taken (user_of (primitive_in frame.now)) }
     ensures bytes { AreBytes result.now }
-    ensures most { length result.now ≤ 65536 }
+    ensures most { taken + length result.now ≤ 65536 }
 {
     &user_data(frame)[taken..]
 }
