@@ -1,6 +1,6 @@
 -- What waiting frames come to, frame by frame.
-use Rattle.std.proofs.Common.{◌≡◌, ◌≤◌, ◌<◌, ◌+◌, ◌-◌, ◌++◌, ℕ, Bool, true, false, not, List, [], ◌∷◌, length, take, drop, map, nat_lt, if◌then◌else◌, Option, Some, None, refl, sym, ap, ◌∙◌, arith, subst, lit≤, append_assoc, lt-ltb, le-ltb}
-use Rattle.std.proofs.lemmas.List.{drop-drop}
+use Rattle.std.proofs.Common.{◌≡◌, ◌≤◌, ◌<◌, ◌+◌, ◌-◌, ◌++◌, ℕ, suc, Bool, true, false, not, List, [], ◌∷◌, length, take, drop, map, nat_lt, if◌then◌else◌, Option, Some, None, refl, sym, ap, ◌∙◌, arith, subst, lit≤, append_assoc, lt-ltb, le-ltb}
+use Rattle.std.proofs.lemmas.List.{drop-drop, length-map}
 use Rattle.std.specs.List.{flat_map}
 use Rattle.tpi_grammar.specs.Frame.{AreBytes}
 use Rattle.tpi_grammar.specs.Kinds.{row_of}
@@ -79,6 +79,9 @@ user_left f n can = waits_user (primitive_in f) (drop n (user_of (primitive_in f
 pub ends_left : (f : List ℕ) (n : ℕ) → ends_message (without n (primitive_in f)) ≡ ends_message (primitive_in f)
 ends_left f n = ends_with_user (primitive_in f) (drop n (user_of (primitive_in f)))
 
+pub kind_left : (f : List ℕ) (n : ℕ) → kind_of (without n (primitive_in f)) ≡ kind_in f
+kind_left f n = kind_with_user (primitive_in f) (drop n (user_of (primitive_in f))) ∙ kind_of-primitive_in f
+
 most_of : (k : Kind) → (row_of k).most_data ≤ 65536
 most_of kind.T_CONN_REQ = lit≤ tt
 most_of _ = lit≤ tt
@@ -109,16 +112,26 @@ unfolding begun
 begun-cons n f fs = ap (λ ps. without n (primitive_in f) ∷ ps) (sym (all_as_read fs))
 
 pub symbols_in-none : (n : ℕ) → symbols_in n [] ≡ []
-unfolding begun symbols_of_all symbols_in
+unfolding begun symbols_of_all
 symbols_in-none n = refl
 
 pub symbols_in-cons : (n : ℕ) (f : List ℕ) (fs : List (List ℕ)) → can_wait (kind_in f) ≡ true
     → symbols_in n (f ∷ fs) ≡ piece (drop n (user_of (primitive_in f))) (ends_message (primitive_in f)) ++ symbols_in 0 fs
-unfolding symbols_of_all symbols_in
+unfolding symbols_of_all
 symbols_in-cons n f fs can =
     rw (begun-cons n f fs)
     (ap (λ u. piece u (ends_message (without n (primitive_in f))) ++ flat_map symbols_of (begun 0 fs)) (user_left f n can)
     ∙ ap (λ e. piece (drop n (user_of (primitive_in f))) e ++ flat_map symbols_of (begun 0 fs)) (ends_left f n))
+
+pub begun-drop : (hs : List (List ℕ)) (n : ℕ) → begun 0 (drop 1 hs) ≡ drop 1 (begun n hs)
+unfolding begun
+begun-drop [] n = refl
+begun-drop (f ∷ fs) n = all_as_read fs
+
+pub begun-length : (hs : List (List ℕ)) (n : ℕ) → length hs ≡ length (begun n hs)
+unfolding begun
+begun-length [] n = refl
+begun-length (f ∷ fs) n = ap suc (sym (length-map fs primitive_in))
 
 -- ---- what is left behind
 

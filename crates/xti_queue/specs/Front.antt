@@ -3,7 +3,7 @@ use Rattle.std.specs.Prelude.{◌≡◌, ◌<◌, ℕ, List, [], ◌∷◌}
 use Rattle.xti_queue.specs.Indications.{begun, symbols_of_all}
 
 -- the symbols of frames, of the first of which so many bytes were taken
-unfoldable pub symbols_in : ℕ → List (List ℕ) → List ℕ
+abbrev pub symbols_in : ℕ → List (List ℕ) → List ℕ
 symbols_in taken held = symbols_of_all (begun taken held)
 
 -- what may follow where a run stops before an end: nothing, or it is full and a byte follows

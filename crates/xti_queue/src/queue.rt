@@ -95,9 +95,7 @@ impl ReadQueue {
         ensures spare { self.old.spare ≤ self.new.spare + 1 }
     {
         self.bytes += rest_of(&frame, 0).len();
-        if ends(&frame) {
-            self.ends += 1;
-        }
+        self.ends += usize::from(ends(&frame));
         self.spare -= 1;
         self.held.push_back_reserved(frame);
     }
@@ -118,9 +116,7 @@ impl ReadQueue {
         let mut bytes = Vec::with_capacity(self.alloc, count)?;
         let ended = take_run(&mut self.held, &mut self.taken, &mut bytes, max);
         self.bytes -= bytes.len();
-        if ended {
-            self.ends -= 1;
-        }
+        self.ends -= usize::from(ended);
         Ok(Piece {
             bytes: Octets::from_vec(bytes),
             ended,
@@ -133,13 +129,12 @@ impl ReadQueue {
         ensures frames { frames self.new ≡ drop 1 (frames self.old) }
         ensures spare { self.new.spare ≡ self.old.spare }
     {
-        if let Some(frame) = self.held.pop_front() {
-            self.bytes -= rest_of(&frame, self.taken).len();
-            if ends(&frame) {
-                self.ends -= 1;
-            }
-            self.taken = 0;
-        }
+        let Some(frame) = self.held.pop_front() else {
+            return;
+        };
+        self.bytes -= rest_of(&frame, self.taken).len();
+        self.ends -= usize::from(ends(&frame));
+        self.taken = 0;
     }
 
     /// Takes all frames out. Takes no memory.
