@@ -13,7 +13,8 @@ use Rattle.xti_model.specs.Symbols.{piece, bytes_waiting, ends_waiting}
 use Rattle.xti_queue.specs.Indications.{can_wait, ends_message, without, symbols_of, begun, symbols_of_all}
 use Rattle.xti_queue.specs.Kept.{AllWait, IsWithin, IsKept}
 use Rattle.xti_queue.specs.Front.{symbols_in}
-use Rattle.xti_queue.proofs.Indicated.{begun-none, symbols_in-none, without_none, user_left, kind_left}
+use mir.Val.{bool_byte}
+use Rattle.xti_queue.proofs.Indicated.{begun-none, symbols_in-none, symbols_in-cons, without_none, user_left, kind_left}
 use Rattle.xti_queue.proofs.Fronts.{bytes_waiting-append, ends_waiting-append, bytes_waiting-piece, ends_waiting-piece}
 
 -- ---- no frame
@@ -71,14 +72,14 @@ within-push : (hs : List (List ℕ)) (f : List ℕ) (n : ℕ) → IsWithin n hs 
 within-push [] f n within = omega (arith, within)
 within-push (h ∷ hs) f n within = within
 
-flag_most : (e : Bool) → (if e then 1 else 0) ≤ 1
+flag_most : (e : Bool) → bool_byte e ≤ 1
 flag_most true = omega arith
 flag_most false = omega arith
 
-pub kept_push : (hs : List (List ℕ)) (f : List ℕ) (taken bytes ends spare before after : ℕ) → IsKept hs taken bytes ends spare before
+kept_pushed : (hs : List (List ℕ)) (f : List ℕ) (taken bytes ends spare before after : ℕ) → IsKept hs taken bytes ends spare before
     → can_wait (kind_in f) ≡ true → AreBytes (user_of (primitive_in f)) → length (user_of (primitive_in f)) ≤ 65536 → 1 ≤ spare → after ≡ before
-    → IsKept (hs ++ f ∷ []) taken (bytes + length (user_of (primitive_in f))) (ends + (if ends_message (primitive_in f) then 1 else 0)) (spare - 1) after
-kept_push hs f taken bytes ends spare before after kept can are most some same =
+    → IsKept (hs ++ f ∷ []) taken (bytes + length (user_of (primitive_in f))) (ends + bool_byte (ends_message (primitive_in f))) (spare - 1) after
+kept_pushed hs f taken bytes ends spare before after kept can are most some same =
     let u = user_of (primitive_in f) in
     let e = ends_message (primitive_in f) in
     let more = symbols-push hs f taken kept.within in
@@ -92,16 +93,23 @@ kept_push hs f taken bytes ends spare before after kept can are most some same =
       ends =
         sym (ap ends_waiting more ∙ ends_waiting-append (symbols_in taken hs) (piece u e)
         ∙ ap (λ k. ends_waiting (symbols_in taken hs) + k) (ends_waiting-piece u e are)
-        ∙ ap (λ k. k + (if e then 1 else 0)) (sym kept.ends));
+        ∙ ap (λ k. k + bool_byte e) (sym kept.ends));
       counted = omega (arith, kept.counted, most, some, flag_most e);
       room = omega (arith, kept.room, length-append hs (f ∷ []), some, same);
     }
+
+pub kept_push : (hs new : List (List ℕ)) (f : List ℕ) (taken bytes ends spare before after m k : ℕ) → IsKept hs taken bytes ends spare before
+    → new ≡ hs ++ f ∷ [] → m ≡ length (user_of (primitive_in f)) → k ≡ bool_byte (ends_message (primitive_in f)) → can_wait (kind_in f) ≡ true → AreBytes (user_of (primitive_in f)) → length (user_of (primitive_in f)) ≤ 65536 → 1 ≤ spare → after ≡ before
+    → IsKept new taken (bytes + m) (ends + k) (spare - 1) after
+kept_push hs new f taken bytes ends spare before after m k kept is m_is k_is can are most some same =
+    let pushed = kept_pushed hs f taken bytes ends spare before after kept can are most some same in
+    rw (is, m_is, k_is) pushed
 
 -- ---- a piece less
 
 pub piece_counts : (hs new : List (List ℕ)) (taken n bytes ends spare capacity : ℕ) (b : List ℕ) (e : Bool) → IsKept hs taken bytes ends spare capacity
     → symbols_in taken hs ≡ piece b e ++ symbols_in n new → AreBytes b
-    → (bytes ≡ length b + bytes_waiting (symbols_in n new)) × (ends ≡ (if e then 1 else 0) + ends_waiting (symbols_in n new))
+    → (bytes ≡ length b + bytes_waiting (symbols_in n new)) × (ends ≡ bool_byte e + ends_waiting (symbols_in n new))
 piece_counts hs new taken n bytes ends spare capacity b e kept moved are =
     ( kept.bytes ∙ ap bytes_waiting moved ∙ bytes_waiting-append (piece b e) (symbols_in n new)
       ∙ ap (λ k. k + bytes_waiting (symbols_in n new)) (bytes_waiting-piece b e are)
@@ -109,21 +117,27 @@ piece_counts hs new taken n bytes ends spare capacity b e kept moved are =
       ∙ ap (λ k. k + ends_waiting (symbols_in n new)) (ends_waiting-piece b e are)
     )
 
-pub kept_less : (hs new : List (List ℕ)) (taken n bytes ends spare before after : ℕ) (b : List ℕ) (e : Bool) → IsKept hs taken bytes ends spare before
+pub kept_less : (hs new : List (List ℕ)) (taken n bytes ends spare before after m k : ℕ) (b : List ℕ) (e : Bool) → IsKept hs taken bytes ends spare before
     → symbols_in taken hs ≡ piece b e ++ symbols_in n new → AreBytes b → AllWait new → IsWithin n new → length new ≤ length hs → after ≡ before
-    → IsKept new n (bytes - length b) (ends - (if e then 1 else 0)) spare after
-kept_less hs new taken n bytes ends spare before after b e kept moved are wait within shorter same =
+    → m ≡ length b → k ≡ bool_byte e → IsKept new n (bytes - m) (ends - k) spare after
+kept_less hs new taken n bytes ends spare before after m k b e kept moved are wait within shorter same m_is k_is =
     let counts = piece_counts hs new taken n bytes ends spare before b e kept moved are in
     record {
       wait = wait;
       within = within;
-      bytes = omega (arith, counts.0);
-      ends = omega (arith, counts.1);
+      bytes = omega (arith, counts.0, m_is);
+      ends = omega (arith, counts.1, k_is);
       counted = omega (arith, kept.counted);
       room = omega (arith, kept.room, shorter, same);
     }
 
 -- ---- the first frame
+
+pub popped_symbols : (hs fs : List (List ℕ)) (f : List ℕ) (n : ℕ) (u : List ℕ) → hs ≡ f ∷ fs → AllWait hs → u ≡ drop n (user_of (primitive_in f))
+    → symbols_in n hs ≡ piece u (ends_message (primitive_in f)) ++ symbols_in 0 fs
+popped_symbols hs fs f n u is wait user =
+    let can : can_wait (kind_in f) ≡ true = (subst AllWait is wait).0 in
+    ap (λ l. symbols_in n l) is ∙ symbols_in-cons n f fs can ∙ ap (λ v. piece v (ends_message (primitive_in f)) ++ symbols_in 0 fs) (sym user)
 
 -- what a reader of the first frame tells
 pub first_told : {A : Type 0} (g : Prim → A) (hs : List (List ℕ)) (f : List ℕ) (n : ℕ) → 0 < length hs → f ≡ slice_index_or hs 0 f

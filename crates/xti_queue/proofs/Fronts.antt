@@ -6,6 +6,7 @@ use Rattle.std.proofs.lemmas.List.Sums.{take_while-cons, sum_by-cons, sum_by-app
 use Rattle.tpi_grammar.specs.Frame.{AreBytes}
 use Rattle.xti_model.specs.Symbols.{is_end, is_byte, front, ended, rest, piece, bytes_waiting, ends_waiting, is_end_next, end_of_message}
 use Rattle.xti_queue.specs.Front.{StopsAt}
+use mir.Val.{bool_byte}
 
 pub byte_is : (b : ℕ) → b < 256 → is_end b ≡ false
 byte_is b low = ne_eqb b 256 (λ e. absurd (omega (arith, low, e)))
@@ -127,6 +128,6 @@ pub bytes_waiting-piece : (b : List ℕ) (e : Bool) → AreBytes b → bytes_wai
 bytes_waiting-piece b true bytes = omega (arith, bytes_waiting-append b (end_of_message ∷ []), bytes_count b bytes)
 bytes_waiting-piece b false bytes = bytes_count b bytes
 
-pub ends_waiting-piece : (b : List ℕ) (e : Bool) → AreBytes b → ends_waiting (piece b e) ≡ (if e then 1 else 0)
+pub ends_waiting-piece : (b : List ℕ) (e : Bool) → AreBytes b → ends_waiting (piece b e) ≡ bool_byte e
 ends_waiting-piece b true bytes = omega (arith, ends_waiting-append b (end_of_message ∷ []), no_ends b bytes)
 ends_waiting-piece b false bytes = no_ends b bytes

@@ -56,7 +56,7 @@ first_of : (hs : List (List ℕ)) (f : List ℕ) → 0 < length hs → f ≡ sli
 first_of [] f some is = absurd (omega (arith, some))
 first_of (h ∷ hs) f some is = ap (λ g. g ∷ hs) (sym is)
 
-can_first : (hs : List (List ℕ)) (f : List ℕ) → 0 < length hs → f ≡ slice_index_or hs 0 f → AllWait hs → can_wait (kind_in f) ≡ true
+pub can_first : (hs : List (List ℕ)) (f : List ℕ) → 0 < length hs → f ≡ slice_index_or hs 0 f → AllWait hs → can_wait (kind_in f) ≡ true
 can_first [] f some is wait = absurd (omega (arith, some))
 can_first (h ∷ hs) f some is (can, wait) = ap (λ g. can_wait (kind_in g)) is ∙ can
 
