@@ -87,13 +87,13 @@ kept_pushed hs f taken bytes ends spare before after kept can are most some same
       wait = wait-push hs f kept.wait can;
       within = within-push hs f taken kept.within;
       bytes =
-        sym (ap bytes_waiting more ∙ bytes_waiting-append (symbols_in taken hs) (piece u e)
-        ∙ ap (λ k. bytes_waiting (symbols_in taken hs) + k) (bytes_waiting-piece u e are)
-        ∙ ap (λ k. k + length u) (sym kept.bytes));
+          sym (ap bytes_waiting more ∙ bytes_waiting-append (symbols_in taken hs) (piece u e)
+          ∙ ap (λ k. bytes_waiting (symbols_in taken hs) + k) (bytes_waiting-piece u e are)
+          ∙ ap (λ k. k + length u) (sym kept.bytes));
       ends =
-        sym (ap ends_waiting more ∙ ends_waiting-append (symbols_in taken hs) (piece u e)
-        ∙ ap (λ k. ends_waiting (symbols_in taken hs) + k) (ends_waiting-piece u e are)
-        ∙ ap (λ k. k + bool_byte e) (sym kept.ends));
+          sym (ap ends_waiting more ∙ ends_waiting-append (symbols_in taken hs) (piece u e)
+          ∙ ap (λ k. ends_waiting (symbols_in taken hs) + k) (ends_waiting-piece u e are)
+          ∙ ap (λ k. k + bool_byte e) (sym kept.ends));
       counted = omega (arith, kept.counted, most, some, flag_most e);
       room = omega (arith, kept.room, length-append hs (f ∷ []), some, same);
     }
@@ -110,12 +110,12 @@ kept_push hs new f taken bytes ends spare before after m k kept is m_is k_is can
 pub piece_counts : (hs new : List (List ℕ)) (taken n bytes ends spare capacity : ℕ) (b : List ℕ) (e : Bool) → IsKept hs taken bytes ends spare capacity
     → symbols_in taken hs ≡ piece b e ++ symbols_in n new → AreBytes b
     → (bytes ≡ length b + bytes_waiting (symbols_in n new)) × (ends ≡ bool_byte e + ends_waiting (symbols_in n new))
-piece_counts hs new taken n bytes ends spare capacity b e kept moved are =
-    ( kept.bytes ∙ ap bytes_waiting moved ∙ bytes_waiting-append (piece b e) (symbols_in n new)
-      ∙ ap (λ k. k + bytes_waiting (symbols_in n new)) (bytes_waiting-piece b e are)
-    , kept.ends ∙ ap ends_waiting moved ∙ ends_waiting-append (piece b e) (symbols_in n new)
-      ∙ ap (λ k. k + ends_waiting (symbols_in n new)) (ends_waiting-piece b e are)
-    )
+piece_counts hs new taken n bytes ends spare capacity b e kept moved are = (
+  kept.bytes ∙ ap bytes_waiting moved ∙ bytes_waiting-append (piece b e) (symbols_in n new)
+      ∙ ap (λ k. k + bytes_waiting (symbols_in n new)) (bytes_waiting-piece b e are),
+  kept.ends ∙ ap ends_waiting moved ∙ ends_waiting-append (piece b e) (symbols_in n new)
+      ∙ ap (λ k. k + ends_waiting (symbols_in n new)) (ends_waiting-piece b e are),
+)
 
 pub kept_less : (hs new : List (List ℕ)) (taken n bytes ends spare before after m k : ℕ) (b : List ℕ) (e : Bool) → IsKept hs taken bytes ends spare before
     → symbols_in taken hs ≡ piece b e ++ symbols_in n new → AreBytes b → AllWait new → IsWithin n new → length new ≤ length hs → after ≡ before

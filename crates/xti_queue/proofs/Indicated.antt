@@ -9,7 +9,9 @@ use Rattle.tpi_grammar.specs.declared.kind.Kind.{Kind}
 use Rattle.tpi_grammar.specs.declared.kind.Kind.TheVariants as kind
 use Rattle.tpi_prim.specs.declared.primitive.Prim.{Prim}
 use Rattle.tpi_prim.specs.declared.primitive.Prim.TheVariants as prim
-use Rattle.tpi_prim.specs.Primitive.{user_of, kind_of, more_of, filled}
+use Rattle.tpi_prim.specs.declared.primitive.Part.{Part}
+use Rattle.tpi_prim.specs.declared.primitive.Part.TheVariants.{Dest, Src, Res, Addr, Opt}
+use Rattle.tpi_prim.specs.Primitive.{user_of, kind_of, more_of, part_of, filled}
 use Rattle.tpi_prim.specs.Fields.{kind_in, primitive_in, read_as}
 use Rattle.tpi_prim.proofs.FrameReads.{spelled_by, kind_of-primitive_in, is_spelled, primitive_is}
 use Rattle.xti_model.specs.Symbols.{piece}
@@ -34,6 +36,19 @@ pub kind_with_user : (p : Prim) (u : List ℕ) → kind_of (with_user u p) ≡ k
 unfolding with_user
 kind_with_user (prim.T_DATA_IND more user) u = refl
 kind_with_user _ u = refl
+
+part_with_user : (which : Part) (p : Prim) (u : List ℕ) → part_of which (with_user u p) ≡ part_of which p
+unfolding with_user
+part_with_user Dest (prim.T_DATA_IND more user) u = refl
+part_with_user Dest _ u = refl
+part_with_user Src (prim.T_DATA_IND more user) u = refl
+part_with_user Src _ u = refl
+part_with_user Res (prim.T_DATA_IND more user) u = refl
+part_with_user Res _ u = refl
+part_with_user Addr (prim.T_DATA_IND more user) u = refl
+part_with_user Addr _ u = refl
+part_with_user Opt (prim.T_DATA_IND more user) u = refl
+part_with_user Opt _ u = refl
 
 twice_with_user : (p : Prim) (u v : List ℕ) → with_user u (with_user v p) ≡ with_user u p
 unfolding with_user
@@ -72,6 +87,9 @@ pub datagram_ends : (f : List ℕ) (k : Kind) → can_wait (kind_in f) ≡ true 
 datagram_ends f k can is normal expedited =
     let e : k ≡ kind_of (primitive_in f) = is ∙ sym (kind_of-primitive_in f) in
     ends_datagram (primitive_in f) (can_be f can) (λ h. normal (e ∙ h)) (λ h. expedited (e ∙ h))
+
+pub part_left : (which : Part) (f : List ℕ) (n : ℕ) → part_of which (without n (primitive_in f)) ≡ part_of which (primitive_in f)
+part_left which f n = part_with_user which (primitive_in f) (drop n (user_of (primitive_in f)))
 
 pub user_left : (f : List ℕ) (n : ℕ) → can_wait (kind_in f) ≡ true → user_of (without n (primitive_in f)) ≡ drop n (user_of (primitive_in f))
 user_left f n can = waits_user (primitive_in f) (drop n (user_of (primitive_in f))) (can_be f can)

@@ -78,7 +78,12 @@ enum Step {
 }
 
 /// Takes what the first frame gives, up to `max` bytes in all.
-fn take_front(held: &mut VecDeque<Frame>, taken: &mut usize, bytes: &mut Vec<u8>, max: usize) -> Step
+fn take_front(
+    held: &mut VecDeque<Frame>,
+    taken: &mut usize,
+    bytes: &mut Vec<u8>,
+    max: usize,
+) -> Step
     requires wait { AllWait held.old.items }
     requires within { IsWithin taken.old held.old.items }
     requires most { vec_len bytes.old ≤ max }
@@ -116,7 +121,12 @@ fn take_front(held: &mut VecDeque<Frame>, taken: &mut usize, bytes: &mut Vec<u8>
 }
 
 /// Takes frames from the front until an end, `max` bytes, or the end of the queue.
-pub(crate) fn take_run(held: &mut VecDeque<Frame>, taken: &mut usize, bytes: &mut Vec<u8>, max: usize) -> bool
+pub(crate) fn take_run(
+    held: &mut VecDeque<Frame>,
+    taken: &mut usize,
+    bytes: &mut Vec<u8>,
+    max: usize,
+) -> bool
     requires wait { AllWait held.old.items }
     requires within { IsWithin taken.old held.old.items }
     requires empty { bytes.old.items ≡ [] }

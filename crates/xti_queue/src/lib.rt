@@ -5,3 +5,6 @@ mod front;
 mod queue;
 
 pub use queue::{Piece, ReadQueue};
+
+#[cfg(test)]
+mod tests;

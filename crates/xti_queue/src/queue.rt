@@ -107,6 +107,7 @@ impl ReadQueue {
         ensures bytes { IfOk result (λ p. p.bytes ≡ waiting.front max (symbols self.old)) }
         ensures ended { IfOk result (λ p. p.ended ≡ waiting.ended max (symbols self.old)) }
         ensures rest { OnOk result (symbols self.new ≡ waiting.rest max (symbols self.old)) }
+        ensures moved { IfOk result (λ p. symbols self.old ≡ waiting.piece p.bytes p.ended ++ symbols self.new) }
         ensures frames { OnOk result (frames self.new ≡ left_behind max (frames self.old)) }
         ensures pushed { self.new.pushed ≡ drop (length self.old.pushed - length self.new.pushed) self.old.pushed }
         ensures spare { self.new.spare ≡ self.old.spare }

@@ -29,7 +29,7 @@ overflow_sub-self c =
     let u = c.rest_of.result.now in
     let is : c.self.inside.held.items ≡ c.in-Some.frame ∷ c.pop_front.new.self.items = c.in-Some.ensures.items in
     let moved : symbols_in c.self.inside.taken c.self.inside.held.items ≡ piece u (ends_message (primitive_in c.in-Some.frame)) ++ symbols_in 0 c.pop_front.new.self.items =
-        popped_symbols c.self.inside.held.items c.pop_front.new.self.items c.in-Some.frame c.self.inside.taken u is c.self.invariant.wait c.rest_of.ensures.rest in
+    popped_symbols c.self.inside.held.items c.pop_front.new.self.items c.in-Some.frame c.self.inside.taken u is c.self.invariant.wait c.rest_of.ensures.rest in
     omega (arith, (piece_counts c.self.inside.held.items c.pop_front.new.self.items c.self.inside.taken 0 c.self.inside.bytes c.self.inside.ends c.self.inside.spare (deque_capacity c.self.inside.held) u (ends_message (primitive_in c.in-Some.frame)) c.self.invariant moved c.rest_of.ensures.bytes).0)
 
 pub overflow_sub-self-2 : goal.overflow_sub-self-2
@@ -37,7 +37,7 @@ overflow_sub-self-2 c =
     let u = c.rest_of.result.now in
     let is : c.self.inside.held.items ≡ c.in-Some.frame ∷ c.pop_front.new.self.items = c.in-Some.ensures.items in
     let moved : symbols_in c.self.inside.taken c.self.inside.held.items ≡ piece u (ends_message (primitive_in c.in-Some.frame)) ++ symbols_in 0 c.pop_front.new.self.items =
-        popped_symbols c.self.inside.held.items c.pop_front.new.self.items c.in-Some.frame c.self.inside.taken u is c.self.invariant.wait c.rest_of.ensures.rest in
+    popped_symbols c.self.inside.held.items c.pop_front.new.self.items c.in-Some.frame c.self.inside.taken u is c.self.invariant.wait c.rest_of.ensures.rest in
     omega (arith, (piece_counts c.self.inside.held.items c.pop_front.new.self.items c.self.inside.taken 0 c.self.inside.bytes c.self.inside.ends c.self.inside.spare (deque_capacity c.self.inside.held) u (ends_message (primitive_in c.in-Some.frame)) c.self.invariant moved c.rest_of.ensures.bytes).1, c.from.ensures ∙ ap bool_byte c.ends.ensures)
 
 pub invariant_of-self-2 : goal.invariant_of-self-2
@@ -45,7 +45,7 @@ invariant_of-self-2 c =
     let u = c.rest_of.result.now in
     let is : c.self.inside.held.items ≡ c.in-Some.frame ∷ c.pop_front.new.self.items = c.in-Some.ensures.items in
     let moved : symbols_in c.self.inside.taken c.self.inside.held.items ≡ piece u (ends_message (primitive_in c.in-Some.frame)) ++ symbols_in 0 c.pop_front.new.self.items =
-        popped_symbols c.self.inside.held.items c.pop_front.new.self.items c.in-Some.frame c.self.inside.taken u is c.self.invariant.wait c.rest_of.ensures.rest in
+    popped_symbols c.self.inside.held.items c.pop_front.new.self.items c.in-Some.frame c.self.inside.taken u is c.self.invariant.wait c.rest_of.ensures.rest in
     let rest : drop 1 c.self.inside.held.items ≡ c.pop_front.new.self.items = sym c.pop_front.ensures.rest in
     kept_less c.self.inside.held.items c.pop_front.new.self.items c.self.inside.taken 0 c.self.inside.bytes c.self.inside.ends c.self.inside.spare (deque_capacity c.self.inside.held) (deque_capacity c.pop_front.new.self) (length u) c.from.result u
     (ends_message (primitive_in c.in-Some.frame)) c.self.invariant moved c.rest_of.ensures.bytes (subst AllWait rest (wait-drop c.self.inside.held.items c.self.invariant.wait)) (within_none c.pop_front.new.self.items)
