@@ -1,20 +1,18 @@
 -- What stays true of a queue over its calls.
-use Rattle.std.proofs.Common.{◌≡◌, ◌≤◌, ◌<◌, ◌+◌, ◌-◌, ◌*◌, ◌^◌, ◌++◌, ℕ, suc, zero, Bool, true, false, List, [], ◌∷◌, length, drop, map, if◌then◌else◌, slice_index_or, Option, Some, None, refl, sym, ap, ◌∙◌, arith, subst, append_assoc, length-append}
-use Rattle.std.specs.List.{flat_map, slice_get}
+use Rattle.std.proofs.Common.{◌≡◌, ◌≤◌, ◌<◌, ◌+◌, ◌-◌, ◌*◌, ◌^◌, ◌++◌, ℕ, Bool, true, false, List, [], ◌∷◌, length, drop, slice_index_or, Some, None, refl, sym, ap, ◌∙◌, arith, subst, append_assoc, length-append}
+use Rattle.std.specs.List.{slice_get}
 use Rattle.std.specs.Option.{option_map}
 use Rattle.std.proofs.lemmas.List.{append-nil, map-append}
 use Rattle.tpi_grammar.specs.Frame.{AreBytes}
-use Rattle.tpi_grammar.specs.declared.kind.Kind.{Kind}
 use Rattle.tpi_prim.specs.declared.primitive.Prim.{Prim}
-use Rattle.tpi_prim.specs.Primitive.{user_of, kind_of}
+use Rattle.tpi_prim.specs.Primitive.{user_of}
 use Rattle.tpi_prim.specs.Fields.{kind_in, primitive_in}
-use Rattle.tpi_prim.proofs.FrameReads.{kind_of-primitive_in}
 use Rattle.xti_model.specs.Symbols.{piece, bytes_waiting, ends_waiting}
 use Rattle.xti_queue.specs.Indications.{can_wait, ends_message, without, symbols_of, begun, symbols_of_all}
 use Rattle.xti_queue.specs.Kept.{AllWait, IsWithin, IsKept}
 use Rattle.xti_queue.specs.Front.{symbols_in}
 use mir.Val.{bool_byte}
-use Rattle.xti_queue.proofs.Indicated.{begun-none, symbols_in-none, symbols_in-cons, without_none, user_left, kind_left}
+use Rattle.xti_queue.proofs.Indicated.{begun-none, symbols_in-none, symbols_in-cons, without_none}
 use Rattle.xti_queue.proofs.Fronts.{bytes_waiting-append, ends_waiting-append, bytes_waiting-piece, ends_waiting-piece}
 
 -- ---- no frame

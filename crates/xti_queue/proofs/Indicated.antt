@@ -1,5 +1,5 @@
 -- What waiting frames come to, frame by frame.
-use Rattle.std.proofs.Common.{◌≡◌, ◌≤◌, ◌<◌, ◌+◌, ◌-◌, ◌++◌, ℕ, suc, Bool, true, false, not, List, [], ◌∷◌, length, take, drop, map, nat_lt, if◌then◌else◌, Option, Some, None, refl, sym, ap, ◌∙◌, arith, subst, lit≤, append_assoc, lt-ltb, le-ltb}
+use Rattle.std.proofs.Common.{◌≡◌, ◌≤◌, ◌<◌, ◌+◌, ◌-◌, ◌++◌, ℕ, suc, Bool, true, false, not, List, [], ◌∷◌, length, drop, map, Some, refl, sym, ap, ◌∙◌, arith, subst, lit≤, lt-ltb, le-ltb}
 use Rattle.std.proofs.lemmas.List.{drop-drop, length-map}
 use Rattle.std.specs.List.{flat_map}
 use Rattle.tpi_grammar.specs.Frame.{AreBytes}
@@ -12,7 +12,7 @@ use Rattle.tpi_prim.specs.declared.primitive.Prim.TheVariants as prim
 use Rattle.tpi_prim.specs.declared.primitive.Part.{Part}
 use Rattle.tpi_prim.specs.declared.primitive.Part.TheVariants.{Dest, Src, Res, Addr, Opt}
 use Rattle.tpi_prim.specs.Primitive.{user_of, kind_of, more_of, part_of, filled}
-use Rattle.tpi_prim.specs.Fields.{kind_in, primitive_in, read_as}
+use Rattle.tpi_prim.specs.Fields.{kind_in, primitive_in}
 use Rattle.tpi_prim.proofs.FrameReads.{spelled_by, kind_of-primitive_in, is_spelled, primitive_is}
 use Rattle.xti_model.specs.Symbols.{piece}
 use Rattle.xti_queue.specs.Indications.{can_wait, ends_message, with_user, without, symbols_of, begun, symbols_of_all, left_behind}

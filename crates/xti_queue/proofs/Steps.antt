@@ -1,5 +1,5 @@
 -- Taking from the first of waiting frames.
-use Rattle.std.proofs.Common.{◌≡◌, ◌≤◌, ◌<◌, ◌+◌, ◌-◌, ◌++◌, ℕ, suc, zero, Bool, true, false, List, [], ◌∷◌, length, take, drop, if◌then◌else◌, slice_index_or, refl, sym, ap, ◌∙◌, arith, subst, append_assoc, take-append-drop, length-append, length-drop}
+use Rattle.std.proofs.Common.{◌≡◌, ◌≤◌, ◌<◌, ◌+◌, ◌-◌, ◌++◌, ℕ, suc, zero, Bool, true, false, List, [], ◌∷◌, length, take, drop, slice_index_or, refl, sym, ap, ◌∙◌, arith, subst, append_assoc, take-append-drop, length-append, length-drop}
 use Rattle.std.proofs.lemmas.List.{append-nil, drop-drop}
 use Rattle.tpi_grammar.specs.Frame.{AreBytes}
 use Rattle.tpi_prim.specs.Primitive.{user_of}
@@ -8,7 +8,7 @@ use Rattle.xti_model.specs.Symbols.{front, piece, end_of_message}
 use Rattle.xti_queue.specs.Indications.{can_wait, ends_message, begun, left_behind}
 use Rattle.xti_queue.specs.Kept.{AllWait, IsWithin}
 use Rattle.xti_queue.specs.Front.{symbols_in, StopsAt}
-use Rattle.xti_queue.proofs.Indicated.{begun-cons, begun-none, symbols_in-none, symbols_in-cons, left_behind-none, left_behind-part, left_behind-end, left_behind-more}
+use Rattle.xti_queue.proofs.Indicated.{symbols_in-none, symbols_in-cons, left_behind-none, left_behind-part, left_behind-end, left_behind-more}
 use Rattle.xti_queue.proofs.Fronts.{front-bytes, front-end, front-none, room_for}
 
 -- the first frame, and what is left of its user data

@@ -1,12 +1,7 @@
-use Rattle.std.proofs.Common.{rules, ◌≡◌, ◌≤◌, ◌<◌, ◌+◌, ◌-◌, ◌++◌, [], ◌∷◌, ℕ, List, true, false, if◌then◌else◌, length, take, drop, vec_len, vec_capacity, ◌*◌, ◌/◌, ◌%◌, Bool, nat_eq, nat_lt, slice_index_or, slice_set, Fits, w8, w32, w64, Bor, MutBor, arith, refl, sym, ap, ◌∙◌, subst, length-drop}
-use Rattle.std.specs.VecDeque.{deque_len, deque_capacity}
-use Rattle.tpi_grammar.specs.Frame.{AreBytes}
-use Rattle.tpi_prim.specs.Primitive.{user_of}
-use Rattle.tpi_prim.specs.Fields.{kind_in, primitive_in}
-use Rattle.xti_model.specs.Symbols.{front, piece, ended, rest}
-use Rattle.xti_queue.specs.Indications.{can_wait, ends_message, begun, left_behind}
-use Rattle.xti_queue.specs.Kept.{AllWait, IsWithin}
-use Rattle.xti_queue.specs.Front.{symbols_in, StopsAt}
+use Rattle.std.proofs.Common.{rules, ◌≡◌, ◌≤◌, ◌<◌, ◌+◌, ◌-◌, length, drop, slice_index_or, arith, sym, ap, ◌∙◌, subst, length-drop}
+use Rattle.xti_model.specs.Symbols.{front}
+use Rattle.xti_queue.specs.Kept.{AllWait}
+use Rattle.xti_queue.specs.Front.{symbols_in}
 use Rattle.std.proofs.lemmas.List.{drop-drop}
 use Rattle.xti_queue.proofs.Steps.{IsFirst, first_at, len_full, len_end, len_more, none_front, within_none, wait-drop}
 use Rattle.xti_queue.proofs.front.run_len.Goals as goal

@@ -1,4 +1,4 @@
-use Rattle.std.proofs.Common.{◌≤◌, length, subst, sym, List, ℕ}
+use Rattle.std.proofs.Common.{◌≤◌, length, subst, List, ℕ}
 use Rattle.tpi_grammar.specs.Frame.{AreBytes}
 use Rattle.xti_queue.proofs.Indicated.{user_bytes, user_most}
 use Rattle.xti_queue.proofs.front.user_data.Goals as goal

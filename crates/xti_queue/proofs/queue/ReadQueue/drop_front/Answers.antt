@@ -1,16 +1,11 @@
-use Rattle.std.proofs.Common.{rules, ◌≡◌, ◌≤◌, ◌<◌, ◌+◌, ◌-◌, ◌*◌, ◌++◌, [], ◌∷◌, ℕ, List, Bool, true, false, if◌then◌else◌, length, drop, Option, Some, None, slice_index_or, Fits, w64, arith, refl, sym, ap, ◌∙◌, subst}
-use Rattle.std.specs.List.{slice_get}
-use Rattle.std.specs.Option.{option_copied, option_map}
-use Rattle.std.specs.VecDeque.{deque_len, deque_capacity}
-use Rattle.tpi_grammar.specs.Frame.{AreBytes}
+use Rattle.std.proofs.Common.{rules, ◌≡◌, ◌++◌, [], ◌∷◌, ℕ, List, length, drop, arith, refl, sym, ap, ◌∙◌, subst}
+use Rattle.std.specs.VecDeque.{deque_capacity}
 use Rattle.tpi_prim.specs.declared.primitive.Prim.{Prim}
-use Rattle.tpi_prim.specs.Primitive.{kind_of, user_of}
-use Rattle.tpi_prim.specs.Fields.{kind_in, primitive_in}
-use Rattle.xti_model.specs.Symbols.{front, piece, ended, rest, bytes_waiting, ends_waiting}
-use Rattle.xti_queue.specs.Indications.{can_wait, ends_message, symbols_of, begun, symbols_of_all, left_behind}
-use Rattle.xti_queue.specs.Kept.{AllWait, IsWithin, IsKept}
-use Rattle.xti_queue.specs.Front.{symbols_in, StopsAt}
-use Rattle.xti_queue.specs.Queue.{frames, symbols}
+use Rattle.tpi_prim.specs.Fields.{primitive_in}
+use Rattle.xti_model.specs.Symbols.{piece}
+use Rattle.xti_queue.specs.Indications.{ends_message, begun}
+use Rattle.xti_queue.specs.Kept.{AllWait}
+use Rattle.xti_queue.specs.Front.{symbols_in}
 use mir.Val.{bool_byte}
 use Rattle.xti_queue.proofs.Indicated.{begun-drop}
 use Rattle.xti_queue.proofs.Steps.{within_none, wait-drop}

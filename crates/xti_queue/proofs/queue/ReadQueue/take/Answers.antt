@@ -1,16 +1,6 @@
-use Rattle.std.proofs.Common.{rules, ◌≡◌, ◌≤◌, ◌<◌, ◌+◌, ◌-◌, ◌*◌, ◌++◌, [], ◌∷◌, ℕ, List, Bool, true, false, if◌then◌else◌, length, drop, Option, Some, None, slice_index_or, vec_len, Fits, w64, arith, refl, sym, ap, ◌∙◌, subst}
-use Rattle.std.specs.List.{slice_get}
-use Rattle.std.specs.Option.{option_copied, option_map}
-use Rattle.std.specs.VecDeque.{deque_len, deque_capacity}
-use Rattle.tpi_grammar.specs.Frame.{AreBytes}
-use Rattle.tpi_prim.specs.Primitive.{kind_of, user_of}
-use Rattle.tpi_prim.specs.Fields.{kind_in, primitive_in}
-use Rattle.xti_model.specs.Symbols.{front, piece, ended, rest, bytes_waiting, ends_waiting}
-use Rattle.xti_queue.specs.Indications.{can_wait, ends_message, symbols_of, begun, symbols_of_all, left_behind}
-use Rattle.xti_queue.specs.Kept.{AllWait, IsWithin, IsKept}
+use Rattle.std.proofs.Common.{rules, ◌≡◌, ◌≤◌, ℕ, length, vec_len, arith, ◌∙◌, subst}
+use Rattle.std.specs.VecDeque.{deque_capacity}
 use Rattle.xti_queue.specs.Front.{symbols_in, StopsAt}
-use Rattle.xti_queue.specs.Queue.{frames, symbols}
-use mir.Val.{bool_byte}
 use Rattle.xti_queue.proofs.Fronts.{IsTaken, taken_front, taken_ended, taken_rest}
 use Rattle.xti_queue.proofs.Counted.{kept_less, piece_counts}
 use Rattle.xti_queue.proofs.queue.ReadQueue.take.Goals as goal
