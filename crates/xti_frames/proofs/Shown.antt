@@ -32,10 +32,10 @@ shown_none input = record { prims = []; are_frames = tt; spelled = refl; shown =
 pub shown_more : (input rest text next : List ℕ) (p : Prim) (used : ℕ) → ShownTo input rest text → Spells p (take used rest) → next ≡ text ++ frame_line p → ShownTo input (drop used rest) next
 shown_more input rest text next p used h spells k = record {
   prims = h.prims ++ p ∷ [];
-  are_frames = more_filled h.prims p h.are_frames spells.0;
+  are_frames = more_filled h.prims p h.are_frames spells.good;
   spelled =
       h.spelled ∙
-      ap (λ bs. spellings (map filled h.prims) ++ bs) (sym (take-append-drop used rest) ∙ ap (λ bs. bs ++ drop used rest) spells.1) ∙
+      ap (λ bs. spellings (map filled h.prims) ++ bs) (sym (take-append-drop used rest) ∙ ap (λ bs. bs ++ drop used rest) spells.text) ∙
       sym (append_assoc (spellings (map filled h.prims)) (spelling (filled p)) (drop used rest)) ∙
       ap (λ bs. bs ++ drop used rest) (sym (more_spelled h.prims p));
   shown = k ∙ ap (λ bs. bs ++ frame_line p) h.shown ∙ sym (more_text h.prims p);
