@@ -105,12 +105,12 @@ most_of kind.T_CONN_REQ = lit≤ tt
 most_of _ = lit≤ tt
 
 pub user_bytes : (f : List ℕ) → IsFrame f → AreBytes (user_of (primitive_in f))
-user_bytes f frame = (spelled_by f frame).0.user
+user_bytes f frame = (spelled_by f frame).good.user
 
 pub user_most : (f : List ℕ) → IsFrame f → length (user_of (primitive_in f)) ≤ 65536
 user_most f frame =
     let s = is_spelled f frame in
-    let room : length (filled (primitive_in f)).user ≤ (filled (primitive_in f)).row.most_data = (spelled_by f frame).0.room in
+    let room : length (filled (primitive_in f)).user ≤ (filled (primitive_in f)).row.most_data = (spelled_by f frame).good.room in
     let row : (filled (primitive_in f)).row.most_data ≡ (row_of s.kind).most_data = ap (λ g. g.row.most_data) (primitive_is f s) in
     omega (arith, room, row, most_of s.kind)
 
