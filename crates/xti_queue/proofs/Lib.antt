@@ -1,0 +1,4 @@
+pub mod Indicated
+pub mod Fronts
+pub mod Steps
+pub mod Counted

@@ -1,0 +1,4 @@
+pub mod Indications
+pub mod Queue
+pub mod Kept
+pub mod Front

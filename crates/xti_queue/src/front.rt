@@ -1,0 +1,152 @@
+//! Taking from the front of waiting frames.
+
+ghost use Rattle.std.specs.Prelude.{◌≡◌, ◌≤◌, ◌<◌, ◌+◌, ◌-◌, ◌++◌, [], ◌∷◌, ℕ, List, true, false, if◌then◌else◌, length, take, drop, vec_len, vec_capacity};
+ghost use Rattle.std.specs.VecDeque.{deque_len, deque_capacity};
+ghost use Rattle.tpi_grammar.specs.Frame.{AreBytes};
+ghost use Rattle.tpi_prim.specs.Primitive.{user_of};
+ghost use Rattle.tpi_prim.specs.Fields.{kind_in, primitive_in};
+ghost use Rattle.xti_model.specs.Symbols as waiting;
+ghost use Rattle.xti_queue.specs.Indications.{can_wait, ends_message, begun, left_behind};
+ghost use Rattle.xti_queue.specs.Kept.{AllWait, IsWithin};
+ghost use Rattle.xti_queue.specs.Front.{symbols_in, StopsAt};
+
+use std::collections::VecDeque;
+use tpi_prim::{Frame, Kind};
+
+/// The user data of a frame behind the first bytes.
+pub(crate) fn rest_of(frame: &Frame, taken: usize) -> &[u8]
+    requires { taken ≤ length (user_of (primitive_in frame.now)) }
+    ensures rest { result.now ≡ drop taken (user_of (primitive_in frame.now)) }
+    ensures bytes { AreBytes result.now }
+    ensures most { taken + length result.now ≤ 65536 }
+{
+    &user_data(frame)[taken..]
+}
+
+fn user_data(frame: &Frame) -> &[u8]
+    ensures user { result.now ≡ user_of (primitive_in frame.now) }
+    ensures bytes { AreBytes result.now }
+    ensures most { length result.now ≤ 65536 }
+{
+    let _bytes = frame.bytes();
+    frame.user()
+}
+
+/// Whether a message ends behind a frame.
+pub(crate) fn ends(frame: &Frame) -> bool
+    requires { can_wait (kind_in frame.now) ≡ true }
+    ensures { result ≡ ends_message (primitive_in frame.now) }
+{
+    match frame.kind() {
+        Kind::T_DATA_IND | Kind::T_EXDATA_IND => !frame.more(),
+        _ => true,
+    }
+}
+
+/// How many bytes stand at the front, at most `max`, before an end.
+pub(crate) fn run_len(held: &VecDeque<Frame>, taken: usize, max: usize) -> usize
+    requires wait { AllWait held.now.items }
+    requires within { IsWithin taken held.now.items }
+    ensures { result ≡ length (waiting.front max (symbols_in taken held.now.items)) }
+{
+    let mut count = 0;
+    let mut skipped = taken;
+    for i in 0..held.len() {
+        let frame = &held[i];
+        let len = rest_of(frame, skipped).len();
+        if max - count <= len {
+            return max;
+        }
+        count += len;
+        if ends(frame) {
+            return count;
+        }
+        skipped = 0;
+    }
+    count
+}
+
+/// What taking from the first frame comes to.
+#[derive(Debug, Clone, Copy, PartialEq, Eq)]
+enum Step {
+    /// A message ended.
+    Ended,
+    /// Nothing more may be taken.
+    Stopped,
+    /// The frame is gone, and its message goes on.
+    More,
+}
+
+/// Takes what the first frame gives, up to `max` bytes in all.
+fn take_front(
+    held: &mut VecDeque<Frame>,
+    taken: &mut usize,
+    bytes: &mut Vec<u8>,
+    max: usize,
+) -> Step
+    requires wait { AllWait held.old.items }
+    requires within { IsWithin taken.old held.old.items }
+    requires most { vec_len bytes.old ≤ max }
+    requires are_bytes { AreBytes bytes.old.items }
+    requires room { length (waiting.front max (bytes.old.items ++ symbols_in taken.old held.old.items)) ≤ vec_capacity bytes.old }
+    ensures ended { result ≡ Step.Ended → bytes.old.items ++ symbols_in taken.old held.old.items ≡ bytes.new.items ++ 256 ∷ symbols_in taken.new held.new.items }
+    ensures other { (result ≡ Step.Ended → ⊥) → bytes.old.items ++ symbols_in taken.old held.old.items ≡ bytes.new.items ++ symbols_in taken.new held.new.items }
+    ensures stops { result ≡ Step.Stopped → StopsAt (vec_len bytes.new) (symbols_in taken.new held.new.items) max }
+    ensures left { (result ≡ Step.More → ⊥) → left_behind (max - vec_len bytes.old) (begun taken.old held.old.items) ≡ begun taken.new held.new.items }
+    ensures goes_on { result ≡ Step.More → left_behind (max - vec_len bytes.old) (begun taken.old held.old.items) ≡ left_behind (max - vec_len bytes.new) (begun taken.new held.new.items) }
+    ensures falls { result ≡ Step.More → deque_len held.new < deque_len held.old }
+    ensures wait { AllWait held.new.items }
+    ensures within { IsWithin taken.new held.new.items }
+    ensures most { vec_len bytes.new ≤ max }
+    ensures are_bytes { AreBytes bytes.new.items }
+    ensures items { held.new.items ≡ drop (length held.old.items - length held.new.items) held.old.items }
+    ensures shorter { length held.new.items ≤ length held.old.items }
+    ensures bytes_capacity { vec_capacity bytes.old ≤ vec_capacity bytes.new }
+    ensures capacity { deque_capacity held.new ≡ deque_capacity held.old }
+{
+    let Some(frame) = held.front() else {
+        return Step::Stopped;
+    };
+    let rest = rest_of(frame, *taken);
+    let count = rest.len().min(max - bytes.len());
+    bytes.extend_from_slice(&rest[..count]).unwrap();
+    if count < rest.len() {
+        *taken += count;
+        return Step::Stopped;
+    }
+    let ended = ends(frame);
+    held.pop_front();
+    *taken = 0;
+    if ended { Step::Ended } else { Step::More }
+}
+
+/// Takes frames from the front until an end, `max` bytes, or the end of the queue.
+pub(crate) fn take_run(
+    held: &mut VecDeque<Frame>,
+    taken: &mut usize,
+    bytes: &mut Vec<u8>,
+    max: usize,
+) -> bool
+    requires wait { AllWait held.old.items }
+    requires within { IsWithin taken.old held.old.items }
+    requires empty { bytes.old.items ≡ [] }
+    requires room { length (waiting.front max (symbols_in taken.old held.old.items)) ≤ vec_capacity bytes.old }
+    ensures moved { symbols_in taken.old held.old.items ≡ waiting.piece bytes.new.items result ++ symbols_in taken.new held.new.items }
+    ensures stops { result ≡ false → StopsAt (vec_len bytes.new) (symbols_in taken.new held.new.items) max }
+    ensures left { left_behind max (begun taken.old held.old.items) ≡ begun taken.new held.new.items }
+    ensures wait { AllWait held.new.items }
+    ensures within { IsWithin taken.new held.new.items }
+    ensures most { vec_len bytes.new ≤ max }
+    ensures are_bytes { AreBytes bytes.new.items }
+    ensures items { held.new.items ≡ drop (length held.old.items - length held.new.items) held.old.items }
+    ensures shorter { length held.new.items ≤ length held.old.items }
+    ensures capacity { deque_capacity held.new ≡ deque_capacity held.old }
+{
+    loop {
+        match take_front(held, taken, bytes, max) {
+            Step::Ended => return true,
+            Step::Stopped => return false,
+            Step::More => {}
+        }
+    }
+}

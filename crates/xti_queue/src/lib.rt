@@ -1,0 +1,10 @@
+//! The queue of data indications that wait at an endpoint.
+#![tactic(auto)]
+
+mod front;
+mod queue;
+
+pub use queue::{Piece, ReadQueue};
+
+#[cfg(test)]
+mod tests;
