@@ -4,3 +4,6 @@ pub mod Addresses
 pub mod Changes
 pub mod Binds
 pub mod Sends
+pub mod Lifts
+pub mod Closed
+pub mod FrameKinds

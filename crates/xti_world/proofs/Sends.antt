@@ -17,7 +17,8 @@ use Rattle.xti_model.specs.Events.{is_state, some_wait}
 use Rattle.xti_model.specs.Arguments.{bad_address, bad_options}
 use Rattle.xti_model.specs.Step.{step_of, made}
 use Rattle.xti_model.specs.Calls.Datagrams as Datagrams
-use Rattle.xti_world.specs.Taken.{taken, there, send_step, IsSendStep}
+use Rattle.xti_end.specs.Taken.{taken}
+use Rattle.xti_world.specs.Taken.{there, send_step, IsSendStep}
 
 -- no refusal stops it
 pub send_free : (p : Providers) (w : World) (fd : ℕ) (address options bytes : List ℕ) (e : Endpoint) → endpoint p w fd ≡ Some e → has_datagrams e.prov ≡ true → is_state (T_IDLE ∷ []) e ≡ true
@@ -30,10 +31,16 @@ stopped : (p : Providers) (w new : World) (fd : ℕ) (prov : Prov) (address opti
     → new ≡ changed p w (at_endpoint fd (Datagrams.mark_flow (Some address)) ∷ []) → taken a new ≡ Some (made p fd (Done (Refused TFLOW)) new) → IsSendStep p w new fd prov true address options bytes a e
 stopped p w new fd prov address options bytes a e t n m h k = rw (h, t, k) (m ∙ ap (λ (v : World). Some (made p fd (Done (Refused TFLOW)) v)) n)
 
-for_each : (o : Option Endpoint) (P : Endpoint → Type 0) → ((e : Endpoint) → P e) → IfSome o P
-for_each None P f = tt
-for_each (Some e) P f = f e
+
+pub some-all : (o : Option Endpoint) (P : Endpoint → Type 0) → ((e : Endpoint) → P e) → IfSome o P
+some-all None P f = tt
+some-all (Some e) P f = f e
 
 pub send_stopped : (p : Providers) (w new : World) (fd : ℕ) (prov : Prov) (nonblock : Bool) (address options bytes : List ℕ) (a : Applied) → nonblock ≡ true → takes_datagram (there p w (bound (the_switch p w) prov address)) ≡ false
     → new ≡ changed p w (at_endpoint fd (Datagrams.mark_flow (Some address)) ∷ []) → taken a new ≡ Some (made p fd (Done (Refused TFLOW)) new) → IfSome (endpoint p w fd) (IsSendStep p w new fd prov nonblock address options bytes a)
-send_stopped p w new fd prov nonblock address options bytes a b t n m = rw b (for_each (endpoint p w fd) (IsSendStep p w new fd prov true address options bytes a) (λ e. stopped p w new fd prov address options bytes a e t n m))
+send_stopped p w new fd prov nonblock address options bytes a b t n m = rw b (some-all (endpoint p w fd) (IsSendStep p w new fd prov true address options bytes a) (λ e. stopped p w new fd prov address options bytes a e t n m))
+
+-- from one fact of what may be there to another
+pub some-then : (o : Option Endpoint) (P Q : Endpoint → Type 0) → ((e : Endpoint) → P e → Q e) → IfSome o P → IfSome o Q
+some-then None P Q f h = tt
+some-then (Some e) P Q f h = f e h

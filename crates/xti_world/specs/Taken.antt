@@ -1,24 +1,20 @@
--- What a step answered, and the world that it left.
+-- What a bind or a send answers, and the world that it leaves.
 use Rattle.std.specs.Prelude.{◌≡◌, ℕ, Bool, not, List, [], ◌∷◌, Option, Some, None, option_and_then, if◌then◌else◌}
 use Rattle.xti_base.specs.declared.kinds.Prov.{Prov}
 use Rattle.xti_model.specs.declared.profile.Providers.{Providers}
 use Rattle.xti_model.specs.declared.entry.Outcome.TheVariants.{Done}
 use Rattle.xti_model.specs.declared.entry.Reply.TheVariants.{Overflow}
 use Rattle.xti_model.specs.declared.entry.Applied.{Applied}
-use Rattle.xti_model.specs.declared.entry.Applied.TheVariants as applied
 use Rattle.xti_base.specs.declared.errno.Errno.TheVariants.{TFLOW}
+use Rattle.xti_end.specs.Taken.{taken}
 use Rattle.xti_model.specs.Endpoint.{Endpoint}
 use Rattle.xti_model.specs.World.{World, changed, endpoint, the_switch}
 use Rattle.xti_model.specs.Switch.{bound as bound_to}
 use Rattle.xti_model.specs.Sending.{takes_datagram}
 use Rattle.xti_model.specs.Calls.Datagrams as Datagrams
-use Rattle.xti_model.specs.Plan.{field, is_too_long, first, not_ready, overflows}
+use Rattle.xti_model.specs.Plan.{field, is_too_long, first, not_ready}
 use Rattle.xti_model.specs.Calls.Bind as Bind
 use Rattle.xti_model.specs.Step.{Step, made, step_by}
-
-abbrev pub taken : Applied → World → Option Step
-taken (applied.Step outcome after) w = Some (record { outcome = outcome; after = after; world = w })
-taken applied.Blocked w = None
 
 -- the address was given; a caller who takes too little of it is told so
 abbrev pub bound : Providers → World → ℕ → Prov → List ℕ → ℕ → ℕ → Step
@@ -37,8 +33,3 @@ send_step p w fd address options bytes e =
 
 abbrev pub IsSendStep : Providers → World → World → ℕ → Prov → Bool → List ℕ → List ℕ → List ℕ → Applied → Endpoint → Type 0
 IsSendStep p w new fd prov nonblock address options bytes a e = e.prov ≡ prov → e.nonblock ≡ nonblock → taken a new ≡ send_step p w fd address options bytes e
-
--- the first datagram of the endpoint is there: it is received, or lost where a field is too long
-abbrev pub receive_step : Providers → World → ℕ → ℕ → ℕ → ℕ → Endpoint → Option Step
-receive_step p w fd max amax omax e =
-    step_by p w (Datagrams.receive_from fd 1 max amax omax e) (first (overflows (Datagrams.fields (Datagrams.told e) amax omax) ∷ []))

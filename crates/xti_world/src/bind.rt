@@ -6,21 +6,20 @@ ghost use Rattle.xti_model.specs.Switch.{give_address, place_at};
 ghost use Rattle.xti_model.specs.Step.{step_of, made};
 ghost use Rattle.xti_model.specs.Calls.Open as Open;
 ghost use Rattle.xti_model.specs.Calls.Bind as Bind;
-ghost use Rattle.xti_world.specs.Taken.{taken, bound};
+ghost use Rattle.xti_end.specs.Taken.{taken};
+ghost use Rattle.xti_world.specs.Taken.{bound};
 
-use crate::answers::{
-    done, has_datagrams, is_provider, is_too_long, overflow, profile, refused, trimmed,
-};
-use crate::endpoint::Endpoint;
+use crate::answers::{done, is_provider, overflow, refused};
 use crate::world::World;
 use std::alloc::{AllocError, Global};
 use xti_base::{Errno, Fd, Octets, Prov, State};
+use xti_end::{has_datagrams, is_too_long, trimmed};
 use xti_model::{Applied, Reply};
 
 /// The descriptor whose state a refused open shows: that of no endpoint.
 const NO_FD: Fd = Fd(4_294_967_295);
 
-pub(crate) fn open(alloc: Global, w: &mut World, prov: Prov, nonblock: bool) -> Applied
+pub(crate) fn open(w: &mut World, prov: Prov, nonblock: bool) -> Applied
     ensures step { taken result w.new.cells ≡ step_of w.old.providers w.old.cells (Open.plan w.old.providers w.old.cells prov nonblock) }
     ensures still { taken result w.new.cells ≡ None → w.new ≡ w.old }
     ensures providers { w.new.providers ≡ w.old.providers }
@@ -32,8 +31,7 @@ pub(crate) fn open(alloc: Global, w: &mut World, prov: Prov, nonblock: bool) -> 
         None => refused(w, NO_FD, Errno::TSYSERR),
         Some(place) => {
             let fd = Fd(64 * w.generation(place) + place as u32);
-            let e = Endpoint::opened(alloc, profile(w.providers(), prov), prov, nonblock);
-            w.open(place, e);
+            w.open(place, prov, nonblock);
             done(w, fd, Reply::Opened { fd })
         }
     }

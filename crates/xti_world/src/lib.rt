@@ -3,9 +3,9 @@
 
 mod answers;
 mod bind;
-mod endpoint;
-mod receiving;
+mod indications;
 mod sending;
+mod slots;
 mod step;
 mod world;
 

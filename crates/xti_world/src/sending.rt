@@ -1,20 +1,27 @@
 //! t_sndudata.
 
-ghost use Rattle.std.specs.Prelude.{◌≡◌, ◌∷◌, [], ℕ, nat_lt, not, is_some, length, ◌==◌, ◌||◌, Some, None, IfOk, IfSome, OnErr, OnOk, if◌then◌else◌};
+ghost use Rattle.std.specs.Prelude.{◌≡◌, ◌∷◌, [], ℕ, nat_lt, not, is_some, length, ◌==◌, ◌||◌, Some, None, true, IfOk, IfSome, OnErr, OnOk, if◌then◌else◌};
 ghost use Rattle.xti_model.specs.World.{the_switch, endpoint, changed, at_endpoint};
 ghost use Rattle.xti_model.specs.Sending.{takes_datagram};
+ghost use Rattle.tpi_grammar.specs.declared.kind.Kind.TheVariants.{T_UNITDATA_IND};
+ghost use Rattle.tpi_prim.specs.Fields.{kind_in};
 ghost use Rattle.xti_model.specs.Endpoint.{address_of};
+ghost use Rattle.xti_end.specs.Frames.{datagram_in};
+ghost use Rattle.xti_end.specs.Held.{is_open, parts};
 ghost use Rattle.xti_model.specs.Arguments.{bad_address, bad_options};
 ghost use Rattle.xti_model.specs.Provider.{profile};
 ghost use Rattle.xti_model.specs.Step.{step_of, made};
 ghost use Rattle.xti_model.specs.Calls.Datagrams as Datagrams;
-ghost use Rattle.xti_world.specs.Taken.{taken, there, send_step, IsSendStep};
+ghost use Rattle.xti_end.specs.Taken.{taken};
+ghost use Rattle.xti_world.specs.Taken.{there, send_step, IsSendStep};
 
-use crate::answers::{done, has_datagrams, overflow, profile, refused, trimmed};
-use crate::endpoint::{Datagram, DatagramError};
+use crate::answers::{done, refused};
+use crate::indications::{datagram, datagram_error};
 use crate::world::World;
 use std::alloc::{AllocError, Global};
 use xti_base::{Errno, Event, Fd, Limit, Octets, Prov, State, is_option_list};
+use tpi_prim::Frame;
+use xti_end::{Endpoint, has_datagrams, profile};
 use xti_model::{Applied, Profile, Reply};
 
 /// The most datagrams that wait at an endpoint.
@@ -35,7 +42,7 @@ pub(crate) fn sndudata(
 {
     let (prov, state, nonblock, has_error) = match w.endpoint(fd) {
         None => return Ok(refused(w, fd, Errno::TBADF)),
-        Some(e) => (e.prov(), e.state(), e.nonblock(), e.has_error()),
+        Some(e) => (e.prov(), e.state(), e.nonblock(), e.has_datagram_error()),
     };
     if !has_datagrams(prov) {
         return Ok(refused(w, fd, Errno::TNOTSUPPORT));
@@ -109,8 +116,7 @@ fn send(
 {
     let to = w.bound(prov, addr.as_slice());
     if takes_datagram(w, to) {
-        let source = source_of(alloc, w, fd)?;
-        deliver(w, fd, to, source, addr, opt, bytes)?;
+        deliver(alloc, w, fd, to, addr.as_slice(), opt.as_slice(), bytes.as_slice())?;
         Ok(done(w, fd, Reply::Plain))
     } else if nonblock {
         let mark = addr.copy()?;
@@ -129,57 +135,75 @@ fn takes_datagram(w: &World, to: Option<u32>) -> bool
         None => true,
         Some(to) => match w.endpoint(Fd(to)) {
             None => true,
-            Some(e) => e.datagrams() < MOST_DATAGRAMS,
+            Some(e) => waiting(e) < MOST_DATAGRAMS,
         },
     }
 }
 
-/// A copy of the endpoint's address.
-fn source_of(alloc: Global, w: &World, fd: Fd) -> Result<Octets, AllocError>
-    ensures { IfOk result (λ a. IfSome (endpoint w.now.providers w.now.cells fd.0) (λ e. a ≡ address_of e)) }
+/// How many datagrams wait at an open endpoint.
+fn waiting(e: &Endpoint) -> usize
+    requires { is_open e.now ≡ true }
+    ensures { result ≡ length (parts e.now).datagrams }
+{
+    e.datagrams().frames_len()
+}
+
+/// The address of an open endpoint; empty where there is none.
+fn address_of(e: &Endpoint) -> &[u8]
+    requires { is_open e.now ≡ true }
+    ensures { result.now ≡ address_of (parts e.now) }
+{
+    match e.address() {
+        Some(address) => address.as_slice(),
+        None => &[],
+    }
+}
+
+/// The T_UNITDATA_IND of a datagram that the endpoint sends.
+fn indication(alloc: Global, w: &World, fd: Fd, opt: &[u8], bytes: &[u8]) -> Result<Frame, AllocError>
+    ensures kind { IfOk result (λ frame. kind_in frame ≡ T_UNITDATA_IND) }
+    ensures datagram { IfOk result (λ frame. IfSome (endpoint w.now.providers w.now.cells fd.0) (λ e. datagram_in frame ≡ Datagrams.datagram_from e opt.now bytes.now)) }
 {
     match w.endpoint(fd) {
-        Some(e) => {
-            let address = e.address(alloc)?;
-            Ok(address)
-        }
-        None => Ok(Octets::new(alloc)),
+        Some(e) => datagram(alloc, address_of(e), opt, bytes),
+        None => datagram(alloc, &[], opt, bytes),
     }
 }
 
 /// The datagram waits at an endpoint, and the sender's flow mark is cleared.
-fn give(w: &mut World, fd: Fd, to: Fd, d: Datagram) -> Result<(), AllocError>
-    ensures ok { OnOk result (w.new.cells ≡ changed w.old.providers w.old.cells (at_endpoint to.0 (Datagrams.with_datagram d) ∷ at_endpoint fd.0 (Datagrams.mark_flow None) ∷ [])) }
+fn give(w: &mut World, fd: Fd, to: Fd, frame: Frame) -> Result<(), AllocError>
+    requires { kind_in frame ≡ T_UNITDATA_IND }
+    ensures ok { OnOk result (w.new.cells ≡ changed w.old.providers w.old.cells (at_endpoint to.0 (Datagrams.with_datagram (datagram_in frame)) ∷ at_endpoint fd.0 (Datagrams.mark_flow None) ∷ [])) }
     ensures providers { w.new.providers ≡ w.old.providers }
     ensures err { OnErr result (w.new ≡ w.old) }
 {
-    w.push_datagram(to, d)?;
+    w.push_datagram(to, frame)?;
     w.mark_flow(fd, None);
     Ok(())
 }
 
 /// The datagram waits at the endpoint that is bound, and else an error at the sender.
 fn deliver(
+    alloc: Global,
     w: &mut World,
     fd: Fd,
     to: Option<u32>,
-    source: Octets,
-    addr: &Octets,
-    opt: &Octets,
-    bytes: &Octets,
+    addr: &[u8],
+    opt: &[u8],
+    bytes: &[u8],
 ) -> Result<(), AllocError>
-    ensures ok { OnOk result (w.new.cells ≡ changed w.old.providers w.old.cells (Datagrams.deliver fd.0 to (record { source = source; options = opt.now; bytes = bytes.now }) (Datagrams.error_to addr.now opt.now))) }
+    ensures ok { OnOk result (IfSome (endpoint w.old.providers w.old.cells fd.0) (λ e. w.new.cells ≡ changed w.old.providers w.old.cells (Datagrams.send_changes fd.0 addr.now opt.now bytes.now to e))) }
     ensures providers { w.new.providers ≡ w.old.providers }
     ensures err { OnErr result (w.new ≡ w.old) }
 {
     match to {
         Some(to) => {
-            let d = Datagram::new(source, opt.copy()?, bytes.copy()?);
-            give(w, fd, Fd(to), d)?;
+            let frame = indication(alloc, w, fd, opt, bytes)?;
+            give(w, fd, Fd(to), frame)?;
         }
         None => {
-            let d = DatagramError::new(addr.copy()?, opt.copy()?, 1);
-            w.push_error(fd, d)?;
+            let frame = datagram_error(alloc, addr, opt, 1)?;
+            w.push_error(fd, frame)?;
         }
     }
     Ok(())

@@ -1,7 +1,6 @@
 //! One step.
 
 use crate::bind::{bind, open};
-use crate::receiving::rcvudata;
 use crate::sending::sndudata;
 use crate::world::World;
 use std::alloc::AllocError;
@@ -11,7 +10,7 @@ impl World {
     ghost use Rattle.std.specs.Prelude.{◌≡◌, None, IsTrue, IfOk, OnErr};
     ghost use Rattle.xti_model.specs.Built.{is_built};
     ghost use Rattle.xti_model.specs.Step.{step};
-    ghost use Rattle.xti_world.specs.Taken.{taken};
+    ghost use Rattle.xti_end.specs.Taken.{taken};
 
     /// One step of a built call: what it answers, and the state of its endpoint afterwards. Where it is
     /// blocked, and after want of memory, all is as before.
@@ -25,7 +24,7 @@ impl World {
     {
         let alloc = self.alloc();
         match call {
-            Call::TOpen { prov, nonblock } => Ok(open(alloc, self, *prov, *nonblock)),
+            Call::TOpen { prov, nonblock } => Ok(open(self, *prov, *nonblock)),
             Call::TBind {
                 fd,
                 addr,
@@ -43,7 +42,7 @@ impl World {
                 max,
                 amax,
                 omax,
-            } => rcvudata(alloc, self, *fd, *max, *amax, *omax),
+            } => self.rcvudata(call, _go, *fd, *max, *amax, *omax),
             _ => unreachable!(),
         }
     }

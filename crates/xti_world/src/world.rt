@@ -5,13 +5,16 @@ ghost use Rattle.std.specs.Option.{option_copied};
 ghost use Rattle.xti_model.specs.World.{opening, endpoint, state_of, the_switch};
 ghost use Rattle.std.specs.List.{list_any};
 ghost use Rattle.xti_model.specs.Switch.{free_place, is_bound, is_listening, less, least, place_at, numbered_address, free_address, bound, chosen, has_listener};
+ghost use Rattle.xti_end.specs.Held.{is_open, parts};
 ghost use Rattle.xti_world.specs.Cells.{is_free_slot, bound_descriptors, switch_with};
 
-use crate::endpoint::{Datagram, DatagramError, Endpoint, Received};
+use crate::slots;
 use std::alloc::{AllocError, Global};
 use std::marker::Model;
+use tpi_prim::Frame;
 use xti_base::{Fd, Octets, Prov, State};
-use xti_model::Providers;
+use xti_end::Endpoint;
+use xti_model::{Applied, Call, Go, Providers};
 
 /// How many places there are.
 const PLACES: usize = 64;
@@ -33,114 +36,11 @@ impl Model for Binding {
     ghost view = { λ b. record { prov = b.prov; address = b.address; fd = b.fd.0; listening = b.listening } };
 }
 
-/// A place: how often it was closed, and the endpoint that is open there.
-#[derive(Drop)]
-pub(crate) struct Slot {
-    generation: u32,
-    body: Option<Endpoint>,
-}
-
-impl Slot {
-    ghost use Rattle.xti_model.specs.World.{open_cell, change_endpoint};
-    ghost use Rattle.xti_model.specs.Calls.Bind.{bound_to};
-    ghost use Rattle.xti_model.specs.Calls.Datagrams.{mark_flow, with_datagram, with_error_unmarked, received, dropped};
-    ghost use Rattle.xti_model.specs.World.{endpoint_in};
-    ghost use Rattle.xti_world.specs.Cells.{cell_of, known_of};
-    ghost use Rattle.xti_world.specs.Received.{IsReceivedOf, HasDatagram};
-
-    /// The endpoint opens here, where the place is closed.
-    fn open(&mut self, endpoint: Endpoint)
-        ensures cell { cell_of self.new ≡ open_cell endpoint (cell_of self.old) }
-        ensures known { known_of self.new ≡ record (known_of self.old) { is_open = true } }
-    {
-        if self.body.is_none() {
-            self.body = Some(endpoint);
-        }
-    }
-
-    /// The endpoint of this generation, where it is open.
-    fn bind(&mut self, generation: u32, address: Octets, qlen: u32)
-        ensures cell { cell_of self.new ≡ change_endpoint generation (bound_to address qlen) (cell_of self.old) }
-        ensures known { known_of self.new ≡ known_of self.old }
-    {
-        if self.generation == generation {
-            if let Some(e) = &mut self.body {
-                e.bind(address, qlen);
-            }
-        }
-    }
-
-    fn mark_flow(&mut self, generation: u32, to: Option<Octets>)
-        ensures cell { cell_of self.new ≡ change_endpoint generation (mark_flow to) (cell_of self.old) }
-        ensures known { known_of self.new ≡ known_of self.old }
-    {
-        if self.generation == generation {
-            if let Some(e) = &mut self.body {
-                e.mark_flow(to);
-            }
-        }
-    }
-
-    fn push_datagram(&mut self, generation: u32, d: Datagram) -> Result<(), AllocError>
-        ensures cell { OnOk result (cell_of self.new ≡ change_endpoint generation (with_datagram d) (cell_of self.old)) }
-        ensures known { known_of self.new ≡ known_of self.old }
-        ensures err { OnErr result (self.new ≡ self.old) }
-    {
-        if self.generation == generation {
-            if let Some(e) = &mut self.body {
-                e.push_datagram(d)?;
-            }
-        }
-        Ok(())
-    }
-
-    fn push_error(&mut self, generation: u32, d: DatagramError) -> Result<(), AllocError>
-        ensures cell { OnOk result (cell_of self.new ≡ change_endpoint generation (with_error_unmarked d) (cell_of self.old)) }
-        ensures known { known_of self.new ≡ known_of self.old }
-        ensures err { OnErr result (self.new ≡ self.old) }
-    {
-        if self.generation == generation {
-            if let Some(e) = &mut self.body {
-                e.push_error(d)?;
-                e.mark_flow(None);
-            }
-        }
-        Ok(())
-    }
-
-    fn receive(&mut self, alloc: Global, generation: u32, max: u32) -> Result<Received, AllocError>
-        requires { IsSomeAnd (endpoint_in generation (cell_of self.old)) HasDatagram }
-        ensures got { IfOk result (IsReceivedOf max (endpoint_in generation (cell_of self.old))) }
-        ensures cell { OnOk result (cell_of self.new ≡ change_endpoint generation (received max) (cell_of self.old)) }
-        ensures known { known_of self.new ≡ known_of self.old }
-        ensures err { OnErr result (self.new ≡ self.old) }
-    {
-        match &mut self.body {
-            Some(e) => {
-                let received = e.receive(alloc, max)?;
-                Ok(received)
-            }
-            None => unreachable!(),
-        }
-    }
-
-    fn drop_datagram(&mut self, generation: u32)
-        ensures cell { cell_of self.new ≡ change_endpoint generation dropped (cell_of self.old) }
-        ensures known { known_of self.new ≡ known_of self.old }
-    {
-        if self.generation == generation {
-            if let Some(e) = &mut self.body {
-                e.drop_datagram();
-            }
-        }
-    }
-}
-
 /// All cells, for one thread: a cell for each place, and the switch's with the bindings.
 #[derive(Drop)]
 pub struct World {
     providers: Providers,
-    slots: Vec<Slot>,
+    slots: Vec<Endpoint>,
     bindings: Vec<Binding>,
 }
 
@@ -154,17 +54,17 @@ impl Model for World {
     ghost invariant = { λ w. IsSound w.slots.items };
 }
 
-fn least_free(slots: &[Slot]) -> Option<usize>
+fn least_free(slots: &[Endpoint]) -> Option<usize>
     ensures place { result ≡ position (λ s. is_free_slot s) slots.now }
     ensures bound { IfSome result (λ place. place < length slots.now) }
 {
     slots.iter().position(is_free_slot)
 }
 
-fn is_free_slot(slot: &Slot) -> bool
+fn is_free_slot(slot: &Endpoint) -> bool
     ensures { result ≡ is_free_slot slot.now }
 {
-    slot.body.is_none() && slot.generation < 67_108_863
+    !slot.is_open() && slot.generation() < 67_108_863
 }
 
 impl World {
@@ -174,11 +74,8 @@ impl World {
         ensures { IfOk result (λ w. w ≡ record { providers = providers.now; cells = opening providers.now }) }
     {
         let mut slots = Vec::with_capacity(alloc, PLACES)?;
-        for _ in 0..PLACES {
-            slots.push(Slot {
-                generation: 0,
-                body: None,
-            })?;
+        for place in 0..PLACES {
+            slots.push(Endpoint::closed(alloc, place as u32))?;
         }
         Ok(World {
             providers: *providers,
@@ -201,14 +98,11 @@ impl World {
 
     /// The endpoint that is open with this descriptor.
     pub(crate) fn endpoint(&self, fd: Fd) -> Option<&Endpoint>
-        ensures { option_copied result ≡ endpoint self.now.providers self.now.cells fd.0 }
+        ensures endpoint { option_map parts (option_copied result) ≡ endpoint self.now.providers self.now.cells fd.0 }
+        ensures open { IfSome result (λ e. is_open e.now ≡ true) }
     {
         let slot = &self.slots[fd.0 as usize % PLACES];
-        if slot.generation == fd.0 / 64 {
-            slot.body.as_ref()
-        } else {
-            None
-        }
+        if slot.is(fd) { Some(slot) } else { None }
     }
 
     /// The state of the endpoint with this descriptor; T_UNINIT where it is not open.
@@ -297,11 +191,18 @@ fn free_address(alloc: Global, bindings: &[Binding], prov: Prov) -> Result<Octet
 }
 
 impl World {
+    ghost use Rattle.tpi_grammar.specs.declared.kind.Kind.TheVariants.{T_UNITDATA_IND, T_UDERROR_IND};
+    ghost use Rattle.tpi_prim.specs.Fields.{kind_in};
+    ghost use Rattle.xti_model.specs.Endpoint.{opened};
+    ghost use Rattle.xti_model.specs.Provider.{profile};
+    ghost use Rattle.xti_model.specs.Step.{step_of};
     ghost use Rattle.xti_model.specs.World.{opens_place, at_endpoint, at_switch, changed};
     ghost use Rattle.xti_model.specs.Switch.{mark_open, give_address};
     ghost use Rattle.xti_model.specs.Calls.Bind.{bound_to};
-    ghost use Rattle.xti_model.specs.Calls.Datagrams.{mark_flow, with_datagram, with_error_unmarked, received, dropped};
-    ghost use Rattle.xti_world.specs.Received.{IsReceivedOf, HasDatagram};
+    ghost use Rattle.xti_model.specs.Calls.Datagrams as Datagrams;
+    ghost use Rattle.xti_model.specs.Calls.Datagrams.{mark_flow, with_datagram, with_error_unmarked};
+    ghost use Rattle.xti_end.specs.Frames.{datagram_in, error_in};
+    ghost use Rattle.xti_end.specs.Taken.{taken};
 
     /// The least descriptor that is bound to the address.
     pub(crate) fn bound(&self, prov: Prov, address: &[u8]) -> Option<u32>
@@ -341,16 +242,16 @@ impl World {
         ensures generation { result ≡ (place_at (the_switch self.now.providers self.now.cells) place).generation }
         ensures again { result < 2 ^ 26 }
     {
-        self.slots[place].generation
+        self.slots[place].generation()
     }
 
-    /// The endpoint opens at the place, where that is closed. Takes no memory.
-    pub(crate) fn open(&mut self, place: usize, endpoint: Endpoint)
+    /// An endpoint opens at the place, where that is closed. Takes no memory.
+    pub(crate) fn open(&mut self, place: usize, prov: Prov, nonblock: bool)
         requires { place < 64 }
-        ensures cells { self.new.cells ≡ changed self.old.providers self.old.cells (opens_place place endpoint ∷ at_switch (mark_open place) ∷ []) }
+        ensures cells { self.new.cells ≡ changed self.old.providers self.old.cells (opens_place place (opened (profile self.old.providers prov) prov nonblock) ∷ at_switch (mark_open place) ∷ []) }
         ensures providers { self.new.providers ≡ self.old.providers }
     {
-        self.slots[place].open(endpoint);
+        slots::open(&mut self.slots[place], prov, nonblock, &self.providers);
     }
 
     /// The endpoint is bound to the address, where it is open; after want of memory all is as before.
@@ -371,7 +272,7 @@ impl World {
             fd,
             listening: qlen > 0,
         })?;
-        self.slots[fd.0 as usize % PLACES].bind(fd.0 / 64, address, qlen);
+        slots::bind(&mut self.slots[fd.0 as usize % PLACES], fd, address, qlen);
         Ok(())
     }
 
@@ -380,51 +281,50 @@ impl World {
         ensures cells { self.new.cells ≡ changed self.old.providers self.old.cells (at_endpoint fd.0 (mark_flow to) ∷ []) }
         ensures providers { self.new.providers ≡ self.old.providers }
     {
-        self.slots[fd.0 as usize % PLACES].mark_flow(fd.0 / 64, to);
+        slots::mark_flow(&mut self.slots[fd.0 as usize % PLACES], fd, to);
     }
 
-    /// A datagram waits at an endpoint, where that is open; after want of memory all is as before.
-    pub(crate) fn push_datagram(&mut self, to: Fd, d: Datagram) -> Result<(), AllocError>
-        ensures ok { OnOk result (self.new.cells ≡ changed self.old.providers self.old.cells (at_endpoint to.0 (with_datagram d) ∷ [])) }
+    /// A T_UNITDATA_IND waits at an endpoint, where that is open; after want of memory all is as before.
+    pub(crate) fn push_datagram(&mut self, to: Fd, frame: Frame) -> Result<(), AllocError>
+        requires { kind_in frame ≡ T_UNITDATA_IND }
+        ensures ok { OnOk result (self.new.cells ≡ changed self.old.providers self.old.cells (at_endpoint to.0 (with_datagram (datagram_in frame)) ∷ [])) }
         ensures providers { self.new.providers ≡ self.old.providers }
         ensures err { OnErr result (self.new ≡ self.old) }
     {
-        self.slots[to.0 as usize % PLACES].push_datagram(to.0 / 64, d)?;
+        slots::push_datagram(&mut self.slots[to.0 as usize % PLACES], to, frame)?;
         Ok(())
     }
 
-    /// A datagram error waits at an endpoint, where that is open, and its flow mark is cleared; after want of memory all is as before.
-    pub(crate) fn push_error(&mut self, fd: Fd, d: DatagramError) -> Result<(), AllocError>
-        ensures ok { OnOk result (self.new.cells ≡ changed self.old.providers self.old.cells (at_endpoint fd.0 (with_error_unmarked d) ∷ [])) }
+    /// A T_UDERROR_IND waits at an endpoint, where that is open, and its flow mark is cleared; after want of memory all is as
+    /// before.
+    pub(crate) fn push_error(&mut self, fd: Fd, frame: Frame) -> Result<(), AllocError>
+        requires { kind_in frame ≡ T_UDERROR_IND }
+        ensures ok { OnOk result (self.new.cells ≡ changed self.old.providers self.old.cells (at_endpoint fd.0 (with_error_unmarked (error_in frame)) ∷ [])) }
         ensures providers { self.new.providers ≡ self.old.providers }
         ensures err { OnErr result (self.new ≡ self.old) }
     {
-        self.slots[fd.0 as usize % PLACES].push_error(fd.0 / 64, d)?;
+        slots::push_error(&mut self.slots[fd.0 as usize % PLACES], fd, frame)?;
         Ok(())
     }
 
-    /// The first datagram is gone, where the endpoint is open. Takes no memory.
-    pub(crate) fn drop_datagram(&mut self, fd: Fd)
-        ensures cells { self.new.cells ≡ changed self.old.providers self.old.cells (at_endpoint fd.0 dropped ∷ []) }
-        ensures providers { self.new.providers ≡ self.old.providers }
-    {
-        self.slots[fd.0 as usize % PLACES].drop_datagram(fd.0 / 64);
-    }
-
-    /// The next `max` bytes of the first datagram of an open endpoint at which one waits; after want of memory all is as before.
-    pub(crate) fn receive(
+    /// One step of t_rcvudata, which touches the cell of its descriptor alone. Where it is blocked, and after want of memory, all
+    /// is as before.
+    pub(crate) fn rcvudata(
         &mut self,
-        alloc: Global,
+        call: &Call,
+        go: Go,
         fd: Fd,
         max: u32,
-    ) -> Result<Received, AllocError>
-        requires { IsSomeAnd (endpoint self.old.providers self.old.cells fd.0) HasDatagram }
-        ensures got { IfOk result (IsReceivedOf max (endpoint self.old.providers self.old.cells fd.0)) }
-        ensures ok { OnOk result (self.new.cells ≡ changed self.old.providers self.old.cells (at_endpoint fd.0 (received max) ∷ [])) }
+        amax: u32,
+        omax: u32,
+    ) -> Result<Applied, AllocError>
+        requires { call.now ≡ Call.TRcvUData fd max amax omax }
+        ensures step { IfOk result (λ a. taken a self.new.cells ≡ step_of self.old.providers self.old.cells (Datagrams.receive_plan self.old.providers self.old.cells fd.0 1 max amax omax)) }
+        ensures still { IfOk result (λ a. taken a self.new.cells ≡ None → self.new ≡ self.old) }
         ensures providers { self.new.providers ≡ self.old.providers }
         ensures err { OnErr result (self.new ≡ self.old) }
     {
-        let received = self.slots[fd.0 as usize % PLACES].receive(alloc, fd.0 / 64, max)?;
-        Ok(received)
+        let applied = self.slots[fd.0 as usize % PLACES].local(call, go, &self.providers)?;
+        Ok(applied)
     }
 }

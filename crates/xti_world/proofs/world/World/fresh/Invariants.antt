@@ -1,6 +1,5 @@
-use Rattle.std.proofs.Common.{◌≡◌}
-use Rattle.std.specs.Prelude.{replicate, None}
+use Rattle.xti_world.proofs.Closed.{AreClosed}
 use Rattle.xti_world.proofs.world.World.fresh.Given as goal
 
-abbrev pub invariant-loop : goal.invariant-loop
-invariant-loop l = l.slots.items ≡ replicate l.counter (record { generation = 0; body = None })
+abbrev pub invariant-loop-place : goal.invariant-loop-place
+invariant-loop-place l = AreClosed l.place l.slots.items

@@ -1,0 +1,4 @@
+pub mod Held
+pub mod Frames
+pub mod Kept
+pub mod Taken

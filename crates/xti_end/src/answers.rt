@@ -1,0 +1,38 @@
+//! What a step of one cell answers.
+
+ghost use Rattle.std.specs.Prelude.{◌≡◌, Some};
+ghost use Rattle.xti_model.specs.Step.{made};
+ghost use Rattle.xti_model.specs.World.{place_of, endpoint, state_of};
+ghost use Rattle.xti_end.specs.Held.{alone};
+ghost use Rattle.xti_end.specs.Taken.{taken};
+
+use crate::endpoint::Endpoint;
+use xti_base::{Errno, Fd, State};
+use xti_model::{Applied, Outcome, Providers, Reply};
+
+/// The state of the endpoint with this descriptor; T_UNINIT where it is not open.
+fn state(e: &Endpoint, _p: &Providers, fd: Fd) -> State
+    requires { place_of _p.now fd.0 ≡ e.now.place }
+    ensures { result ≡ state_of (endpoint _p.now (alone e.now) fd.0) }
+{
+    if e.is(fd) { e.state() } else { State::T_UNINIT }
+}
+
+/// A call that is done.
+pub(crate) fn done(e: &Endpoint, p: &Providers, fd: Fd, reply: Reply) -> Applied
+    requires { place_of p.now fd.0 ≡ e.now.place }
+    ensures { taken result (alone e.now) ≡ Some (made p.now fd.0 (Outcome.Done reply) (alone e.now)) }
+{
+    Applied::Step {
+        outcome: Outcome::Done(reply),
+        after: state(e, p, fd),
+    }
+}
+
+/// A refusal.
+pub(crate) fn refused(e: &Endpoint, p: &Providers, fd: Fd, errno: Errno) -> Applied
+    requires { place_of p.now fd.0 ≡ e.now.place }
+    ensures { taken result (alone e.now) ≡ Some (made p.now fd.0 (Outcome.Done (Reply.Refused errno)) (alone e.now)) }
+{
+    done(e, p, fd, Reply::Refused { errno })
+}

@@ -1,0 +1,103 @@
+//! The datagrams that wait at an endpoint, and the errors of datagrams.
+
+ghost use Rattle.std.specs.Prelude.{◌≡◌, ◌≤◌, ◌+◌, ◌++◌, ◌∷◌, [], true, false, map, not, OnOk, OnErr};
+ghost use Rattle.tpi_grammar.specs.declared.kind.Kind.TheVariants.{T_UNITDATA_IND, T_UDERROR_IND};
+ghost use Rattle.tpi_prim.specs.Fields.{kind_in};
+ghost use Rattle.xti_model.specs.Events.{some_wait};
+ghost use Rattle.xti_model.specs.Calls.Datagrams.{with_datagram, with_error};
+ghost use Rattle.xti_queue.specs.Queue.{frames};
+ghost use Rattle.xti_end.specs.Frames.{datagram_of, datagram_in, error_in};
+ghost use Rattle.xti_end.specs.Held.{is_open, parts, with_parts, datagrams_at};
+
+use crate::endpoint::Endpoint;
+use std::alloc::AllocError;
+use tpi_prim::Frame;
+use xti_queue::ReadQueue;
+
+impl Endpoint {
+    /// The datagrams that wait, as T_UNITDATA_IND frames. Takes no memory.
+    pub fn datagrams(&self) -> &ReadQueue
+        ensures { map datagram_of (frames result.now) ≡ datagrams_at self.now.body }
+    {
+        &self.datagrams
+    }
+
+    /// Whether a datagram waits at the open endpoint.
+    pub(crate) fn has_datagram(&self) -> bool
+        requires { is_open self.now ≡ true }
+        ensures { result ≡ some_wait (parts self.now).datagrams }
+    {
+        self.datagrams.frames_len() != 0
+    }
+
+    /// Makes room for one more datagram; after want of memory all is as before.
+    pub fn reserve_datagrams(&mut self) -> Result<(), AllocError>
+        ensures same { self.new ≡ record self.old { spare_datagrams = self.new.spare_datagrams } }
+        ensures kept { self.old.spare_datagrams ≤ self.new.spare_datagrams }
+        ensures spare { OnOk result (1 ≤ self.new.spare_datagrams) }
+        ensures err { OnErr result (self.new ≡ self.old) }
+    {
+        self.datagrams.reserve(1)
+    }
+
+    /// Adds a datagram, a T_UNITDATA_IND for which there must be spare room. Takes no memory.
+    pub fn push_datagram(&mut self, frame: Frame)
+        requires open { is_open self.old ≡ true }
+        requires room { 1 ≤ self.old.spare_datagrams }
+        requires kind { kind_in frame ≡ T_UNITDATA_IND }
+        ensures added { self.new ≡ record (with_parts (with_datagram (datagram_in frame)) self.old) { spare_datagrams = self.new.spare_datagrams } }
+        ensures spare { self.old.spare_datagrams ≤ self.new.spare_datagrams + 1 }
+    {
+        self.datagrams.push(frame);
+    }
+
+    /// Whether the first datagram of the open endpoint was begun, so that its address and options are no longer told.
+    pub fn begun(&self) -> bool
+        requires { is_open self.now ≡ true }
+        ensures { result ≡ (parts self.now).begun }
+    {
+        match &self.body {
+            Some(parts) => parts.begun,
+            None => unreachable!(),
+        }
+    }
+
+    /// Sets whether the first datagram of the open endpoint was begun. Takes no memory.
+    pub fn set_begun(&mut self, begun: bool)
+        requires { is_open self.old ≡ true }
+        ensures { self.new ≡ with_parts (λ e. record e { begun = begun }) self.old }
+    {
+        if let Some(parts) = &mut self.body {
+            parts.begun = begun;
+        }
+    }
+
+    /// Whether a datagram error waits.
+    pub fn has_datagram_error(&self) -> bool
+        requires { is_open self.now ≡ true }
+        ensures { result ≡ some_wait (parts self.now).datagram_errors }
+    {
+        !self.datagram_errors.is_empty()
+    }
+
+    /// Makes room for one more datagram error; after want of memory all is as before.
+    pub fn reserve_datagram_errors(&mut self) -> Result<(), AllocError>
+        ensures same { self.new ≡ record self.old { spare_datagram_errors = self.new.spare_datagram_errors } }
+        ensures kept { self.old.spare_datagram_errors ≤ self.new.spare_datagram_errors }
+        ensures spare { OnOk result (1 ≤ self.new.spare_datagram_errors) }
+        ensures err { OnErr result (self.new ≡ self.old) }
+    {
+        self.datagram_errors.reserve()
+    }
+
+    /// Adds a datagram error, a T_UDERROR_IND for which there must be spare room. Takes no memory.
+    pub fn push_datagram_error(&mut self, frame: Frame)
+        requires open { is_open self.old ≡ true }
+        requires room { 1 ≤ self.old.spare_datagram_errors }
+        requires kind { kind_in frame ≡ T_UDERROR_IND }
+        ensures added { self.new ≡ record (with_parts (with_error (error_in frame)) self.old) { spare_datagram_errors = self.new.spare_datagram_errors } }
+        ensures spare { self.old.spare_datagram_errors ≤ self.new.spare_datagram_errors + 1 }
+    {
+        self.datagram_errors.push(frame);
+    }
+}

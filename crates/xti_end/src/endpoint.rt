@@ -1,0 +1,115 @@
+//! A place and the endpoint that is open there.
+
+ghost use Rattle.std.specs.Prelude.{◌≡◌, ◌+◌, ◌*◌, None, Some, false, true};
+ghost use Rattle.xti_model.specs.Endpoint.{opened};
+ghost use Rattle.xti_model.specs.Provider.{profile};
+ghost use Rattle.xti_model.specs.World.{descriptor};
+ghost use Rattle.xti_end.specs.Held.{is_open, is_open_as};
+
+use crate::lists::FrameList;
+use crate::parts::Parts;
+use crate::providers::profile;
+use std::alloc::Global;
+use std::marker::Model;
+use xti_base::{Fd, Prov, State};
+use xti_model::Providers;
+use xti_queue::ReadQueue;
+
+/// A place, and the endpoint that is open there. Contracts see the place's cell, and how many more datagrams and datagram errors
+/// can be added with no memory.
+#[derive(Drop)]
+pub struct Endpoint {
+    pub(crate) alloc: Global,
+    pub(crate) place: u32,
+    pub(crate) generation: u32,
+    pub(crate) body: Option<Parts>,
+    pub(crate) datagrams: ReadQueue,
+    pub(crate) datagram_errors: FrameList,
+}
+
+impl Model for Endpoint {
+    ghost use Rattle.xti_end.specs.Held.{Held, body_of};
+    ghost use Rattle.xti_end.specs.Kept.{IsKept};
+
+    ghost Value = { Held };
+
+    ghost view = { λ e. record {
+      place = e.place;
+      generation = e.generation;
+      body = body_of e.body e.datagrams e.datagram_errors;
+      spare_datagrams = e.datagrams.spare;
+      spare_datagram_errors = e.datagram_errors.spare;
+    } };
+
+    ghost invariant = { λ e. IsKept e.place e.generation e.body e.datagrams e.datagram_errors };
+}
+
+impl Endpoint {
+    /// A place where no endpoint was open yet. Takes no memory.
+    pub fn closed(alloc: Global, place: u32) -> Endpoint
+        ensures place { result.place ≡ place }
+        ensures generation { result.generation ≡ 0 }
+        ensures body { result.body ≡ None }
+    {
+        Endpoint {
+            alloc,
+            place,
+            generation: 0,
+            body: None,
+            datagrams: ReadQueue::new(alloc),
+            datagram_errors: FrameList::new(alloc),
+        }
+    }
+
+    /// An endpoint opens at the closed place, with the descriptor of its place and generation. Takes no memory.
+    pub fn open(&mut self, fd: Fd, prov: Prov, nonblock: bool, p: &Providers)
+        requires closed { is_open self.old ≡ false }
+        requires descriptor { fd.0 ≡ descriptor p.now self.old.generation self.old.place }
+        ensures { self.new ≡ record self.old { body = Some (opened (profile p.now prov) prov nonblock) } }
+    {
+        let profile = profile(p, prov);
+        self.body = Some(Parts {
+            fd,
+            prov,
+            nonblock,
+            state: State::T_UNBND,
+            address: None,
+            qlen: 0,
+            begun: false,
+            mark: None,
+            sndbuf: profile.sndbuf,
+            rcvbuf: profile.rcvbuf,
+        });
+    }
+
+    /// The place.
+    pub fn place(&self) -> u32
+        ensures { result ≡ self.now.place }
+    {
+        self.place
+    }
+
+    /// How often the place was closed.
+    pub fn generation(&self) -> u32
+        ensures { result ≡ self.now.generation }
+    {
+        self.generation
+    }
+
+    /// Whether an endpoint is open at the place.
+    pub fn is_open(&self) -> bool
+        ensures { result ≡ is_open self.now }
+    {
+        self.body.is_some()
+    }
+
+    /// Whether the endpoint is open with this descriptor.
+    pub fn is(&self, fd: Fd) -> bool
+        ensures { result ≡ is_open_as fd.0 self.now }
+    {
+        match &self.body {
+            Some(parts) => parts.fd.0 == fd.0,
+            None => false,
+        }
+    }
+}

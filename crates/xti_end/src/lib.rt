@@ -1,0 +1,17 @@
+//! One endpoint: the cell of its place, part by part, and the calls that touch no other cell.
+#![tactic(auto)]
+
+mod answers;
+mod datagrams;
+mod endpoint;
+mod fields;
+mod lists;
+mod local;
+mod parts;
+mod providers;
+mod receiving;
+mod values;
+
+pub use endpoint::Endpoint;
+pub use fields::{is_too_long, trimmed};
+pub use providers::{has_datagrams, profile};

@@ -1,0 +1,69 @@
+//! Lists of frames with spare room.
+
+ghost use Rattle.std.specs.Prelude.{◌≡◌, ◌≤◌, ◌+◌, ◌++◌, ◌∷◌, [], not, OnOk, OnErr, length, vec_capacity};
+ghost use Rattle.xti_model.specs.Events.{some_wait};
+
+use std::alloc::{AllocError, Global};
+use std::marker::Model;
+use tpi_prim::Frame;
+
+/// A list of frames.
+#[derive(Drop)]
+pub(crate) struct FrameList {
+    held: Vec<Frame>,
+    spare: usize,
+}
+
+impl Model for FrameList {
+    ghost use Rattle.std.specs.Prelude.{length, vec_capacity, ◌≤◌, ◌+◌};
+    ghost use Rattle.xti_end.specs.Frames.{FrameList};
+
+    ghost Value = { FrameList };
+
+    ghost view = { λ l. record { frames = l.held.items; spare = l.spare } };
+
+    ghost invariant = { λ l. length l.held.items + l.spare ≤ vec_capacity l.held };
+}
+
+impl FrameList {
+    /// The empty list. Takes no memory.
+    pub(crate) fn new(alloc: Global) -> FrameList
+        ensures { result ≡ record { frames = []; spare = 0 } }
+    {
+        FrameList {
+            held: Vec::new(alloc),
+            spare: 0,
+        }
+    }
+
+    /// Makes room for one more frame; after want of memory the list is as before.
+    pub(crate) fn reserve(&mut self) -> Result<(), AllocError>
+        ensures frames { self.new.frames ≡ self.old.frames }
+        ensures kept { self.old.spare ≤ self.new.spare }
+        ensures spare { OnOk result (1 ≤ self.new.spare) }
+        ensures err { OnErr result (self.new ≡ self.old) }
+    {
+        if self.spare == 0 {
+            self.held.reserve(1)?;
+            self.spare = 1;
+        }
+        Ok(())
+    }
+
+    /// Adds a frame at the end, for which there must be spare room. Takes no memory.
+    pub(crate) fn push(&mut self, frame: Frame)
+        requires { 1 ≤ self.old.spare }
+        ensures frames { self.new.frames ≡ self.old.frames ++ frame ∷ [] }
+        ensures spare { self.old.spare ≡ self.new.spare + 1 }
+    {
+        self.spare -= 1;
+        self.held.push_reserved(frame);
+    }
+
+    /// Whether there are no frames.
+    pub(crate) fn is_empty(&self) -> bool
+        ensures { result ≡ not (some_wait self.now.frames) }
+    {
+        self.held.is_empty()
+    }
+}

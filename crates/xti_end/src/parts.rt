@@ -1,0 +1,18 @@
+//! The parts of an open endpoint that are replaced as a whole.
+
+use xti_base::{Fd, Octets, Prov, State};
+
+/// The parts of an open endpoint that writers replace, and the descriptor that it was opened with.
+#[derive(Drop)]
+pub(crate) struct Parts {
+    pub(crate) fd: Fd,
+    pub(crate) prov: Prov,
+    pub(crate) nonblock: bool,
+    pub(crate) state: State,
+    pub(crate) address: Option<Octets>,
+    pub(crate) qlen: u32,
+    pub(crate) begun: bool,
+    pub(crate) mark: Option<Octets>,
+    pub(crate) sndbuf: u32,
+    pub(crate) rcvbuf: u32,
+}

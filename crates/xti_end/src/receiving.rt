@@ -1,0 +1,156 @@
+//! t_rcvudata.
+
+ghost use Rattle.std.specs.Prelude.{◌≡◌, [], true, take, IfOk, OnOk, OnErr, None};
+ghost use Rattle.std.specs.List.{list_any};
+ghost use Rattle.tpi_grammar.specs.Frame.{AreBytes};
+ghost use Rattle.xti_model.specs.Events.{some_wait};
+ghost use Rattle.xti_model.specs.Plan.{is_too_long};
+ghost use Rattle.xti_model.specs.Step.{step_of};
+ghost use Rattle.xti_model.specs.World.{place_of};
+ghost use Rattle.xti_model.specs.Calls.Datagrams as Datagrams;
+ghost use Rattle.xti_end.specs.Held.{alone, is_open, is_open_as, parts, with_parts, SameRoom};
+ghost use Rattle.xti_end.specs.Taken.{taken, receive_step};
+
+use crate::answers::done;
+use crate::endpoint::Endpoint;
+use crate::fields::{is_too_long, trimmed_copy};
+use std::alloc::AllocError;
+use tpi_prim::primitive::Part;
+use xti_base::{Fd, Octets, Seq};
+use xti_model::{Applied, Providers, Reply};
+
+/// The same bytes, which are numbers under 256.
+fn bytes(bytes: &[u8]) -> &[u8]
+    ensures same { result.now ≡ bytes.now }
+    ensures bytes { AreBytes bytes.now }
+{
+    bytes
+}
+
+impl Endpoint {
+    /// The address of the first datagram; none where that was begun.
+    fn source(&self) -> &[u8]
+        requires { is_open self.now ≡ true }
+        ensures { result.now ≡ (Datagrams.told (parts self.now)).source }
+    {
+        if self.begun() {
+            return &[];
+        }
+        match self.datagrams.front() {
+            Some(frame) => frame.part(Part::Src),
+            None => &[],
+        }
+    }
+
+    /// The options of the first datagram; none where that was begun.
+    fn options(&self) -> &[u8]
+        requires { is_open self.now ≡ true }
+        ensures { result.now ≡ (Datagrams.told (parts self.now)).options }
+    {
+        if self.begun() {
+            return &[];
+        }
+        match self.datagrams.front() {
+            Some(frame) => frame.part(Part::Opt),
+            None => &[],
+        }
+    }
+
+    /// What is left of the first datagram's bytes.
+    fn rest(&self) -> &[u8]
+        requires { is_open self.now ≡ true }
+        ensures rest { result.now ≡ (Datagrams.first_of (parts self.now)).bytes }
+        ensures bytes { AreBytes result.now }
+    {
+        match self.datagrams.front_rest() {
+            Some(rest) => bytes(rest),
+            None => &[],
+        }
+    }
+
+    /// Whether a field of the first datagram is longer than the caller takes.
+    fn overflows(&self, amax: u32, omax: u32) -> bool
+        requires { is_open self.now ≡ true }
+        ensures { result ≡ list_any is_too_long (Datagrams.fields (Datagrams.told (parts self.now)) amax omax) }
+    {
+        is_too_long(self.source(), amax) || is_too_long(self.options(), omax)
+    }
+
+    /// Whether more than `max` bytes of the first datagram are left.
+    fn has_rest(&self, max: u32) -> bool
+        requires { is_open self.now ≡ true }
+        ensures { result ≡ Datagrams.has_rest max (Datagrams.first_of (parts self.now)) }
+    {
+        self.rest().len() > max as usize
+    }
+
+    /// The first datagram is gone. Takes no memory.
+    fn drop_datagram(&mut self)
+        requires { is_open self.old ≡ true }
+        ensures { self.new ≡ with_parts Datagrams.dropped self.old }
+    {
+        self.datagrams.drop_front();
+        if let Some(parts) = &mut self.body {
+            parts.begun = false;
+        }
+    }
+
+    /// The next `max` bytes of the first datagram, which is gone where none are left; after want of memory all is as before.
+    fn take_bytes(&mut self, max: u32) -> Result<Octets, AllocError>
+        requires open { is_open self.old ≡ true }
+        requires waits { some_wait (parts self.old).datagrams ≡ true }
+        ensures bytes { IfOk result (λ bytes. bytes ≡ take max (Datagrams.first_of (parts self.old)).bytes) }
+        ensures left { OnOk result (self.new ≡ with_parts (Datagrams.received max) self.old) }
+        ensures err { OnErr result (self.new ≡ self.old) }
+    {
+        let begun = self.rest().len() > max as usize;
+        let piece = self.datagrams.take(max as usize)?;
+        self.set_begun(begun);
+        Ok(piece.bytes)
+    }
+
+    /// What is told of the first datagram, of which at most `max` bytes are received; after want of memory all is as before.
+    fn receive(&mut self, max: u32, amax: u32, omax: u32) -> Result<Reply, AllocError>
+        requires open { is_open self.old ≡ true }
+        requires waits { some_wait (parts self.old).datagrams ≡ true }
+        ensures reply { IfOk result (λ reply. reply ≡ Datagrams.got (Datagrams.told (parts self.old)) max amax omax) }
+        ensures left { OnOk result (self.new ≡ with_parts (Datagrams.received max) self.old) }
+        ensures err { OnErr result (self.new ≡ self.old) }
+    {
+        let addr = trimmed_copy(self.alloc, self.source(), amax)?;
+        let opt = trimmed_copy(self.alloc, self.options(), omax)?;
+        let flags = if self.has_rest(max) { 1 } else { 0 };
+        let bytes = self.take_bytes(max)?;
+        Ok(Reply::UData {
+            addr,
+            opt,
+            bytes,
+            flags,
+        })
+    }
+
+    /// Receives of the first datagram, which must be there, or loses it where a field is too long.
+    pub(crate) fn receive_or_lose(
+        &mut self,
+        p: &Providers,
+        fd: Fd,
+        max: u32,
+        amax: u32,
+        omax: u32,
+    ) -> Result<Applied, AllocError>
+        requires place { place_of p.now fd.0 ≡ self.old.place }
+        requires open { is_open_as fd.0 self.old ≡ true }
+        requires waits { some_wait (parts self.old).datagrams ≡ true }
+        ensures step { IfOk result (λ a. taken a (alone self.new) ≡ receive_step p.now (alone self.old) fd.0 max amax omax (parts self.old)) }
+        ensures still { IfOk result (λ a. taken a (alone self.new) ≡ None → self.new ≡ self.old) }
+        ensures room { SameRoom self.old self.new }
+        ensures err { OnErr result (self.new ≡ self.old) }
+    {
+        if self.overflows(amax, omax) {
+            self.drop_datagram();
+            return Ok(done(self, p, fd, Reply::Overflow { seq: Seq(0) }));
+        }
+        let reply = self.receive(max, amax, omax)?;
+        Ok(done(self, p, fd, reply))
+    }
+}
