@@ -31,7 +31,6 @@ stopped : (p : Providers) (w new : World) (fd : ℕ) (prov : Prov) (address opti
     → new ≡ changed p w (at_endpoint fd (Datagrams.mark_flow (Some address)) ∷ []) → taken a new ≡ Some (made p fd (Done (Refused TFLOW)) new) → IsSendStep p w new fd prov true address options bytes a e
 stopped p w new fd prov address options bytes a e t n m h k = rw (h, t, k) (m ∙ ap (λ (v : World). Some (made p fd (Done (Refused TFLOW)) v)) n)
 
-
 pub some-all : (o : Option Endpoint) (P : Endpoint → Type 0) → ((e : Endpoint) → P e) → IfSome o P
 some-all None P f = tt
 some-all (Some e) P f = f e

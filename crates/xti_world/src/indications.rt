@@ -20,7 +20,12 @@ fn frame_of(alloc: Global, prim: &Prim) -> Result<Frame, AllocError>
 }
 
 /// The T_UNITDATA_IND of a datagram.
-pub(crate) fn datagram(alloc: Global, source: &[u8], options: &[u8], bytes: &[u8]) -> Result<Frame, AllocError>
+pub(crate) fn datagram(
+    alloc: Global,
+    source: &[u8],
+    options: &[u8],
+    bytes: &[u8],
+) -> Result<Frame, AllocError>
     ensures kind { IfOk result (λ frame. kind_in frame ≡ T_UNITDATA_IND) }
     ensures datagram { IfOk result (λ frame. datagram_in frame ≡ record { source = source.now; options = options.now; bytes = bytes.now }) }
 {
@@ -34,7 +39,12 @@ pub(crate) fn datagram(alloc: Global, source: &[u8], options: &[u8], bytes: &[u8
 }
 
 /// The T_UDERROR_IND of a datagram that could not be delivered.
-pub(crate) fn datagram_error(alloc: Global, destination: &[u8], options: &[u8], code: u32) -> Result<Frame, AllocError>
+pub(crate) fn datagram_error(
+    alloc: Global,
+    destination: &[u8],
+    options: &[u8],
+    code: u32,
+) -> Result<Frame, AllocError>
     ensures kind { IfOk result (λ frame. kind_in frame ≡ T_UDERROR_IND) }
     ensures error { IfOk result (λ frame. error_in frame ≡ record { destination = destination.now; options = options.now; code = code }) }
 {

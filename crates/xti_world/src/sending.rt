@@ -19,8 +19,8 @@ use crate::answers::{done, refused};
 use crate::indications::{datagram, datagram_error};
 use crate::world::World;
 use std::alloc::{AllocError, Global};
-use xti_base::{Errno, Event, Fd, Limit, Octets, Prov, State, is_option_list};
 use tpi_prim::Frame;
+use xti_base::{Errno, Event, Fd, Limit, Octets, Prov, State, is_option_list};
 use xti_end::{Endpoint, has_datagrams, profile};
 use xti_model::{Applied, Profile, Reply};
 
@@ -116,7 +116,15 @@ fn send(
 {
     let to = w.bound(prov, addr.as_slice());
     if takes_datagram(w, to) {
-        deliver(alloc, w, fd, to, addr.as_slice(), opt.as_slice(), bytes.as_slice())?;
+        deliver(
+            alloc,
+            w,
+            fd,
+            to,
+            addr.as_slice(),
+            opt.as_slice(),
+            bytes.as_slice(),
+        )?;
         Ok(done(w, fd, Reply::Plain))
     } else if nonblock {
         let mark = addr.copy()?;
@@ -160,7 +168,13 @@ fn address_of(e: &Endpoint) -> &[u8]
 }
 
 /// The T_UNITDATA_IND of a datagram that the endpoint sends.
-fn indication(alloc: Global, w: &World, fd: Fd, opt: &[u8], bytes: &[u8]) -> Result<Frame, AllocError>
+fn indication(
+    alloc: Global,
+    w: &World,
+    fd: Fd,
+    opt: &[u8],
+    bytes: &[u8],
+) -> Result<Frame, AllocError>
     ensures kind { IfOk result (λ frame. kind_in frame ≡ T_UNITDATA_IND) }
     ensures datagram { IfOk result (λ frame. IfSome (endpoint w.now.providers w.now.cells fd.0) (λ e. datagram_in frame ≡ Datagrams.datagram_from e opt.now bytes.now)) }
 {
