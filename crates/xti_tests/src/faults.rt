@@ -102,7 +102,7 @@ const FAULTY: [Faulty; 9] = [
 ];
 
 /// The list of this one call.
-fn only(alloc: Global, call: u32) -> Result<Calls, AllocError>
+pub(crate) fn only(alloc: Global, call: u32) -> Result<Calls, AllocError>
     ensures { IfOk result (λ calls. is_listed (2 ^ 64 - 1) calls ≡ false) }
 {
     let mut calls = Calls::new(alloc);

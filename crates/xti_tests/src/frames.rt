@@ -1,12 +1,9 @@
 //! The command `frames`.
 
+use crate::faults::only;
 use crate::running::run_status;
-use std::alloc::{AllocError, Global};
-use std::process::Abort;
-use std::sync::Wait;
 use std::test::*;
-use std::thread::Threads;
-use xti_base::{Calls, Octets};
+use xti_base::Octets;
 use xti_io::{MemSink, MemSource};
 
 /// An input, the numbers of a read and a write that fail, and what is answered.
@@ -14,14 +11,14 @@ use xti_io::{MemSink, MemSource};
 struct Case {
     name: &'static str,
     input: &'static [u8],
-    failed_read: u64,
-    failed_write: u64,
+    failed_read: u32,
+    failed_write: u32,
     status: u8,
     output: &'static str,
 }
 
 /// The number of a call that no run comes to.
-const NEVER: u64 = 1_000_000;
+const NEVER: u32 = 1_000_000;
 
 /// T_UNITDATA_REQ to `b` with the datagram `hello`.
 const REQUEST: &[u8] = b"\0\0\0\x15\0\0\0\x05\0\0\0\x08\0\0\0\x01\0\0\0\x14\0\0\0\0\0\0\0\0bhello";
@@ -103,28 +100,16 @@ const CASES: [Case; 9] = [
     },
 ];
 
-fn assert_case<T: Abort + Threads + Wait + Sync>(
-    rt: &T,
-    alloc: Global,
-    case: &Case,
-) -> Result<(), AllocError> {
-    let mut reads = Calls::new(alloc);
-    reads.push(case.failed_read)?;
-    let mut writes = Calls::new(alloc);
-    writes.push(case.failed_write)?;
-    let mut source = MemSource::new(Octets::copy_of(alloc, case.input)?, 7, reads);
-    let mut sink = MemSink::new(alloc, 100, 10, writes)?;
-    let status = run_status(rt, alloc, "frames", &mut source, &mut sink)?;
-    assert_eq!(rt; sink.held(), case.output.as_bytes(), "{}", case.name);
-    assert_eq!(rt; status, case.status, "{}", case.name);
-    Ok(())
-}
-
 #[test]
 fn frames(rt: HostRuntime) -> Result<(), Fail> {
     let alloc = rt.alloc();
     for case in &CASES {
-        assert_case(&rt, alloc, case)?;
+        let input = Octets::copy_of(alloc, case.input)?;
+        let mut source = MemSource::new(input, 7, only(alloc, case.failed_read)?);
+        let mut sink = MemSink::new(alloc, 100, 10, only(alloc, case.failed_write)?)?;
+        let status = run_status(&rt, alloc, "frames", &mut source, &mut sink)?;
+        assert_eq!(rt; sink.held(), case.output.as_bytes(), "{}", case.name);
+        assert_eq!(rt; status, case.status, "{}", case.name);
     }
     Ok(())
 }
