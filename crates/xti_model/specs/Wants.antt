@@ -17,7 +17,7 @@ use Rattle.xti_model.specs.Links.{linked}
 use Rattle.xti_model.specs.Sending.{ready_for, takes_datagram, message_limit, unfinished}
 use Rattle.xti_model.specs.Events.{sending, looks_data, looks_datagrams}
 use Rattle.xti_model.specs.Arguments.{bad_address, bad_options, is_too_many, is_expedited, has_other_flags}
-use Rattle.xti_model.specs.Plan.{Row, Refusal, answers, waits, loses, first, refuses, without_connections, without_datagrams, outside, looks, not_ready}
+use Rattle.xti_model.specs.Plan.{Row, Refusal, waits, first, refuses, without_connections, without_datagrams, outside, looks, not_ready}
 use Rattle.xti_model.specs.Calls.Connect as Connect
 use Rattle.xti_model.specs.Calls.Listen as Listen
 use Rattle.xti_model.specs.Calls.Send as Send
