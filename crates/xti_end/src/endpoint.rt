@@ -10,6 +10,7 @@ use crate::lists::FrameList;
 use crate::parts::Parts;
 use crate::providers::profile;
 use std::alloc::Global;
+use std::default::MadeWith;
 use std::marker::Model;
 use xti_base::{Fd, Prov, State};
 use xti_model::Providers;
@@ -111,5 +112,12 @@ impl Endpoint {
             Some(parts) => parts.fd.0 == fd.0,
             None => false,
         }
+    }
+}
+
+/// The blank that fills an unused place of a list of a fixed length.
+impl MadeWith<Global> for Endpoint {
+    fn made_with(alloc: Global) -> Endpoint {
+        Endpoint::closed(alloc, 0)
     }
 }

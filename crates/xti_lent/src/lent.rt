@@ -1,0 +1,169 @@
+//! Lent cells.
+
+ghost use Rattle.std.specs.Prelude.{◌≡◌, ◌<◌, true, false, None, Some, [], ◌∷◌, ◌++◌, ◌==◌, length, is_some, option_map, IfSome, IfNone, position, nat_eq};
+ghost use Rattle.std.specs.Borrow.{sem};
+ghost use Rattle.std.specs.Option.{option_copied};
+ghost use Rattle.xti_model.specs.Profile.{valid};
+ghost use Rattle.xti_lent.specs.Lending.{held_at, is_lent, with_held};
+ghost use Rattle.xti_lent.specs.Lends.{LendsEndpoint, LendsRegistry};
+
+use arrayvec::ArrayVec;
+use std::alloc::Global;
+use std::marker::Model;
+use xti_end::Endpoint;
+use xti_model::Providers;
+use xti_registry::Registry;
+
+/// The cells that a step is lent: at most ten endpoints, each under the number of its place, and the switch's table.
+#[derive(Drop)]
+pub struct Lent {
+    alloc: Global,
+    providers: Providers,
+    numbers: ArrayVec<u32, 10>,
+    endpoints: ArrayVec<Endpoint, 10, Global>,
+    registry: Option<Registry>,
+}
+
+impl Model for Lent {
+    ghost use Rattle.xti_lent.specs.Lending.{Lending};
+    ghost use Rattle.xti_lent.specs.Kept.{IsKept};
+
+    ghost Value = { Lending };
+
+    ghost view = { λ l. record { providers = l.providers; numbers = l.numbers.items; held = l.endpoints.items; registry = l.registry } };
+
+    ghost use Rattle.std.specs.Prelude.{length};
+
+    ghost invariant = { λ l. IsKept l.providers l.numbers.items (length l.endpoints.items) };
+}
+
+impl Lent {
+    /// Nothing is lent yet. Takes no memory.
+    pub fn new(alloc: Global, p: &Providers) -> Lent
+        requires { valid p.now ≡ true }
+        ensures { result ≡ record { providers = p.now; numbers = []; held = []; registry = None } }
+    {
+        Lent {
+            alloc,
+            providers: *p,
+            numbers: ArrayVec::new(),
+            endpoints: ArrayVec::new_in(alloc),
+            registry: None,
+        }
+    }
+
+    /// The providers of the step.
+    pub fn providers(&self) -> &Providers
+        ensures providers { result.now ≡ self.now.providers }
+        ensures valid { valid self.now.providers ≡ true }
+    {
+        &self.providers
+    }
+
+    /// Lends an endpoint under the number of its place. There must be room, and none may be lent under it. Takes no memory.
+    pub fn lend(&mut self, place: u32, e: Endpoint)
+        requires place { place < 64 }
+        requires own { e.place ≡ place }
+        requires apart { held_at self.old place ≡ None }
+        requires room { length self.old.numbers < 10 }
+        ensures { self.new ≡ record self.old { numbers = self.old.numbers ++ place ∷ []; held = self.old.held ++ e ∷ [] } }
+    {
+        self.numbers.push(place);
+        self.endpoints.push(e);
+    }
+
+    /// Lends the switch's table, which may not be lent yet. Takes no memory.
+    pub fn lend_registry(&mut self, r: Registry)
+        requires { self.old.registry ≡ None }
+        ensures { self.new ≡ record self.old { registry = Some r } }
+    {
+        self.registry = Some(r);
+    }
+
+    /// Takes back the endpoint that was lent last, with its place; `None` exactly where none is lent. Takes no memory.
+    pub fn take_last(&mut self) -> Option<(u32, Endpoint)>
+        ensures some { IfSome result (λ last. self.old ≡ record self.new { numbers = self.new.numbers ++ last.0 ∷ []; held = self.new.held ++ last.1 ∷ [] }) }
+        ensures none { IfNone result ((self.new ≡ self.old) × (self.old.held ≡ [])) }
+    {
+        let place = self.numbers.pop()?;
+        let e = self.endpoints.pop()?;
+        Some((place, e))
+    }
+
+    /// Takes the switch's table back; `None` exactly where it is not lent. Takes no memory.
+    pub fn take_registry(&mut self) -> Option<Registry>
+        ensures registry { result ≡ self.old.registry }
+        ensures left { self.new ≡ record self.old { registry = None } }
+    {
+        self.registry.take()
+    }
+
+    /// Whether the cell with this number is lent: that of a place, or under 64 that of the switch.
+    pub fn has(&self, cell: u32) -> bool
+        ensures { result ≡ is_lent self.now cell }
+    {
+        if cell == 64 { self.registry.is_some() } else { index_of(self.numbers.as_slice(), cell).is_some() }
+    }
+
+    /// The endpoint that is lent under this number, which must be there.
+    pub fn endpoint_ref(&self, place: u32) -> &Endpoint
+        requires { is_some (held_at self.now place) ≡ true }
+        ensures { Some result.now ≡ held_at self.now place }
+    {
+        match index_of(self.numbers.as_slice(), place) {
+            Some(i) => &self.endpoints.as_slice()[i],
+            None => unreachable!(),
+        }
+    }
+
+    /// The same to be changed.
+    pub fn endpoint(&mut self, place: u32) -> &mut Endpoint
+        requires { is_some (held_at self.old place) ≡ true }
+        ensures* writes_back { sem 𝓛 (LendsEndpoint self.entry place result) }
+        ensures now { Some result.now ≡ held_at self.old place }
+    {
+        match index_of(self.numbers.as_slice(), place) {
+            Some(i) => match self.endpoints.get_mut(i) {
+                Some(e) => e,
+                None => unreachable!(),
+            },
+            None => unreachable!(),
+        }
+    }
+
+    /// The switch's table, which must be lent.
+    pub fn registry_ref(&self) -> &Registry
+        requires { is_some self.now.registry ≡ true }
+        ensures { Some result.now ≡ self.now.registry }
+    {
+        match &self.registry {
+            Some(r) => r,
+            None => unreachable!(),
+        }
+    }
+
+    /// The same to be changed.
+    pub fn registry(&mut self) -> &mut Registry
+        requires { is_some self.old.registry ≡ true }
+        ensures* writes_back { sem 𝓛 (LendsRegistry self.entry result) }
+        ensures now { Some result.now ≡ self.old.registry }
+    {
+        match &mut self.registry {
+            Some(r) => r,
+            None => unreachable!(),
+        }
+    }
+
+    /// The allocator that the cells were lent with.
+    pub fn alloc(&self) -> Global {
+        self.alloc
+    }
+}
+
+/// The first place of a number.
+fn index_of(numbers: &[u32], number: u32) -> Option<usize>
+    ensures index { result ≡ position (λ n. n == number) numbers.now }
+    ensures bound { IfSome result (λ i. i < length numbers.now) }
+{
+    numbers.iter().position(|n| *n == number)
+}
