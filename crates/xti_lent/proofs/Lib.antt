@@ -1,3 +1,4 @@
 pub mod Lookups
 pub mod Worlds
 pub mod Lendings
+pub mod Open

@@ -128,3 +128,10 @@ places-front n (m ∷ ms) a = (a.0, places-front n ms a.1)
 pub some-map : {A B : Type 0} (f : A → B) (o : Option A) → is_some (option_map f o) ≡ is_some o
 some-map f None = refl
 some-map f (Some x) = refl
+
+none-of : {A : Type 0} (o : Option A) → is_some o ≡ false → o ≡ None
+none-of None e = refl
+none-of (Some x) e = cc
+
+pub nowhere : (n : ℕ) (ms : List ℕ) (hs : List Held) → length hs ≡ length ms → None ≡ place_among n ms → None ≡ held_in ms hs n
+nowhere n ms hs e s = sym (none-of (held_in ms hs n) (sym (has-is n ms hs e) ∙ sym (ap is_some s)))

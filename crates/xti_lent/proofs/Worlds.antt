@@ -73,10 +73,13 @@ same-cells at other from (suc n) h =
     rw (e, r) refl
 
 pub cell_at-is : (at : ℕ → Option Cell) (k : ℕ) → k < 65 → cell_at (cells_by at) k ≡ option_map (at_number k) (at k)
+unfolding cells_by
 cell_at-is at k lt = find-cell at 0 65 k (omega arith) (omega arith)
 
 pub change-is : (at : ℕ → Option Cell) (k : ℕ) (f : Cell → Cell) → change k f (cells_by at) ≡ cells_by (changed_at at k f)
+unfolding cells_by
 change-is at k f = change-cells at 0 65 k f
 
 pub same-is : (at other : ℕ → Option Cell) → ((k : ℕ) → k < 65 → at k ≡ other k) → cells_by at ≡ cells_by other
+unfolding cells_by
 same-is at other h = same-cells at other 0 65 (λ k le lt. h k (omega arith))

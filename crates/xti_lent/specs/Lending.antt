@@ -47,7 +47,7 @@ numbered_cell n None = []
 numbered_cell n (Some c) = record { number = n; cell = c } ∷ []
 
 -- cells by rising number, from a number on
-abbrev pub cells_by : (ℕ → Option Cell) → World
+unfoldable pub cells_by : (ℕ → Option Cell) → World
 cells_by at = flat_map (λ n. numbered_cell n (at n)) (numbers 0 65)
 
 -- the lent cells

@@ -1,15 +1,19 @@
 //! Lent cells.
 
-ghost use Rattle.std.specs.Prelude.{◌≡◌, ◌<◌, true, false, None, Some, [], ◌∷◌, ◌++◌, ◌==◌, length, is_some, option_map, IfSome, IfNone, position, nat_eq};
+ghost use Rattle.std.specs.Prelude.{◌≡◌, ◌<◌, true, false, None, Some, [], ◌∷◌, ◌++◌, ◌==◌, ◌%◌, length, is_some, option_map, IfSome, IfNone, position, nat_eq};
 ghost use Rattle.std.specs.Borrow.{sem};
 ghost use Rattle.std.specs.Option.{option_copied};
-ghost use Rattle.xti_model.specs.Profile.{valid};
-ghost use Rattle.xti_lent.specs.Lending.{held_at, is_lent, with_held};
+ghost use Rattle.xti_model.specs.Profile.{valid, usual};
+ghost use Rattle.xti_model.specs.World.{endpoint, place_of};
+ghost use Rattle.xti_end.specs.Held.{is_open_as, parts};
+ghost use Rattle.xti_lent.specs.Fit.{AtOwnPlaces};
+ghost use Rattle.xti_lent.specs.Lending.{held_at, is_lent, cells};
 ghost use Rattle.xti_lent.specs.Lends.{LendsEndpoint, LendsRegistry};
 
 use arrayvec::ArrayVec;
 use std::alloc::Global;
 use std::marker::Model;
+use xti_base::Fd;
 use xti_end::Endpoint;
 use xti_model::Providers;
 use xti_registry::Registry;
@@ -105,15 +109,34 @@ impl Lent {
         if cell == 64 { self.registry.is_some() } else { index_of(self.numbers.as_slice(), cell).is_some() }
     }
 
+    /// The endpoint that is lent under this number; `None` exactly where none is.
+    pub fn find(&self, place: u32) -> Option<&Endpoint>
+        ensures { option_copied result ≡ held_at self.now place }
+    {
+        let i = index_of(self.numbers.as_slice(), place)?;
+        Some(&self.endpoints.as_slice()[i])
+    }
+
     /// The endpoint that is lent under this number, which must be there.
     pub fn endpoint_ref(&self, place: u32) -> &Endpoint
         requires { is_some (held_at self.now place) ≡ true }
         ensures { Some result.now ≡ held_at self.now place }
     {
-        match index_of(self.numbers.as_slice(), place) {
-            Some(i) => &self.endpoints.as_slice()[i],
+        match self.find(place) {
+            Some(e) => e,
             None => unreachable!(),
         }
+    }
+
+    /// The endpoint that is open with this descriptor, among those that are lent.
+    pub fn open_endpoint(&self, fd: Fd) -> Option<&Endpoint>
+        requires { AtOwnPlaces self.now }
+        ensures endpoint { option_map parts (option_copied result) ≡ endpoint self.now.providers (cells self.now) fd.0 }
+        ensures open { IfSome result (λ e. is_open_as fd.0 e.now ≡ true) }
+        ensures held { IfSome result (λ e. held_at self.now (fd.0 % 64) ≡ Some e.now) }
+    {
+        let e = self.find(place_of(fd))?;
+        if e.is(fd) { Some(e) } else { None }
     }
 
     /// The same to be changed.
@@ -158,6 +181,13 @@ impl Lent {
     pub fn alloc(&self) -> Global {
         self.alloc
     }
+}
+
+/// The number of a descriptor's cell.
+pub fn place_of(fd: Fd) -> u32
+    ensures { result ≡ place_of usual fd.0 }
+{
+    fd.0 % 64
 }
 
 /// The first place of a number.

@@ -1,6 +1,8 @@
 //! The cells that a step is lent.
 #![tactic(auto)]
 
+mod answers;
 mod lent;
 
-pub use lent::Lent;
+pub use answers::{done, overflow, refused};
+pub use lent::{Lent, place_of};
