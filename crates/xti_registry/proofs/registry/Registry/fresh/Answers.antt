@@ -1,0 +1,18 @@
+use Rattle.std.proofs.Common.{◌≡◌, arith, refl}
+use Rattle.std.proofs.lemmas.List.{replicate_more}
+use Rattle.xti_model.specs.World.{closed_place}
+use Rattle.xti_registry.proofs.Keeping.{kept_opening}
+use Rattle.xti_registry.proofs.registry.Registry.fresh.Goals as goal
+
+pub loop-preserved : goal.loop-preserved
+loop-preserved c = rw (c.in_ok-push.ensures.items, c.loop.invariant) (replicate_more c.loop.counter closed_place)
+
+pub invariant_of-result : goal.invariant_of-result
+invariant_of-result c =
+    let e : c.loop.counter ≡ 64 = omega arith in
+    kept_opening c.loop.places.items c.new.result.items c.new-2.result.items _ _ (rw e at c.loop.invariant) c.new.ensures.items c.new-2.ensures.items
+
+pub returns : goal.returns
+returns c =
+    let e : c.loop.counter ≡ 64 = omega arith in
+    rw (c.new.ensures.items, c.loop.invariant, e) refl

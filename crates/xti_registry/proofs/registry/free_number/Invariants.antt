@@ -1,0 +1,7 @@
+use Rattle.std.proofs.Common.{◌≡◌, ◌-◌, length}
+use Rattle.xti_model.specs.Switch.{free_address}
+use Rattle.xti_registry.specs.Known.{switch_with}
+use Rattle.xti_registry.proofs.registry.free_number.Given as goal
+
+abbrev pub invariant-loop-n : goal.invariant-loop-n
+invariant-loop-n l = free_address (switch_with l.bindings) l.prov l.n (length l.bindings - l.n) ≡ free_address (switch_with l.bindings) l.prov 0 (length l.bindings)

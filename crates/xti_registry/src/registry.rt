@@ -1,0 +1,206 @@
+//! The switch's table.
+
+ghost use Rattle.std.specs.Prelude.{◌≡◌, ◌≤◌, ◌<◌, ◌+◌, true, false, IfOk, OnOk, OnErr, IfSome, length, option_map, position};
+ghost use Rattle.xti_model.specs.Profile.{usual, valid};
+ghost use Rattle.xti_model.specs.Switch.{free_address, free_place, give_address, give_up_address, is_free, mark_closed, mark_open, numbered_address, place_at};
+ghost use Rattle.xti_model.specs.World.{descriptor, opening_switch, places};
+ghost use Rattle.xti_registry.specs.Known.{bound_at, switch_with};
+ghost use Rattle.xti_registry.specs.Index.{IsIndex};
+
+use crate::index::{first_at, forget, least_at};
+use crate::tables::{Binding, Place};
+use arrayvec::ArrayVec;
+use itoa::Buffer;
+use std::alloc::{AllocError, Global};
+use std::marker::Model;
+use xti_base::{Fd, Octets, Prov};
+use xti_model::Providers;
+
+/// How many places there are.
+const PLACES: usize = 64;
+
+/// A place that was closed so often is not used again.
+const LAST_GENERATION: u32 = 67_108_863;
+
+/// The most bytes of a numbered address: `#` and the digits of a number of 64 bits.
+const LONGEST: usize = 21;
+
+/// The switch's table. Contracts see the switch, and how many more addresses can be given with no memory.
+#[derive(Drop)]
+pub struct Registry {
+    places: Vec<Place>,
+    bindings: Vec<Binding>,
+    /// The places of the bindings in their list, in the order of their addresses.
+    index: Vec<usize>,
+    spare: usize,
+}
+
+impl Model for Registry {
+    ghost use Rattle.std.specs.Prelude.{vec_capacity};
+    ghost use Rattle.xti_registry.specs.Kept.{IsKept};
+    ghost use Rattle.xti_registry.specs.Known.{Known};
+
+    ghost Value = { Known };
+
+    ghost view = { λ r. record {
+      switch = record { bindings = r.bindings.items; places = r.places.items };
+      spare = r.spare;
+    } };
+
+    ghost invariant = { λ r. IsKept r.places.items r.bindings.items r.index.items r.spare (vec_capacity r.bindings) (vec_capacity r.index) };
+}
+
+/// Whether the place is closed and can be used.
+fn is_free(place: &Place) -> bool
+    ensures { result ≡ is_free usual place.now }
+{
+    !place.is_open && place.generation < LAST_GENERATION
+}
+
+fn least_free(places: &[Place]) -> Option<usize>
+    ensures place { result ≡ position (is_free usual) places.now }
+    ensures bound { IfSome result (λ place. place < length places.now) }
+{
+    places.iter().position(is_free)
+}
+
+/// `#` and a number.
+fn numbered_address(n: usize) -> ArrayVec<u8, LONGEST>
+    ensures { result.items ≡ numbered_address n }
+{
+    let mut address = ArrayVec::new();
+    let mut buffer = Buffer::new();
+    address.push(b'#');
+    address
+        .try_extend_from_slice(buffer.format(n).as_bytes())
+        .unwrap();
+    address
+}
+
+/// The first number from 0 on whose address no endpoint of the provider is bound to.
+fn free_number(bindings: &[Binding], index: &[usize], prov: Prov) -> usize
+    requires { IsIndex bindings.now index.now }
+    ensures { free_address (switch_with bindings.now) prov 0 (length bindings.now) ≡ numbered_address result }
+{
+    for n in 0..bindings.len() {
+        let address = numbered_address(n);
+        if least_at(bindings, index, prov, address.as_slice(), false).is_none() {
+            return n;
+        }
+    }
+    bindings.len()
+}
+
+impl Registry {
+    /// The table in the opening world: no address is bound, and each place is closed and was never open.
+    pub fn fresh(alloc: Global, p: &Providers) -> Result<Registry, AllocError>
+        requires { valid p.now ≡ true }
+        ensures { IfOk result (λ r. r.switch ≡ opening_switch (places p.now)) }
+    {
+        let mut places = Vec::with_capacity(alloc, PLACES)?;
+        for _ in 0..PLACES {
+            places.push(Place {
+                generation: 0,
+                is_open: false,
+            })?;
+        }
+        Ok(Registry {
+            places,
+            bindings: Vec::new(alloc),
+            index: Vec::new(alloc),
+            spare: 0,
+        })
+    }
+
+    /// The least descriptor that is bound to the address; with `listening`, of the endpoints with a queue alone. Takes no memory.
+    /// The cost is in proportion to the logarithm of the number of bindings, and to how many share the address.
+    pub fn bound(&self, prov: Prov, addr: &[u8], listening: bool) -> Option<Fd>
+        ensures { option_map (λ fd. fd.0) result ≡ bound_at self.now.switch prov addr.now listening }
+    {
+        let least = least_at(&self.bindings, &self.index, prov, addr, listening)?;
+        Some(Fd(least))
+    }
+
+    /// The first address `#n` that no endpoint of the provider is bound to. Only the address itself takes memory.
+    pub fn free_address(&self, alloc: Global, prov: Prov) -> Result<Octets, AllocError>
+        ensures address { IfOk result (λ address. address ≡ free_address self.now.switch prov 0 (length self.now.switch.bindings)) }
+        ensures short { IfOk result (λ address. length address ≤ 21) }
+    {
+        let n = free_number(&self.bindings, &self.index, prov);
+        Octets::copy_of(alloc, numbered_address(n).as_slice())
+    }
+
+    /// The least place that can be opened. Takes no memory.
+    pub fn free_place(&self) -> Option<u32>
+        ensures place { result ≡ free_place usual self.now.switch }
+        ensures bound { IfSome result (λ place. place < 64) }
+        ensures places { length self.now.switch.places ≡ 64 }
+    {
+        let place = least_free(&self.places)?;
+        Some(place as u32)
+    }
+
+    /// Makes room for one more address; after want of memory the table is as before.
+    pub fn reserve(&mut self) -> Result<(), AllocError>
+        ensures switch { self.new.switch ≡ self.old.switch }
+        ensures kept { self.old.spare ≤ self.new.spare }
+        ensures spare { OnOk result (1 ≤ self.new.spare) }
+        ensures err { OnErr result (self.new ≡ self.old) }
+    {
+        if self.spare == 0 {
+            self.bindings.reserve(1)?;
+            self.index.reserve(1)?;
+            self.spare = 1;
+        }
+        Ok(())
+    }
+
+    /// An endpoint is bound to the address, for which there must be spare room. Takes no memory.
+    pub fn put(&mut self, prov: Prov, addr: Octets, fd: Fd, listening: bool)
+        requires { 1 ≤ self.old.spare }
+        ensures switch { self.new.switch ≡ give_address prov addr fd.0 listening self.old.switch }
+        ensures spare { self.old.spare ≤ self.new.spare + 1 }
+    {
+        let at = first_at(&self.bindings, &self.index, prov, addr.as_slice());
+        self.index.insert(at, self.bindings.len()).unwrap();
+        self.bindings.push_reserved(Binding {
+            prov,
+            address: addr,
+            fd,
+            listening,
+        });
+        self.spare -= 1;
+    }
+
+    /// The endpoint is bound to no address any more. Takes no memory.
+    pub fn remove(&mut self, fd: Fd)
+        ensures switch { self.new.switch ≡ give_up_address fd.0 self.old.switch }
+        ensures spare { self.old.spare ≤ self.new.spare }
+    {
+        forget(&mut self.bindings, &mut self.index, fd);
+    }
+
+    /// The place opens, and the descriptor of its generation is answered. Takes no memory.
+    pub fn open_place(&mut self, place: u32) -> Fd
+        requires place { place < 64 }
+        requires free { is_free usual (place_at self.old.switch place) ≡ true }
+        ensures descriptor { result.0 ≡ descriptor usual (place_at self.old.switch place).generation place }
+        ensures switch { self.new.switch ≡ mark_open place self.old.switch }
+        ensures spare { self.new.spare ≡ self.old.spare }
+    {
+        let at = &mut self.places[place as usize];
+        at.is_open = true;
+        Fd(64 * at.generation + place)
+    }
+
+    /// The open place closes, and its generation rises. Takes no memory.
+    pub fn close_place(&mut self, place: u32)
+        requires { (place_at self.old.switch place).is_open ≡ true }
+        ensures switch { self.new.switch ≡ mark_closed place self.old.switch }
+        ensures spare { self.new.spare ≡ self.old.spare }
+    {
+        let at = &mut self.places[place as usize];
+        at.generation += 1;
+        at.is_open = false;
+    }
+}
