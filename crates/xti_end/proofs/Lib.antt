@@ -1,2 +1,4 @@
 pub mod Views
 pub mod Fronts
+pub mod Errors
+pub mod Sizes

@@ -1,13 +1,17 @@
 -- What the parts of an endpoint stand for.
-use Rattle.std.proofs.Common.{◌≡◌, ℕ, Bool, true, false, [], Option, Some, None, refl}
-use Rattle.std.specs.Prelude.{map, is_none, is_some, option_map}
+use Rattle.std.proofs.Common.{◌≡◌, ℕ, zero, suc, Bool, true, false, List, [], ◌∷◌, Option, Some, None, refl, sym, ap}
+use Rattle.std.specs.Prelude.{map, is_none, is_some, option_map, remove}
+use Rattle.xti_model.specs.declared.profile.Providers.{Providers}
+use Rattle.xti_model.specs.Cells.{listed}
+use Rattle.xti_model.specs.Touched.{of_some, caller_cells}
+use Rattle.xti_model.proofs.Rising.{rising-listed}
 use Rattle.xti_model.specs.Endpoint.{Endpoint}
 use Rattle.xti_model.specs.Events.{some_wait}
 use Rattle.xti_model.specs.Calls.Datagrams.{first_of, has_rest, received}
 use Rattle.xti_queue.specs.Indications.{begun, left_behind}
 use Rattle.xti_queue.specs.Queue.{Queue, frames}
 use Rattle.xti_end.specs.declared.parts.Parts.{Parts}
-use Rattle.xti_end.specs.Frames.{FrameList, datagram_of, AreDatagrams}
+use Rattle.xti_end.specs.Frames.{FrameList, datagram_of, error_in, AreDatagrams}
 use Rattle.xti_end.specs.Held.{body_of, datagrams_at, parts_of}
 use Rattle.xti_end.proofs.Fronts.{first_in, left-is}
 
@@ -41,3 +45,20 @@ pub received-is : (o : Option Parts) (q r : Queue) (l : FrameList) (max : ℕ) (
     → option_map (λ (x : Endpoint). record x { begun = b }) (body_of o r l) ≡ option_map (received max) (body_of o q l)
 received-is None q r l max b o all w h f = cc
 received-is (Some e) q r l max b o all w h f = left-by e q r l max b all w h f
+
+map-removed : (fs : List (List ℕ)) (place : ℕ) → map error_in (remove fs place) ≡ remove (map error_in fs) place
+map-removed [] zero = refl
+map-removed [] (suc place) = refl
+map-removed (f ∷ fs) zero = refl
+map-removed (f ∷ fs) (suc place) = ap (λ es. error_in f ∷ es) (map-removed fs place)
+
+-- an error is taken out
+pub removed-is : (o : Option Parts) (q : Queue) (l r : FrameList) (place : ℕ) → r.frames ≡ remove l.frames place
+    → body_of o q r ≡ option_map (λ (x : Endpoint). record x { datagram_errors = remove x.datagram_errors place }) (body_of o q l)
+removed-is None q l r place h = refl
+removed-is (Some e) q l r place h = rw (h, map-removed l.frames place) refl
+
+-- nobody asks an endpoint for a connection
+pub callers-none : (p : Providers) (o : Option Parts) (q : Queue) (l : FrameList) → [] ≡ listed (of_some (body_of o q l) (caller_cells p))
+callers-none p None q l = sym (rising-listed [] tt)
+callers-none p (Some e) q l = sym (rising-listed [] tt)

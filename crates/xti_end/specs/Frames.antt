@@ -36,3 +36,6 @@ error_in f = error_of (primitive_in f)
 
 abbrev pub AreDatagrams : List (List ℕ) → Type 0
 AreDatagrams = AllByRecursion (λ f. kind_in f ≡ kind.T_UNITDATA_IND)
+
+abbrev pub AreErrors : List (List ℕ) → Type 0
+AreErrors = AllByRecursion (λ f. kind_in f ≡ kind.T_UDERROR_IND)

@@ -3,7 +3,8 @@ use Rattle.std.specs.Prelude.{◌≡◌, ℕ, Bool, false, ◌==◌, ◌&&◌, L
 use Rattle.xti_base.specs.declared.kinds.Prov.TheVariants.{Ticlts}
 use Rattle.xti_model.specs.Profile.{usual}
 use Rattle.xti_model.specs.Endpoint.{Endpoint, Datagram, DatagramError, opened}
-use Rattle.xti_model.specs.World.{World, Cell, endpoint_cell, descriptor}
+use Rattle.xti_model.specs.Spot.{spot_bytes}
+use Rattle.xti_model.specs.World.{World, Cell, endpoint_cell, descriptor, closed_places}
 use Rattle.xti_queue.specs.Queue.{Queue, frames}
 use Rattle.xti_end.specs.declared.parts.Parts.{Parts}
 use Rattle.xti_end.specs.Frames.{FrameList, datagram_of, error_in}
@@ -53,6 +54,22 @@ datagrams_at (Some e) = e.datagrams
 abbrev pub mark_at : Option Endpoint → Option (List ℕ)
 mark_at o = option_and_then (λ (e : Endpoint). e.flow_datagram) o
 
+-- the errors of datagrams
+abbrev pub errors_at : Option Endpoint → List DatagramError
+errors_at None = []
+errors_at (Some e) = e.datagram_errors
+
+-- the descriptors of the other side of the connection, and of the listener that is asked for one
+abbrev pub peer_at : Option Endpoint → Option ℕ
+peer_at o = option_and_then (λ (e : Endpoint). e.peer) o
+
+abbrev pub target_at : Option Endpoint → Option ℕ
+target_at o = option_and_then (λ (e : Endpoint). option_map (λ t. t.listener) e.target) o
+
+-- an endpoint's place where nothing was open yet
+abbrev pub IsUnused : ℕ → Held → Type 0
+IsUnused place h = alone h ≡ closed_places place 1
+
 -- the open endpoint that the parts stand for; the parts that no call fills yet are empty
 abbrev pub endpoint_of : Parts → List Datagram → List DatagramError → Endpoint
 endpoint_of e datagrams errors = record (opened usual.ticlts Ticlts false) {
@@ -64,7 +81,7 @@ endpoint_of e datagrams errors = record (opened usual.ticlts Ticlts false) {
   datagrams = datagrams;
   begun = e.begun;
   datagram_errors = errors;
-  flow_datagram = e.mark;
+  flow_datagram = option_map spot_bytes e.mark;
   sndbuf = e.sndbuf;
   rcvbuf = e.rcvbuf;
 }

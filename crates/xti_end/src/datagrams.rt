@@ -1,18 +1,22 @@
-//! The datagrams that wait at an endpoint, and the errors of datagrams.
+//! The datagrams that wait at an endpoint.
 
 ghost use Rattle.std.specs.Prelude.{◌≡◌, ◌≤◌, ◌+◌, ◌++◌, ◌∷◌, [], true, false, map, not, OnOk, OnErr};
-ghost use Rattle.tpi_grammar.specs.declared.kind.Kind.TheVariants.{T_UNITDATA_IND, T_UDERROR_IND};
+ghost use Rattle.tpi_grammar.specs.declared.kind.Kind.TheVariants.{T_UNITDATA_IND};
 ghost use Rattle.tpi_prim.specs.Fields.{kind_in};
 ghost use Rattle.xti_model.specs.Events.{some_wait};
-ghost use Rattle.xti_model.specs.Calls.Datagrams.{with_datagram, with_error};
+ghost use Rattle.xti_model.specs.Sending.{takes_datagram};
+ghost use Rattle.xti_model.specs.Calls.Datagrams.{with_datagram};
 ghost use Rattle.xti_queue.specs.Queue.{frames};
-ghost use Rattle.xti_end.specs.Frames.{datagram_of, datagram_in, error_in};
+ghost use Rattle.xti_end.specs.Frames.{datagram_of, datagram_in};
 ghost use Rattle.xti_end.specs.Held.{is_open, parts, with_parts, datagrams_at};
 
 use crate::endpoint::Endpoint;
 use std::alloc::AllocError;
 use tpi_prim::Frame;
 use xti_queue::ReadQueue;
+
+/// The most datagrams that wait at an endpoint.
+const MOST_DATAGRAMS: usize = 16;
 
 impl Endpoint {
     /// The datagrams that wait, as T_UNITDATA_IND frames. Takes no memory.
@@ -28,6 +32,20 @@ impl Endpoint {
         ensures { result ≡ some_wait (parts self.now).datagrams }
     {
         self.datagrams.frames_len() != 0
+    }
+
+    /// Whether the provider takes one more datagram for the endpoint; as at a closed place, where a datagram is lost.
+    pub fn takes_datagram(&self) -> bool
+        ensures { result ≡ takes_datagram self.now.body }
+    {
+        self.datagrams.frames_len() < MOST_DATAGRAMS
+    }
+
+    /// Takes all datagrams out. Takes no memory.
+    pub fn clear_datagrams(&mut self)
+        ensures { self.new ≡ with_parts (λ e. record e { datagrams = [] }) self.old }
+    {
+        self.datagrams.discard_stream();
     }
 
     /// Makes room for one more datagram; after want of memory all is as before.
@@ -70,34 +88,5 @@ impl Endpoint {
         if let Some(parts) = &mut self.body {
             parts.begun = begun;
         }
-    }
-
-    /// Whether a datagram error waits.
-    pub fn has_datagram_error(&self) -> bool
-        requires { is_open self.now ≡ true }
-        ensures { result ≡ some_wait (parts self.now).datagram_errors }
-    {
-        !self.datagram_errors.is_empty()
-    }
-
-    /// Makes room for one more datagram error; after want of memory all is as before.
-    pub fn reserve_datagram_errors(&mut self) -> Result<(), AllocError>
-        ensures same { self.new ≡ record self.old { spare_datagram_errors = self.new.spare_datagram_errors } }
-        ensures kept { self.old.spare_datagram_errors ≤ self.new.spare_datagram_errors }
-        ensures spare { OnOk result (1 ≤ self.new.spare_datagram_errors) }
-        ensures err { OnErr result (self.new ≡ self.old) }
-    {
-        self.datagram_errors.reserve()
-    }
-
-    /// Adds a datagram error, a T_UDERROR_IND for which there must be spare room. Takes no memory.
-    pub fn push_datagram_error(&mut self, frame: Frame)
-        requires open { is_open self.old ≡ true }
-        requires room { 1 ≤ self.old.spare_datagram_errors }
-        requires kind { kind_in frame ≡ T_UDERROR_IND }
-        ensures added { self.new ≡ record (with_parts (with_error (error_in frame)) self.old) { spare_datagram_errors = self.new.spare_datagram_errors } }
-        ensures spare { self.old.spare_datagram_errors ≤ self.new.spare_datagram_errors + 1 }
-    {
-        self.datagram_errors.push(frame);
     }
 }

@@ -2,7 +2,8 @@
 
 ghost use Rattle.std.specs.Prelude.{◌≡◌, ◌+◌, ◌*◌, None, Some, false, true};
 ghost use Rattle.xti_model.specs.Endpoint.{opened};
-ghost use Rattle.xti_model.specs.Provider.{profile};
+ghost use Rattle.xti_model.specs.Profile.{valid};
+ghost use Rattle.xti_model.specs.Provider.{profile, is_provider};
 ghost use Rattle.xti_model.specs.World.{descriptor};
 ghost use Rattle.xti_end.specs.Held.{is_open, is_open_as};
 
@@ -45,6 +46,16 @@ impl Model for Endpoint {
     ghost invariant = { λ e. IsKept e.place e.generation e.body e.datagrams e.datagram_errors };
 }
 
+impl MadeWith<Global> for Endpoint {
+    ghost use Rattle.xti_end.specs.Held.{IsUnused};
+
+    ghost is_made_with = { IsUnused 0 };
+
+    fn made_with(alloc: Global) -> Endpoint {
+        Endpoint::closed(alloc, 0)
+    }
+}
+
 impl Endpoint {
     /// A place where no endpoint was open yet. Takes no memory.
     pub fn closed(alloc: Global, place: u32) -> Endpoint
@@ -66,6 +77,8 @@ impl Endpoint {
     pub fn open(&mut self, fd: Fd, prov: Prov, nonblock: bool, p: &Providers)
         requires closed { is_open self.old ≡ false }
         requires descriptor { fd.0 ≡ descriptor p.now self.old.generation self.old.place }
+        requires provider { is_provider prov ≡ true }
+        requires valid { valid p.now ≡ true }
         ensures { self.new ≡ record self.old { body = Some (opened (profile p.now prov) prov nonblock) } }
     {
         let profile = profile(p, prov);
@@ -81,6 +94,31 @@ impl Endpoint {
             sndbuf: profile.sndbuf,
             rcvbuf: profile.rcvbuf,
         });
+    }
+
+    /// The open endpoint closes, and all that waits there is gone. Takes no memory.
+    pub fn close(&mut self)
+        requires { is_open self.old ≡ true }
+        ensures { self.new ≡ record self.old { generation = self.old.generation + 1; body = None } }
+    {
+        self.generation = self.next_generation();
+        self.body = None;
+        self.datagrams.discard_stream();
+        self.datagram_errors.clear();
+    }
+
+    /// The place's generation when its open endpoint is closed.
+    fn next_generation(&self) -> u32
+        requires { is_open self.now ≡ true }
+        ensures { result ≡ self.now.generation + 1 }
+    {
+        match &self.body {
+            Some(parts) => {
+                let _bits = parts.fd.0;
+                self.generation + 1
+            }
+            None => unreachable!(),
+        }
     }
 
     /// The place.

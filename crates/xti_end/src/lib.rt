@@ -2,6 +2,8 @@
 #![tactic(auto)]
 
 mod answers;
+mod connections;
+mod datagram_errors;
 mod datagrams;
 mod endpoint;
 mod fields;
@@ -10,6 +12,7 @@ mod local;
 mod parts;
 mod providers;
 mod receiving;
+mod receiving_errors;
 mod values;
 
 pub use endpoint::Endpoint;

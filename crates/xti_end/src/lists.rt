@@ -1,6 +1,7 @@
 //! Lists of frames with spare room.
 
-ghost use Rattle.std.specs.Prelude.{◌≡◌, ◌≤◌, ◌+◌, ◌++◌, ◌∷◌, [], not, OnOk, OnErr, length, vec_capacity};
+ghost use Rattle.std.specs.Prelude.{◌≡◌, ◌≤◌, ◌<◌, ◌+◌, ◌++◌, ◌∷◌, [], not, Some, OnOk, OnErr, length, slice_get, remove, vec_capacity};
+ghost use Rattle.std.specs.Option.{option_copied};
 ghost use Rattle.xti_model.specs.Events.{some_wait};
 
 use std::alloc::{AllocError, Global};
@@ -65,5 +66,30 @@ impl FrameList {
         ensures { result ≡ not (some_wait self.now.frames) }
     {
         self.held.is_empty()
+    }
+
+    /// The frame at a place; `None` exactly past the end.
+    pub(crate) fn get(&self, place: usize) -> Option<&Frame>
+        ensures { option_copied result ≡ slice_get self.now.frames place }
+    {
+        self.held.get(place)
+    }
+
+    /// Takes the frame at a place out. Takes no memory.
+    pub(crate) fn remove(&mut self, place: usize) -> Frame
+        requires { place < length self.old.frames }
+        ensures taken { Some result ≡ slice_get self.old.frames place }
+        ensures frames { self.new.frames ≡ remove self.old.frames place }
+        ensures spare { self.new.spare ≡ self.old.spare }
+    {
+        self.held.remove(place)
+    }
+
+    /// Takes all frames out. Takes no memory.
+    pub(crate) fn clear(&mut self)
+        ensures frames { self.new.frames ≡ [] }
+        ensures spare { self.new.spare ≡ self.old.spare }
+    {
+        self.held.clear();
     }
 }

@@ -2,17 +2,15 @@
 
 ghost use Rattle.std.specs.Prelude.{◌≡◌, [], true, IfOk, OnErr, None};
 ghost use Rattle.xti_model.specs.Step.{step, step_of};
-ghost use Rattle.xti_model.specs.World.{place_of, endpoint};
-ghost use Rattle.xti_model.specs.Events.{some_wait};
-ghost use Rattle.xti_model.specs.Calls.Datagrams as Datagrams;
-ghost use Rattle.xti_end.specs.Held.{alone, is_open, is_open_as, parts, SameRoom};
-ghost use Rattle.xti_end.specs.Taken.{taken, receive_step, IsAt};
+ghost use Rattle.xti_model.specs.World.{place_of};
+ghost use Rattle.xti_model.specs.Calls.Show as Show;
+ghost use Rattle.xti_end.specs.Held.{alone, SameRoom};
+ghost use Rattle.xti_end.specs.Taken.{taken, IsAt};
 
 use crate::answers::{done, refused};
 use crate::endpoint::Endpoint;
-use crate::providers::has_datagrams;
 use std::alloc::AllocError;
-use xti_base::{Errno, Event, Fd, State};
+use xti_base::{Errno, Fd};
 use xti_model::{Applied, Call, Go, Providers, Reply};
 
 impl Endpoint {
@@ -32,45 +30,44 @@ impl Endpoint {
                 max,
                 amax,
                 omax,
-            } => self.rcvudata(p, *fd, *max, *amax, *omax),
+            } => self.rcvudata(p, *fd, 1, *max as usize, *amax, *omax),
+            Call::TRcvVUData {
+                fd,
+                sizes,
+                amax,
+                omax,
+            } => self.rcvvudata(p, *fd, sizes.as_slice(), *amax, *omax),
+            Call::TRcvUDErr { fd, amax, omax } => self.rcvuderr(p, *fd, *amax, *omax),
+            Call::TGetState { fd } => Ok(self.getstate(p, *fd)),
+            Call::TSync { fd } => Ok(self.getstate(p, *fd)),
+            Call::SetMode { fd, nonblock } => Ok(self.set_mode(p, *fd, *nonblock)),
             _ => unreachable!(),
         }
     }
 
-    /// t_rcvudata.
-    fn rcvudata(
-        &mut self,
-        p: &Providers,
-        fd: Fd,
-        max: u32,
-        amax: u32,
-        omax: u32,
-    ) -> Result<Applied, AllocError>
-        requires { place_of p.now fd.0 ≡ self.old.place }
-        ensures step { IfOk result (λ a. taken a (alone self.new) ≡ step_of p.now (alone self.old) (Datagrams.receive_plan p.now (alone self.old) fd.0 1 max amax omax)) }
-        ensures still { IfOk result (λ a. taken a (alone self.new) ≡ None → self.new ≡ self.old) }
-        ensures room { SameRoom self.old self.new }
-        ensures err { OnErr result (self.new ≡ self.old) }
+    /// t_getstate and t_sync.
+    fn getstate(&self, p: &Providers, fd: Fd) -> Applied
+        requires { place_of p.now fd.0 ≡ self.now.place }
+        ensures { taken result (alone self.now) ≡ step_of p.now (alone self.now) (Show.state_plan p.now (alone self.now) fd.0) }
     {
         if !self.is(fd) {
-            return Ok(refused(self, p, fd, Errno::TBADF));
+            return refused(self, p, fd, Errno::TBADF);
         }
-        if !has_datagrams(self.prov()) {
-            return Ok(refused(self, p, fd, Errno::TNOTSUPPORT));
+        let state = self.state();
+        done(self, p, fd, Reply::Stands { state })
+    }
+
+    /// Sets O_NONBLOCK, or clears it.
+    fn set_mode(&mut self, p: &Providers, fd: Fd, nonblock: bool) -> Applied
+        requires { place_of p.now fd.0 ≡ self.old.place }
+        ensures step { taken result (alone self.new) ≡ step_of p.now (alone self.old) (Show.mode_plan p.now (alone self.old) fd.0 nonblock) }
+        ensures still { taken result (alone self.new) ≡ None → self.new ≡ self.old }
+        ensures room { SameRoom self.old self.new }
+    {
+        if !self.is(fd) {
+            return refused(self, p, fd, Errno::TBADF);
         }
-        if !self.state().is(State::T_IDLE) {
-            return Ok(refused(self, p, fd, Errno::TOUTSTATE));
-        }
-        if self.has_datagram_error() {
-            let event = Event::T_UDERR;
-            return Ok(done(self, p, fd, Reply::Look { event }));
-        }
-        if self.has_datagram() {
-            self.receive_or_lose(p, fd, max, amax, omax)
-        } else if self.nonblock() {
-            Ok(refused(self, p, fd, Errno::TNODATA))
-        } else {
-            Ok(Applied::Blocked)
-        }
+        self.set_nonblock(nonblock);
+        done(self, p, fd, Reply::Plain)
     }
 }

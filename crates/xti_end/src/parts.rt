@@ -1,6 +1,7 @@
 //! The parts of an open endpoint that are replaced as a whole.
 
 use xti_base::{Fd, Octets, Prov, State};
+use xti_model::Spot;
 
 /// The parts of an open endpoint that writers replace, and the descriptor that it was opened with.
 #[derive(Drop)]
@@ -12,7 +13,7 @@ pub(crate) struct Parts {
     pub(crate) address: Option<Octets>,
     pub(crate) qlen: u32,
     pub(crate) begun: bool,
-    pub(crate) mark: Option<Octets>,
+    pub(crate) mark: Option<Spot>,
     pub(crate) sndbuf: u32,
     pub(crate) rcvbuf: u32,
 }

@@ -1,8 +1,9 @@
-//! t_rcvudata.
+//! t_rcvudata and t_rcvvudata.
 
-ghost use Rattle.std.specs.Prelude.{◌≡◌, [], true, take, IfOk, OnOk, OnErr, None};
+ghost use Rattle.std.specs.Prelude.{◌≡◌, ℕ, [], true, false, length, sum, take, IfOk, OnOk, OnErr, None};
 ghost use Rattle.std.specs.List.{list_any};
 ghost use Rattle.tpi_grammar.specs.Frame.{AreBytes};
+ghost use Rattle.xti_model.specs.Arguments.{is_too_many};
 ghost use Rattle.xti_model.specs.Events.{some_wait};
 ghost use Rattle.xti_model.specs.Plan.{is_too_long};
 ghost use Rattle.xti_model.specs.Step.{step_of};
@@ -11,12 +12,13 @@ ghost use Rattle.xti_model.specs.Calls.Datagrams as Datagrams;
 ghost use Rattle.xti_end.specs.Held.{alone, is_open, is_open_as, parts, with_parts, SameRoom};
 ghost use Rattle.xti_end.specs.Taken.{taken, receive_step};
 
-use crate::answers::done;
+use crate::answers::{done, refused};
 use crate::endpoint::Endpoint;
 use crate::fields::{is_too_long, trimmed_copy};
+use crate::providers::has_datagrams;
 use std::alloc::AllocError;
 use tpi_prim::primitive::Part;
-use xti_base::{Fd, Octets, Seq};
+use xti_base::{Errno, Event, Fd, Octets, Seq, State};
 use xti_model::{Applied, Providers, Reply};
 
 /// The same bytes, which are numbers under 256.
@@ -77,11 +79,11 @@ impl Endpoint {
     }
 
     /// Whether more than `max` bytes of the first datagram are left.
-    fn has_rest(&self, max: u32) -> bool
+    fn has_rest(&self, max: usize) -> bool
         requires { is_open self.now ≡ true }
         ensures { result ≡ Datagrams.has_rest max (Datagrams.first_of (parts self.now)) }
     {
-        self.rest().len() > max as usize
+        self.rest().len() > max
     }
 
     /// The first datagram is gone. Takes no memory.
@@ -96,21 +98,21 @@ impl Endpoint {
     }
 
     /// The next `max` bytes of the first datagram, which is gone where none are left; after want of memory all is as before.
-    fn take_bytes(&mut self, max: u32) -> Result<Octets, AllocError>
+    fn take_bytes(&mut self, max: usize) -> Result<Octets, AllocError>
         requires open { is_open self.old ≡ true }
         requires waits { some_wait (parts self.old).datagrams ≡ true }
         ensures bytes { IfOk result (λ bytes. bytes ≡ take max (Datagrams.first_of (parts self.old)).bytes) }
         ensures left { OnOk result (self.new ≡ with_parts (Datagrams.received max) self.old) }
         ensures err { OnErr result (self.new ≡ self.old) }
     {
-        let begun = self.rest().len() > max as usize;
-        let piece = self.datagrams.take(max as usize)?;
+        let begun = self.rest().len() > max;
+        let piece = self.datagrams.take(max)?;
         self.set_begun(begun);
         Ok(piece.bytes)
     }
 
     /// What is told of the first datagram, of which at most `max` bytes are received; after want of memory all is as before.
-    fn receive(&mut self, max: u32, amax: u32, omax: u32) -> Result<Reply, AllocError>
+    fn receive(&mut self, max: usize, amax: u32, omax: u32) -> Result<Reply, AllocError>
         requires open { is_open self.old ≡ true }
         requires waits { some_wait (parts self.old).datagrams ≡ true }
         ensures reply { IfOk result (λ reply. reply ≡ Datagrams.got (Datagrams.told (parts self.old)) max amax omax) }
@@ -130,18 +132,18 @@ impl Endpoint {
     }
 
     /// Receives of the first datagram, which must be there, or loses it where a field is too long.
-    pub(crate) fn receive_or_lose(
+    fn receive_or_lose(
         &mut self,
         p: &Providers,
         fd: Fd,
-        max: u32,
+        max: usize,
         amax: u32,
         omax: u32,
     ) -> Result<Applied, AllocError>
         requires place { place_of p.now fd.0 ≡ self.old.place }
         requires open { is_open_as fd.0 self.old ≡ true }
         requires waits { some_wait (parts self.old).datagrams ≡ true }
-        ensures step { IfOk result (λ a. taken a (alone self.new) ≡ receive_step p.now (alone self.old) fd.0 max amax omax (parts self.old)) }
+        ensures step { IfOk result (λ a. (sizes : ℕ) → taken a (alone self.new) ≡ receive_step p.now (alone self.old) fd.0 sizes max amax omax (parts self.old)) }
         ensures still { IfOk result (λ a. taken a (alone self.new) ≡ None → self.new ≡ self.old) }
         ensures room { SameRoom self.old self.new }
         ensures err { OnErr result (self.new ≡ self.old) }
@@ -153,4 +155,80 @@ impl Endpoint {
         let reply = self.receive(max, amax, omax)?;
         Ok(done(self, p, fd, reply))
     }
+
+    /// t_rcvudata of at most `max` bytes, or t_rcvvudata into so many sizes with that sum.
+    pub(crate) fn rcvudata(
+        &mut self,
+        p: &Providers,
+        fd: Fd,
+        sizes: usize,
+        max: usize,
+        amax: u32,
+        omax: u32,
+    ) -> Result<Applied, AllocError>
+        requires { place_of p.now fd.0 ≡ self.old.place }
+        ensures step { IfOk result (λ a. taken a (alone self.new) ≡ step_of p.now (alone self.old) (Datagrams.receive_plan p.now (alone self.old) fd.0 sizes max amax omax)) }
+        ensures still { IfOk result (λ a. taken a (alone self.new) ≡ None → self.new ≡ self.old) }
+        ensures room { SameRoom self.old self.new }
+        ensures err { OnErr result (self.new ≡ self.old) }
+    {
+        if !self.is(fd) {
+            return Ok(refused(self, p, fd, Errno::TBADF));
+        }
+        if !has_datagrams(self.prov()) {
+            return Ok(refused(self, p, fd, Errno::TNOTSUPPORT));
+        }
+        if !self.state().is(State::T_IDLE) {
+            return Ok(refused(self, p, fd, Errno::TOUTSTATE));
+        }
+        if sizes > MOST_SIZES {
+            return Ok(refused(self, p, fd, Errno::TBADDATA));
+        }
+        if self.has_datagram_error() {
+            let event = Event::T_UDERR;
+            return Ok(done(self, p, fd, Reply::Look { event }));
+        }
+        if self.has_datagram() {
+            self.receive_or_lose(p, fd, max, amax, omax)
+        } else if self.nonblock() {
+            Ok(refused(self, p, fd, Errno::TNODATA))
+        } else {
+            Ok(Applied::Blocked)
+        }
+    }
+
+    /// t_rcvvudata.
+    pub(crate) fn rcvvudata(
+        &mut self,
+        p: &Providers,
+        fd: Fd,
+        sizes: &[u32],
+        amax: u32,
+        omax: u32,
+    ) -> Result<Applied, AllocError>
+        requires { place_of p.now fd.0 ≡ self.old.place }
+        ensures step { IfOk result (λ a. taken a (alone self.new) ≡ step_of p.now (alone self.old) (Datagrams.receive_plan p.now (alone self.old) fd.0 (length sizes.now) (sum sizes.now) amax omax)) }
+        ensures still { IfOk result (λ a. taken a (alone self.new) ≡ None → self.new ≡ self.old) }
+        ensures room { SameRoom self.old self.new }
+        ensures err { OnErr result (self.new ≡ self.old) }
+    {
+        self.rcvudata(p, fd, sizes.len(), total(sizes), amax, omax)
+    }
+}
+
+/// The most sizes of a vector form.
+const MOST_SIZES: usize = 16;
+
+/// The sum of the sizes, where there are not too many; those are refused whatever their sum is.
+fn total(sizes: &[u32]) -> usize
+    ensures { is_too_many (length sizes.now) ≡ false → result ≡ sum sizes.now }
+{
+    if sizes.len() > MOST_SIZES {
+        return 0;
+    }
+    let mut total = 0;
+    for size in sizes {
+        total += *size as usize;
+    }
+    total
 }

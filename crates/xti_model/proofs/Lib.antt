@@ -7,3 +7,4 @@ pub mod Working
 pub mod Sums
 pub mod Phases
 pub mod Completing
+pub mod Rising

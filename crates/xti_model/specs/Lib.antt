@@ -23,3 +23,5 @@ pub mod Families
 pub mod StateTable
 pub mod Sound
 pub mod Wants
+pub mod Spot
+pub mod Cells

@@ -2,15 +2,19 @@
 #![tactic(auto)]
 
 mod call;
+mod cells;
 mod entry;
 mod laws;
 mod profile;
 mod script;
+mod spot;
 #[cfg(test)]
 mod tests;
 
 pub use call::Call;
+pub use cells::Cells;
 pub use entry::{Act, Applied, Entries, Entry, Go, Outcome, Reply};
 pub use laws::{robin_follows, robin_is_complete, robin_is_legal, usual_is_valid};
 pub use profile::{Profile, Providers};
 pub use script::{Journal, Line, Lines, Name, NamedCall, Script, StallLine, Stalls};
+pub use spot::Spot;

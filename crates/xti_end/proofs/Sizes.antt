@@ -1,0 +1,35 @@
+-- Too many sizes are refused whatever their sum is.
+use Rattle.std.proofs.Common.{◌≡◌, ℕ, Bool, true, false, not, List, [], ◌∷◌, drop, Option, Some, None, refl}
+use Rattle.xti_base.specs.declared.errno.Errno.{Errno}
+use Rattle.xti_base.specs.declared.errno.Errno.TheVariants.{TNOTSUPPORT, TOUTSTATE, TBADDATA}
+use Rattle.xti_base.specs.declared.kinds.State.TheVariants.{T_IDLE}
+use Rattle.xti_model.specs.declared.profile.Providers.{Providers}
+use Rattle.xti_model.specs.Arguments.{is_too_many}
+use Rattle.xti_model.specs.Endpoint.{Endpoint}
+use Rattle.xti_model.specs.Events.{is_state}
+use Rattle.xti_model.specs.Plan.{Plan, Row, first, refuses, if_open}
+use Rattle.xti_model.specs.Provider.{has_datagrams}
+use Rattle.xti_model.specs.Step.{step_by, step_of}
+use Rattle.xti_model.specs.World.{World, endpoint}
+use Rattle.xti_model.specs.Calls.Datagrams.{receive_from, receive_plan, receive_rows}
+
+third-refuses : (p : Providers) (w : World) (x y : Plan) → x.fd ≡ y.fd → (a b c : Bool) → c ≡ true → (r s t : Errno) (rows : List Row)
+    → step_by p w x (first (refuses a r ∷ refuses b s ∷ refuses c t ∷ rows)) ≡ step_by p w y (first (refuses a r ∷ refuses b s ∷ refuses c t ∷ rows))
+third-refuses p w x y h true b c e r s t rows = rw h refl
+third-refuses p w x y h false true c e r s t rows = rw h refl
+third-refuses p w x y h false false true e r s t rows = rw h refl
+third-refuses p w x y h false false false e r s t rows = cc
+
+too-many : (p : Providers) (w : World) (fd n m k amax omax : ℕ) (o : Option Endpoint) → is_too_many n ≡ true
+    → step_of p w (if_open fd o (receive_from fd n m amax omax)) ≡ step_of p w (if_open fd o (receive_from fd n k amax omax))
+too-many p w fd n m k amax omax None h = refl
+too-many p w fd n m k amax omax (Some e) h =
+    third-refuses p w (receive_from fd n m amax omax e) (receive_from fd n k amax omax e) refl (not (has_datagrams e.prov)) (not (is_state (T_IDLE ∷ []) e)) (is_too_many n) h TNOTSUPPORT TOUTSTATE TBADDATA (drop 3 (receive_rows n amax omax e))
+
+pub sum-where-few : (p : Providers) (w : World) (fd n m k amax omax : ℕ) → (is_too_many n ≡ false → m ≡ k)
+    → step_of p w (receive_plan p w fd n m amax omax) ≡ step_of p w (receive_plan p w fd n k amax omax)
+sum-where-few p w fd n m k amax omax h = go (is_too_many n) refl
+  where
+    go : (b : Bool) → is_too_many n ≡ b → step_of p w (receive_plan p w fd n m amax omax) ≡ step_of p w (receive_plan p w fd n k amax omax)
+    go false e = rw (h e) refl
+    go true e = too-many p w fd n m k amax omax (endpoint p w fd) e

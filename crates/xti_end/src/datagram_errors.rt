@@ -1,0 +1,70 @@
+//! The errors of datagrams that wait at an endpoint.
+
+ghost use Rattle.std.specs.Prelude.{◌≡◌, ◌≤◌, ◌<◌, ◌+◌, [], true, Some, length, slice_get, remove, OnOk, OnErr, IfSome};
+ghost use Rattle.std.specs.Option.{option_copied, option_map};
+ghost use Rattle.tpi_grammar.specs.declared.kind.Kind.TheVariants.{T_UDERROR_IND};
+ghost use Rattle.tpi_prim.specs.Fields.{kind_in};
+ghost use Rattle.xti_model.specs.Events.{some_wait};
+ghost use Rattle.xti_model.specs.Calls.Datagrams.{with_error};
+ghost use Rattle.xti_end.specs.Frames.{error_in};
+ghost use Rattle.xti_end.specs.Held.{is_open, parts, with_parts, errors_at};
+
+use crate::endpoint::Endpoint;
+use std::alloc::AllocError;
+use tpi_prim::Frame;
+
+impl Endpoint {
+    /// The datagram error at a place, as a T_UDERROR_IND frame; `None` exactly past the end. Takes no memory.
+    pub fn datagram_error(&self, place: usize) -> Option<&Frame>
+        ensures error { option_map error_in (option_copied result) ≡ slice_get (errors_at self.now.body) place }
+        ensures kind { IfSome result (λ frame. kind_in frame.now ≡ T_UDERROR_IND) }
+    {
+        self.datagram_errors.get(place)
+    }
+
+    /// Takes the datagram error at a place out, a T_UDERROR_IND frame; the others stay in their order. Takes no memory.
+    pub fn take_datagram_error(&mut self, place: usize) -> Frame
+        requires { place < length (errors_at self.old.body) }
+        ensures error { Some (error_in result) ≡ slice_get (errors_at self.old.body) place }
+        ensures kind { kind_in result ≡ T_UDERROR_IND }
+        ensures taken { self.new ≡ with_parts (λ e. record e { datagram_errors = remove e.datagram_errors place }) self.old }
+    {
+        self.datagram_errors.remove(place)
+    }
+
+    /// Takes all datagram errors out. Takes no memory.
+    pub fn clear_datagram_errors(&mut self)
+        ensures { self.new ≡ with_parts (λ e. record e { datagram_errors = [] }) self.old }
+    {
+        self.datagram_errors.clear();
+    }
+
+    /// Whether a datagram error waits.
+    pub fn has_datagram_error(&self) -> bool
+        requires { is_open self.now ≡ true }
+        ensures { result ≡ some_wait (parts self.now).datagram_errors }
+    {
+        !self.datagram_errors.is_empty()
+    }
+
+    /// Makes room for one more datagram error; after want of memory all is as before.
+    pub fn reserve_datagram_errors(&mut self) -> Result<(), AllocError>
+        ensures same { self.new ≡ record self.old { spare_datagram_errors = self.new.spare_datagram_errors } }
+        ensures kept { self.old.spare_datagram_errors ≤ self.new.spare_datagram_errors }
+        ensures spare { OnOk result (1 ≤ self.new.spare_datagram_errors) }
+        ensures err { OnErr result (self.new ≡ self.old) }
+    {
+        self.datagram_errors.reserve()
+    }
+
+    /// Adds a datagram error, a T_UDERROR_IND for which there must be spare room. Takes no memory.
+    pub fn push_datagram_error(&mut self, frame: Frame)
+        requires open { is_open self.old ≡ true }
+        requires room { 1 ≤ self.old.spare_datagram_errors }
+        requires kind { kind_in frame ≡ T_UDERROR_IND }
+        ensures added { self.new ≡ record (with_parts (with_error (error_in frame)) self.old) { spare_datagram_errors = self.new.spare_datagram_errors } }
+        ensures spare { self.old.spare_datagram_errors ≤ self.new.spare_datagram_errors + 1 }
+    {
+        self.datagram_errors.push(frame);
+    }
+}

@@ -1,0 +1,6 @@
+-- An address that is held in its value.
+use Rattle.std.specs.Prelude.{ℕ, List, take}
+use Rattle.xti_model.specs.declared.spot.Spot.{Spot}
+
+abbrev pub spot_bytes : Spot → List ℕ
+spot_bytes s = take s.len s.bytes
