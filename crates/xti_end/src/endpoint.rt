@@ -152,10 +152,3 @@ impl Endpoint {
         }
     }
 }
-
-/// The blank that fills an unused place of a list of a fixed length.
-impl MadeWith<Global> for Endpoint {
-    fn made_with(alloc: Global) -> Endpoint {
-        Endpoint::closed(alloc, 0)
-    }
-}
