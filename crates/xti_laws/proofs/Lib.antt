@@ -4,12 +4,12 @@ mod Others
 mod Touched
 mod Changes
 mod Kept
-mod View
+pub mod View
 mod Steady
 mod Effects
 mod TableRows
 mod Taken
-mod Opening
+pub mod Opening
 mod StatesOfConnections
 mod Leaving
 mod OtherStates

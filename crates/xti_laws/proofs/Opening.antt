@@ -51,17 +51,17 @@ free-closed p s prov n h = go (is_provider prov) h
     go false j = absurd (false≢true (ap is_none (sym j)))
 
 -- what the cell of that place has
-record Closed (w : World) (n g : ℕ) : Type 0 where
-  there : Numbered
-  is_there : cell_at w n ≡ Some there
-  is_closed : there.cell ≡ endpoint_cell g None
+pub record Closed (w : World) (n g : ℕ) : Type 0 where
+  pub there : Numbered
+  pub is_there : cell_at w n ≡ Some there
+  pub is_closed : there.cell ≡ endpoint_cell g None
 
 closed-cell : (p : Providers) (s : Switch) (n : ℕ) → (place_at s n).is_open ≡ false → (c : Cell) → CellAgrees p s n c → c ≡ endpoint_cell (place_at s n).generation None
 closed-cell p s n k (endpoint_cell g None) a = ap (λ x. endpoint_cell x None) (sym a.generation_known)
 closed-cell p s n k (endpoint_cell g (Some e)) a = absurd (false≢true (sym k ∙ a.openness_known))
 closed-cell p s n k (switch_cell other) a = absurd a
 
-closed-there : (p : Providers) (s : Switch) (w : World) (n : ℕ) → (place_at s n).is_open ≡ false → ThereAgrees p s n (cell_at w n) → Closed w n (place_at s n).generation
+pub closed-there : (p : Providers) (s : Switch) (w : World) (n : ℕ) → (place_at s n).is_open ≡ false → ThereAgrees p s n (cell_at w n) → Closed w n (place_at s n).generation
 closed-there p s w n k = go (cell_at w n) refl
   where
     go : (o : Option Numbered) → cell_at w n ≡ o → ThereAgrees p s n o → Closed w n (place_at s n).generation
@@ -75,7 +75,7 @@ generation-of : (g n : ℕ) → n < 64 → (64 * g + n) / 64 ≡ g
 generation-of g n h = omega (arith, h)
 
 -- a descriptor is its place and generation
-looked : (p : Providers) (w : World) (g n : ℕ) → n < 64 → endpoint p w (64 * g + n) ≡ option_and_then (λ c. endpoint_in g c.cell) (cell_at w n)
+pub looked : (p : Providers) (w : World) (g n : ℕ) → n < 64 → endpoint p w (64 * g + n) ≡ option_and_then (λ c. endpoint_in g c.cell) (cell_at w n)
 looked p w g n h = ap (λ z. option_and_then (λ c. endpoint_in ((64 * g + n) / 64) c.cell) (cell_at w z)) (place-of g n h) ∙ ap (λ z. option_and_then (λ c. endpoint_in z c.cell) (cell_at w n)) (generation-of g n h)
 
 none-either : (b : Bool) → cond {A = Option Endpoint} b None None ≡ None
@@ -85,7 +85,7 @@ none-either false = refl
 before : (p : Providers) (w : World) (g n : ℕ) → n < 64 → Closed w n g → endpoint p w (64 * g + n) ≡ None
 before p w g n h c = looked p w g n h ∙ (ap (option_and_then (λ z. endpoint_in g z.cell)) c.is_there ∙ (ap (endpoint_in g) c.is_closed ∙ none-either (eqb g g)))
 
-after : (p : Providers) (w : World) (g n : ℕ) (e : Endpoint) → n < 64 → Closed w n g → endpoint p (change n (open_cell e) w) (64 * g + n) ≡ Some e
+pub after : (p : Providers) (w : World) (g n : ℕ) (e : Endpoint) → n < 64 → Closed w n g → endpoint p (change n (open_cell e) w) (64 * g + n) ≡ Some e
 after p w g n e h c =
     looked p (change n (open_cell e) w) g n h ∙ (ap (option_and_then (λ z. endpoint_in g z.cell)) (cell_at-same n (open_cell e) w ∙ ap (option_map (recell (open_cell e))) c.is_there) ∙
     (ap (λ z. endpoint_in g (open_cell e z)) c.is_closed ∙ ap (λ b. cond b (Some e) None) (eq-eqb g g refl)))
@@ -94,7 +94,7 @@ descriptor-of : (x g n : ℕ) → x % 64 ≡ n → x / 64 ≡ g → x ≡ 64 * g
 descriptor-of x g n h k = omega (arith, h, k)
 
 -- any other descriptor has what it had
-elsewhere : (p : Providers) (w : World) (g n x : ℕ) (e : Endpoint) → Closed w n g → eqb x (64 * g + n) ≡ false → endpoint p (change n (open_cell e) w) x ≡ endpoint p w x
+pub elsewhere : (p : Providers) (w : World) (g n x : ℕ) (e : Endpoint) → Closed w n g → eqb x (64 * g + n) ≡ false → endpoint p (change n (open_cell e) w) x ≡ endpoint p w x
 elsewhere p w g n x e c k = go (eqb (place_of p x) n) refl
   where
     other-generation : place_of p x ≡ n → (b : Bool) → eqb g (generation_of p x) ≡ b → cond b (Some e) None ≡ cond {A = Option Endpoint} b None None

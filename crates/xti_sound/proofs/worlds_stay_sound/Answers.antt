@@ -1,0 +1,12 @@
+use Rattle.xti_sound.proofs.Beginning.{opening-sound}
+use Rattle.xti_sound.proofs.Walk.{step-sound, after-sound}
+use Rattle.xti_sound.proofs.worlds_stay_sound.Goals as goal
+
+pub returns-clause-start : goal.returns-clause-start
+returns-clause-start c = opening-sound
+
+pub returns-clause-step : goal.returns-clause-step
+returns-clause-step c = step-sound
+
+pub returns-clause-history : goal.returns-clause-history
+returns-clause-history c = after-sound
