@@ -106,7 +106,11 @@ impl Lent {
     pub fn has(&self, cell: u32) -> bool
         ensures { result ≡ is_lent self.now cell }
     {
-        if cell == 64 { self.registry.is_some() } else { index_of(self.numbers.as_slice(), cell).is_some() }
+        if cell == 64 {
+            self.registry.is_some()
+        } else {
+            index_of(self.numbers.as_slice(), cell).is_some()
+        }
     }
 
     /// The endpoint that is lent under this number; `None` exactly where none is.
