@@ -107,14 +107,14 @@ impl Endpoint {
         self.datagram_errors.clear();
     }
 
-    /// The place's generation when its open endpoint is closed.
+    /// The place's generation when its open endpoint is closed; it fits, since its descriptor does.
     fn next_generation(&self) -> u32
         requires { is_open self.now ≡ true }
         ensures { result ≡ self.now.generation + 1 }
     {
         match &self.body {
             Some(parts) => {
-                let _bits = parts.fd.0;
+                let _descriptor = parts.fd.0;
                 self.generation + 1
             }
             None => unreachable!(),

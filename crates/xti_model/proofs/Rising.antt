@@ -3,7 +3,10 @@ use Rattle.std.proofs.Common.{ℕ, zero, suc, ◌+◌, ◌<◌, ◌≤◌, Bool,
 use Rattle.std.specs.List.{filter, insert}
 use Rattle.std.proofs.lemmas.Bool.{eqb-true, ne_eqb}
 use Rattle.std.proofs.lemmas.Bool.Decides.{eqb_tells}
-use Rattle.xti_model.specs.World.{is_among}
+use Rattle.xti_model.specs.declared.call.Call.{Call}
+use Rattle.xti_model.specs.declared.profile.Providers.{Providers}
+use Rattle.xti_model.specs.World.{World, is_among}
+use Rattle.xti_model.specs.Touched.{named, touched}
 use Rattle.xti_model.specs.Robin.{numbers}
 use Rattle.xti_model.specs.Cells.{IsRising, IsPlaceFor, listed}
 
@@ -159,3 +162,8 @@ listed-length (n ∷ ns) from k = omega (arith, length-or n (is_among ns) from k
 pub length-listed : (ns : List ℕ) → length (listed ns) ≤ length ns
 unfolding listed
 length-listed ns = listed-length ns 0 65
+
+-- the cells of a call are the listed ones of those that it names
+pub touched-listed : (p : Providers) (w : World) (c : Call) → touched p w c ≡ listed (named p w c)
+unfolding listed
+touched-listed p w c = refl
