@@ -4,6 +4,8 @@
 mod names;
 mod round_robin;
 mod run;
+#[cfg(test)]
+mod tests;
 mod workers;
 
 pub use round_robin::replay;

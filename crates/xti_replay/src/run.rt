@@ -19,10 +19,10 @@ const MOST_STEPS: u32 = 4_294_304;
 /// A run so far.
 #[derive(Drop)]
 pub(crate) struct Run {
-    pub(crate) world: World,
+    world: World,
     pub(crate) workers: Vec<Worker>,
     /// The worker of the last entry; 0 before the first.
-    pub(crate) last: usize,
+    last: usize,
     pub(crate) entries: Entries,
 }
 

@@ -18,9 +18,9 @@ pub(crate) const WORKERS: usize = 33;
 #[derive(Drop)]
 pub(crate) struct Worker {
     /// Where its lines stand in the script.
-    pub(crate) places: Vec<usize>,
+    places: Vec<usize>,
     /// How many of them it has begun.
-    pub(crate) begun: usize,
+    begun: usize,
     /// What its names stand for.
     pub(crate) names: Table,
     /// The call of its next line, where it may make it.
