@@ -1,0 +1,246 @@
+-- A worker's lines, its next call, and what its next entry changes.
+use Rattle.std.proofs.Common.{◌≡◌, ◌≢◌, ℕ, zero, suc, ◌+◌, ◌<◌, Bool, true, false, cond, eqb, List, [], ◌∷◌, ◌++◌, length, take, Option, Some, None, refl, sym, ap, ◌∙◌, subst, arith}
+use Rattle.std.specs.Prelude.{option_map, slice_get, filter, Vec}
+use Rattle.std.specs.declared.alloc.Global.{Global}
+use Rattle.std.proofs.lemmas.List.Elements.{filter-append}
+use Rattle.std.proofs.lemmas.Bool.{and_parts, eqb-true, ne_eqb, eq-eqb, ltb-true}
+use Rattle.std.proofs.lemmas.List.{append-nil, append_assoc, length_push}
+use Rattle.std.proofs.lemmas.Option.{same_Some, none-some, slice_get-map}
+use Rattle.xti_model.specs.declared.call.Call.{Call}
+use Rattle.xti_model.specs.declared.entry.Go.TheVariants as go
+use Rattle.xti_model.specs.declared.entry.Outcome.{Outcome}
+use Rattle.xti_model.specs.declared.entry.Outcome.TheVariants.{Done, Part}
+use Rattle.xti_model.specs.declared.entry.Entry.{Entry}
+use Rattle.xti_model.specs.declared.script.Line.{Line}
+use Rattle.xti_model.specs.Built.{is_built, is_built_named}
+use Rattle.xti_model.specs.History.{Going, own, call_after, going_after, unfinished_from, unfinished}
+use Rattle.xti_model.specs.Resolve.{is_of, lines_of, is_begin, begun, answer_of, or_else, opened_fd, listened_number, opens, listens, Meanings, Placed, placed_from, meanings, with_numbers, if_own}
+use Rattle.xti_model.specs.Robin.{begin_line, next_or, next_going}
+use Rattle.xti_model.proofs.Appending.{own-append}
+use Rattle.xti_model.proofs.Working.{call_from, unfinished_from-snoc}
+use Rattle.xti_replay.specs.declared.names.Known.{Known}
+use Rattle.xti_replay.specs.declared.workers.Worker.{Worker}
+use Rattle.xti_replay.specs.Playable.{is_playable, are_playable}
+use Rattle.xti_replay.specs.Spots.{Spot, spots_from, spots_of, places_of}
+use Rattle.xti_replay.specs.Known.{known_in, known_by, number_of, or_known, call_before}
+use Rattle.xti_replay.specs.Progress.{Told, IsNext}
+use Rattle.xti_replay.proofs.Done.{is_done}
+use Rattle.xti_replay.proofs.Meanings.{known-more, call-same, call-built}
+
+-- The lines of a worker by their places.
+
+abbrev placed_by : List Line → Spot → Placed
+placed_by lines s = record { earlier = take s.place lines; line = s.line }
+
+front-of : (before : List Line) (line : Line) (lines : List Line) (from : ℕ) → length before ≡ from → take from (before ++ line ∷ lines) ≡ before
+front-of [] line lines zero e = refl
+front-of [] line lines (suc n) e = absurd (omega arith)
+front-of (x ∷ before) line lines zero e = absurd (omega arith)
+front-of (x ∷ before) line lines (suc n) e = ap (λ (l : List Line). x ∷ l) (front-of before line lines n (omega arith))
+
+placed-spots : (before lines : List Line) (from worker k : ℕ) → length before ≡ from
+    → slice_get (placed_from before lines worker) k ≡ option_map (placed_by (before ++ lines)) (slice_get (spots_from from lines worker) k)
+placed-spots before [] from worker k e = refl
+placed-spots before (line ∷ lines) from worker k e = by (is_of worker line) k (later (λ j. placed-spots (before ++ line ∷ []) lines (from + 1) worker j longer))
+  where
+    longer : length (before ++ line ∷ []) ≡ from + 1
+    longer = length_push before line ∙ ap (λ (k : ℕ). k + 1) e
+
+    later : ((j : ℕ) → slice_get (placed_from (before ++ line ∷ []) lines worker) j ≡ option_map (placed_by ((before ++ line ∷ []) ++ lines)) (slice_get (spots_from (from + 1) lines worker) j))
+        → (j : ℕ) → slice_get (placed_from (before ++ line ∷ []) lines worker) j ≡ option_map (placed_by (before ++ line ∷ lines)) (slice_get (spots_from (from + 1) lines worker) j)
+    later h j =
+        let shape : (before ++ line ∷ []) ++ lines ≡ before ++ line ∷ lines = append_assoc before (line ∷ []) lines in
+        subst (λ (all : List Line). slice_get (placed_from (before ++ line ∷ []) lines worker) j ≡ option_map (placed_by all) (slice_get (spots_from (from + 1) lines worker) j)) shape
+        (h j)
+
+    by : (b : Bool) (k : ℕ) → ((j : ℕ) → slice_get (placed_from (before ++ line ∷ []) lines worker) j ≡ option_map (placed_by (before ++ line ∷ lines)) (slice_get (spots_from (from + 1) lines worker) j))
+        → slice_get (if_own b (record { earlier = before; line = line }) (placed_from (before ++ line ∷ []) lines worker)) k
+        ≡ option_map (placed_by (before ++ line ∷ lines)) (slice_get (cond b (record { place = from; line = line } ∷ spots_from (from + 1) lines worker) (spots_from (from + 1) lines worker)) k)
+    by true zero h = ap (λ (l : List Line). Some (record { earlier = l; line = line })) (sym (front-of before line lines from e))
+    by true (suc j) h = h j
+    by false k h = h k
+
+-- a place of the worker has a line of it
+pub record IsSpot (lines : List Line) (from worker : ℕ) (s : Spot) : Type 0 where
+  pub index : ℕ
+  pub place : s.place ≡ from + index
+  pub line : slice_get lines index ≡ Some s.line
+  pub own : s.line.worker ≡ worker
+
+pub spot-line : (lines : List Line) (from worker k : ℕ) (s : Spot) → slice_get (spots_from from lines worker) k ≡ Some s → IsSpot lines from worker s
+spot-line [] from worker k s h = absurd cc
+spot-line (line ∷ lines) from worker k s h = by (is_of worker line) refl k h (λ j. spot-line lines (from + 1) worker j s)
+  where
+    further : IsSpot lines (from + 1) worker s → IsSpot (line ∷ lines) from worker s
+    further i = record { index = suc i.index; place = omega (arith, i.place); line = i.line; own = i.own }
+
+    by : (b : Bool) → is_of worker line ≡ b → (k : ℕ) → slice_get (cond b (record { place = from; line = line } ∷ spots_from (from + 1) lines worker) (spots_from (from + 1) lines worker)) k ≡ Some s
+        → ((j : ℕ) → slice_get (spots_from (from + 1) lines worker) j ≡ Some s → IsSpot lines (from + 1) worker s) → IsSpot (line ∷ lines) from worker s
+    by true o zero e later =
+        let same : record { place = from; line = line } ≡ s = same_Some _ s e in
+        subst (λ (t : Spot). IsSpot (line ∷ lines) from worker t) same (record { index = zero; place = omega arith; line = refl; own = eqb-true line.worker worker o })
+    by true o (suc j) e later = further (later j e)
+    by false o k e later = further (later k e)
+
+-- The next call of a worker.
+
+abbrev beginning : Call → Going
+beginning c = record { call = c; so_far = go.Begin }
+
+-- the call of the worker's line at this place, behind the entries
+abbrev pub call_at : List Line → List Entry → ℕ → Spot → Call
+call_at lines past worker s = with_numbers (meanings (take s.place lines) worker past) s.line.call
+
+abbrev next_spot : List Line → List Entry → ℕ → Option Spot
+next_spot lines past worker = slice_get (spots_of lines worker) (length (begun past worker))
+
+abbrev going_at : List Line → List Entry → ℕ → Spot → Going
+going_at lines past worker s = beginning (call_at lines past worker s)
+
+next-spots : (lines : List Line) (past : List Entry) (worker : ℕ) → unfinished past worker ≡ None → next_going lines past worker ≡ option_map (going_at lines past worker) (next_spot lines past worker)
+next-spots lines past worker whole =
+    ap (next_or lines past worker) whole
+    ∙ ap (option_map (begin_line past)) (placed-spots [] lines 0 worker (length (begun past worker)) refl)
+    ∙ by (next_spot lines past worker) refl
+  where
+    by : (o : Option Spot) → next_spot lines past worker ≡ o → option_map (begin_line past) (option_map (placed_by lines) o) ≡ option_map (going_at lines past worker) o
+    by None h = refl
+    by (Some s) h = ap (λ (v : ℕ). Some (beginning (with_numbers (meanings (take s.place lines) v past) s.line.call))) (spot-line lines 0 worker (length (begun past worker)) s h).own
+
+-- the worker's next line, where it has one
+pub record HasNext (lines : List Line) (past : List Entry) (number : ℕ) (w : Worker) (s : Spot) : Type 0 where
+  pub spot : slice_get (spots_of lines number) (length (begun past number)) ≡ Some s
+  pub place : slice_get w.places.items w.begun ≡ Some s.place
+  pub line : slice_get lines s.place ≡ Some s.line
+  pub own : s.line.worker ≡ number
+  pub going : next_going lines past number ≡ Some (record { call = call_at lines past number s; so_far = go.Begin })
+
+place-spot : (lines : List Line) (past : List Entry) (number : ℕ) (w : Worker) → Told lines past number w → slice_get w.places.items w.begun ≡ option_map (λ (s : Spot). s.place) (next_spot lines past number)
+place-spot lines past number w t =
+    ap (λ (ps : List ℕ). slice_get ps w.begun) t.places ∙ ap (slice_get (places_of lines number)) t.count ∙ slice_get-map (λ (s : Spot). s.place) (spots_of lines number) (length (begun past number))
+
+has-next : (lines : List Line) (past : List Entry) (number : ℕ) (w : Worker) (s : Spot) → Told lines past number w → next_spot lines past number ≡ Some s → HasNext lines past number w s
+has-next lines past number w s t h =
+    let i = spot-line lines 0 number (length (begun past number)) s h in
+    let at : i.index ≡ s.place = omega (arith, i.place) in
+    record {
+      spot = h;
+      place = place-spot lines past number w t ∙ ap (option_map (λ (s : Spot). s.place)) h;
+      line = subst (λ (k : ℕ). slice_get lines k ≡ Some s.line) at i.line;
+      own = i.own;
+      going = next-spots lines past number t.whole ∙ ap (option_map (going_at lines past number)) h;
+    }
+
+-- by the worker's next place
+pub next-at : (lines : List Line) (past : List Entry) (number : ℕ) (w : Worker) (place : ℕ) → Told lines past number w → slice_get w.places.items w.begun ≡ Some place → (s : Spot) × (s.place ≡ place) × HasNext lines past number w s
+next-at lines past number w place t h = by (next_spot lines past number) refl
+  where
+    by : (o : Option Spot) → next_spot lines past number ≡ o → (s : Spot) × (s.place ≡ place) × HasNext lines past number w s
+    by None e = absurd (none-some place (sym (ap (option_map (λ (s : Spot). s.place)) e) ∙ sym (place-spot lines past number w t) ∙ h))
+    by (Some s) e = (s, same_Some s.place place (sym (ap (option_map (λ (s : Spot). s.place)) e) ∙ sym (place-spot lines past number w t) ∙ h), has-next lines past number w s t e)
+
+pub through-at : (lines : List Line) (past : List Entry) (number : ℕ) (w : Worker) → Told lines past number w → slice_get w.places.items w.begun ≡ None → next_going lines past number ≡ None
+through-at lines past number w t h = by (next_spot lines past number) refl
+  where
+    by : (o : Option Spot) → next_spot lines past number ≡ o → next_going lines past number ≡ None
+    by None e = next-spots lines past number t.whole ∙ ap (option_map (going_at lines past number)) e
+    by (Some s) e = absurd (none-some s.place (sym h ∙ place-spot lines past number w t ∙ ap (option_map (λ (s : Spot). s.place)) e))
+
+-- by the worker's next call
+pub next-by : (lines : List Line) (past : List Entry) (number : ℕ) (w : Worker) (g : Going) → Told lines past number w → next_going lines past number ≡ Some g → (s : Spot) × HasNext lines past number w s
+next-by lines past number w g t h = by (next_spot lines past number) refl
+  where
+    by : (o : Option Spot) → next_spot lines past number ≡ o → (s : Spot) × HasNext lines past number w s
+    by None e = absurd (none-some g (sym (next-spots lines past number t.whole ∙ ap (option_map (going_at lines past number)) e) ∙ h))
+    by (Some s) e = (s, has-next lines past number w s t e)
+
+pub playable-line : (lines : List Line) (i : ℕ) (line : Line) → are_playable lines ≡ true → slice_get lines i ≡ Some line → is_playable line ≡ true
+playable-line [] i line p h = absurd cc
+playable-line (x ∷ lines) zero line p h = rw (← same_Some x line h) (and_parts (is_playable x) (are_playable lines) p).0
+playable-line (x ∷ lines) (suc i) line p h = playable-line lines i line (and_parts (is_playable x) (are_playable lines) p).1 h
+
+pub line-built : (line : Line) → is_playable line ≡ true → is_built_named line.call ≡ true
+line-built line p = (and_parts _ (is_built_named line.call) p).1
+
+pub line-worker : (line : Line) → is_playable line ≡ true → line.worker < 33
+line-worker line p = ltb-true line.worker 33 (and_parts _ (is_built_named line.call) p).0
+
+-- the call that the tables give is the worker's next
+pub next-call : (lines : List Line) (past : List Entry) (number : ℕ) (w setup : Worker) (s : Spot) (call : Call) → Told lines past number w → Told lines past 0 setup → HasNext lines past number w s → is_built_named s.line.call ≡ true
+    → call ≡ call_before s.place w.names setup.names s.line.call → IsNext lines past number (Some call)
+next-call lines past number w setup s call t z h b e = record {
+  going = ap (λ (c : Call). Some (beginning c)) (e ∙ call-same lines past number s.place w.names setup.names s.line.call t.names z.names b) ∙ sym h.going;
+  built = ap is_built e ∙ call-built s.place w.names setup.names s.line.call b;
+}
+
+-- One entry more.
+
+pub own-other : (past : List Entry) (e : Entry) (worker : ℕ) → e.worker ≢ worker → own (past ++ e ∷ []) worker ≡ own past worker
+own-other past e worker ne =
+    let no : eqb e.worker worker ≡ false = ne_eqb e.worker worker ne in
+    own-append past (e ∷ []) worker ∙ rw no (append-nil (own past worker))
+
+pub own-same : (past : List Entry) (e : Entry) (worker : ℕ) → e.worker ≡ worker → own (past ++ e ∷ []) worker ≡ own past worker ++ e ∷ []
+own-same past e worker same =
+    let yes : eqb e.worker worker ≡ true = eq-eqb e.worker worker same in
+    own-append past (e ∷ []) worker ∙ rw yes refl
+
+begun-other : (past : List Entry) (e : Entry) (worker : ℕ) → e.worker ≢ worker → begun (past ++ e ∷ []) worker ≡ begun past worker
+begun-other past e worker ne = ap (filter (λ (e : Entry). is_begin e.act)) (own-other past e worker ne)
+
+-- another worker's entry changes nothing that is told of a worker
+pub told-other : (lines : List Line) (past : List Entry) (e : Entry) (number : ℕ) (w : Worker) → e.worker ≢ number → Told lines past number w → Told lines (past ++ e ∷ []) number w
+told-other lines past e number w ne t = record {
+  places = t.places;
+  count = t.count ∙ ap length (sym (begun-other past e number ne));
+  names = λ name. t.names name ∙ ap (known_by name (spots_of lines number)) (sym (begun-other past e number ne));
+  whole = ap (unfinished_from None None) (own-other past e number ne) ∙ t.whole;
+}
+
+-- the worker's next call by its own entries and those of worker 0
+abbrev told_by : List Line → ℕ → List Entry → List Entry → Meanings
+told_by earlier worker es zs = record {
+  fd = λ name. record { 0 = opened_fd (or_else (answer_of (opens name) (lines_of earlier worker) es) (answer_of (opens name) (lines_of earlier 0) zs)) };
+  seq = λ name. record { 0 = listened_number (or_else (answer_of (listens name) (lines_of earlier worker) es) (answer_of (listens name) (lines_of earlier 0) zs)) };
+}
+
+abbrev going_by : List Line → ℕ → List Entry → List Entry → Option Going
+going_by lines worker es zs =
+    option_map (λ (s : Spot). beginning (with_numbers (told_by (take s.place lines) worker es zs) s.line.call)) (slice_get (spots_of lines worker) (length es))
+
+-- nor its next call, where it is not of worker 0
+pub next-other : (lines : List Line) (past : List Entry) (e : Entry) (number : ℕ) (w : Worker) → e.worker ≢ number → e.worker ≢ 0 → Told lines past number w → next_going lines (past ++ e ∷ []) number ≡ next_going lines past number
+next-other lines past e number w ne nz t =
+    next-spots lines (past ++ e ∷ []) number (told-other lines past e number w ne t).whole
+    ∙ ap (λ (es : List Entry). going_by lines number es (begun (past ++ e ∷ []) 0)) (begun-other past e number ne)
+    ∙ ap (going_by lines number (begun past number)) (begun-other past e 0 nz)
+    ∙ sym (next-spots lines past number t.whole)
+
+begun-same : (past : List Entry) (e : Entry) (worker : ℕ) → e.worker ≡ worker → is_begin e.act ≡ true → begun (past ++ e ∷ []) worker ≡ begun past worker ++ e ∷ []
+begun-same past e worker same begins =
+    ap (filter (λ (e : Entry). is_begin e.act)) (own-same past e worker same)
+    ∙ filter-append (λ (e : Entry). is_begin e.act) (own past worker) (e ∷ [])
+    ∙ rw begins refl
+
+going-done : (c : Option Call) (o : Outcome) → is_done o ≡ true → going_after c o ≡ None
+going-done None o h = refl
+going-done (Some c) (Done reply) h = refl
+going-done (Some c) (Part n) h = absurd cc
+
+-- its own entry ends its next line
+pub told-next : (lines : List Line) (past : List Entry) (e : Entry) (number : ℕ) (w new : Worker) (s : Spot) → Told lines past number w → HasNext lines past number w s
+    → e.worker ≡ number → is_begin e.act ≡ true → is_done e.outcome ≡ true → new.places ≡ w.places → new.begun ≡ w.begun + 1
+    → ((name : List ℕ) → known_in new.names name ≡ or_known (known_in w.names name) (cond (opens name s.line.call) (Some (record { place = s.place; number = number_of e.outcome })) None))
+    → Told lines (past ++ e ∷ []) number new
+told-next lines past e number w new s t h same begins done places count names =
+    let grown = begun-same past e number same begins in
+    record {
+      places = ap (λ (v : Vec ℕ Global). v.items) places ∙ t.places;
+      count = count ∙ ap (λ (k : ℕ). k + 1) t.count ∙ sym (length_push (begun past number) e) ∙ ap length (sym grown);
+      names = λ name. names name
+          ∙ ap (λ (k : Option Known). or_known k (cond (opens name s.line.call) (Some (record { place = s.place; number = number_of e.outcome })) None)) (t.names name)
+          ∙ sym (known-more name (spots_of lines number) (begun past number) s e h.spot)
+          ∙ ap (known_by name (spots_of lines number)) (sym grown);
+      whole = ap (unfinished_from None None) (own-same past e number same) ∙ unfinished_from-snoc None None (own past number) e
+          ∙ going-done (call_after (call_from None (own past number)) e.act) e.outcome done;
+    }

@@ -1,0 +1,8 @@
+use Rattle.std.proofs.Common.{[], ◌-◌}
+use Rattle.xti_model.specs.World.{opening}
+use Rattle.xti_model.specs.Robin.{robin_from, most_steps}
+use Rattle.xti_replay.proofs.Turning.{IsRun}
+use Rattle.xti_replay.proofs.run.run_of.Given as goal
+
+abbrev pub invariant-loop-step : goal.invariant-loop-step
+invariant-loop-step l = IsRun l.p l.lines (most_steps - l._step) (robin_from l.p l.lines most_steps (opening l.p) []) l.run

@@ -1,0 +1,5 @@
+pub mod Playable
+pub mod Stalls
+pub mod Spots
+pub mod Known
+pub mod Progress

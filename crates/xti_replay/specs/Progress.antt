@@ -1,0 +1,104 @@
+-- What is kept of a run, beside its script and the entries so far.
+use Rattle.std.specs.Prelude.{ℕ, ◌+◌, ◌≡◌, ◌<◌, ◌≤◌, ◌⊎◌, Bool, true, false, List, [], ◌∷◌, ◌++◌, length, slice_index_or, Option, Some, None}
+use Rattle.xti_model.specs.declared.call.Call.{Call}
+use Rattle.xti_model.specs.declared.entry.Go.TheVariants as go
+use Rattle.xti_model.specs.declared.entry.Entry.{Entry}
+use Rattle.xti_model.specs.declared.script.Line.{Line}
+use Rattle.xti_model.specs.declared.script.StallLine.{StallLine}
+use Rattle.xti_model.specs.Built.{is_built}
+use Rattle.xti_model.specs.History.{Going, unfinished}
+use Rattle.xti_model.specs.Resolve.{begun}
+use Rattle.xti_model.specs.Robin.{next_going, is_through, last_worker, Turn}
+use Rattle.xti_world.specs.Cells.{Standing}
+use Rattle.xti_replay.specs.declared.workers.Worker.{Worker}
+use Rattle.xti_replay.specs.declared.run.Run.{Run}
+use Rattle.xti_replay.specs.Spots.{spots_of, places_of}
+use Rattle.xti_replay.specs.Known.{known_in, known_by}
+use Rattle.xti_replay.specs.Stalls.{stall_of}
+
+-- the worker's lines, how many of them it has begun, each of them whole, and what its names stand for
+pub record Told (lines : List Line) (past : List Entry) (number : ℕ) (w : Worker) : Type 0 where
+  pub places : w.places.items ≡ places_of lines number
+  pub count : w.begun ≡ length (begun past number)
+  pub names : (name : List ℕ) → known_in w.names name ≡ known_by name (spots_of lines number) (begun past number)
+  pub whole : unfinished past number ≡ None
+
+-- a call that begins
+abbrev pub pending : Option Call → Option Going
+pending None = None
+pending (Some c) = Some (record { call = c; so_far = go.Begin })
+
+abbrev pub is_built_or_none : Option Call → Bool
+is_built_or_none None = true
+is_built_or_none (Some c) = is_built c
+
+-- the worker's next call
+pub record IsNext (lines : List Line) (past : List Entry) (number : ℕ) (next : Option Call) : Type 0 where
+  pub going : pending next ≡ next_going lines past number
+  pub built : is_built_or_none next ≡ true
+
+-- the worker's next call where it may make it: worker 0 always, another one once worker 0 is through
+pub record IsReady (lines : List Line) (past : List Entry) (number : ℕ) (w : Worker) : Type 0 where
+  pub own : (number ≡ 0) ⊎ (is_through lines past 0 ≡ true) → IsNext lines past number w.next
+  pub idle : is_through lines past 0 ≡ false → (number ≡ 0 → ⊥) → w.next ≡ None
+
+-- of each worker
+abbrev pub Of : (ℕ → Worker → Type 0) → List Worker → Type 0
+Of P ws = (number : ℕ) (d : Worker) → number < length ws → P number (slice_index_or ws number d)
+
+-- a worker that has begun no line
+pub record IsFresh (lines : List Line) (number : ℕ) (w : Worker) : Type 0 where
+  pub told : Told lines [] number w
+  pub idle : w.next ≡ None
+
+-- each of the workers 0 to 32 stands as the entries so far have it
+pub record AreKept (lines : List Line) (past : List Entry) (ws : List Worker) : Type 0 where
+  pub many : length ws ≡ 33
+  pub told : Of (Told lines past) ws
+  pub ready : Of (IsReady lines past) ws
+
+-- and so does the run
+pub record InStep (lines : List Line) (r : Run) : Type 0 where
+  pub workers : AreKept lines r.entries r.workers.items
+  pub last : r.last ≡ last_worker 0 r.entries
+  pub within : r.last < 33
+
+-- the worker has made a step, and the calls that are next are still to be found
+pub record HasStepped (lines : List Line) (number : ℕ) (r : Run) : Type 0 where
+  pub many : length r.workers.items ≡ 33
+  pub told : Of (Told lines r.entries) r.workers.items
+  pub through : (number ≡ 0 → ⊥) → is_through lines r.entries 0 ≡ true
+  pub others : (other : ℕ) (d : Worker) → other < 33 → (other ≡ number → ⊥) → (number ≡ 0 → ⊥) → IsReady lines r.entries other (slice_index_or r.workers.items other d)
+  pub idle : number ≡ 0 → (other : ℕ) (d : Worker) → 0 < other → other < 33 → (slice_index_or r.workers.items other d).next ≡ None
+
+-- one worker's step was made, or there was none
+abbrev pub Makes : List Line → ℕ → Standing → Standing → List Entry → List Entry → Worker → Worker → Bool → Option Turn → Type 0
+Makes lines number before after past all old new made None = (made ≡ false) × (after ≡ before) × (all ≡ past) × (new ≡ old)
+Makes lines number before after past all old new made (Some t) = (made ≡ true) × (after.cells ≡ t.world) × (all ≡ past ++ t.entry ∷ []) × (t.entry.worker ≡ number) × Told lines all number new
+
+-- the run has gone on by a turn, or there was none
+abbrev pub GoesOn : List Line → Run → Run → Bool → Option Turn → Type 0
+GoesOn lines old new made None = (made ≡ false) × (new.world ≡ old.world) × (new.entries ≡ old.entries) × InStep lines new
+GoesOn lines old new made (Some t) = (made ≡ true) × (new.world.cells ≡ t.world) × (new.entries ≡ old.entries ++ t.entry ∷ []) × InStep lines new
+
+-- the workers from one on, up to another, have their next calls, and all else is as before
+pub record Resolves (lines : List Line) (from to : ℕ) (old new : Run) : Type 0 where
+  pub world : new.world ≡ old.world
+  pub entries : new.entries ≡ old.entries
+  pub last : new.last ≡ old.last
+  pub many : length new.workers.items ≡ length old.workers.items
+  pub told : Of (Told lines old.entries) new.workers.items
+  pub these : (number : ℕ) (d : Worker) → from ≤ number → number < to → IsNext lines old.entries number (slice_index_or new.workers.items number d).next
+  pub others : (number : ℕ) (d : Worker) → (number < from) ⊎ (to ≤ number) → slice_index_or new.workers.items number d ≡ slice_index_or old.workers.items number d
+
+-- worker 0 has its next call, and where it is through, so have the others
+pub record SetsUp (lines : List Line) (old new : Run) : Type 0 where
+  pub world : new.world ≡ old.world
+  pub entries : new.entries ≡ old.entries
+  pub last : new.last ≡ old.last
+  pub workers : AreKept lines old.entries new.workers.items
+
+-- the stall lines of workers from this one on
+abbrev pub stalls_from : ℕ → List Worker → List StallLine
+stalls_from number [] = []
+stalls_from number (w ∷ ws) = stall_of number (pending w.next) ++ stalls_from (number + 1) ws

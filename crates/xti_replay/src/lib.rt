@@ -1,0 +1,11 @@
+//! Runs of scripts in which the workers take turns.
+#![tactic(auto)]
+
+mod names;
+mod round_robin;
+mod run;
+#[cfg(test)]
+mod tests;
+mod workers;
+
+pub use round_robin::replay;
