@@ -36,6 +36,15 @@ plan_done p w (call.TOpen prov nonblock) built = opening_done p (the_switch p w)
 plan_done p w (call.TBind fd addr qlen amax) built = open_done fd.0 (endpoint p w fd.0) (Bind.plan_in (the_switch p w) fd.0 addr qlen amax) (λ e. refl)
 plan_done p w (call.TSndUData fd addr opt bytes) built = open_done fd.0 (endpoint p w fd.0) _ (λ e. refl)
 plan_done p w (call.TRcvUData fd max amax omax) built = open_done fd.0 (endpoint p w fd.0) (Datagrams.receive_from fd.0 1 max amax omax) (λ e. refl)
+plan_done p w (call.TClose fd) built = open_done fd.0 (endpoint p w fd.0) _ (λ e. refl)
+plan_done p w (call.TUnbind fd) built = open_done fd.0 (endpoint p w fd.0) _ (λ e. refl)
+plan_done p w (call.TSndVUData fd addr opt parts) built = open_done fd.0 (endpoint p w fd.0) _ (λ e. refl)
+plan_done p w (call.TRcvVUData fd sizes amax omax) built = open_done fd.0 (endpoint p w fd.0) _ (λ e. refl)
+plan_done p w (call.TRcvUDErr fd amax omax) built = open_done fd.0 (endpoint p w fd.0) _ (λ e. refl)
+plan_done p w (call.TLookAt fd) built = open_done fd.0 (endpoint p w fd.0) _ (λ e. refl)
+plan_done p w (call.TGetState fd) built = open_done fd.0 (endpoint p w fd.0) _ (λ e. refl)
+plan_done p w (call.TSync fd) built = open_done fd.0 (endpoint p w fd.0) _ (λ e. refl)
+plan_done p w (call.SetMode fd nonblock) built = open_done fd.0 (endpoint p w fd.0) _ (λ e. refl)
 plan_done p w other built = absurd cc
 
 chosen_done : (b : Bool) (s t : Step) → cond b (Some s) None ≡ Some t → is_done s.outcome ≡ true → is_done t.outcome ≡ true

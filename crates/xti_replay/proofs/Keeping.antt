@@ -11,7 +11,7 @@ use Rattle.xti_model.specs.World.{World}
 use Rattle.xti_model.specs.History.{Going}
 use Rattle.xti_model.specs.Robin.{next_going, is_through, last_worker, Turn, turn_going, turn}
 use Rattle.xti_model.proofs.Phases.{through-same}
-use Rattle.xti_world.specs.Cells.{Standing}
+use Rattle.xti_core.specs.Standing.{Standing}
 use Rattle.xti_replay.specs.declared.workers.Worker.{Worker}
 use Rattle.xti_replay.specs.declared.run.Run.{Run}
 use Rattle.xti_replay.specs.Progress.{Told, IsNext, IsReady, Of, AreKept, InStep, HasStepped, Makes, GoesOn, Resolves, SetsUp}

@@ -102,11 +102,29 @@ call-same lines past worker place own setup (named.TOpen name prov nonblock) k z
 call-same lines past worker place own setup (named.TBind fd addr qlen amax) k z b = rw (fd-same lines past worker place own setup k z fd) refl
 call-same lines past worker place own setup (named.TSndUData fd addr opt bytes) k z b = rw (fd-same lines past worker place own setup k z fd) refl
 call-same lines past worker place own setup (named.TRcvUData fd max amax omax) k z b = rw (fd-same lines past worker place own setup k z fd) refl
+call-same lines past worker place own setup (named.TClose fd) k z b = rw (fd-same lines past worker place own setup k z fd) refl
+call-same lines past worker place own setup (named.TUnbind fd) k z b = rw (fd-same lines past worker place own setup k z fd) refl
+call-same lines past worker place own setup (named.TSndVUData fd addr opt parts) k z b = rw (fd-same lines past worker place own setup k z fd) refl
+call-same lines past worker place own setup (named.TRcvVUData fd sizes amax omax) k z b = rw (fd-same lines past worker place own setup k z fd) refl
+call-same lines past worker place own setup (named.TRcvUDErr fd amax omax) k z b = rw (fd-same lines past worker place own setup k z fd) refl
+call-same lines past worker place own setup (named.TLookAt fd) k z b = rw (fd-same lines past worker place own setup k z fd) refl
+call-same lines past worker place own setup (named.TGetState fd) k z b = rw (fd-same lines past worker place own setup k z fd) refl
+call-same lines past worker place own setup (named.TSync fd) k z b = rw (fd-same lines past worker place own setup k z fd) refl
+call-same lines past worker place own setup (named.SetMode fd nonblock) k z b = rw (fd-same lines past worker place own setup k z fd) refl
 call-same lines past worker place own setup other k z b = absurd cc
 
 pub call-built : (place : ℕ) (own setup : Table) (call : NamedCall) → is_built_named call ≡ true → is_built (call_before place own setup call) ≡ true
-call-built place own setup (named.TOpen name prov nonblock) b = refl
+call-built place own setup (named.TOpen name prov nonblock) b = b
 call-built place own setup (named.TBind fd addr qlen amax) b = refl
 call-built place own setup (named.TSndUData fd addr opt bytes) b = refl
 call-built place own setup (named.TRcvUData fd max amax omax) b = refl
+call-built place own setup (named.TClose fd) b = refl
+call-built place own setup (named.TUnbind fd) b = refl
+call-built place own setup (named.TSndVUData fd addr opt parts) b = refl
+call-built place own setup (named.TRcvVUData fd sizes amax omax) b = refl
+call-built place own setup (named.TRcvUDErr fd amax omax) b = refl
+call-built place own setup (named.TLookAt fd) b = refl
+call-built place own setup (named.TGetState fd) b = refl
+call-built place own setup (named.TSync fd) b = refl
+call-built place own setup (named.SetMode fd nonblock) b = refl
 call-built place own setup other b = absurd cc

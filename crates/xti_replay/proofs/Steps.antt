@@ -16,7 +16,7 @@ use Rattle.xti_model.specs.Step.{Step, step}
 use Rattle.xti_model.specs.History.{Going}
 use Rattle.xti_model.specs.Resolve.{opens}
 use Rattle.xti_model.specs.Robin.{next_going, Turn, turn_of, turn_going, turn}
-use Rattle.xti_world.specs.Cells.{Standing}
+use Rattle.xti_core.specs.Standing.{Standing}
 use Rattle.xti_replay.specs.declared.workers.Worker.{Worker}
 use Rattle.xti_replay.specs.Playable.{are_playable}
 use Rattle.xti_replay.specs.Known.{known_in, number_of, or_known, call_before}

@@ -6,7 +6,7 @@ use Rattle.xti_model.specs.declared.script.Line.{Line}
 use Rattle.xti_model.specs.declared.profile.Providers.{Providers}
 use Rattle.xti_model.specs.World.{World, opening}
 use Rattle.xti_model.specs.Robin.{is_through, last_worker, numbers, order_after, Turn, turn, first_turn, next_turn, robin_from}
-use Rattle.xti_world.specs.Cells.{Standing}
+use Rattle.xti_core.specs.Standing.{Standing}
 use Rattle.xti_replay.specs.declared.workers.Worker.{Worker}
 use Rattle.xti_replay.specs.declared.run.Run.{Run}
 use Rattle.xti_replay.specs.Progress.{Told, Of, IsFresh, AreKept, InStep, GoesOn, SetsUp}

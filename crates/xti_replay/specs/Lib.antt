@@ -3,3 +3,4 @@ pub mod Stalls
 pub mod Spots
 pub mod Known
 pub mod Progress
+pub mod Families

@@ -9,7 +9,7 @@ use Rattle.xti_model.specs.Built.{is_built}
 use Rattle.xti_model.specs.History.{Going, unfinished}
 use Rattle.xti_model.specs.Resolve.{begun}
 use Rattle.xti_model.specs.Robin.{next_going, is_through, last_worker, Turn}
-use Rattle.xti_world.specs.Cells.{Standing}
+use Rattle.xti_core.specs.Standing.{Standing}
 use Rattle.xti_replay.specs.declared.workers.Worker.{Worker}
 use Rattle.xti_replay.specs.declared.run.Run.{Run}
 use Rattle.xti_replay.specs.Spots.{spots_of, places_of}

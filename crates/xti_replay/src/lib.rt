@@ -4,8 +4,6 @@
 mod names;
 mod round_robin;
 mod run;
-#[cfg(test)]
-mod tests;
 mod workers;
 
 pub use round_robin::replay;

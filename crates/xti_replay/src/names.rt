@@ -3,6 +3,7 @@
 ghost use Rattle.std.specs.Prelude.{◌≡◌, ℕ, List, [], Some, None, IsTrue, IfOk, OnOk, if◌then◌else◌};
 ghost use Rattle.std.specs.Str.{bytes_eq};
 ghost use Rattle.xti_model.specs.Built.{is_built_named};
+ghost use Rattle.xti_replay.specs.Families.{sends_datagram, receives_datagram, names_endpoint};
 ghost use Rattle.xti_model.specs.Resolve.{opens};
 ghost use Rattle.xti_replay.specs.Known.{known_in, number_before, number_of, fd_before, call_before, or_known};
 
@@ -51,6 +52,111 @@ fn fd_before(place: usize, own: &Table, setup: &Table, name: &[u8]) -> Fd
     }
 }
 
+/// The call that sends a datagram, with numbers in place of names.
+fn send_before(
+    place: usize,
+    own: &Table,
+    setup: &Table,
+    call: &NamedCall,
+) -> Result<Call, AllocError>
+    requires { IsTrue (sends_datagram call.now) }
+    ensures { IfOk result (λ c. c ≡ call_before place own.now setup.now call.now) }
+{
+    match call {
+        NamedCall::TSndUData {
+            fd,
+            addr,
+            opt,
+            bytes,
+        } => Ok(Call::TSndUData {
+            fd: fd_before(place, own, setup, fd.as_slice()),
+            addr: addr.copy()?,
+            opt: opt.copy()?,
+            bytes: bytes.copy()?,
+        }),
+        NamedCall::TSndVUData {
+            fd,
+            addr,
+            opt,
+            parts,
+        } => Ok(Call::TSndVUData {
+            fd: fd_before(place, own, setup, fd.as_slice()),
+            addr: addr.copy()?,
+            opt: opt.copy()?,
+            parts: parts.copy()?,
+        }),
+        _ => unreachable!(),
+    }
+}
+
+/// The call that receives a datagram or its error, with numbers in place of names.
+fn receive_before(
+    place: usize,
+    own: &Table,
+    setup: &Table,
+    call: &NamedCall,
+) -> Result<Call, AllocError>
+    requires { IsTrue (receives_datagram call.now) }
+    ensures { IfOk result (λ c. c ≡ call_before place own.now setup.now call.now) }
+{
+    match call {
+        NamedCall::TRcvUData {
+            fd,
+            max,
+            amax,
+            omax,
+        } => Ok(Call::TRcvUData {
+            fd: fd_before(place, own, setup, fd.as_slice()),
+            max: *max,
+            amax: *amax,
+            omax: *omax,
+        }),
+        NamedCall::TRcvVUData {
+            fd,
+            sizes,
+            amax,
+            omax,
+        } => Ok(Call::TRcvVUData {
+            fd: fd_before(place, own, setup, fd.as_slice()),
+            sizes: sizes.copy()?,
+            amax: *amax,
+            omax: *omax,
+        }),
+        NamedCall::TRcvUDErr { fd, amax, omax } => Ok(Call::TRcvUDErr {
+            fd: fd_before(place, own, setup, fd.as_slice()),
+            amax: *amax,
+            omax: *omax,
+        }),
+        _ => unreachable!(),
+    }
+}
+
+/// The call that only names an endpoint, with its number.
+fn plain_before(place: usize, own: &Table, setup: &Table, call: &NamedCall) -> Call
+    requires { IsTrue (names_endpoint call.now) }
+    ensures { result ≡ call_before place own.now setup.now call.now }
+{
+    match call {
+        NamedCall::TClose { fd } => Call::TClose {
+            fd: fd_before(place, own, setup, fd.as_slice()),
+        },
+        NamedCall::TUnbind { fd } => Call::TUnbind {
+            fd: fd_before(place, own, setup, fd.as_slice()),
+        },
+        NamedCall::TLookAt { fd } => Call::TLookAt {
+            fd: fd_before(place, own, setup, fd.as_slice()),
+        },
+        NamedCall::TGetState { fd } => Call::TGetState {
+            fd: fd_before(place, own, setup, fd.as_slice()),
+        },
+        NamedCall::TSync { fd } => Call::TSync {
+            fd: fd_before(place, own, setup, fd.as_slice()),
+        },
+        _ => unreachable!(),
+    }
+}
+
+
 /// The call of a line at this place, with numbers in place of names.
 pub(crate) fn call_before(
     place: usize,
@@ -77,28 +183,19 @@ pub(crate) fn call_before(
             qlen: *qlen,
             amax: *amax,
         }),
-        NamedCall::TSndUData {
-            fd,
-            addr,
-            opt,
-            bytes,
-        } => Ok(Call::TSndUData {
+        NamedCall::SetMode { fd, nonblock } => Ok(Call::SetMode {
             fd: fd_before(place, own, setup, fd.as_slice()),
-            addr: addr.copy()?,
-            opt: opt.copy()?,
-            bytes: bytes.copy()?,
+            nonblock: *nonblock,
         }),
-        NamedCall::TRcvUData {
-            fd,
-            max,
-            amax,
-            omax,
-        } => Ok(Call::TRcvUData {
-            fd: fd_before(place, own, setup, fd.as_slice()),
-            max: *max,
-            amax: *amax,
-            omax: *omax,
-        }),
+        NamedCall::TSndUData { .. } | NamedCall::TSndVUData { .. } =>
+            send_before(place, own, setup, call),
+        NamedCall::TRcvUData { .. } | NamedCall::TRcvVUData { .. } | NamedCall::TRcvUDErr { .. } =>
+            receive_before(place, own, setup, call),
+        NamedCall::TClose { .. }
+        | NamedCall::TUnbind { .. }
+        | NamedCall::TLookAt { .. }
+        | NamedCall::TGetState { .. }
+        | NamedCall::TSync { .. } => Ok(plain_before(place, own, setup, call)),
         _ => unreachable!(),
     }
 }

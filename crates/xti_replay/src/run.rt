@@ -1,6 +1,7 @@
 //! A run of a script in which the workers take turns.
 
 ghost use Rattle.std.specs.Prelude.{◌≡◌, ◌+◌, ◌-◌, ◌<◌, ◌≤◌, ◌⊎◌, ℕ, [], length, slice_index_or, None, true, IsTrue, IfOk, OnOk};
+ghost use Rattle.xti_model.specs.Profile.{valid};
 ghost use Rattle.xti_model.specs.World.{opening};
 ghost use Rattle.xti_model.specs.Robin.{is_through, turn, first_turn, numbers, next_turn, robin_from, most_steps};
 ghost use Rattle.xti_replay.specs.declared.workers.Worker.{Worker};
@@ -11,7 +12,7 @@ use crate::names::call_before;
 use crate::workers::{WORKERS, Worker, workers_of};
 use std::alloc::{AllocError, Global};
 use xti_model::{Act, Applied, Call, Entries, Entry, Go, Line, Providers};
-use xti_world::World;
+use xti_core::World;
 
 /// A bound on the steps of a script.
 const MOST_STEPS: u32 = 4_294_304;
@@ -196,7 +197,8 @@ impl Run {
 
 /// The whole run of the lines.
 pub(crate) fn run_of(alloc: Global, p: &Providers, lines: &[Line]) -> Result<Run, AllocError>
-    requires { IsTrue (are_playable lines.now) }
+    requires valid { valid p.now ≡ true }
+    requires lines { IsTrue (are_playable lines.now) }
     ensures in_step { IfOk result (InStep lines.now) }
     ensures entries { IfOk result (λ r. r.entries ≡ robin_from p.now lines.now most_steps (opening p.now) []) }
 {

@@ -1,12 +1,15 @@
--- An input that the command takes is answered with status 0.
-use Rattle.std.proofs.Common.{◌≡◌, inl, inr, ℕ, List, Option, Some, None, length, ap, subst, arith}
+-- An input that the command takes is done.
+use Rattle.std.specs.Prelude.{◌⊎◌, if◌then◌else◌}
+use Rattle.xti_model.specs.Robin.{robin}
+use Rattle.xti_replay.specs.Stalls.{are_through}
+use Rattle.std.proofs.Common.{◌≡◌, inl, inr, Bool, true, false, ℕ, List, Option, Some, None, length, ap, subst, arith}
 use Rattle.tpi_grammar.specs.Frames.{IsFrames, IsFirstWrong}
 use Rattle.xti_model.specs.declared.script.Script.{Script}
 use Rattle.xti_script.specs.Grammar.{IsScript}
 use Rattle.xti_script.specs.Refused.{IsRefusedAt}
 use Rattle.xti_run.specs.declared.words.Command.{Command}
 use Rattle.xti_run.specs.declared.words.Command.TheVariants.{Replay, Frames}
-use Rattle.xti_run.specs.Program.{IsLeft, IsRun, IsAnswer, IsOutput, IsOutputOf, HasInput, HasScript, HasFrames, command_of}
+use Rattle.xti_run.specs.Program.{IsLeft, IsRun, IsAnswer, IsOutput, IsOutputOf, IsDone, HasInput, HasScript, HasFrames, command_of}
 
 -- no text is a script and refused at a line, and no bytes are frames and wrong first at a place
 abbrev pub NoScript : Type 0
@@ -19,8 +22,12 @@ the_left : (left : Option (List ℕ)) (input told : List ℕ) → IsLeft left in
 the_left (Some bytes) input told h e = cc
 the_left None input told h e = cc
 
-script_served : NoScript → (left : Option (List ℕ)) (input : List ℕ) (status : ℕ) (text : List ℕ) → IsLeft left input → HasScript left → IsAnswer Replay input status text → status ≡ 0
-script_served never left input status text l h (inl (within, inl done)) = done.done
+either-status : (b : Bool) (status : ℕ) → status ≡ (if b then 0 else 3) → (status ≡ 0) ⊎ (status ≡ 3)
+either-status true status e = inl e
+either-status false status e = inr e
+
+script_served : NoScript → (left : Option (List ℕ)) (input : List ℕ) (status : ℕ) (text : List ℕ) → IsLeft left input → HasScript left → IsAnswer Replay input status text → IsDone Replay status
+script_served never left input status text l h (inl (within, inl done)) = either-status (are_through done.script.lines (robin done.script)) status done.done
 script_served never left input status text l h (inl (within, inr refused)) = absurd (never input h.script refused.line (subst (λ bs. IsScript h.script bs) (the_left left input h.input l h.told) h.is_script) refused.refused)
 script_served never left input status text l h (inr long) = let same : length h.input ≡ length input = ap length (the_left left input h.input l h.told) in absurd (omega (arith, long.long, h.within, same))
 
@@ -29,9 +36,9 @@ frames_served never left input status text l h (inl (within, inl done)) = done.d
 frames_served never left input status text l h (inl (within, inr refused)) = absurd (never input refused.at refused.wrong (subst IsFrames (the_left left input h.input l h.told) h.are_frames))
 frames_served never left input status text l h (inr long) = let same : length h.input ≡ length input = ap length (the_left left input h.input l h.told) in absurd (omega (arith, long.long, h.within, same))
 
-run_served : NoScript → NoFrames → (command : Command) (left : Option (List ℕ)) (status : ℕ) (text : List ℕ) → HasInput command left → IsRun command left status text → status ≡ 0
+run_served : NoScript → NoFrames → (command : Command) (left : Option (List ℕ)) (status : ℕ) (text : List ℕ) → HasInput command left → IsRun command left status text → IsDone command status
 run_served scripts frames Replay left status text h run = script_served scripts left run.input status text run.is_left h run.answer
 run_served scripts frames Frames left status text h run = frames_served frames left run.input status text run.is_left h run.answer
 
-pub served : NoScript → NoFrames → (words : List (List ℕ)) (command : Command) (left : Option (List ℕ)) (status : ℕ) (text : List ℕ) → command_of words ≡ Some command → HasInput command left → IsOutput words left status text → status ≡ 0
+pub served : NoScript → NoFrames → (words : List (List ℕ)) (command : Command) (left : Option (List ℕ)) (status : ℕ) (text : List ℕ) → command_of words ≡ Some command → HasInput command left → IsOutput words left status text → IsDone command status
 served scripts frames words command left status text e h out = run_served scripts frames command left status text h (subst (λ o. IsOutputOf o left status text) e out)

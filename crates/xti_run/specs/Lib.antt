@@ -1,4 +1,1 @@
-pub mod Straight
-pub mod Names
-pub mod Plays
 pub mod Program

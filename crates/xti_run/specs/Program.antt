@@ -7,7 +7,8 @@ use Rattle.xti_model.specs.declared.script.Script.{Script}
 use Rattle.xti_model.specs.declared.script.Journal.{Journal}
 use Rattle.xti_model.specs.History.{Legal}
 use Rattle.xti_model.specs.Robin.{robin}
-use Rattle.xti_model.specs.Complete.{Follows, Each, workers}
+use Rattle.xti_model.specs.Complete.{Follows, Each, workers, Complete}
+use Rattle.xti_replay.specs.Stalls.{stalls_of, are_through}
 use Rattle.xti_script.specs.Grammar.{IsScript}
 use Rattle.xti_script.specs.Refused.{IsRefusedAt}
 use Rattle.xti_journal.specs.JournalText.{journal_text}
@@ -22,7 +23,11 @@ limit = 67108864
 
 -- the journal of the round-robin run
 abbrev pub replayed : Script → Journal
-replayed s = record { providers = s.providers; entries = robin s; stalls = [] }
+replayed s = record { providers = s.providers; entries = robin s; stalls = stalls_of s }
+
+-- 0 where every worker is through, else 3
+abbrev pub run_status : Script → ℕ
+run_status s = if are_through s.lines (robin s) then 0 else 3
 
 unfoldable pub refused_line : ℕ → List ℕ
 refused_line n = codes "refused line " ++ decimal n ++ codes "\n"
@@ -44,15 +49,16 @@ abbrev pub command_of : List (List ℕ) → Option Command
 command_of (word ∷ []) = named word
 command_of other = None
 
--- the input spells a script: status 0 and the journal of its run, which is legal, has each worker's calls in script order, each once, and has all of them
+-- The input spells a script: the journal of its run, with a stall line for each worker that is not through. The run is legal, has each worker's calls in script order, each once,
+-- and ends early only where each worker that is not through is blocked. Status 0 where every worker is through, else 3.
 pub record IsReplayed (input : List ℕ) (status : ℕ) (text : List ℕ) : Type 0 where
   pub script : Script
   pub is_script : IsScript script input
-  pub done : status ≡ 0
+  pub done : status ≡ run_status script
   pub printed : text ≡ journal_text (replayed script)
   pub legal : Legal script.providers (robin script)
   pub follows : Each (Follows (robin script) script.lines) workers
-  pub whole : length (robin script) ≡ length script.lines
+  pub complete : Complete script.providers (robin script) script.lines
 
 -- the input spells none: status 2, and the first line by which it does not
 pub record IsRefusedInput (input : List ℕ) (status : ℕ) (text : List ℕ) : Type 0 where
@@ -142,6 +148,11 @@ pub record HasFrames (left : Option (List ℕ)) : Type 0 where
   pub told : left ≡ Some input
   pub within : length input ≤ limit
   pub are_frames : IsFrames input
+
+-- how the command ends with what it takes, where memory is found
+abbrev pub IsDone : Command → ℕ → Type 0
+IsDone Replay status = (status ≡ 0) ⊎ (status ≡ 3)
+IsDone Frames status = status ≡ 0
 
 -- what the command takes
 abbrev pub HasInput : Command → Option (List ℕ) → Type 0

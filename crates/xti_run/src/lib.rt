@@ -2,7 +2,6 @@
 #![tactic(auto)]
 
 mod gate;
-mod names;
 mod round_robin;
 mod top;
 mod words;

@@ -6,7 +6,7 @@ ghost use Rattle.xti_io.specs.Source.{GivesUpTo};
 ghost use Rattle.xti_model.specs.declared.script.Script.{Script};
 ghost use Rattle.xti_script.specs.Grammar.{IsScript};
 ghost use Rattle.xti_run.specs.declared.words.Command.{Command};
-ghost use Rattle.xti_run.specs.Program.{IsReplayed, IsRefusedInput, IsListed, IsRefusedByte, IsAnswered, IsRun, IsOutput, IsRefusedWords, IsWritten, IsCutOff, HasInput, NoFault, limit, refused_line, refused_byte, refused_words, refused_size, command_of};
+ghost use Rattle.xti_run.specs.Program.{IsReplayed, IsRefusedInput, IsListed, IsRefusedByte, IsAnswered, IsRun, IsOutput, IsRefusedWords, IsWritten, IsCutOff, HasInput, IsDone, NoFault, limit, refused_line, refused_byte, refused_words, refused_size, command_of};
 
 use crate::gate::Gate;
 use crate::round_robin::replay;
@@ -26,8 +26,8 @@ const LIMIT: usize = 67_108_864;
 
 /// How a run of the program ends.
 ///
-/// 0: done whole. 1: the words are no command. 2: the input is too long, or isn't in its form. 4: want of
-/// memory. 5: reading failed. 6: writing failed.
+/// 0: done whole. 1: the words are no command. 2: the input is too long, or isn't in its form. 3: a worker of the
+/// script is blocked at the end. 4: want of memory. 5: reading failed. 6: writing failed.
 #[derive(Clone, Copy, Debug, PartialEq, Eq)]
 pub struct Status(pub u8);
 
@@ -62,7 +62,8 @@ fn replay_answer(alloc: Global, input: &[u8]) -> Result<Answer, AllocError>
         Ok(script) => {
             let journal = replay(alloc, &script)?;
             let text = write_journal(alloc, &journal)?;
-            Ok(Answer { status: 0, text })
+            let status = if journal.stalls.is_empty() { 0 } else { 3 };
+            Ok(Answer { status, text })
         }
         Err(ScriptFail::Bad { line }) => {
             let text = line_text(alloc, line)?;
@@ -155,7 +156,7 @@ fn output<R: Source>(alloc: Global, words: &Words, source: &mut R) -> Result<Ans
 
 /// Runs the command of the words over a source and a sink, and answers how it ended.
 ///
-/// The commands are `replay` and `frames`, one word each. `replay` reads a script, makes its calls one after the other, and
+/// The commands are `replay` and `frames`, one word each. `replay` reads a script, makes the calls of its workers by turns, and
 /// writes the journal; `frames` reads TPI frames one after the other, and writes a line for each.
 /// The words are looked at first, then the source is read, and the whole text is made before the first write.
 pub fn program<T: Threads + Wait + Sync, R: Source, W: Sink, G: Gate>(
@@ -174,12 +175,12 @@ pub fn program<T: Threads + Wait + Sync, R: Source, W: Sink, G: Gate>(
     // Faults are answered only where their count rose.
     ensures read_fault { result.0 ≡ 5 → (command_of words.now ≢ None) × Rose (R.faults source.old) (R.faults source.new) }
     ensures write_fault { result.0 ≡ 6 → Rose (W.faults sink.old) (W.faults sink.new) }
-    ensures range { (result.0 < 7) × (result.0 ≢ 3) }
+    ensures range { result.0 < 7 }
     ensures words { result.0 ≡ 1 → command_of words.now ≡ None }
 
     // With no fault the whole text is written, or memory was wanting.
     ensures settled { NoFault (R.faults source.old) (R.faults source.new) → NoFault (W.faults sink.old) (W.faults sink.new) → (result.0 ≡ 4) ⊎ IsWritten words.now (R.left source.old) result.0 (W.held sink.old) (W.held sink.new) }
-    ensures complete { (command : Command) → command_of words.now ≡ Some command → HasInput command (R.left source.old) → NoFault (R.faults source.old) (R.faults source.new) → NoFault (W.faults sink.old) (W.faults sink.new) → (result.0 ≡ 0) ⊎ (result.0 ≡ 4) }
+    ensures complete { (command : Command) → command_of words.now ≡ Some command → HasInput command (R.left source.old) → NoFault (R.faults source.old) (R.faults source.new) → NoFault (W.faults sink.old) (W.faults sink.new) → IsDone command result.0 ⊎ (result.0 ≡ 4) }
 
     // What is read.
     ensures read { command_of words.now ≢ None → GivesUpTo (limit + 1) (R.left source.old) (R.left source.new) }

@@ -1,9 +1,0 @@
-pub mod Lookups
-pub mod Places
-pub mod Addresses
-pub mod Changes
-pub mod Binds
-pub mod Sends
-pub mod Lifts
-pub mod Closed
-pub mod FrameKinds
