@@ -8,7 +8,8 @@ ghost use Rattle.xti_replay.specs.Stalls.{stalls_of, are_through};
 ghost use Rattle.xti_script.specs.Grammar.{HasText};
 
 use std::alloc::{AllocError, Global};
-use xti_model::{Journal, Script};
+use xti_model::{Journal, Script, usual_is_valid};
+use xti_script::{scripts_are_built, scripts_are_small, scripts_have_workers};
 
 /// The journal of the round-robin run of a script that has a text.
 pub fn replay(alloc: Global, s: &Script) -> Result<Journal, AllocError>
@@ -21,5 +22,9 @@ pub fn replay(alloc: Global, s: &Script) -> Result<Journal, AllocError>
     ensures follows { IfOk result (λ j. Each (Follows j.entries s.now.lines) workers) }
     ensures complete { IfOk result (λ j. Complete s.now.providers j.entries s.now.lines) }
 {
+    usual_is_valid();
+    scripts_are_built();
+    scripts_have_workers();
+    scripts_are_small();
     xti_replay::replay(alloc, s)
 }
