@@ -5,10 +5,10 @@ use std::test::*;
 use xti_base::{Calls, Octets, Parts, Prov, Room, State};
 use xti_io::{MemSink, MemSource, SureSink, read_all};
 use xti_journal::{write_entry, write_journal};
-use xti_model::{Act, Applied, Call, Entry, Go, Outcome, Providers, Reply};
+use xti_model::{Act, Applied, Call, Entry, Go, Outcome, Providers, Reply, usual_is_valid};
 use xti_run::{Words, replay};
 use xti_script::read_script;
-use xti_world::World;
+use xti_core::World;
 
 #[test]
 fn lists(rt: HostRuntime) -> Result<(), Fail> {
@@ -90,6 +90,7 @@ fn runs(rt: HostRuntime) -> Result<(), Fail> {
     let journal = replay(alloc, &script)?;
     assert_eq!(rt; journal.entries.as_slice().len(), 1);
     assert_eq!(rt; write_journal(alloc, &journal)?.as_slice().len() > 0, true);
+    usual_is_valid();
     let mut world = World::fresh(alloc, &Providers::usual())?;
     let open = Call::TOpen {
         prov: Prov::Ticlts,
