@@ -1,12 +1,13 @@
 //! Whom an endpoint is connected with. No connections are made yet, so there is nobody.
 
-ghost use Rattle.std.specs.Prelude.{◌≡◌, true};
+ghost use Rattle.std.specs.Prelude.{◌≡◌, true, IfSome};
 ghost use Rattle.std.specs.Option.{option_map};
 ghost use Rattle.xti_model.specs.declared.profile.Providers.{Providers};
 ghost use Rattle.xti_model.specs.Cells.{listed};
 ghost use Rattle.xti_model.specs.Sound.{is_sound_body};
 ghost use Rattle.xti_model.specs.Touched.{of_some, caller_cells};
 ghost use Rattle.xti_end.specs.Held.{peer_at, target_at};
+ghost use Rattle.xti_end.specs.Unconnected.{IsUnconnected};
 
 use crate::endpoint::Endpoint;
 use xti_base::Fd;
@@ -36,5 +37,12 @@ impl Endpoint {
     {
         let _unasked = &self.body;
         Cells::new()
+    }
+
+    /// The open endpoint has nothing of a connection: a fact for callers.
+    pub fn unconnected(&self)
+        ensures { IfSome self.now.body IsUnconnected }
+    {
+        let _unconnected = &self.body;
     }
 }

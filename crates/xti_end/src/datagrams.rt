@@ -27,7 +27,7 @@ impl Endpoint {
     }
 
     /// Whether a datagram waits at the open endpoint.
-    pub(crate) fn has_datagram(&self) -> bool
+    pub fn has_datagram(&self) -> bool
         requires { is_open self.now ≡ true }
         ensures { result ≡ some_wait (parts self.now).datagrams }
     {

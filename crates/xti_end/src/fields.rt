@@ -21,7 +21,7 @@ pub fn trimmed(alloc: Global, bytes: Octets, max: u32) -> Octets
 }
 
 /// A copy of a field as it is returned.
-pub(crate) fn trimmed_copy(alloc: Global, bytes: &[u8], max: u32) -> Result<Octets, AllocError>
+pub fn trimmed_copy(alloc: Global, bytes: &[u8], max: u32) -> Result<Octets, AllocError>
     ensures { IfOk result (λ copy. copy ≡ trimmed bytes.now max) }
 {
     if max == 0 {

@@ -16,5 +16,5 @@ mod receiving_errors;
 mod values;
 
 pub use endpoint::Endpoint;
-pub use fields::{is_too_long, trimmed};
+pub use fields::{is_too_long, trimmed, trimmed_copy};
 pub use providers::{has_datagrams, profile};

@@ -1,0 +1,13 @@
+-- An endpoint that has nothing of a connection.
+use Rattle.std.specs.Prelude.{◌≡◌, false, [], None}
+use Rattle.xti_model.specs.Endpoint.{Endpoint}
+
+-- it asks nobody and nobody asks it, it has no peer, and no data or flow marks of a connection
+pub record IsUnconnected (e : Endpoint) : Type 0 where
+  pub pending : e.pending ≡ []
+  pub outstanding : e.outstanding ≡ []
+  pub target : e.target ≡ None
+  pub peer : e.peer ≡ None
+  pub normal : e.normal ≡ []
+  pub flow_normal : e.flow_normal ≡ false
+  pub flow_expedited : e.flow_expedited ≡ false

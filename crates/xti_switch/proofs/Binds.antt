@@ -1,0 +1,52 @@
+-- What a bind finds, and what it leaves.
+use Rattle.std.proofs.Common.{◌≡◌, ℕ, Bool, true, false, cond, ltb, ◌||◌, List, [], ◌∷◌, length, filter, map, Option, Some, None, refl}
+use Rattle.std.specs.Prelude.{is_some}
+use Rattle.std.specs.List.{list_any}
+use Rattle.xti_base.specs.declared.errno.Errno.TheVariants.{TADDRBUSY}
+use Rattle.xti_base.specs.declared.kinds.Prov.{Prov}
+use Rattle.xti_base.specs.declared.kinds.State.TheVariants.{T_UNBND}
+use Rattle.xti_model.specs.declared.profile.Providers.{Providers}
+use Rattle.xti_model.specs.declared.entry.Outcome.TheVariants.{Done}
+use Rattle.xti_model.specs.declared.entry.Reply.TheVariants.{Refused}
+use Rattle.xti_model.specs.Endpoint.{Endpoint}
+use Rattle.xti_model.specs.World.{World, Switch, Binding, endpoint, the_switch}
+use Rattle.xti_model.specs.Switch.{chosen, less, least, give_address}
+use Rattle.xti_model.specs.Events.{is_state}
+use Rattle.xti_model.specs.Plan.{field, is_too_long, Refusal, loses}
+use Rattle.xti_model.specs.Step.{made, step_of, step_by}
+use Rattle.xti_model.specs.Calls.Bind as Bind
+use Rattle.xti_registry.specs.Known.{Known}
+use Rattle.xti_switch.specs.Taken.{bound}
+
+some-less : (n : ℕ) (o : Option ℕ) → is_some (less n o) ≡ true
+some-less n None = refl
+some-less n (Some m) = refl
+
+any-step : (b : Bool) (x : Binding) (bs : List Binding) (rest : Bool) → is_some (least (map (λ (y : Binding). y.fd) bs)) ≡ rest → is_some (least (map (λ (y : Binding). y.fd) (cond b (x ∷ bs) bs))) ≡ (b || rest)
+any-step true x bs rest e = some-less x.fd (least (map (λ (y : Binding). y.fd) bs))
+any-step false x bs rest e = e
+
+-- there is a least one where there is any
+pub least-any : (test : Binding → Bool) (bs : List Binding) → is_some (least (map (λ (y : Binding). y.fd) (filter test bs))) ≡ list_any test bs
+least-any test [] = refl
+least-any test (x ∷ bs) = any-step (test x) x (filter test bs) (list_any test bs) (least-any test bs)
+
+-- a bind that no row refuses
+abbrev lost : Bool → Option Refusal
+lost b = cond b (Some loses) None
+
+either : (p : Providers) (w : World) (fd : ℕ) (address : List ℕ) (qlen amax : ℕ) (e : Endpoint) (b : Bool) → is_too_long (field (chosen (the_switch p w) e.prov address) amax) ≡ b
+    → step_by p w (Bind.plan_in (the_switch p w) fd address qlen amax e) (lost (list_any is_too_long (field (chosen (the_switch p w) e.prov address) amax ∷ []))) ≡ Some (bound p w fd e.prov (chosen (the_switch p w) e.prov address) (Bind.queue e.prov qlen) amax)
+either p w fd address qlen amax e true t = rw t refl
+either p w fd address qlen amax e false t = rw t refl
+
+pub bind-free : (p : Providers) (w : World) (fd : ℕ) (address : List ℕ) (qlen amax : ℕ) (e : Endpoint) → endpoint p w fd ≡ Some e → is_state (T_UNBND ∷ []) e ≡ true → ltb 64 (length address) ≡ false → Bind.is_busy (the_switch p w) e.prov address qlen ≡ false
+    → step_of p w (Bind.plan p w fd address qlen amax) ≡ Some (bound p w fd e.prov (chosen (the_switch p w) e.prov address) (Bind.queue e.prov qlen) amax)
+bind-free p w fd address qlen amax e o s l b = rw (o, s, l, b) (either p w fd address qlen amax e _ refl)
+
+pub bind-busy : (p : Providers) (w : World) (fd : ℕ) (address : List ℕ) (qlen amax : ℕ) (e : Endpoint) → endpoint p w fd ≡ Some e → is_state (T_UNBND ∷ []) e ≡ true → ltb 64 (length address) ≡ false → Bind.is_busy (the_switch p w) e.prov address qlen ≡ true
+    → step_of p w (Bind.plan p w fd address qlen amax) ≡ Some (made p fd (Done (Refused TADDRBUSY)) w)
+bind-busy p w fd address qlen amax e o s l b = rw (o, s, l, b, o) refl
+
+pub given : (prov : Prov) (known address : List ℕ) (fd : ℕ) (b : Bool) (t : Switch) (k room there : Known) → t ≡ give_address prov known fd b there.switch → known ≡ address → Some there ≡ Some room → room.switch ≡ k.switch → t ≡ give_address prov address fd b k.switch
+given prov known address fd b t k room there e a q s = let r : there ≡ room = cc in rw (e, a, r, s) refl

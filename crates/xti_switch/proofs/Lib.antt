@@ -1,0 +1,4 @@
+pub mod Writes
+pub mod Openings
+pub mod Touches
+pub mod Binds

@@ -1,0 +1,23 @@
+use Rattle.std.proofs.Common.{◌%◌, eqb, refl, subst}
+use Rattle.xti_model.specs.declared.call.Call.{Call}
+use Rattle.xti_model.specs.declared.call.Call.TheVariants as call
+use Rattle.xti_model.specs.Touched.{touched}
+use Rattle.xti_lent.specs.Lending.{cells}
+use Rattle.xti_lent.specs.Fit.{AllLent}
+use Rattle.xti_switch.proofs.Touches.{switch-lent, or-true}
+use Rattle.xti_switch.proofs.step.switch_step.Goals as goal
+
+pub open-requires-clause-switch : goal.open-requires-clause-switch
+open-requires-clause-switch c = switch-lent c.args.lent.now c.args.call.now (call.TOpen c.in-TOpen.prov c.in-TOpen.nonblock) c.in-TOpen.is c.requires.lent refl
+
+pub open-requires-clause-lent : goal.open-requires-clause-lent
+open-requires-clause-lent c = subst (λ (x : Call). AllLent c.args.lent.now (touched c.args.lent.now.providers (cells c.args.lent.now) x)) c.in-TOpen.is c.requires.lent
+
+pub close-requires-clause-switch : goal.close-requires-clause-switch
+close-requires-clause-switch c = switch-lent c.args.lent.now c.args.call.now (call.TClose c.in-TClose.fd) c.in-TClose.is c.requires.lent (or-true (eqb (c.in-TClose.fd.0 % 64) 64))
+
+pub bind-requires-clause-switch : goal.bind-requires-clause-switch
+bind-requires-clause-switch c = switch-lent c.args.lent.now c.args.call.now (call.TBind c.in-TBind.fd c.in-TBind.addr c.in-TBind.qlen c.in-TBind.amax) c.in-TBind.is c.requires.lent (or-true (eqb (c.in-TBind.fd.0 % 64) 64))
+
+pub unbind-requires-clause-switch : goal.unbind-requires-clause-switch
+unbind-requires-clause-switch c = switch-lent c.args.lent.now c.args.call.now (call.TUnbind c.in-TUnbind.fd) c.in-TUnbind.is c.requires.lent (or-true (eqb (c.in-TUnbind.fd.0 % 64) 64))

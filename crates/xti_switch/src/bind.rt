@@ -1,0 +1,137 @@
+//! t_bind.
+
+ghost use Rattle.std.specs.Prelude.{◌≡◌, true, None, Some, is_some, IfOk, OnOk, OnErr};
+ghost use Rattle.xti_model.specs.World.{changed, the_switch};
+ghost use Rattle.xti_model.specs.Switch.{chosen, has_listener};
+ghost use Rattle.xti_model.specs.Step.{step_of};
+ghost use Rattle.xti_model.specs.Calls.Bind as Bind;
+ghost use Rattle.xti_end.specs.Held.{is_open, with_parts};
+ghost use Rattle.xti_end.specs.Taken.{taken};
+ghost use Rattle.xti_lent.specs.Lending.{cells};
+ghost use Rattle.xti_lent.specs.Fit.{IsFit, SameCells};
+ghost use Rattle.xti_switch.specs.Taken.{IsOpen, bound};
+
+use std::alloc::{AllocError, Global};
+use xti_base::{Errno, Fd, Octets, Prov, State};
+use xti_end::{Endpoint, has_datagrams, is_too_long, trimmed_copy};
+use xti_lent::{Lent, done, overflow, place_of, refused};
+use xti_model::{Applied, Reply};
+use xti_registry::Registry;
+
+pub(crate) fn bind(
+    lent: &mut Lent,
+    fd: Fd,
+    addr: &[u8],
+    qlen: u32,
+    amax: u32,
+) -> Result<Applied, AllocError>
+    requires fit { IsFit lent.old }
+    requires switch { is_some lent.old.registry ≡ true }
+    ensures step { IfOk result (λ a. taken a (cells lent.new) ≡ step_of lent.old.providers (cells lent.old) (Bind.plan lent.old.providers (cells lent.old) fd.0 addr.now qlen amax)) }
+    ensures still { IfOk result (λ a. taken a (cells lent.new) ≡ None → lent.new ≡ lent.old) }
+    ensures kept { SameCells lent.old lent.new }
+    ensures err { OnErr result (lent.new ≡ lent.old) }
+{
+    let (prov, state) = match lent.open_endpoint(fd) {
+        None => return Ok(refused(lent, fd, Errno::TBADF)),
+        Some(e) => (e.prov(), e.state()),
+    };
+    if !state.is(State::T_UNBND) {
+        return Ok(refused(lent, fd, Errno::TOUTSTATE));
+    }
+    if addr.len() > 64 {
+        return Ok(refused(lent, fd, Errno::TBADADDR));
+    }
+    if is_busy(lent.registry_ref(), prov, addr, qlen) {
+        return Ok(refused(lent, fd, Errno::TADDRBUSY));
+    }
+    let address = chosen(lent.registry_ref(), lent.alloc(), prov, addr)?;
+    let answer = bind_to(lent, fd, prov, address, queue(prov, qlen), amax)?;
+    Ok(answer)
+}
+
+/// Whether the address can't be given.
+fn is_busy(registry: &Registry, prov: Prov, addr: &[u8], qlen: u32) -> bool
+    ensures { result ≡ Bind.is_busy registry.now.switch prov addr.now qlen }
+{
+    if has_datagrams(prov) {
+        registry.bound(prov, addr, false).is_some()
+    } else {
+        qlen > 0 && has_listener(registry, prov, addr)
+    }
+}
+
+/// Whether an endpoint with a queue is bound to the address.
+fn has_listener(registry: &Registry, prov: Prov, addr: &[u8]) -> bool
+    ensures { result ≡ has_listener registry.now.switch prov addr.now }
+{
+    registry.bound(prov, addr, true).is_some()
+}
+
+/// The queue length that is given.
+fn queue(prov: Prov, qlen: u32) -> u32
+    ensures { result ≡ Bind.queue prov qlen }
+{
+    if has_datagrams(prov) { 0 } else { qlen.min(8) }
+}
+
+/// A copy of the address, or the provider's choice where it is empty.
+fn chosen(registry: &Registry, alloc: Global, prov: Prov, addr: &[u8]) -> Result<Octets, AllocError>
+    ensures { IfOk result (λ address. address ≡ chosen registry.now.switch prov addr.now) }
+{
+    match addr {
+        [] => registry.free_address(alloc, prov),
+        [..] => Octets::copy_of(alloc, addr),
+    }
+}
+
+/// Binds an endpoint to a free address.
+fn bind_to(
+    lent: &mut Lent,
+    fd: Fd,
+    prov: Prov,
+    address: Octets,
+    qlen: u32,
+    amax: u32,
+) -> Result<Applied, AllocError>
+    requires fit { IsFit lent.old }
+    requires switch { is_some lent.old.registry ≡ true }
+    requires open { IsOpen lent.old fd.0 }
+    ensures step { IfOk result (λ a. taken a (cells lent.new) ≡ Some (bound lent.old.providers (cells lent.old) fd.0 prov address qlen amax)) }
+    ensures kept { SameCells lent.old lent.new }
+    ensures err { OnErr result (lent.new ≡ lent.old) }
+{
+    if is_too_long(address.as_slice(), amax) {
+        give(lent, fd, prov, address, qlen)?;
+        return Ok(overflow(lent, fd));
+    }
+    let addr = trimmed_copy(lent.alloc(), address.as_slice(), amax)?;
+    give(lent, fd, prov, address, qlen)?;
+    Ok(done(lent, fd, Reply::Bound { addr, qlen }))
+}
+
+/// Gives the open endpoint the address; after want of memory all is as before.
+fn give(lent: &mut Lent, fd: Fd, prov: Prov, address: Octets, qlen: u32) -> Result<(), AllocError>
+    requires fit { IsFit lent.old }
+    requires switch { is_some lent.old.registry ≡ true }
+    requires open { IsOpen lent.old fd.0 }
+    ensures ok { OnOk result (cells lent.new ≡ changed lent.old.providers (cells lent.old) (Bind.changes fd.0 prov address qlen)) }
+    ensures kept { SameCells lent.old lent.new }
+    ensures err { OnErr result (lent.new ≡ lent.old) }
+{
+    let known = address.copy()?;
+    lent.registry().reserve()?;
+    lent.registry().put(prov, known, fd, qlen > 0);
+    bind_endpoint(lent.endpoint(place_of(fd)), address, qlen);
+    Ok(())
+}
+
+/// The open endpoint has the address.
+fn bind_endpoint(e: &mut Endpoint, address: Octets, qlen: u32)
+    requires { is_open e.old ≡ true }
+    ensures { e.new ≡ with_parts (Bind.bound_to address qlen) e.old }
+{
+    e.set_state(State::T_IDLE);
+    e.set_address(Some(address));
+    e.set_qlen(qlen);
+}

@@ -1,0 +1,12 @@
+//! The calls that change the switch: t_open, t_close, t_bind and t_unbind.
+#![tactic(auto)]
+
+mod bind;
+mod close;
+mod open;
+mod step;
+mod unbind;
+
+pub use step::switch_step;
+pub use xti_lent::Lent;
+pub use xti_registry::Registry;

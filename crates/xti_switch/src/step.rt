@@ -1,0 +1,46 @@
+//! One step of a call that changes the switch.
+
+ghost use Rattle.std.specs.Prelude.{◌≡◌, true, None, IfOk, OnErr};
+ghost use Rattle.xti_model.specs.declared.entry.Go.{Go};
+ghost use Rattle.xti_model.specs.Built.{is_built};
+ghost use Rattle.xti_model.specs.Step.{step};
+ghost use Rattle.xti_model.specs.Touched.{touched};
+ghost use Rattle.xti_end.specs.Taken.{taken};
+ghost use Rattle.xti_lent.specs.Lending.{cells};
+ghost use Rattle.xti_lent.specs.Fit.{IsFit, AllLent, SameCells};
+ghost use Rattle.xti_switch.specs.Calls.{changes_switch};
+
+use crate::bind::bind;
+use crate::close::close;
+use crate::open::open;
+use crate::unbind::unbind;
+use std::alloc::AllocError;
+use xti_lent::Lent;
+use xti_model::{Applied, Call};
+
+/// One step of t_open, t_close, t_bind or t_unbind on the cells that the call touches: what it answers, and the state of its
+/// endpoint afterwards. None of them is ever blocked. After want of memory all is as before.
+#[tactic(auto, unfolding(xti_model::specs::Step::step, xti_model::specs::Step::plan))]
+pub fn switch_step(lent: &mut Lent, call: &Call) -> Result<Applied, AllocError>
+    requires call { changes_switch call.now ≡ true }
+    requires built { is_built call.now ≡ true }
+    requires fit { IsFit lent.old }
+    requires lent { AllLent lent.old (touched lent.old.providers (cells lent.old) call.now) }
+    ensures step { IfOk result (λ a. (g : Go) → taken a (cells lent.new) ≡ step lent.old.providers (cells lent.old) call.now g) }
+    ensures still { IfOk result (λ a. taken a (cells lent.new) ≡ None → lent.new ≡ lent.old) }
+    ensures kept { SameCells lent.old lent.new }
+    ensures err { OnErr result (lent.new ≡ lent.old) }
+{
+    match call {
+        Call::TOpen { prov, nonblock } => Ok(open(lent, *prov, *nonblock)),
+        Call::TClose { fd } => Ok(close(lent, *fd)),
+        Call::TBind {
+            fd,
+            addr,
+            qlen,
+            amax,
+        } => bind(lent, *fd, addr.as_slice(), *qlen, *amax),
+        Call::TUnbind { fd } => Ok(unbind(lent, *fd)),
+        _ => unreachable!(),
+    }
+}
