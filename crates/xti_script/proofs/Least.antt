@@ -11,7 +11,7 @@ use Rattle.xti_script.specs.Texts.{lines_of, words_of}
 use Rattle.xti_script.specs.Grammar.{AreLines, IsScript}
 use Rattle.xti_script.specs.Refused.{some, ended_lines, CanBegin, IsRefusedAt}
 use Rattle.xti_script.specs.Reading.{behind, line_of, lines_from, all_of}
-use Rattle.xti_script.proofs.Grammar.{is_word, regroup, line_is, is_line, lines_are, are_lines}
+use Rattle.xti_script.proofs.CallLaws.{is_word, regroup, line_is, is_line, lines_are, are_lines}
 
 -- ---- where reading stops
 

@@ -1,6 +1,10 @@
 pub mod Lines
-pub mod Loop
-pub mod Grammar
+pub mod WordLaws
+pub mod FieldLaws
+pub mod CallLaws
 pub mod Least
 pub mod Scripts
+pub mod Loop
 pub mod TextSets
+pub mod Workers
+pub mod ScriptLaws

@@ -4,21 +4,39 @@ use Rattle.std.proofs.lemmas.Bool.{eqb-true}
 use Rattle.std.proofs.lemmas.List.{nil_from_length}
 use Rattle.xti_model.specs.declared.script.Line.{Line}
 use Rattle.xti_script.specs.Texts.{lines_of, words_of}
-use Rattle.xti_script.specs.Reading.{line_of, lines_from}
+use Rattle.xti_script.specs.Reading.{longer, extended, any_line_of, line_of, lines_from}
 
-pub goes_on : (n : ℕ) (earlier : List Line) (rest first later : List ℕ) (answer : Option Line) (line : Line) (total : Result (List Line) ℕ) → lines_of rest ≡ first ∷ lines_of later → answer ≡ line_of earlier (words_of first) → answer ≡ Some line
-    → lines_from n earlier (lines_of rest) ≡ total → lines_from (n + 1) (earlier ++ line ∷ []) (lines_of later) ≡ total
+record Grown (earlier : List Line) (o : Option Line) (more : List Line) : Type 0 where
+  line : Line
+  is : o ≡ Some line
+  same : more ≡ earlier ++ line ∷ []
+
+longer_is : (earlier : List Line) (o : Option Line) (more : List Line) → longer earlier o ≡ Some more → Grown earlier o more
+longer_is earlier None more e = absurd cc
+longer_is earlier (Some line) more e = record { line = line; is = refl; same = cc }
+
+longer_none : (earlier : List Line) (o : Option Line) → longer earlier o ≡ None → o ≡ None
+longer_none earlier None e = refl
+longer_none earlier (Some line) e = absurd cc
+
+one_more : (n : ℕ) (earlier : List Line) (rest first later : List ℕ) (line : Line) (more : List Line) (total : Result (List Line) ℕ) → lines_of rest ≡ first ∷ lines_of later → line_of earlier (words_of first) ≡ Some line → more ≡ earlier ++ line ∷ []
+    → lines_from n earlier (lines_of rest) ≡ total → lines_from (n + 1) more (lines_of later) ≡ total
 unfolding lines_from
-goes_on n earlier rest first later answer line total e a s so_far =
-    let h : line_of earlier (words_of first) ≡ Some line = sym a ∙ s in
+one_more n earlier rest first later line more total e h same so_far =
     let one : lines_from n earlier (lines_of rest) ≡ lines_from (n + 1) (earlier ++ line ∷ []) (lines_of later) = rw (e, h) refl in
-    sym one ∙ so_far
+    rw same (sym one ∙ so_far)
 
-pub stops : (n : ℕ) (earlier : List Line) (rest first later : List ℕ) (answer : Option Line) (total : Result (List Line) ℕ) → lines_of rest ≡ first ∷ lines_of later → answer ≡ line_of earlier (words_of first) → answer ≡ None
+pub goes_on : (n : ℕ) (earlier : List Line) (rest first later : List ℕ) (answer : Option (List Line)) (more : List Line) (total : Result (List Line) ℕ) → lines_of rest ≡ first ∷ lines_of later → answer ≡ longer earlier (line_of earlier (words_of first)) → answer ≡ Some more
+    → lines_from n earlier (lines_of rest) ≡ total → lines_from (n + 1) more (lines_of later) ≡ total
+goes_on n earlier rest first later answer more total e a s so_far =
+    let g = longer_is earlier (line_of earlier (words_of first)) more (sym a ∙ s) in
+    one_more n earlier rest first later g.line more total e g.is g.same so_far
+
+pub stops : (n : ℕ) (earlier : List Line) (rest first later : List ℕ) (answer : Option (List Line)) (total : Result (List Line) ℕ) → lines_of rest ≡ first ∷ lines_of later → answer ≡ longer earlier (line_of earlier (words_of first)) → answer ≡ None
     → lines_from n earlier (lines_of rest) ≡ total → total ≡ Err n
 unfolding lines_from
 stops n earlier rest first later answer total e a s so_far =
-    let h : line_of earlier (words_of first) ≡ None = sym a ∙ s in
+    let h : line_of earlier (words_of first) ≡ None = longer_none earlier (line_of earlier (words_of first)) (sym a ∙ s) in
     let one : lines_from n earlier (lines_of rest) ≡ Err n = rw (e, h) refl in
     sym so_far ∙ one
 
@@ -29,3 +47,15 @@ ends n earlier rest total true t h so_far =
     let e : rest ≡ [] = nil_from_length rest (eqb-true _ _ (sym h)) in
     let one : lines_from n earlier (lines_of rest) ≡ Ok earlier = rw e refl in
     sym so_far ∙ one
+
+pub is_extended : (earlier : List Line) (words : List (List ℕ)) (o : Option Line) (line : Line) → o ≡ any_line_of earlier words → o ≡ Some line → extended earlier line ≡ longer earlier (line_of earlier words)
+unfolding line_of extended
+is_extended earlier words o line e s =
+    let h : any_line_of earlier words ≡ Some line = sym e ∙ s in
+    rw h refl
+
+pub not_added : (earlier : List Line) (words : List (List ℕ)) (o : Option Line) → o ≡ any_line_of earlier words → o ≡ None → None ≡ longer earlier (line_of earlier words)
+unfolding line_of
+not_added earlier words o e s =
+    let h : any_line_of earlier words ≡ None = sym e ∙ s in
+    rw h refl

@@ -12,7 +12,7 @@ use Rattle.std.specs.Str.{bytes_eq}
 use Rattle.std.proofs.lemmas.Map.Lookups.{exact_bytes}
 use Rattle.std.proofs.lemmas.Map.Text.{is_eq-slice_cmp}
 use Rattle.std.proofs.lemmas.Slice.Eq.{bytes_eq-Decides}
-use Rattle.xti_script.specs.Known.{TextSet, has}
+use Rattle.xti_script.specs.TextSets.{TextSet, has}
 
 abbrev pub vec_cmp : Vec ℕ Global → Vec ℕ Global → Ordering
 vec_cmp x y = slice_cmp nat_cmp x.items y.items

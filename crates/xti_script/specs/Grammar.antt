@@ -1,115 +1,91 @@
 -- The form of scripts, as a relation between a script and its text. A line is judged behind the earlier lines.
-use Rattle.std.specs.Prelude.{◌≡◌, ℕ, ◌<◌, ◌≤◌, Bool, true, false, List, [], ◌∷◌, ◌++◌, length, codes, count_by}
-use Rattle.std.specs.Str.{bytes_eq}
+use Rattle.std.specs.Prelude.{◌≡◌, ℕ, ◌+◌, ◌==◌, ◌≤◌, ◌<◌, Bool, true, false, ◌&&◌, ◌||◌, ◌⊎◌, List, [], ◌∷◌, ◌++◌, length, codes, Some}
 use Rattle.std.specs.List.{list_any}
-use Rattle.xti_base.specs.declared.kinds.Prov.TheVariants.{Ticlts}
+use Rattle.xti_base.specs.declared.kinds.Prov.{Prov}
+use Rattle.xti_base.specs.Kinds.{prov_name}
 use Rattle.xti_model.specs.declared.script.NamedCall.{NamedCall}
-use Rattle.xti_model.specs.declared.script.NamedCall.TheVariants.{TOpen, TBind, TSndUData, TRcvUData}
+use Rattle.xti_model.specs.declared.script.NamedCall.TheVariants.{TOpen, SetMode}
 use Rattle.xti_model.specs.declared.script.Line.{Line}
 use Rattle.xti_model.specs.declared.script.Script.{Script}
 use Rattle.xti_model.specs.Profile.{usual}
-use Rattle.xti_model.specs.Resolve.{opens as opens_name}
-use Rattle.xti_script.specs.Texts.{lines_of, words_of, is_name, is_plain_text}
+use Rattle.xti_model.specs.Resolve.{opens}
+use Rattle.xti_model.specs.Built.{opens_built}
+use Rattle.xti_model.specs.Work.{argument_bytes, script_bytes}
+use Rattle.xti_script.specs.declared.values.Value.{Value}
+use Rattle.xti_script.specs.declared.verbs.Verb.{Verb}
+use Rattle.xti_script.specs.Texts.{lines_of, words_of, is_name}
+use Rattle.xti_script.specs.Values.{number_in}
+use Rattle.xti_script.specs.Fields.{AreFields}
+use Rattle.xti_script.specs.Calls.{verb_word, form, call_with}
 
--- the most call lines, open lines and sndudata lines of a script
+-- the most call lines of a script
 abbrev pub most_lines : ℕ
 most_lines = 100000
 
-abbrev pub most_opens : ℕ
-most_opens = 64
+-- the most bytes of all addresses, options and data of a script
+abbrev pub most_bytes : ℕ
+most_bytes = 4194304
 
-abbrev pub most_datagrams : ℕ
-most_datagrams = 16
+-- workers are 0 to 32
+abbrev pub last_worker : ℕ
+last_worker = 32
 
-abbrev pub is_open : NamedCall → Bool
-is_open (TOpen name prov nonblock) = true
-is_open other = false
+-- whether the line defines the name for the worker: it is the worker's own, or one of worker 0
+abbrev pub defines : ℕ → List ℕ → Line → Bool
+defines worker name line = ((line.worker == worker) || (line.worker == 0)) && opens name line.call
 
-abbrev pub is_send : NamedCall → Bool
-is_send (TSndUData fd addr opt bytes) = true
-is_send other = false
+abbrev pub is_defined : List Line → ℕ → List ℕ → Bool
+is_defined earlier worker name = list_any (defines worker name) earlier
 
-abbrev pub binds_name : List ℕ → NamedCall → Bool
-binds_name name (TBind fd addr qlen amax) = bytes_eq fd name
-binds_name name other = false
+abbrev pub mode_word : Bool → List ℕ
+mode_word true = codes "nonblock"
+mode_word false = codes "block"
 
-abbrev pub binds_address : List ℕ → NamedCall → Bool
-binds_address address (TBind fd addr qlen amax) = bytes_eq addr address
-binds_address address other = false
+-- the mode, or nothing for the blocking mode
+abbrev pub IsMode : Bool → List (List ℕ) → Type 0
+IsMode nonblock words = (words ≡ mode_word nonblock ∷ []) ⊎ ((words ≡ []) × (nonblock ≡ false))
 
-abbrev pub opens : Line → Bool
-opens line = is_open line.call
-
-abbrev pub sends : Line → Bool
-sends line = is_send line.call
-
--- whether the line defines the name
-abbrev pub defines : List ℕ → Line → Bool
-defines name line = opens_name name line.call
-
--- whether the line binds the endpoint
-abbrev pub binds : List ℕ → Line → Bool
-binds name line = binds_name name line.call
-
--- whether the line is a bind to the address
-abbrev pub binds_to : List ℕ → Line → Bool
-binds_to address line = binds_address address line.call
-
-abbrev pub some_line : (Line → Bool) → List Line → Bool
-some_line test lines = list_any test lines
-
--- a word `key=t:` with these bytes, at most so many
-pub record IsTextWord (key : List ℕ) (most : ℕ) (bytes : List ℕ) (word : List ℕ) : Type 0 where
-  pub spelled : word ≡ key ++ codes "=t:" ++ bytes
-  pub plain : is_plain_text bytes ≡ true
-  pub short : length bytes ≤ most
-
--- `open NAME ticlts nonblock`, with a new name
-pub record IsOpen (earlier : List Line) (name : List ℕ) (words : List (List ℕ)) : Type 0 where
-  pub spelled : words ≡ codes "open" ∷ name ∷ codes "ticlts" ∷ codes "nonblock" ∷ []
+-- `open NAME PROVIDER [MODE]`, with a new name and a provider of datagrams or none
+pub record IsOpen (earlier : List Line) (worker : ℕ) (name : List ℕ) (prov : Prov) (nonblock : Bool) (words : List (List ℕ)) : Type 0 where
+  pub mode : List (List ℕ)
+  pub spelled : words ≡ codes "open" ∷ name ∷ prov_name prov ∷ mode
+  pub mode_is : IsMode nonblock mode
+  pub built : opens_built prov ≡ true
   pub named : is_name name ≡ true
-  pub new : some_line (defines name) earlier ≡ false
-  pub few : count_by opens earlier < most_opens
+  pub new : is_defined earlier worker name ≡ false
 
--- `bind NAME addr=B`, the first of its endpoint
-pub record IsBind (earlier : List Line) (name addr : List ℕ) (words : List (List ℕ)) : Type 0 where
-  pub word : List ℕ
-  pub spelled : words ≡ codes "bind" ∷ name ∷ word ∷ []
-  pub address : IsTextWord (codes "addr") 64 addr word
-  pub defined : some_line (defines name) earlier ≡ true
-  pub first : some_line (binds name) earlier ≡ false
+-- `mode NAME MODE`
+pub record IsSetMode (earlier : List Line) (worker : ℕ) (name : List ℕ) (nonblock : Bool) (words : List (List ℕ)) : Type 0 where
+  pub spelled : words ≡ codes "mode" ∷ name ∷ mode_word nonblock ∷ []
+  pub defined : is_defined earlier worker name ≡ true
 
--- `sndudata NAME addr=B data=B`, to the address of an earlier bind
-pub record IsSend (earlier : List Line) (name addr data_bytes : List ℕ) (words : List (List ℕ)) : Type 0 where
-  pub to : List ℕ
-  pub word : List ℕ
-  pub spelled : words ≡ codes "sndudata" ∷ name ∷ to ∷ word ∷ []
-  pub address : IsTextWord (codes "addr") 64 addr to
-  pub bytes : IsTextWord (codes "data") 8192 data_bytes word
-  pub defined : some_line (defines name) earlier ≡ true
-  pub known : some_line (binds_to addr) earlier ≡ true
-  pub few : count_by sends earlier < most_datagrams
+-- the call's word, an endpoint, and fields
+pub record IsCallWithFields (earlier : List Line) (worker : ℕ) (call : NamedCall) (words : List (List ℕ)) : Type 0 where
+  pub verb : Verb
+  pub name : List ℕ
+  pub fields : List (List ℕ)
+  pub values : List Value
+  pub spelled : words ≡ verb_word verb ∷ name ∷ fields
+  pub defined : is_defined earlier worker name ≡ true
+  pub are_fields : AreFields (form verb) values fields
+  pub made : call_with verb name values ≡ Some call
 
--- `rcvudata NAME`
-pub record IsReceive (earlier : List Line) (name : List ℕ) (words : List (List ℕ)) : Type 0 where
-  pub spelled : words ≡ codes "rcvudata" ∷ name ∷ []
-  pub defined : some_line (defines name) earlier ≡ true
+-- the words of a call of the worker
+abbrev pub IsCall : List Line → ℕ → NamedCall → List (List ℕ) → Type 0
+IsCall earlier worker (TOpen name prov nonblock) words = IsOpen earlier worker name prov nonblock words
+IsCall earlier worker (SetMode fd nonblock) words = IsSetMode earlier worker fd nonblock words
+IsCall earlier worker call words = IsCallWithFields earlier worker call words
 
--- the words of a call; what its line doesn't say has its usual value
-abbrev pub IsCall : List Line → NamedCall → List (List ℕ) → Type 0
-IsCall earlier (TOpen name prov nonblock) words = IsOpen earlier name words × (prov ≡ Ticlts) × (nonblock ≡ true)
-IsCall earlier (TBind fd addr qlen amax) words = IsBind earlier fd addr words × (qlen ≡ 0) × (amax ≡ 64)
-IsCall earlier (TSndUData fd addr opt bytes) words = IsSend earlier fd addr bytes words × (opt ≡ [])
-IsCall earlier (TRcvUData fd max amax omax) words = IsReceive earlier fd words × (max ≡ 65536) × (amax ≡ 64) × (omax ≡ 256)
-IsCall earlier other words = ⊥
-
--- a line of worker 0
+-- a worker, and a call within the limits
 pub record IsLine (earlier : List Line) (line : Line) (text : List ℕ) : Type 0 where
-  pub worker : line.worker ≡ 0
+  pub number : List ℕ
   pub words : List (List ℕ)
-  pub split : words_of text ≡ codes "0" ∷ words
-  pub call : IsCall earlier line.call words
-  pub few : length earlier < most_lines
+  pub split : words_of text ≡ number ∷ words
+  pub worker : number_in number ≡ Some line.worker
+  pub is_worker : line.worker ≤ last_worker
+  pub call : IsCall earlier line.worker line.call words
+  pub few_lines : length earlier < most_lines
+  pub few_bytes : script_bytes earlier + argument_bytes line.call ≤ most_bytes
 
 -- the lines behind the first
 abbrev pub AreLines : List Line → List Line → List (List ℕ) → Type 0

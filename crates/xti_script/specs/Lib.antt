@@ -1,7 +1,12 @@
 pub mod Texts
+pub mod Values
+pub mod Numbers
+pub mod Fields
+pub mod Calls
 pub mod Grammar
 pub mod Refused
 pub mod Reading
+pub mod TextSets
 pub mod Known
 pub mod Read
 pub mod Gives

@@ -1,88 +1,160 @@
 -- Reading lines from left to right, each behind the earlier ones.
-use Rattle.std.specs.Prelude.{ℕ, ◌+◌, Bool, true, ◌&&◌, not, nat_eq, nat_lt, nat_le, List, [], ◌∷◌, ◌++◌, length, drop, codes, map, count_by, Option, Some, None, if◌then◌else◌, Result, Ok, Err}
+use Rattle.std.specs.Prelude.{ℕ, ◌+◌, ◌-◌, Bool, true, false, ◌&&◌, not, nat_eq, nat_lt, nat_le, List, [], ◌∷◌, ◌++◌, length, drop, codes, map, find, Option, Some, None, if◌then◌else◌, Result, Ok, Err}
 use Rattle.std.specs.Str.{bytes_eq}
 use Rattle.std.specs.List.{starts_with}
 use denote.Ref.{Bor}
-use Rattle.xti_base.specs.declared.kinds.Prov.TheVariants.{Ticlts}
+use Rattle.xti_base.specs.declared.kinds.Prov.{Prov}
+use Rattle.xti_base.specs.declared.kinds.Prov.TheVariants.{Ticlts, Other}
 use Rattle.xti_model.specs.declared.script.NamedCall.{NamedCall}
-use Rattle.xti_model.specs.declared.script.NamedCall.TheVariants.{TOpen, TBind, TSndUData, TRcvUData}
+use Rattle.xti_model.specs.declared.script.NamedCall.TheVariants.{TOpen, SetMode}
 use Rattle.xti_model.specs.declared.script.Line.{Line}
-use Rattle.xti_script.specs.Texts.{words_of, is_name, is_plain_text}
-use Rattle.xti_script.specs.Grammar.{most_lines, most_opens, most_datagrams, opens, sends, defines, binds, binds_to, some_line}
+use Rattle.xti_model.specs.Work.{argument_bytes, script_bytes}
+use Rattle.xti_script.specs.declared.values.Value.{Value}
+use Rattle.xti_script.specs.declared.fields.Key.{Key}
+use Rattle.xti_script.specs.declared.verbs.Verb.{Verb}
+use Rattle.xti_script.specs.declared.verbs.Verb.TheVariants.{Close, Unbind, Bind, SndUData, SndVUData, RcvUData, RcvVUData, RcvUDErr, Look, GetState, Sync}
+use Rattle.xti_script.specs.Texts.{words_of, is_name}
+use Rattle.xti_script.specs.Values.{value_in, number_in, onto}
+use Rattle.xti_script.specs.Fields.{key_word, kind_of, usual_value}
+use Rattle.xti_script.specs.Calls.{verb_word, form, call_with}
+use Rattle.xti_script.specs.Grammar.{most_lines, most_bytes, last_worker, is_defined}
 
 -- what slices hold
 abbrev pub views : List (Bor (List ℕ)) → List (List ℕ)
 views words = map (λ w. w.now) words
 
-abbrev pub is_text : ℕ → List ℕ → Bool
-is_text most bytes = is_plain_text bytes && nat_le (length bytes) most
+-- ---- fields
 
 abbrev pub behind_key : List ℕ → List ℕ → Option (List ℕ)
 behind_key key word = if starts_with nat_eq word key then Some (drop (length key) word) else None
 
-abbrev pub text_within : ℕ → Option (List ℕ) → Option (List ℕ)
-text_within most None = None
-text_within most (Some bytes) = if is_text most bytes then Some bytes else None
+abbrev pub written_value : Key → Option (List ℕ) → Option Value
+written_value key None = usual_value key
+written_value key (Some text) = value_in (kind_of key) text
 
--- the text behind the key, at most so many bytes
-unfoldable pub text_value : List ℕ → ℕ → List ℕ → Option (List ℕ)
-text_value key most word = text_within most (behind_key key word)
+-- the value of the field, which may stand before these words
+abbrev pub field_value : Key → List (List ℕ) → Option Value
+field_value key [] = usual_value key
+field_value key (word ∷ words) = written_value key (behind_key (key_word key) word)
 
-abbrev pub can_define : List Line → List ℕ → Bool
-can_define earlier name = is_name name && (not (some_line (defines name) earlier) && nat_lt (count_by opens earlier) most_opens)
+-- the words behind the field
+abbrev pub field_rest : Key → List (List ℕ) → List (List ℕ)
+field_rest key [] = []
+field_rest key (word ∷ words) = if starts_with nat_eq word (key_word key) then words else word ∷ words
 
-abbrev pub is_datagram_mode : List ℕ → List ℕ → Bool
-is_datagram_mode prov mode = bytes_eq prov (codes "ticlts") && bytes_eq mode (codes "nonblock")
+abbrev pub fields_of : List Key → List (List ℕ) → Option (List Value)
+fields_of [] [] = Some []
+fields_of [] (word ∷ words) = None
+fields_of (key ∷ keys) words = onto (field_value key words) (fields_of keys (field_rest key words))
 
-unfoldable pub open_of : List Line → List (List ℕ) → Option NamedCall
-open_of earlier (name ∷ prov ∷ mode ∷ []) = if is_datagram_mode prov mode && can_define earlier name then Some (TOpen name Ticlts true) else None
-open_of earlier other = None
+-- ---- calls
 
-abbrev pub can_bind : List Line → List ℕ → Bool
-can_bind earlier name = some_line (defines name) earlier && not (some_line (binds name) earlier)
+abbrev pub verbs : List Verb
+verbs = Close ∷ Unbind ∷ Bind ∷ SndUData ∷ SndVUData ∷ RcvUData ∷ RcvVUData ∷ RcvUDErr ∷ Look ∷ GetState ∷ Sync ∷ []
 
-abbrev pub bind_to : List ℕ → Option (List ℕ) → Option NamedCall
-bind_to name None = None
-bind_to name (Some addr) = Some (TBind name addr 0 64)
+unfoldable pub verb_of : List ℕ → Option Verb
+verb_of word = find (λ verb. bytes_eq word (verb_word verb)) verbs
 
-unfoldable pub bind_of : List Line → List (List ℕ) → Option NamedCall
-bind_of earlier (name ∷ word ∷ []) = if can_bind earlier name then bind_to name (text_value (codes "addr=t:") 64 word) else None
-bind_of earlier other = None
+unfoldable pub mode_of : List ℕ → Option Bool
+mode_of word = if bytes_eq word (codes "nonblock") then Some true else if bytes_eq word (codes "block") then Some false else None
 
-abbrev pub can_send : List Line → List ℕ → Bool
-can_send earlier name = some_line (defines name) earlier && nat_lt (count_by sends earlier) most_datagrams
+abbrev pub open_mode : List (List ℕ) → Option Bool
+open_mode [] = Some false
+open_mode (word ∷ []) = mode_of word
+open_mode (word ∷ other ∷ words) = None
 
-abbrev pub send_to : List Line → List ℕ → Option (List ℕ) → Option (List ℕ) → Option NamedCall
-send_to earlier name None bytes = None
-send_to earlier name (Some addr) None = None
-send_to earlier name (Some addr) (Some bytes) = if some_line (binds_to addr) earlier then Some (TSndUData name addr [] bytes) else None
+unfoldable pub provider_of : List ℕ → Option Prov
+provider_of word = if bytes_eq word (codes "ticlts") then Some Ticlts else if bytes_eq word (codes "other") then Some Other else None
 
-unfoldable pub send_of : List Line → List (List ℕ) → Option NamedCall
-send_of earlier (name ∷ to ∷ word ∷ []) =
-    if can_send earlier name then send_to earlier name (text_value (codes "addr=t:") 64 to) (text_value (codes "data=t:") 8192 word) else None
-send_of earlier other = None
+abbrev pub open_with : List ℕ → Option Prov → Option Bool → Option NamedCall
+open_with name None nonblock = None
+open_with name (Some prov) None = None
+open_with name (Some prov) (Some nonblock) = Some (TOpen name prov nonblock)
 
-unfoldable pub receive_of : List Line → List (List ℕ) → Option NamedCall
-receive_of earlier (name ∷ []) = if some_line (defines name) earlier then Some (TRcvUData name 65536 64 256) else None
-receive_of earlier other = None
+abbrev pub can_define : List Line → ℕ → List ℕ → Bool
+can_define earlier worker name = is_name name && not (is_defined earlier worker name)
+
+unfoldable pub open_of : List Line → ℕ → List (List ℕ) → Option NamedCall
+open_of earlier worker (name ∷ prov ∷ mode) = if can_define earlier worker name then open_with name (provider_of prov) (open_mode mode) else None
+open_of earlier worker other = None
+
+abbrev pub set_mode_with : List ℕ → Option Bool → Option NamedCall
+set_mode_with name None = None
+set_mode_with name (Some nonblock) = Some (SetMode name nonblock)
+
+unfoldable pub set_mode_of : List Line → ℕ → List (List ℕ) → Option NamedCall
+set_mode_of earlier worker (name ∷ mode ∷ []) = if is_defined earlier worker name then set_mode_with name (mode_of mode) else None
+set_mode_of earlier worker other = None
+
+abbrev pub with_values : Verb → List ℕ → Option (List Value) → Option NamedCall
+with_values verb name None = None
+with_values verb name (Some values) = call_with verb name values
+
+unfoldable pub with_fields : List Line → ℕ → Option Verb → List (List ℕ) → Option NamedCall
+with_fields earlier worker (Some verb) (name ∷ fields) = if is_defined earlier worker name then with_values verb name (fields_of (form verb) fields) else None
+with_fields earlier worker other words = None
 
 -- the call that the words give
-unfoldable pub call_of : List Line → List (List ℕ) → Option NamedCall
-call_of earlier [] = None
-call_of earlier (verb ∷ args) =
-    if bytes_eq verb (codes "open") then open_of earlier args else
-    if bytes_eq verb (codes "bind") then bind_of earlier args else
-    if bytes_eq verb (codes "sndudata") then send_of earlier args else
-    if bytes_eq verb (codes "rcvudata") then receive_of earlier args else None
+unfoldable pub call_of : List Line → ℕ → List (List ℕ) → Option NamedCall
+call_of earlier worker [] = None
+call_of earlier worker (word ∷ words) =
+    if bytes_eq word (codes "open") then open_of earlier worker words else
+    if bytes_eq word (codes "mode") then set_mode_of earlier worker words else with_fields earlier worker (verb_of word) words
 
-abbrev pub with_worker : Option NamedCall → Option Line
-with_worker None = None
-with_worker (Some call) = Some (record { worker = 0; call = call })
+-- ---- lines
 
--- the line of worker 0 that the words give
+abbrev pub small : Option ℕ → Option ℕ
+small None = None
+small (Some number) = if nat_le number last_worker then Some number else None
+
+abbrev pub worker_of : List ℕ → Option ℕ
+worker_of word = small (number_in word)
+
+abbrev pub by_worker : ℕ → Option NamedCall → Option Line
+by_worker worker None = None
+by_worker worker (Some call) = Some (record { worker = worker; call = call })
+
+abbrev pub call_by : List Line → Option ℕ → List (List ℕ) → Option Line
+call_by earlier None words = None
+call_by earlier (Some worker) words = by_worker worker (call_of earlier worker words)
+
+-- the line that the words give, whatever the limits
+unfoldable pub any_line_of : List Line → List (List ℕ) → Option Line
+any_line_of earlier [] = None
+any_line_of earlier (word ∷ words) = call_by earlier (worker_of word) words
+
+-- what is left of these, where there are so many
+abbrev pub less : ℕ → ℕ → Option ℕ
+less left n = if nat_le n left then Some (left - n) else None
+
+-- what is left of so many bytes behind a call after so many lines
+unfoldable pub room_after : ℕ → ℕ → NamedCall → Option ℕ
+room_after count left call = if nat_lt count most_lines then less left (argument_bytes call) else None
+
+-- whether the limits allow one more line
+abbrev pub has_room : List Line → Line → Bool
+has_room earlier line = nat_lt (length earlier) most_lines && nat_le (script_bytes earlier + argument_bytes line.call) most_bytes
+
+abbrev pub within : List Line → Option Line → Option Line
+within earlier None = None
+within earlier (Some line) = if has_room earlier line then Some line else None
+
+-- the line that the words give
 unfoldable pub line_of : List Line → List (List ℕ) → Option Line
-line_of earlier [] = None
-line_of earlier (worker ∷ words) = if bytes_eq worker (codes "0") && nat_lt (length earlier) most_lines then with_worker (call_of earlier words) else None
+line_of earlier words = within earlier (any_line_of earlier words)
+
+-- the lines and one more, where there is one
+abbrev pub longer : List Line → Option Line → Option (List Line)
+longer earlier None = None
+longer earlier (Some line) = Some (earlier ++ line ∷ [])
+
+-- how many bytes the arguments of further lines may have behind the call, where the limits allow it
+unfoldable pub room_for : List Line → NamedCall → Option ℕ
+room_for earlier call = room_after (length earlier) (most_bytes - script_bytes earlier) call
+
+-- the lines and this one, where the limits allow it
+unfoldable pub extended : List Line → Line → Option (List Line)
+extended earlier line = longer earlier (within earlier (Some line))
 
 -- the lines behind this one, where there is one; else the number of the line that is wrong
 abbrev pub behind : {A : Type 0} → ℕ → Option Line → (Line → Result A ℕ) → Result A ℕ

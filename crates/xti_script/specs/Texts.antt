@@ -1,4 +1,4 @@
--- The lines of a text, the words of a line, and what names and bytes are written with.
+-- The lines of a text, the words of a line, and what names and plain texts are made of.
 use Rattle.std.specs.Prelude.{ℕ, ◌==◌, Bool, false, ◌&&◌, ◌||◌, List, [], ◌∷◌, if◌then◌else◌, nat_le, length}
 use Rattle.std.specs.List.{slice_split, onto_first, list_all}
 
@@ -7,9 +7,13 @@ abbrev pub lines_of : List ℕ → List (List ℕ)
 lines_of [] = []
 lines_of (c ∷ text) = if c == 10 then [] ∷ lines_of text else onto_first c (lines_of text)
 
+-- the pieces that are parted by this byte
+abbrev pub pieces_of : ℕ → List ℕ → List (List ℕ)
+pieces_of separator text = slice_split (λ c. c == separator) text
+
 -- words are parted by one space
 abbrev pub words_of : List ℕ → List (List ℕ)
-words_of line = slice_split (λ c. c == 32) line
+words_of line = pieces_of 32 line
 
 abbrev pub is_lower : ℕ → Bool
 is_lower c = nat_le 97 c && nat_le c 122

@@ -1,51 +1,96 @@
 //! Reading the words of a line.
 
-ghost use Rattle.std.specs.Prelude.{◌≡◌, ◌<◌, length, IfOk, OnSome, Some};
+ghost use Rattle.std.specs.Prelude.{◌≡◌, ◌≤◌, IfOk, OnSome, IfSome, Some};
+ghost use Rattle.std.specs.Option.{option_copied};
 ghost use Rattle.xti_script.specs.Texts.{words_of};
-ghost use Rattle.xti_script.specs.Grammar.{most_lines};
-ghost use Rattle.xti_script.specs.Reading.{views, is_datagram_mode, can_define, open_of, can_bind, bind_of, can_send, send_to, send_of, receive_of, call_of, line_of};
+ghost use Rattle.xti_script.specs.Grammar.{last_worker};
+ghost use Rattle.xti_script.specs.Reading.{views, mode_of, open_mode, provider_of, can_define, open_with, open_of, set_mode_with, set_mode_of, with_values, with_fields, call_of, worker_of, call_by, any_line_of};
 
 use crate::draft::Draft;
-use crate::texts::{is_name, text_value, words_of};
+use crate::fields::read_fields;
+use crate::texts::{is_name, words_of};
+use crate::values::{Values, number_in};
+use crate::verbs::{Verb, call_with, form, verb_of};
 use std::alloc::{AllocError, Global};
 use xti_base::{Octets, Prov};
 use xti_model::{Line, NamedCall};
 
-/// The most call lines of a script.
-const MOST_LINES: usize = 100_000;
-/// The most open lines.
-const MOST_OPENS: usize = 64;
-/// The most sndudata lines.
-const MOST_DATAGRAMS: usize = 16;
-/// The most bytes of an address.
-const MOST_ADDRESS: usize = 64;
-/// The most bytes of a datagram.
-const MOST_DATA: usize = 8192;
+/// The greatest number of a worker.
+const LAST_WORKER: u32 = 32;
 
-fn is_datagram_mode(prov: &[u8], mode: &[u8]) -> bool
-    ensures { result ≡ is_datagram_mode prov.now mode.now }
+#[tactic(auto, unfolding(crate::specs::Reading::mode_of))]
+fn mode_of(word: &[u8]) -> Option<bool>
+    ensures { result ≡ mode_of word.now }
 {
-    prov == b"ticlts".as_slice() && mode == b"nonblock".as_slice()
+    if word == b"nonblock".as_slice() {
+        Some(true)
+    } else if word == b"block".as_slice() {
+        Some(false)
+    } else {
+        None
+    }
 }
 
-fn can_define(draft: &Draft, name: &[u8]) -> bool
-    ensures { result ≡ can_define draft.now name.now }
+fn open_mode(words: &[&[u8]]) -> Option<bool>
+    ensures { result ≡ open_mode (views words.now) }
 {
-    is_name(name) && !draft.defines(name) && draft.open_count() < MOST_OPENS
+    match words {
+        [] => Some(false),
+        [word] => mode_of(word),
+        _ => None,
+    }
+}
+
+#[tactic(auto, unfolding(crate::specs::Reading::provider_of))]
+fn provider_of(word: &[u8]) -> Option<Prov>
+    ensures { result ≡ provider_of word.now }
+{
+    if word == b"ticlts".as_slice() {
+        Some(Prov::Ticlts)
+    } else if word == b"other".as_slice() {
+        Some(Prov::Other)
+    } else {
+        None
+    }
+}
+
+fn can_define(draft: &Draft, worker: u32, name: &[u8]) -> bool
+    ensures { result ≡ can_define draft.now worker name.now }
+{
+    is_name(name) && !draft.defines(worker, name)
+}
+
+fn open_with(
+    alloc: Global,
+    name: &[u8],
+    prov: Option<Prov>,
+    nonblock: Option<bool>,
+) -> Result<Option<NamedCall>, AllocError>
+    ensures { IfOk result (λ call. call ≡ open_with name.now prov nonblock) }
+{
+    match (prov, nonblock) {
+        (Some(prov), Some(nonblock)) => Ok(Some(NamedCall::TOpen {
+            name: Octets::copy_of(alloc, name)?,
+            prov,
+            nonblock,
+        })),
+        _ => Ok(None),
+    }
 }
 
 #[tactic(auto, unfolding(crate::specs::Reading::open_of))]
-fn read_open(alloc: Global, draft: &Draft, args: &[&[u8]]) -> Result<Option<NamedCall>, AllocError>
-    ensures { IfOk result (λ call. call ≡ open_of draft.now (views args.now)) }
+fn read_open(
+    alloc: Global,
+    draft: &Draft,
+    worker: u32,
+    words: &[&[u8]],
+) -> Result<Option<NamedCall>, AllocError>
+    ensures { IfOk result (λ call. call ≡ open_of draft.now worker (views words.now)) }
 {
-    match args {
-        [name, prov, mode] => {
-            if is_datagram_mode(prov, mode) && can_define(draft, name) {
-                Ok(Some(NamedCall::TOpen {
-                    name: Octets::copy_of(alloc, name)?,
-                    prov: Prov::Ticlts,
-                    nonblock: true,
-                }))
+    match words {
+        [name, prov, mode @ ..] => {
+            if can_define(draft, worker, name) {
+                open_with(alloc, name, provider_of(prov), open_mode(mode))
             } else {
                 Ok(None)
             }
@@ -54,152 +99,150 @@ fn read_open(alloc: Global, draft: &Draft, args: &[&[u8]]) -> Result<Option<Name
     }
 }
 
-fn can_bind(draft: &Draft, name: &[u8]) -> bool
-    ensures { result ≡ can_bind draft.now name.now }
+fn set_mode_with(
+    alloc: Global,
+    fd: &[u8],
+    nonblock: Option<bool>,
+) -> Result<Option<NamedCall>, AllocError>
+    ensures { IfOk result (λ call. call ≡ set_mode_with fd.now nonblock) }
 {
-    draft.defines(name) && !draft.binds(name)
+    match nonblock {
+        Some(nonblock) => Ok(Some(NamedCall::SetMode {
+            fd: Octets::copy_of(alloc, fd)?,
+            nonblock,
+        })),
+        None => Ok(None),
+    }
 }
 
-#[tactic(auto, unfolding(crate::specs::Reading::bind_of))]
-fn read_bind(alloc: Global, draft: &Draft, args: &[&[u8]]) -> Result<Option<NamedCall>, AllocError>
-    ensures { IfOk result (λ call. call ≡ bind_of draft.now (views args.now)) }
+#[tactic(auto, unfolding(crate::specs::Reading::set_mode_of))]
+fn read_set_mode(
+    alloc: Global,
+    draft: &Draft,
+    worker: u32,
+    words: &[&[u8]],
+) -> Result<Option<NamedCall>, AllocError>
+    ensures { IfOk result (λ call. call ≡ set_mode_of draft.now worker (views words.now)) }
 {
-    match args {
-        [name, word] => {
-            if !can_bind(draft, name) {
-                return Ok(None);
-            }
-            match text_value(b"addr=t:".as_slice(), MOST_ADDRESS, word) {
-                Some(addr) => Ok(Some(NamedCall::TBind {
-                    fd: Octets::copy_of(alloc, name)?,
-                    addr: Octets::copy_of(alloc, addr)?,
-                    qlen: 0,
-                    amax: 64,
-                })),
-                None => Ok(None),
+    match words {
+        [name, mode] => {
+            if draft.defines(worker, name) {
+                set_mode_with(alloc, name, mode_of(mode))
+            } else {
+                Ok(None)
             }
         }
         _ => Ok(None),
     }
 }
 
-fn can_send(draft: &Draft, name: &[u8]) -> bool
-    ensures { result ≡ can_send draft.now name.now }
-{
-    draft.defines(name) && draft.send_count() < MOST_DATAGRAMS
-}
-
-fn send_to(
+fn with_values(
     alloc: Global,
-    draft: &Draft,
-    name: &[u8],
-    addr: &[u8],
-    bytes: &[u8],
+    verb: Verb,
+    fd: &[u8],
+    values: Option<Values>,
 ) -> Result<Option<NamedCall>, AllocError>
-    ensures { IfOk result (λ call. call ≡ send_to draft.now name.now (Some addr.now) (Some bytes.now)) }
+    ensures { IfOk result (λ call. call ≡ with_values verb fd.now values) }
 {
-    if !draft.binds_to(addr) {
-        return Ok(None);
-    }
-    Ok(Some(NamedCall::TSndUData {
-        fd: Octets::copy_of(alloc, name)?,
-        addr: Octets::copy_of(alloc, addr)?,
-        opt: Octets::new(alloc),
-        bytes: Octets::copy_of(alloc, bytes)?,
-    }))
-}
-
-#[tactic(auto, unfolding(crate::specs::Reading::send_of))]
-fn read_send(alloc: Global, draft: &Draft, args: &[&[u8]]) -> Result<Option<NamedCall>, AllocError>
-    ensures { IfOk result (λ call. call ≡ send_of draft.now (views args.now)) }
-{
-    match args {
-        [name, to, word] => {
-            if !can_send(draft, name) {
-                return Ok(None);
-            }
-            let Some(addr) = text_value(b"addr=t:".as_slice(), MOST_ADDRESS, to) else {
-                return Ok(None);
-            };
-            let Some(bytes) = text_value(b"data=t:".as_slice(), MOST_DATA, word) else {
-                return Ok(None);
-            };
-            send_to(alloc, draft, name, addr, bytes)
-        }
-        _ => Ok(None),
+    match values {
+        Some(values) => Ok(call_with(verb, Octets::copy_of(alloc, fd)?, values)),
+        None => Ok(None),
     }
 }
 
-#[tactic(auto, unfolding(crate::specs::Reading::receive_of))]
-fn read_receive(
+#[tactic(auto, unfolding(crate::specs::Reading::with_fields))]
+fn read_with_fields(
     alloc: Global,
     draft: &Draft,
-    args: &[&[u8]],
+    worker: u32,
+    verb: Option<Verb>,
+    words: &[&[u8]],
 ) -> Result<Option<NamedCall>, AllocError>
-    ensures { IfOk result (λ call. call ≡ receive_of draft.now (views args.now)) }
+    ensures { IfOk result (λ call. call ≡ with_fields draft.now worker verb (views words.now)) }
 {
-    match args {
-        [name] => {
-            if !draft.defines(name) {
+    match (verb, words) {
+        (Some(verb), [name, fields @ ..]) => {
+            if !draft.defines(worker, name) {
                 return Ok(None);
             }
-            Ok(Some(NamedCall::TRcvUData {
-                fd: Octets::copy_of(alloc, name)?,
-                max: 65536,
-                amax: 64,
-                omax: 256,
-            }))
+            let values = read_fields(alloc, form(verb), fields)?;
+            with_values(alloc, verb, name, values)
         }
         _ => Ok(None),
     }
 }
 
 #[tactic(auto, unfolding(crate::specs::Reading::call_of))]
-fn read_call(alloc: Global, draft: &Draft, words: &[&[u8]]) -> Result<Option<NamedCall>, AllocError>
-    ensures { IfOk result (λ call. call ≡ call_of draft.now (views words.now)) }
+fn read_call(
+    alloc: Global,
+    draft: &Draft,
+    worker: u32,
+    words: &[&[u8]],
+) -> Result<Option<NamedCall>, AllocError>
+    ensures { IfOk result (λ call. call ≡ call_of draft.now worker (views words.now)) }
 {
     match words {
-        [verb, args @ ..] => {
-            if *verb == b"open".as_slice() {
-                read_open(alloc, draft, args)
-            } else if *verb == b"bind".as_slice() {
-                read_bind(alloc, draft, args)
-            } else if *verb == b"sndudata".as_slice() {
-                read_send(alloc, draft, args)
-            } else if *verb == b"rcvudata".as_slice() {
-                read_receive(alloc, draft, args)
+        [word, words @ ..] => {
+            if *word == b"open".as_slice() {
+                read_open(alloc, draft, worker, words)
+            } else if *word == b"mode".as_slice() {
+                read_set_mode(alloc, draft, worker, words)
             } else {
-                Ok(None)
+                read_with_fields(alloc, draft, worker, verb_of(word), words)
             }
         }
         _ => Ok(None),
     }
 }
 
-#[tactic(auto, unfolding(crate::specs::Reading::line_of))]
+fn worker_of(word: &[u8]) -> Option<u32>
+    ensures value { result ≡ worker_of word.now }
+    ensures worker { IfSome result (λ worker. worker ≤ last_worker) }
+{
+    match number_in(word) {
+        Some(number) if number <= LAST_WORKER => Some(number),
+        _ => None,
+    }
+}
+
+fn call_by(
+    alloc: Global,
+    draft: &Draft,
+    worker: Option<u32>,
+    words: &[&[u8]],
+) -> Result<Option<Line>, AllocError>
+    requires { IfSome worker (λ worker. worker ≤ last_worker) }
+    ensures line { IfOk result (λ line. line ≡ call_by draft.now worker (views words.now)) }
+    ensures worker { IfOk result (λ line. IfSome line (λ line. line.worker ≤ last_worker)) }
+{
+    match worker {
+        Some(worker) => match read_call(alloc, draft, worker, words)? {
+            Some(call) => Ok(Some(Line { worker, call })),
+            None => Ok(None),
+        },
+        None => Ok(None),
+    }
+}
+
+#[tactic(auto, unfolding(crate::specs::Reading::any_line_of))]
 fn read_words(alloc: Global, draft: &Draft, words: &[&[u8]]) -> Result<Option<Line>, AllocError>
-    ensures line { IfOk result (λ line. line ≡ line_of draft.now (views words.now)) }
-    ensures room { IfOk result (λ line. OnSome line (length draft.now < most_lines)) }
+    ensures line { IfOk result (λ line. line ≡ any_line_of draft.now (views words.now)) }
+    ensures worker { IfOk result (λ line. IfSome line (λ line. line.worker ≤ last_worker)) }
 {
     match words {
-        [worker, words @ ..] if *worker == b"0".as_slice() && draft.len() < MOST_LINES => {
-            match read_call(alloc, draft, words)? {
-                Some(call) => Ok(Some(Line { worker: 0, call })),
-                None => Ok(None),
-            }
-        }
+        [word, words @ ..] => call_by(alloc, draft, worker_of(word), words),
         _ => Ok(None),
     }
 }
 
-/// The line that a text gives behind the lines of the draft; `None` where it gives none.
+/// The line that a text gives behind the lines of the draft, whatever the limits; `None` where it gives none.
 pub(crate) fn read_line(
     alloc: Global,
     draft: &Draft,
     text: &[u8],
 ) -> Result<Option<Line>, AllocError>
-    ensures line { IfOk result (λ line. line ≡ line_of draft.now (words_of text.now)) }
-    ensures room { IfOk result (λ line. OnSome line (length draft.now < most_lines)) }
+    ensures line { IfOk result (λ line. line ≡ any_line_of draft.now (words_of text.now)) }
+    ensures worker { IfOk result (λ line. IfSome line (λ line. line.worker ≤ last_worker)) }
 {
     let words = words_of(alloc, text)?;
     read_words(alloc, draft, words.as_slice())

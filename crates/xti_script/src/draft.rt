@@ -1,125 +1,137 @@
 //! The lines that are read so far, and what they say together.
 
-ghost use Rattle.std.specs.Prelude.{◌≡◌, ◌<◌, ◌||◌, ◌++◌, ◌+◌, ◌∷◌, [], ℕ, if◌then◌else◌, List, length, count_by, IfOk, OnOk};
-ghost use Rattle.std.specs.Str.{bytes_eq};
-ghost use Rattle.xti_model.specs.Resolve.{opens as opens_name};
-ghost use Rattle.xti_script.specs.Grammar.{most_lines, is_open, is_send, binds_name, binds_address, opens, sends, defines, binds, binds_to, some_line};
-ghost use Rattle.xti_script.specs.Known.{has, Knows, Adds};
+ghost use Rattle.std.specs.Prelude.{◌≡◌, ◌≤◌, ◌++◌, ◌+◌, ◌∷◌, [], length, IfOk};
+ghost use Rattle.std.specs.List.{concat};
+ghost use Rattle.xti_model.specs.Work.{argument_bytes, script_bytes};
+ghost use Rattle.xti_script.specs.Grammar.{last_worker, most_bytes, is_defined};
+ghost use Rattle.xti_script.specs.Reading.{less, room_after, room_for, extended};
 
+use crate::names::Names;
 use std::alloc::{AllocError, Global};
-use std::collections::BTreeSet;
 use std::marker::Model;
+use xti_base::Octets;
 use xti_model::{Line, Lines, NamedCall};
 
-type TextSet = BTreeSet<Vec<u8>>;
+/// The most call lines of a script.
+const MOST_LINES: usize = 100_000;
+/// The most bytes of all addresses, options and data of a script.
+const MOST_BYTES: usize = 4_194_304;
 
-fn has(texts: &TextSet, bytes: &[u8]) -> bool
-    ensures { result ≡ has texts.now bytes.now }
+fn less(left: usize, n: usize) -> Option<usize>
+    ensures { result ≡ less left n }
 {
-    texts.contains(bytes)
+    if n <= left { Some(left - n) } else { None }
 }
 
-fn add_text(alloc: Global, texts: &mut TextSet, text: &[u8]) -> Result<(), AllocError>
-    ensures { OnOk result ((other : List ℕ) → has texts.new other ≡ (has texts.old other || bytes_eq text.now other)) }
+fn less_one(left: usize, bytes: &Octets) -> Option<usize>
+    ensures { result ≡ less left (length bytes.now) }
 {
-    texts.insert(Vec::from_slice(alloc, text)?)?;
-    Ok(())
+    less(left, bytes.as_slice().len())
 }
 
-fn add_name(alloc: Global, names: &mut TextSet, call: &NamedCall) -> Result<(), AllocError>
-    ensures { OnOk result ((name : List ℕ) → has names.new name ≡ (has names.old name || opens_name name call.now)) }
+fn less_two(left: usize, first: &Octets, second: &Octets) -> Option<usize>
+    ensures { result ≡ less left (length first.now + length second.now) }
+{
+    match less_one(left, first) {
+        Some(left) => less_one(left, second),
+        None => None,
+    }
+}
+
+fn less_three(left: usize, first: &Octets, second: &Octets, third: &Octets) -> Option<usize>
+    ensures { result ≡ less left (length first.now + length second.now + length third.now) }
+{
+    match less_two(left, first, second) {
+        Some(left) => less_one(left, third),
+        None => None,
+    }
+}
+
+fn less_parts(left: usize, parts: &[Octets]) -> Option<usize>
+    ensures { result ≡ less left (length (concat parts.now)) }
+{
+    match parts {
+        [] => less(left, 0),
+        [part, parts @ ..] => match less_one(left, part) {
+            Some(left) => less_parts(left, parts),
+            None => None,
+        },
+    }
+}
+
+fn less_two_and_parts(
+    left: usize,
+    first: &Octets,
+    second: &Octets,
+    parts: &[Octets],
+) -> Option<usize>
+    ensures { result ≡ less left (length first.now + length second.now + length (concat parts.now)) }
+{
+    match less_two(left, first, second) {
+        Some(left) => less_parts(left, parts),
+        None => None,
+    }
+}
+
+/// What is left of so many bytes behind those of the call; `None` where the call has more.
+fn left_after(left: usize, call: &NamedCall) -> Option<usize>
+    ensures { result ≡ less left (argument_bytes call.now) }
 {
     match call {
-        NamedCall::TOpen { name, .. } => add_text(alloc, names, name.as_slice()),
-        _ => Ok(()),
+        NamedCall::TBind { addr, .. } => less_one(left, addr),
+        NamedCall::TConnect {
+            addr,
+            opt,
+            udata,
+            ..
+        } => less_three(left, addr, opt, udata),
+        NamedCall::TAccept { opt, udata, .. } => less_two(left, opt, udata),
+        NamedCall::TSnd { bytes, .. } => less_one(left, bytes),
+        NamedCall::TSndV { parts, .. } => less_parts(left, parts.as_slice()),
+        NamedCall::TSndDis { udata, .. } => less_one(left, udata),
+        NamedCall::TSndUData {
+            addr,
+            opt,
+            bytes,
+            ..
+        } => less_three(left, addr, opt, bytes),
+        NamedCall::TSndVUData {
+            addr,
+            opt,
+            parts,
+            ..
+        } => less_two_and_parts(left, addr, opt, parts.as_slice()),
+        NamedCall::TOptMgmt { opt, .. } => less_one(left, opt),
+        _ => Some(left),
     }
 }
 
-fn add_bound(alloc: Global, bound: &mut TextSet, call: &NamedCall) -> Result<(), AllocError>
-    ensures { OnOk result ((name : List ℕ) → has bound.new name ≡ (has bound.old name || binds_name name call.now)) }
+/// What is left of so many bytes behind one more line after so many; `None` where a limit is in the way.
+#[tactic(auto, unfolding(crate::specs::Reading::room_after))]
+fn room_after(count: usize, left: usize, call: &NamedCall) -> Option<usize>
+    ensures { result ≡ room_after count left call.now }
 {
-    match call {
-        NamedCall::TBind { fd, .. } => add_text(alloc, bound, fd.as_slice()),
-        _ => Ok(()),
+    if count < MOST_LINES {
+        left_after(left, call)
+    } else {
+        None
     }
 }
 
-fn add_address(alloc: Global, addresses: &mut TextSet, call: &NamedCall) -> Result<(), AllocError>
-    ensures { OnOk result ((address : List ℕ) → has addresses.new address ≡ (has addresses.old address || binds_address address call.now)) }
+fn with_line(mut lines: Lines, line: Line) -> Result<Lines, AllocError>
+    ensures { IfOk result (λ more. more ≡ lines ++ line ∷ []) }
 {
-    match call {
-        NamedCall::TBind { addr, .. } => add_text(alloc, addresses, addr.as_slice()),
-        _ => Ok(()),
-    }
-}
-
-fn opens_with(count: usize, call: &NamedCall) -> usize
-    requires { count < most_lines }
-    ensures { result ≡ count + (if is_open call.now then 1 else 0) }
-{
-    match call {
-        NamedCall::TOpen { .. } => count + 1,
-        _ => count,
-    }
-}
-
-fn sends_with(count: usize, call: &NamedCall) -> usize
-    requires { count < most_lines }
-    ensures { result ≡ count + (if is_send call.now then 1 else 0) }
-{
-    match call {
-        NamedCall::TSndUData { .. } => count + 1,
-        _ => count,
-    }
-}
-
-/// What lines say together, so that none of them is searched.
-#[derive(Drop)]
-struct Known {
-    /// The names that they define.
-    names: TextSet,
-    /// The names of the endpoints that they bind.
-    bound: TextSet,
-    /// The addresses of their binds.
-    addresses: TextSet,
-    /// How many of them are open lines.
-    open_count: usize,
-    /// How many of them are sndudata lines.
-    send_count: usize,
-}
-
-impl Known {
-    fn new(alloc: Global) -> Known
-        ensures { Knows [] result }
-    {
-        Known {
-            names: BTreeSet::new(alloc),
-            bound: BTreeSet::new(alloc),
-            addresses: BTreeSet::new(alloc),
-            open_count: 0,
-            send_count: 0,
-        }
-    }
-
-    fn add(&mut self, alloc: Global, call: &NamedCall) -> Result<(), AllocError>
-        requires opens { self.old.open_count < most_lines }
-        requires sends { self.old.send_count < most_lines }
-        ensures { OnOk result (Adds call.now self.old self.new) }
-    {
-        add_name(alloc, &mut self.names, call)?;
-        add_bound(alloc, &mut self.bound, call)?;
-        add_address(alloc, &mut self.addresses, call)?;
-        self.open_count = opens_with(self.open_count, call);
-        self.send_count = sends_with(self.send_count, call);
-        Ok(())
-    }
+    lines.push(line)?;
+    Ok(lines)
 }
 
 /// The lines that are read so far.
 #[derive(Drop)]
 pub(crate) struct Draft {
     lines: Lines,
-    known: Known,
+    names: Names,
+    /// How many bytes the arguments of further lines may have.
+    left: usize,
 }
 
 impl Model for Draft {
@@ -131,32 +143,50 @@ impl Model for Draft {
 
     ghost view = { λ d. d.lines };
 
-    ghost invariant = { λ d. Knows d.lines d.known };
+    ghost invariant = { λ d. Knows d.lines d.names d.left };
 }
 
 impl Draft {
-    /// No lines. Takes no memory.
-    pub(crate) fn new(alloc: Global) -> Draft
-        ensures { result ≡ [] }
+    /// No lines.
+    pub(crate) fn new(alloc: Global) -> Result<Draft, AllocError>
+        ensures { IfOk result (λ draft. draft ≡ []) }
     {
-        Draft {
+        Ok(Draft {
+            names: Names::new(alloc)?,
             lines: Lines::new(alloc),
-            known: Known::new(alloc),
-        }
+            left: MOST_BYTES,
+        })
     }
 
-    /// The lines and one more.
-    pub(crate) fn with(self, alloc: Global, line: Line) -> Result<Draft, AllocError>
-        requires { length self < most_lines }
+    /// How many bytes the arguments of further lines may have behind this call; `None` where a limit is in the way.
+    fn room_for(&self, call: &NamedCall) -> Option<usize>
+        ensures room { result ≡ room_for self.now call.now }
+        ensures bytes { script_bytes self.now ≤ most_bytes }
+    {
+        room_after(self.lines.len(), self.left, call)
+    }
+
+    /// The lines and one more, behind which the arguments of further lines may have so many bytes.
+    fn grown(self, alloc: Global, line: Line, left: usize) -> Result<Draft, AllocError>
+        requires worker { line.worker ≤ last_worker }
+        requires left { left + script_bytes (self ++ line ∷ []) ≡ most_bytes }
         ensures { IfOk result (λ draft. draft ≡ self ++ line ∷ []) }
     {
-        let Draft {
-            mut lines,
-            mut known,
-        } = self;
-        known.add(alloc, &line.call)?;
-        lines.push(line)?;
-        Ok(Draft { lines, known })
+        let Draft { lines, names, .. } = self;
+        let names = names.with(alloc, &line)?;
+        let lines = with_line(lines, line)?;
+        Ok(Draft { lines, names, left })
+    }
+
+    /// The lines and one more; `None` where a limit is in the way.
+    pub(crate) fn with(self, alloc: Global, line: Line) -> Result<Option<Draft>, AllocError>
+        requires { line.worker ≤ last_worker }
+        ensures { IfOk result (λ draft. draft ≡ extended self line) }
+    {
+        match self.room_for(&line.call) {
+            Some(left) => Ok(Some(self.grown(alloc, line, left)?)),
+            None => Ok(None),
+        }
     }
 
     /// The lines. Takes no memory.
@@ -167,45 +197,10 @@ impl Draft {
         lines
     }
 
-    /// How many lines there are.
-    pub(crate) fn len(&self) -> usize
-        ensures { result ≡ length self.now }
+    /// Whether a line of the worker or of worker 0 defines the name.
+    pub(crate) fn defines(&self, worker: u32, name: &[u8]) -> bool
+        ensures { result ≡ is_defined self.now worker name.now }
     {
-        self.lines.len()
-    }
-
-    /// Whether a line defines the name.
-    pub(crate) fn defines(&self, name: &[u8]) -> bool
-        ensures { result ≡ some_line (defines name.now) self.now }
-    {
-        has(&self.known.names, name)
-    }
-
-    /// Whether a line binds the endpoint.
-    pub(crate) fn binds(&self, name: &[u8]) -> bool
-        ensures { result ≡ some_line (binds name.now) self.now }
-    {
-        has(&self.known.bound, name)
-    }
-
-    /// Whether a line is a bind to the address.
-    pub(crate) fn binds_to(&self, address: &[u8]) -> bool
-        ensures { result ≡ some_line (binds_to address.now) self.now }
-    {
-        has(&self.known.addresses, address)
-    }
-
-    /// How many lines are open lines.
-    pub(crate) fn open_count(&self) -> usize
-        ensures { result ≡ count_by opens self.now }
-    {
-        self.known.open_count
-    }
-
-    /// How many lines are sndudata lines.
-    pub(crate) fn send_count(&self) -> usize
-        ensures { result ≡ count_by sends self.now }
-    {
-        self.known.send_count
+        self.names.have(worker, name)
     }
 }

@@ -3,8 +3,14 @@
 
 mod calls;
 mod draft;
+mod fields;
+mod laws;
+mod names;
 mod script_text;
 mod texts;
+mod values;
+mod verbs;
 
-pub use script_text::{ScriptFail, never_both, read_script};
+pub use laws::{never_both, scripts_are_built, scripts_are_small, scripts_have_workers};
+pub use script_text::{ScriptFail, read_script};
 pub use xti_model::{Line, Lines, Name, NamedCall, Script};

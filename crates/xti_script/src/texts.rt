@@ -1,10 +1,9 @@
 //! Lines, words, names and short texts.
 
-ghost use Rattle.std.specs.Prelude.{◌≡◌, ◌∷◌, ◌<◌, ◌==◌, ◌&&◌, position, map, length, nat_le, IfOk};
+ghost use Rattle.std.specs.Prelude.{◌≡◌, ◌∷◌, ◌<◌, ◌==◌, ◌&&◌, position, length, nat_le, IfOk};
 ghost use Rattle.std.specs.List.{list_all};
-ghost use Rattle.std.specs.Option.{option_copied};
-ghost use Rattle.xti_script.specs.Texts.{lines_of, words_of, is_lower, is_upper, is_digit, is_name_byte, is_name, is_text_byte, is_plain_text};
-ghost use Rattle.xti_script.specs.Reading.{is_text, text_value};
+ghost use Rattle.xti_script.specs.Texts.{lines_of, pieces_of, words_of, is_lower, is_upper, is_digit, is_name_byte, is_name, is_text_byte, is_plain_text};
+ghost use Rattle.xti_script.specs.Reading.{views};
 
 use std::alloc::{AllocError, Global};
 
@@ -30,15 +29,22 @@ pub(crate) fn first_line(text: &[u8]) -> (&[u8], &[u8])
     }
 }
 
+/// The pieces of a text that the separator parts.
+pub(crate) fn pieces_of(alloc: Global, separator: u8, text: &[u8]) -> Result<Vec<&[u8]>, AllocError>
+    ensures { IfOk result (λ pieces. views pieces.items ≡ pieces_of separator text.now) }
+{
+    let mut pieces = Vec::new(alloc);
+    for piece in text.split(|c| *c == separator) {
+        pieces.push(piece)?;
+    }
+    Ok(pieces)
+}
+
 /// The words of a line.
 pub(crate) fn words_of(alloc: Global, line: &[u8]) -> Result<Vec<&[u8]>, AllocError>
-    ensures { IfOk result (λ words. map (λ w. w.now) words.items ≡ words_of line.now) }
+    ensures { IfOk result (λ words. views words.items ≡ words_of line.now) }
 {
-    let mut words = Vec::new(alloc);
-    for word in line.split(|c| *c == b' ') {
-        words.push(word)?;
-    }
-    Ok(words)
+    pieces_of(alloc, b' ', line)
 }
 
 fn is_lower(c: u8) -> bool
@@ -53,10 +59,18 @@ fn is_upper(c: u8) -> bool
     b'A' <= c && c <= b'Z'
 }
 
-fn is_digit(c: u8) -> bool
+/// Whether the byte is a decimal digit.
+pub(crate) fn is_digit(c: u8) -> bool
     ensures { result ≡ is_digit c }
 {
     b'0' <= c && c <= b'9'
+}
+
+/// Whether each byte is a decimal digit.
+pub(crate) fn are_digits(text: &[u8]) -> bool
+    ensures { result ≡ list_all is_digit text.now }
+{
+    text.iter().all(|c| is_digit(*c))
 }
 
 fn is_name_byte(c: u8) -> bool
@@ -93,33 +107,12 @@ fn are_text_bytes(text: &[u8]) -> bool
     text.iter().all(|c| is_text_byte(*c))
 }
 
-fn is_plain_text(bytes: &[u8]) -> bool
-    ensures { result ≡ is_plain_text bytes.now }
+/// Whether the text may stand behind `t:`.
+pub(crate) fn is_plain_text(text: &[u8]) -> bool
+    ensures { result ≡ is_plain_text text.now }
 {
-    match bytes {
+    match text {
         [] => false,
-        _ => are_text_bytes(bytes),
-    }
-}
-
-fn is_text(most: usize, bytes: &[u8]) -> bool
-    ensures { result ≡ is_text most bytes.now }
-{
-    is_plain_text(bytes) && bytes.len() <= most
-}
-
-/// The text behind the key, at most so many bytes; `None` where the word is none of this form.
-#[tactic(auto, unfolding(crate::specs::Reading::text_value))]
-pub(crate) fn text_value<'a>(key: &[u8], most: usize, word: &'a [u8]) -> Option<&'a [u8]>
-    ensures { option_copied result ≡ text_value key.now most word.now }
-{
-    if !word.starts_with(key) {
-        return None;
-    }
-    let (_, bytes) = word.split_at(key.len());
-    if is_text(most, bytes) {
-        Some(bytes)
-    } else {
-        None
+        _ => are_text_bytes(text),
     }
 }

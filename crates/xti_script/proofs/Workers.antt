@@ -1,0 +1,235 @@
+-- The sets of the names of each worker, and one more name.
+use Rattle.std.proofs.Common.{◌≡◌, ℕ, zero, suc, ◌+◌, ◌-◌, ◌<◌, ◌≤◌, Bool, true, false, cond, ◌&&◌, ◌||◌, eqb, ltb, leb, List, [], ◌∷◌, ◌++◌, length, Option, Some, None, refl, sym, ap, ◌∙◌, arith, set}
+use Rattle.std.specs.Prelude.{slice_get}
+use Rattle.std.specs.List.{list_any}
+use Rattle.std.specs.Str.{bytes_eq}
+use Rattle.std.proofs.lemmas.Bool.{ltb-true, lt-ltb, leb-true, leb-false, le-leb, eq-eqb, eqb-true}
+use Rattle.std.proofs.lemmas.List.Folds.{list_any-append}
+use Rattle.std.proofs.lemmas.List.Sums.{sum_by-append}
+use Rattle.xti_model.specs.declared.script.NamedCall.{NamedCall}
+use Rattle.xti_model.specs.declared.script.Line.{Line}
+use Rattle.xti_model.specs.Resolve.{opens}
+use Rattle.xti_model.specs.Work.{argument_bytes, script_bytes}
+use Rattle.xti_script.specs.Grammar.{defines, is_defined, most_lines, most_bytes}
+use Rattle.xti_script.specs.TextSets.{TextSet, has, has_at}
+use Rattle.xti_script.specs.Known.{is_own, Knows}
+use Rattle.xti_script.specs.Reading.{less, room_after, room_for, extended}
+
+-- ---- one more text in the set at a place
+
+or_false : (a : Bool) → a ≡ (a || false)
+or_false true = refl
+or_false false = refl
+
+unequal : (a b : ℕ) (t : Bool) → eqb a b ≡ t → (a ≡ b → ⊥) → t ≡ false
+unequal a b true e h = absurd (h (eqb-true a b e))
+unequal a b false e h = refl
+
+eqb-suc_suc : (a b : ℕ) → eqb (suc a) (suc b) ≡ eqb a b
+eqb-suc_suc a b = by_test (eqb a b) refl
+  where
+    by_test : (t : Bool) → eqb a b ≡ t → eqb (suc a) (suc b) ≡ t
+    by_test true e = let h : a ≡ b = eqb-true a b e in eq-eqb (suc a) (suc b) (omega arith)
+    by_test false e = unequal (suc a) (suc b) (eqb (suc a) (suc b)) refl (λ h. let s : a ≡ b = omega arith in let u : eqb a b ≡ true = eq-eqb a b s in let c : true ≡ false = sym u ∙ e in cc)
+
+pub more_at : (sets : List TextSet) (place : ℕ) (texts : TextSet) (text : List ℕ) → slice_get sets place ≡ Some texts → (more : TextSet) → ((other : List ℕ) → has more other ≡ (has texts other || bytes_eq text other))
+    → (at : ℕ) (other : List ℕ) → has_at (set sets place more) at other ≡ (has_at sets at other || (eqb place at && bytes_eq text other))
+more_at [] place texts text e more h at other = absurd cc
+more_at (x ∷ sets) zero texts text e more h zero other =
+    let s : x ≡ texts = cc in
+    rw s (h other)
+more_at (x ∷ sets) zero texts text e more h (suc at) other =
+    let no : eqb 0 (suc at) ≡ false = unequal 0 (suc at) (eqb 0 (suc at)) refl (λ e. absurd (omega arith)) in
+    rw no (or_false (has_at sets at other))
+more_at (x ∷ sets) (suc place) texts text e more h zero other =
+    let no : eqb (suc place) 0 ≡ false = unequal (suc place) 0 (eqb (suc place) 0) refl (λ e. absurd (omega arith)) in
+    rw no (or_false (has x other))
+more_at (x ∷ sets) (suc place) texts text e more h (suc at) other = rw (eqb-suc_suc place at) (more_at sets place texts text e more h at other)
+
+-- ---- empty sets
+
+abbrev pub AreEmpty : List TextSet → Type 0
+AreEmpty sets = (at : ℕ) (other : List ℕ) → has_at sets at other ≡ false
+
+pub none_empty : (sets : List TextSet) → sets ≡ [] → AreEmpty sets
+none_empty sets e at other = rw e refl
+
+pub one_more_empty : (sets : List TextSet) (texts : TextSet) → ((other : List ℕ) → has texts other ≡ false) → AreEmpty sets → AreEmpty (sets ++ texts ∷ [])
+one_more_empty [] texts h k zero other = h other
+one_more_empty [] texts h k (suc at) other = refl
+one_more_empty (x ∷ sets) texts h k zero other = k zero other
+one_more_empty (x ∷ sets) texts h k (suc at) other = one_more_empty sets texts h (λ a o. k (suc a) o) at other
+
+-- ---- names
+
+same_or : (a b c p : Bool) → ((a || b) && c) ≡ ((a && c) || (b && c))
+same_or true true true p = refl
+same_or true true false p = refl
+same_or true false true p = refl
+same_or true false false p = refl
+same_or false b c p = refl
+
+exchange : (a b c d : Bool) → ((a || b) || (c || d)) ≡ ((a || c) || (b || d))
+exchange true b c d = refl
+exchange false true true d = refl
+exchange false true false d = refl
+exchange false false c d = refl
+
+-- a name is defined for a worker by its own lines or by those of worker 0
+pub own_or_setup : (lines : List Line) (worker : ℕ) (name : List ℕ) → is_defined lines worker name ≡ (list_any (is_own worker name) lines || list_any (is_own 0 name) lines)
+own_or_setup [] worker name = refl
+own_or_setup (line ∷ lines) worker name =
+    let one : defines worker name line ≡ (is_own worker name line || is_own 0 name line) = same_or (eqb line.worker worker) (eqb line.worker 0) (opens name line.call) true in
+    rw (one, own_or_setup lines worker name) (exchange (is_own worker name line) (is_own 0 name line) (list_any (is_own worker name) lines) (list_any (is_own 0 name) lines))
+
+or_nothing : (a : Bool) → (a || false) ≡ a
+or_nothing true = refl
+or_nothing false = refl
+
+pub own_of_more : (lines : List Line) (line : Line) (old new : List TextSet) → ((worker : ℕ) (name : List ℕ) → has_at old worker name ≡ list_any (is_own worker name) lines)
+    → ((worker : ℕ) (name : List ℕ) → has_at new worker name ≡ (has_at old worker name || is_own worker name line)) → (worker : ℕ) (name : List ℕ) → has_at new worker name ≡ list_any (is_own worker name) (lines ++ line ∷ [])
+own_of_more lines line old new h k worker name =
+    let all : list_any (is_own worker name) (lines ++ line ∷ []) ≡ (list_any (is_own worker name) lines || (is_own worker name line || false)) = list_any-append (is_own worker name) lines (line ∷ []) in
+    rw (all, k worker name, h worker name) (ap (λ (b : Bool). list_any (is_own worker name) lines || b) (sym (or_nothing (is_own worker name line))))
+
+-- ---- bytes
+
+pub less_less : (left a b : ℕ) (o : Option ℕ) (middle : ℕ) → o ≡ less left a → o ≡ Some middle → less middle b ≡ less left (a + b)
+less_less left a b o middle e s = by_test (leb a left) refl (sym e ∙ s)
+  where
+    again : (m : ℕ) (x y : Bool) → a ≤ left → m ≡ left - a → leb b m ≡ x → leb (a + b) left ≡ y → cond x (Some (m - b)) None ≡ cond y (Some (left - (a + b))) None
+    again m true true h i p q = ap (λ (n : ℕ). Some n) (omega arith)
+    again m false false h i p q = refl
+    again m true false h i p q = let u : b ≤ m = leb-true _ _ p in let v : left < a + b = leb-false _ _ q in absurd (omega arith)
+    again m false true h i p q = let u : m < b = leb-false _ _ p in let v : a + b ≤ left = leb-true _ _ q in absurd (omega arith)
+
+    by_test : (t : Bool) → leb a left ≡ t → cond t (Some (left - a)) None ≡ Some middle → less middle b ≡ less left (a + b)
+    by_test false t r = absurd cc
+    by_test true t r =
+        let m : left - a ≡ middle = cc in
+        let h : a ≤ left = leb-true _ _ t in
+        again middle (leb b middle) (leb (a + b) left) h (sym m) refl refl
+
+pub less_none : (left a b : ℕ) (o : Option ℕ) → o ≡ less left a → o ≡ None → None ≡ less left (a + b)
+less_none left a b o e s = by_test (leb a left) refl (sym e ∙ s)
+  where
+    nothing : Option ℕ
+    nothing = None
+
+    by_test : (t : Bool) → leb a left ≡ t → cond t (Some (left - a)) None ≡ nothing → None ≡ less left (a + b)
+    by_test true t r = absurd cc
+    by_test false t r =
+        let h : left < a = leb-false _ _ t in
+        at_last (leb (a + b) left) refl h
+      where
+        at_last : (y : Bool) → leb (a + b) left ≡ y → left < a → None ≡ cond y (Some (left - (a + b))) None
+        at_last false q h = refl
+        at_last true q h = let v : a + b ≤ left = leb-true _ _ q in absurd (omega arith)
+
+pub defined_is : (lines now : List Line) (sets : List TextSet) (left worker : ℕ) (name : List ℕ) (r : Bool) → Knows lines sets left → lines ≡ now → r ≡ (has_at sets worker name || has_at sets 0 name) → r ≡ is_defined now worker name
+defined_is lines now sets left worker name r k v e =
+    let a : has_at sets worker name ≡ list_any (is_own worker name) lines = k.own worker name in
+    let b : has_at sets 0 name ≡ list_any (is_own 0 name) lines = k.own 0 name in
+    rw (← v) (rw (a, b) at e ∙ sym (own_or_setup lines worker name))
+
+-- ---- one more line
+
+less_is : (left n more : ℕ) (o : Option ℕ) → o ≡ less left n → o ≡ Some more → (n ≤ left) × (more ≡ left - n)
+less_is left n more o e s = by_test (leb n left) refl (sym e ∙ s)
+  where
+    by_test : (t : Bool) → leb n left ≡ t → cond t (Some (left - n)) None ≡ Some more → (n ≤ left) × (more ≡ left - n)
+    by_test false t r = absurd cc
+    by_test true t r = let m : left - n ≡ more = cc in (leb-true _ _ t, sym m)
+
+less_fails : (left n : ℕ) (o : Option ℕ) → o ≡ less left n → o ≡ None → left < n
+less_fails left n o e s = by_test (leb n left) refl (sym e ∙ s)
+  where
+    nothing : Option ℕ
+    nothing = None
+
+    by_test : (t : Bool) → leb n left ≡ t → cond t (Some (left - n)) None ≡ nothing → left < n
+    by_test true t r = absurd cc
+    by_test false t r = leb-false _ _ t
+
+record Room (count left : ℕ) (call : NamedCall) (more : ℕ) : Type 0 where
+  few : count < most_lines
+  fits : argument_bytes call ≤ left
+  rest : more ≡ left - argument_bytes call
+
+room_is : (count left : ℕ) (call : NamedCall) (more : ℕ) (o : Option ℕ) → o ≡ room_after count left call → o ≡ Some more → Room count left call more
+unfolding room_after
+room_is count left call more o e s = by_test (ltb count most_lines) refl (sym e ∙ s)
+  where
+    by_test : (t : Bool) → ltb count most_lines ≡ t → cond t (less left (argument_bytes call)) None ≡ Some more → Room count left call more
+    by_test false t r = absurd cc
+    by_test true t r =
+        let l = less_is left (argument_bytes call) more (less left (argument_bytes call)) refl r in
+        record { few = ltb-true _ _ t; fits = l.0; rest = l.1 }
+
+and_no : (a : Bool) → (a && false) ≡ false
+and_no true = refl
+and_no false = refl
+
+test_no : (n m : ℕ) (t : Bool) → leb n m ≡ t → m < n → t ≡ false
+test_no n m true e h = let u : n ≤ m = leb-true n m e in absurd (omega arith)
+test_no n m false e h = refl
+
+less_most : (total used n : ℕ) → used ≤ total → n ≤ total - used → used + n ≤ total
+less_most total used n h k = omega arith
+
+over_most : (total used n : ℕ) → total - used < n → total < used + n
+over_most total used n h = omega arith
+
+pub room_is_for : (lines now : List Line) (names : List TextSet) (left : ℕ) (call : NamedCall) (o : Option ℕ) → Knows lines names left → lines ≡ now → o ≡ room_after (length lines) left call → o ≡ room_for now call
+unfolding room_for
+room_is_for lines now names left call o k v e =
+    let used : ℕ = script_bytes lines in
+    let h : left + script_bytes lines ≡ most_bytes = k.bytes in
+    let is : left ≡ most_bytes - script_bytes lines = omega arith in
+    rw (← v) (e ∙ ap (λ (n : ℕ). room_after (length lines) n call) is)
+
+leaves : (total used n more : ℕ) → n ≤ total - used → used ≤ total → more ≡ (total - used) - n → more + (used + (0 + n)) ≡ total
+leaves total used n more h u e = omega arith
+
+empty_rest : (total used n : ℕ) → n ≤ total - used → total < used → n ≡ 0
+empty_rest total used n h u = omega arith
+
+pub room_left : (lines : List Line) (line : Line) (o : Option ℕ) (more : ℕ) → script_bytes lines ≤ most_bytes → o ≡ room_for lines line.call → o ≡ Some more → more + script_bytes (lines ++ line ∷ []) ≡ most_bytes
+unfolding room_for
+room_left lines line o more u e s =
+    let t = room_is (length lines) (most_bytes - script_bytes lines) line.call more o e s in
+    let sum : script_bytes (lines ++ line ∷ []) ≡ script_bytes lines + (0 + argument_bytes line.call) = sum_by-append (λ (l : Line). argument_bytes l.call) lines (line ∷ []) in
+    ap (λ (n : ℕ). more + n) sum ∙ leaves most_bytes (script_bytes lines) (argument_bytes line.call) more t.fits u t.rest
+
+pub one_longer : (lines more_lines : List Line) (line : Line) (more : ℕ) (o : Option ℕ) → script_bytes lines ≤ most_bytes → more_lines ≡ lines ++ line ∷ [] → o ≡ room_for lines line.call → o ≡ Some more → Some more_lines ≡ extended lines line
+unfolding extended room_for
+one_longer lines more_lines line more o u m e s =
+    let t = room_is (length lines) (most_bytes - script_bytes lines) line.call more o e s in
+    let count : ltb (length lines) most_lines ≡ true = lt-ltb _ _ t.few in
+    let size : leb (script_bytes lines + argument_bytes line.call) most_bytes ≡ true = le-leb _ _ (less_most most_bytes (script_bytes lines) (argument_bytes line.call) u t.fits) in
+    rw (m, count, size) refl
+
+pub no_longer : (lines : List Line) (line : Line) (o : Option ℕ) → o ≡ room_for lines line.call → o ≡ None → None ≡ extended lines line
+unfolding extended room_for room_after
+no_longer lines line o e s = by_test (ltb (length lines) most_lines) refl (sym e ∙ s)
+  where
+    nothing : Option ℕ
+    nothing = None
+
+    by_test : (t : Bool) → ltb (length lines) most_lines ≡ t → cond t (less (most_bytes - script_bytes lines) (argument_bytes line.call)) None ≡ nothing → None ≡ extended lines line
+    by_test false t r = rw t refl
+    by_test true t r =
+        let over : most_bytes - script_bytes lines < argument_bytes line.call = less_fails (most_bytes - script_bytes lines) (argument_bytes line.call) (less (most_bytes - script_bytes lines) (argument_bytes line.call)) refl r in
+        let size : leb (script_bytes lines + argument_bytes line.call) most_bytes ≡ false = test_no (script_bytes lines + argument_bytes line.call) most_bytes (leb (script_bytes lines + argument_bytes line.call) most_bytes) refl (over_most most_bytes (script_bytes lines) (argument_bytes line.call) over) in
+        rw size (rw and_no refl)
+
+pub knows_more : (lines now more_lines : List Line) (line : Line) (old new : List TextSet) (left more : ℕ) → Knows lines old left → lines ≡ now → more_lines ≡ lines ++ line ∷ []
+    → ((worker : ℕ) (name : List ℕ) → has_at new worker name ≡ (has_at old worker name || is_own worker name line)) → more + script_bytes (now ++ line ∷ []) ≡ most_bytes → Knows more_lines new more
+knows_more lines now more_lines line old new left more k v m names e =
+    let bytes : more + script_bytes (lines ++ line ∷ []) ≡ most_bytes = ap (λ (ls : List Line). more + script_bytes (ls ++ line ∷ [])) v ∙ e in
+    rw m (record { own = own_of_more lines line old new k.own names; bytes = bytes })
+
+pub bytes_within : (lines now : List Line) (names : List TextSet) (left : ℕ) → Knows lines names left → lines ≡ now → script_bytes now ≤ most_bytes
+bytes_within lines now names left k v =
+    let h : left + script_bytes lines ≡ most_bytes = k.bytes in
+    rw (← v) (omega arith)

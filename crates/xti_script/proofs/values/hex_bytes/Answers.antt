@@ -1,0 +1,12 @@
+use Rattle.std.proofs.Common.{arith}
+use Rattle.xti_script.proofs.WordLaws.{before-nil, hex_more, hex_none}
+use Rattle.xti_script.proofs.values.hex_bytes.Goals as goal
+
+pub loop-rest-init : goal.loop-rest-init
+loop-rest-init c = before-nil _ _ c.new-bytes.ensures
+
+pub loop-rest-preserved : goal.loop-rest-preserved
+loop-rest-preserved c = hex_more _ _ c.loop-rest.rest.now _ _ _ _ (omega arith) c.first_byte.ensures c.in-Some.is c.in_ok-push-in-Some.ensures.ok c.split_at.ensures.back c.loop-rest.invariant
+
+pub returns-in-None : goal.returns-in-None
+returns-in-None c = hex_none _ c.loop-rest.rest.now _ _ (omega arith) c.first_byte.ensures c.in-None.is c.loop-rest.invariant

@@ -1,0 +1,19 @@
+-- Reading digits from left to right.
+use Rattle.std.specs.Prelude.{ℕ, ◌+◌, ◌-◌, ◌*◌, ◌&&◌, nat_lt, List, [], ◌∷◌, Option, Some, None, if◌then◌else◌}
+use Rattle.xti_script.specs.Texts.{is_digit}
+use Rattle.xti_script.specs.Values.{hex_digit, hex_pair}
+
+-- the number with one more digit, where it fits 32 bits
+abbrev pub with_digit : ℕ → ℕ → Option ℕ
+with_digit n c = if is_digit c && nat_lt (n * 10 + (c - 48)) 4294967296 then Some (n * 10 + (c - 48)) else None
+
+abbrev pub digits_behind : Option ℕ → List ℕ → Option ℕ
+digits_behind None cs = None
+digits_behind (Some n) [] = Some n
+digits_behind (Some n) (c ∷ cs) = digits_behind (with_digit n c) cs
+
+-- the byte that the first two digits are
+abbrev pub first_byte : List ℕ → Option ℕ
+first_byte [] = None
+first_byte (c ∷ []) = None
+first_byte (c ∷ d ∷ digits) = hex_pair (hex_digit c) (hex_digit d)

@@ -1,0 +1,22 @@
+-- Sets of texts, and lists of them.
+use Rattle.std.specs.Prelude.{ℕ, Bool, false, List, Vec, slice_get, Option, Some, None}
+use Rattle.std.specs.declared.alloc.Global.{Global}
+use Rattle.std.specs.BTreeSet.{BTreeSet, contains_by}
+use Rattle.std.specs.Cmp.Lexicographic.{slice_cmp}
+use Rattle.std.specs.Ordering.{nat_cmp}
+
+-- a set of texts
+abbrev pub TextSet : Type 0
+TextSet = BTreeSet (Vec ℕ Global)
+
+abbrev pub has : TextSet → List ℕ → Bool
+has texts bytes = contains_by (λ k. slice_cmp nat_cmp bytes k.items) texts
+
+-- whether a set that may be there has the text
+abbrev pub has_in : Option TextSet → List ℕ → Bool
+has_in None bytes = false
+has_in (Some texts) bytes = has texts bytes
+
+-- whether the set at this place has the text
+abbrev pub has_at : List TextSet → ℕ → List ℕ → Bool
+has_at sets place bytes = has_in (slice_get sets place) bytes

@@ -1,0 +1,139 @@
+//! The fields of calls: words `key=value` in a fixed order, of which those with a usual value may be left out.
+
+ghost use Rattle.std.specs.Prelude.{◌≡◌, IfOk};
+ghost use Rattle.std.specs.Option.{option_copied};
+ghost use Rattle.xti_script.specs.Fields.{key_word, kind_of, usual_value};
+ghost use Rattle.xti_script.specs.Reading.{views, behind_key, written_value, field_value, field_rest, fields_of};
+
+use crate::values::{Kind, Value, Values, value_in};
+use std::alloc::{AllocError, Global};
+use xti_base::Octets;
+
+/// The keys of fields.
+#[derive(Clone, Copy, Debug, PartialEq, Eq)]
+pub(crate) enum Key {
+    /// An address.
+    Addr,
+    /// Options.
+    Opt,
+    /// The data of a send.
+    Data,
+    /// The data of a send in parts.
+    Parts,
+    /// The sizes of the buffers of a receive.
+    Sizes,
+    /// The length of the queue of indications.
+    Qlen,
+    /// The most bytes that a receive takes.
+    Max,
+    /// The most bytes of an address that the caller takes.
+    Amax,
+    /// The most bytes of options that the caller takes.
+    Omax,
+}
+
+/// The key as it is written, with its sign.
+#[tactic(auto, unfolding(crate::specs::Fields::key_word))]
+fn key_word(key: Key) -> &'static [u8]
+    ensures { result.now ≡ key_word key }
+{
+    match key {
+        Key::Addr => b"addr=",
+        Key::Opt => b"opt=",
+        Key::Data => b"data=",
+        Key::Parts => b"parts=",
+        Key::Sizes => b"sizes=",
+        Key::Qlen => b"qlen=",
+        Key::Max => b"max=",
+        Key::Amax => b"amax=",
+        Key::Omax => b"omax=",
+    }
+}
+
+fn kind_of(key: Key) -> Kind
+    ensures { result ≡ kind_of key }
+{
+    match key {
+        Key::Addr | Key::Opt | Key::Data => Kind::Bytes,
+        Key::Parts => Kind::Parts,
+        Key::Sizes => Kind::Sizes,
+        Key::Qlen | Key::Max | Key::Amax | Key::Omax => Kind::Number,
+    }
+}
+
+/// The value of a field that is left out; `None` where it must stand. Takes no memory.
+fn usual_value(alloc: Global, key: Key) -> Option<Value>
+    ensures { result ≡ usual_value key }
+{
+    match key {
+        Key::Addr | Key::Opt => Some(Value::Bytes(Octets::new(alloc))),
+        Key::Data | Key::Parts | Key::Sizes => None,
+        Key::Qlen => Some(Value::Number(0)),
+        Key::Max => Some(Value::Number(65536)),
+        Key::Amax => Some(Value::Number(64)),
+        Key::Omax => Some(Value::Number(256)),
+    }
+}
+
+/// What is behind the key; `None` where the word doesn't begin with it.
+fn behind_key<'a>(key: &[u8], word: &'a [u8]) -> Option<&'a [u8]>
+    ensures { option_copied result ≡ behind_key key.now word.now }
+{
+    if word.starts_with(key) {
+        let (_, text) = word.split_at(key.len());
+        Some(text)
+    } else {
+        None
+    }
+}
+
+fn written_value(alloc: Global, key: Key, text: Option<&[u8]>) -> Result<Option<Value>, AllocError>
+    ensures { IfOk result (λ value. value ≡ written_value key (option_copied text.entry)) }
+{
+    match text {
+        Some(text) => value_in(alloc, kind_of(key), text),
+        None => Ok(usual_value(alloc, key)),
+    }
+}
+
+fn field_value(alloc: Global, key: Key, words: &[&[u8]]) -> Result<Option<Value>, AllocError>
+    ensures { IfOk result (λ value. value ≡ field_value key (views words.now)) }
+{
+    match words {
+        [] => Ok(usual_value(alloc, key)),
+        [word, ..] => written_value(alloc, key, behind_key(key_word(key), word)),
+    }
+}
+
+fn field_rest<'a, 'b>(key: Key, words: &'a [&'b [u8]]) -> &'a [&'b [u8]]
+    ensures { views result.now ≡ field_rest key (views words.now) }
+{
+    match words {
+        [word, rest @ ..] if word.starts_with(key_word(key)) => rest,
+        _ => words,
+    }
+}
+
+/// The values of the fields with these keys, where the words are these fields, each written or left out.
+pub(crate) fn read_fields(
+    alloc: Global,
+    keys: &[Key],
+    words: &[&[u8]],
+) -> Result<Option<Values>, AllocError>
+    ensures { IfOk result (λ values. values ≡ fields_of keys.now (views words.now)) }
+{
+    let mut values = Values::new(alloc);
+    let mut rest = words;
+    for key in keys {
+        match field_value(alloc, *key, rest)? {
+            Some(value) => values.push(value)?,
+            None => return Ok(None),
+        }
+        rest = field_rest(*key, rest);
+    }
+    if rest.is_empty() {
+        Ok(Some(values))
+    } else {
+        Ok(None)
+    }
+}

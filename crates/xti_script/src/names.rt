@@ -1,0 +1,137 @@
+//! The names that each worker's lines define.
+
+ghost use Rattle.std.specs.Prelude.{◌≡◌, ◌≤◌, ◌<◌, ◌||◌, ◌&&◌, ◌==◌, ℕ, false, List, length, IfOk, OnOk};
+ghost use Rattle.std.specs.Str.{bytes_eq};
+ghost use Rattle.xti_script.specs.Grammar.{last_worker};
+ghost use Rattle.xti_script.specs.TextSets.{has, has_at};
+ghost use Rattle.xti_script.specs.Known.{is_own};
+
+use std::alloc::{AllocError, Global};
+use std::collections::BTreeSet;
+use std::marker::Model;
+use xti_model::{Line, NamedCall};
+
+/// How many workers there are.
+const WORKERS: usize = 33;
+
+type TextSet = BTreeSet<Vec<u8>>;
+
+fn has(texts: &TextSet, bytes: &[u8]) -> bool
+    ensures { result ≡ has texts.now bytes.now }
+{
+    texts.contains(bytes)
+}
+
+fn add_text(alloc: Global, texts: &mut TextSet, text: &[u8]) -> Result<(), AllocError>
+    ensures { OnOk result ((other : List ℕ) → has texts.new other ≡ (has texts.old other || bytes_eq text.now other)) }
+{
+    texts.insert(Vec::from_slice(alloc, text)?)?;
+    Ok(())
+}
+
+fn has_at(sets: &[TextSet], place: usize, bytes: &[u8]) -> bool
+    ensures { result ≡ has_at sets.now place bytes.now }
+{
+    match sets.get(place) {
+        Some(texts) => has(texts, bytes),
+        None => false,
+    }
+}
+
+/// Whether the sets have the name for the worker, or for worker 0.
+fn is_defined(sets: &[TextSet], worker: usize, name: &[u8]) -> bool
+    ensures { result ≡ (has_at sets.now worker name.now || has_at sets.now 0 name.now) }
+{
+    has_at(sets, worker, name) || has_at(sets, 0, name)
+}
+
+fn add_at(alloc: Global, sets: &mut [TextSet], place: usize, text: &[u8]) -> Result<(), AllocError>
+    requires { place < length sets.old }
+    ensures { OnOk result ((at : ℕ) (other : List ℕ) → has_at sets.new at other ≡ (has_at sets.old at other || ((place == at) && bytes_eq text.now other))) }
+{
+    add_text(alloc, &mut sets[place], text)
+}
+
+fn empty_sets(alloc: Global) -> Result<Vec<TextSet>, AllocError>
+    ensures workers { IfOk result (λ sets. length sets.items ≡ 33) }
+    ensures empty { IfOk result (λ sets. (at : ℕ) (other : List ℕ) → has_at sets.items at other ≡ false) }
+{
+    let mut sets = Vec::with_capacity(alloc, WORKERS)?;
+    for _worker in 0..WORKERS {
+        sets.push(BTreeSet::new(alloc))?;
+    }
+    Ok(sets)
+}
+
+/// Adds the name that the line defines.
+fn add_name(alloc: Global, sets: &mut [TextSet], line: &Line) -> Result<(), AllocError>
+    requires { line.now.worker < length sets.old }
+    ensures { OnOk result ((worker : ℕ) (name : List ℕ) → has_at sets.new worker name ≡ (has_at sets.old worker name || is_own worker name line.now)) }
+{
+    match &line.call {
+        NamedCall::TOpen { name, .. } => {
+            add_at(alloc, sets, line.worker as usize, name.as_slice())
+        }
+        _ => Ok(()),
+    }
+}
+
+/// The names, and the one that the line defines.
+fn with_name(
+    alloc: Global,
+    mut names: Vec<TextSet>,
+    line: &Line,
+) -> Result<Vec<TextSet>, AllocError>
+    requires { line.now.worker < length names.items }
+    ensures workers { IfOk result (λ more. length more.items ≡ length names.items) }
+    ensures names { IfOk result (λ more. (worker : ℕ) (name : List ℕ) → has_at more.items worker name ≡ (has_at names.items worker name || is_own worker name line.now)) }
+{
+    add_name(alloc, names.as_mut_slice(), line)?;
+    Ok(names)
+}
+
+/// The names that each worker's lines define.
+#[derive(Drop)]
+pub(crate) struct Names {
+    sets: Vec<TextSet>,
+}
+
+impl Model for Names {
+    ghost use Rattle.std.specs.Prelude.{◌≡◌, List, length};
+    ghost use Rattle.xti_script.specs.TextSets.{TextSet};
+
+    ghost Value = { List TextSet };
+
+    ghost view = { λ n. n.sets.items };
+
+    ghost invariant = { λ n. length n.sets.items ≡ 33 };
+}
+
+impl Names {
+    /// No names.
+    pub(crate) fn new(alloc: Global) -> Result<Names, AllocError>
+        ensures { IfOk result (λ names. (worker : ℕ) (name : List ℕ) → has_at names worker name ≡ false) }
+    {
+        Ok(Names {
+            sets: empty_sets(alloc)?,
+        })
+    }
+
+    /// The names, and the one that the line defines.
+    pub(crate) fn with(self, alloc: Global, line: &Line) -> Result<Names, AllocError>
+        requires { line.now.worker ≤ last_worker }
+        ensures { IfOk result (λ more. (worker : ℕ) (name : List ℕ) → has_at more worker name ≡ (has_at self worker name || is_own worker name line.now)) }
+    {
+        let Names { sets } = self;
+        Ok(Names {
+            sets: with_name(alloc, sets, line)?,
+        })
+    }
+
+    /// Whether the name is one of the worker, or of worker 0.
+    pub(crate) fn have(&self, worker: u32, name: &[u8]) -> bool
+        ensures { result ≡ (has_at self.now worker name.now || has_at self.now 0 name.now) }
+    {
+        is_defined(self.sets.as_slice(), worker as usize, name)
+    }
+}

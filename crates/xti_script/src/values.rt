@@ -1,0 +1,222 @@
+//! What words stand for: numbers, bytes, and several of them.
+
+ghost use Rattle.std.specs.Prelude.{◌≡◌, ◌==◌, ◌≤◌, ◌∷◌, [], length, IfOk, Some};
+ghost use Rattle.xti_script.specs.Texts.{is_plain_text};
+ghost use Rattle.xti_script.specs.Values.{is_decimal, number_in, hex_digit, hex_pair, hex_bytes, plain_bytes, bytes_in, each_in, list_in, value_in};
+ghost use Rattle.xti_script.specs.Numbers.{with_digit, digits_behind, first_byte};
+ghost use Rattle.xti_script.specs.Reading.{views, behind_key};
+
+use crate::texts::{are_digits, is_digit, is_plain_text, pieces_of};
+use std::alloc::{AllocError, Global};
+use xti_base::{Items, Octets, Parts, Sizes};
+
+/// The most parts or sizes of a word.
+const MOST_PIECES: usize = 32;
+
+/// The kinds of values.
+#[derive(Clone, Copy, Debug, PartialEq, Eq)]
+pub(crate) enum Kind {
+    /// One byte word.
+    Bytes,
+    /// A number.
+    Number,
+    /// Byte words that commas part.
+    Parts,
+    /// Numbers that commas part.
+    Sizes,
+}
+
+/// The value of a field.
+#[derive(Drop)]
+pub(crate) enum Value {
+    Bytes(Octets),
+    Number(u32),
+    Parts(Parts),
+    Sizes(Sizes),
+}
+
+/// Values of fields, in order.
+pub(crate) type Values = Items<Value>;
+
+fn with_digit(number: u32, c: u8) -> Option<u32>
+    ensures { result ≡ with_digit number c }
+{
+    if !is_digit(c) {
+        return None;
+    }
+    let longer = number as u64 * 10 + (c - b'0') as u64;
+    if longer < 1 << 32 {
+        Some(longer as u32)
+    } else {
+        None
+    }
+}
+
+fn digits_behind(number: u32, digits: &[u8]) -> Option<u32>
+    ensures { result ≡ digits_behind (Some number) digits.now }
+{
+    match digits {
+        [] => Some(number),
+        [c, rest @ ..] => match with_digit(number, *c) {
+            Some(longer) => digits_behind(longer, rest),
+            None => None,
+        },
+    }
+}
+
+fn is_decimal(word: &[u8]) -> bool
+    ensures { result ≡ is_decimal word.now }
+{
+    match word {
+        [] => false,
+        [c] => is_digit(*c),
+        [c, ..] => *c != b'0' && are_digits(word),
+    }
+}
+
+/// The number that a word spells: decimal, without leading zeros, in 32 bits.
+pub(crate) fn number_in(word: &[u8]) -> Option<u32>
+    ensures { result ≡ number_in word.now }
+{
+    if is_decimal(word) {
+        digits_behind(0, word)
+    } else {
+        None
+    }
+}
+
+fn hex_digit(c: u8) -> Option<u8>
+    ensures { result ≡ hex_digit c }
+{
+    match c {
+        b'0'..=b'9' => Some(c - b'0'),
+        b'a'..=b'f' => Some(c - b'a' + 10),
+        _ => None,
+    }
+}
+
+fn hex_pair(high: u8, low: u8) -> Option<u8>
+    ensures { result ≡ hex_pair (hex_digit high) (hex_digit low) }
+{
+    match (hex_digit(high), hex_digit(low)) {
+        (Some(high), Some(low)) => Some(high * 16 + low),
+        _ => None,
+    }
+}
+
+fn first_byte(digits: &[u8]) -> Option<u8>
+    ensures { result ≡ first_byte digits.now }
+{
+    match digits {
+        [high, low, ..] => hex_pair(*high, *low),
+        _ => None,
+    }
+}
+
+fn hex_bytes(alloc: Global, digits: &[u8]) -> Result<Option<Octets>, AllocError>
+    ensures { IfOk result (λ bytes. bytes ≡ hex_bytes digits.now) }
+{
+    let mut bytes = Octets::new(alloc);
+    let mut rest = digits;
+    while rest.len() >= 2 {
+        match first_byte(rest) {
+            Some(byte) => bytes.push(byte)?,
+            None => return Ok(None),
+        }
+        let (_, behind) = rest.split_at(2);
+        rest = behind;
+    }
+    if rest.is_empty() {
+        Ok(Some(bytes))
+    } else {
+        Ok(None)
+    }
+}
+
+fn plain_bytes(alloc: Global, text: &[u8]) -> Result<Option<Octets>, AllocError>
+    ensures { IfOk result (λ bytes. bytes ≡ plain_bytes text.now) }
+{
+    if is_plain_text(text) {
+        Ok(Some(Octets::copy_of(alloc, text)?))
+    } else {
+        Ok(None)
+    }
+}
+
+/// The bytes that a word spells: `t:` and plain text, or `x:` and pairs of hexadecimal digits.
+#[tactic(auto, unfolding(crate::specs::Values::bytes_in))]
+fn bytes_in(alloc: Global, word: &[u8]) -> Result<Option<Octets>, AllocError>
+    ensures { IfOk result (λ bytes. bytes ≡ bytes_in word.now) }
+{
+    if word.starts_with(b"t:".as_slice()) {
+        let (_, text) = word.split_at(2);
+        plain_bytes(alloc, text)
+    } else if word.starts_with(b"x:".as_slice()) {
+        let (_, digits) = word.split_at(2);
+        hex_bytes(alloc, digits)
+    } else {
+        Ok(None)
+    }
+}
+
+fn each_bytes(alloc: Global, pieces: &[&[u8]]) -> Result<Option<Parts>, AllocError>
+    ensures { IfOk result (λ parts. parts ≡ each_in bytes_in (views pieces.now)) }
+{
+    let mut parts = Parts::new(alloc);
+    for piece in pieces {
+        match bytes_in(alloc, piece)? {
+            Some(bytes) => parts.push(bytes)?,
+            None => return Ok(None),
+        }
+    }
+    Ok(Some(parts))
+}
+
+fn each_number(alloc: Global, pieces: &[&[u8]]) -> Result<Option<Sizes>, AllocError>
+    ensures { IfOk result (λ sizes. sizes ≡ each_in number_in (views pieces.now)) }
+{
+    let mut sizes = Sizes::new(alloc);
+    for piece in pieces {
+        match number_in(piece) {
+            Some(number) => sizes.push(number)?,
+            None => return Ok(None),
+        }
+    }
+    Ok(Some(sizes))
+}
+
+#[tactic(auto, unfolding(crate::specs::Values::list_in))]
+fn parts_in(alloc: Global, word: &[u8]) -> Result<Option<Parts>, AllocError>
+    ensures { IfOk result (λ parts. parts ≡ list_in bytes_in word.now) }
+{
+    let pieces = pieces_of(alloc, b',', word)?;
+    if pieces.len() <= MOST_PIECES {
+        each_bytes(alloc, pieces.as_slice())
+    } else {
+        Ok(None)
+    }
+}
+
+#[tactic(auto, unfolding(crate::specs::Values::list_in))]
+fn sizes_in(alloc: Global, word: &[u8]) -> Result<Option<Sizes>, AllocError>
+    ensures { IfOk result (λ sizes. sizes ≡ list_in number_in word.now) }
+{
+    let pieces = pieces_of(alloc, b',', word)?;
+    if pieces.len() <= MOST_PIECES {
+        each_number(alloc, pieces.as_slice())
+    } else {
+        Ok(None)
+    }
+}
+
+/// What a text stands for as this kind of value.
+pub(crate) fn value_in(alloc: Global, kind: Kind, text: &[u8]) -> Result<Option<Value>, AllocError>
+    ensures { IfOk result (λ value. value ≡ value_in kind text.now) }
+{
+    match kind {
+        Kind::Bytes => Ok(bytes_in(alloc, text)?.map(Value::Bytes)),
+        Kind::Number => Ok(number_in(text).map(Value::Number)),
+        Kind::Parts => Ok(parts_in(alloc, text)?.map(Value::Parts)),
+        Kind::Sizes => Ok(sizes_in(alloc, text)?.map(Value::Sizes)),
+    }
+}
