@@ -1,5 +1,5 @@
 -- An input that the command takes is done.
-use Rattle.std.specs.Prelude.{◌⊎◌, if◌then◌else◌}
+use Rattle.std.specs.Prelude.{◌⊎◌}
 use Rattle.xti_model.specs.Robin.{robin}
 use Rattle.xti_replay.specs.Stalls.{are_through}
 use Rattle.std.proofs.Common.{◌≡◌, inl, inr, Bool, true, false, ℕ, List, Option, Some, None, length, ap, subst, arith}
@@ -9,7 +9,7 @@ use Rattle.xti_script.specs.Grammar.{IsScript}
 use Rattle.xti_script.specs.Refused.{IsRefusedAt}
 use Rattle.xti_run.specs.declared.words.Command.{Command}
 use Rattle.xti_run.specs.declared.words.Command.TheVariants.{Replay, Frames}
-use Rattle.xti_run.specs.Program.{IsLeft, IsRun, IsAnswer, IsOutput, IsOutputOf, IsDone, HasInput, HasScript, HasFrames, command_of}
+use Rattle.xti_run.specs.Program.{IsLeft, IsRun, IsAnswer, IsOutput, IsOutputOf, IsDone, HasInput, HasScript, HasFrames, status_with, command_of}
 
 -- no text is a script and refused at a line, and no bytes are frames and wrong first at a place
 abbrev pub NoScript : Type 0
@@ -22,7 +22,7 @@ the_left : (left : Option (List ℕ)) (input told : List ℕ) → IsLeft left in
 the_left (Some bytes) input told h e = cc
 the_left None input told h e = cc
 
-either-status : (b : Bool) (status : ℕ) → status ≡ (if b then 0 else 3) → (status ≡ 0) ⊎ (status ≡ 3)
+either-status : (b : Bool) (status : ℕ) → status ≡ status_with b → (status ≡ 0) ⊎ (status ≡ 3)
 either-status true status e = inl e
 either-status false status e = inr e
 

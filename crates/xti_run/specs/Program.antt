@@ -1,5 +1,5 @@
 -- What the program answers.
-use Rattle.std.specs.Prelude.{◌≡◌, ℕ, ◌<◌, ◌≤◌, List, [], ◌∷◌, ◌++◌, length, take, codes, decimal, Option, Some, None, ◌⊎◌, if◌then◌else◌}
+use Rattle.std.specs.Prelude.{◌≡◌, Bool, true, false, ℕ, ◌<◌, ◌≤◌, List, [], ◌∷◌, ◌++◌, length, take, codes, decimal, Option, Some, None, ◌⊎◌, if◌then◌else◌}
 use Rattle.std.specs.Str.{bytes_eq}
 use Rattle.xti_io.specs.Faults.{Rose}
 use Rattle.xti_io.specs.Sink.{Takes}
@@ -25,9 +25,13 @@ limit = 67108864
 abbrev pub replayed : Script → Journal
 replayed s = record { providers = s.providers; entries = robin s; stalls = stalls_of s }
 
--- 0 where every worker is through, else 3
+-- 0 where all are through, else 3
+abbrev pub status_with : Bool → ℕ
+status_with true = 0
+status_with false = 3
+
 abbrev pub run_status : Script → ℕ
-run_status s = if are_through s.lines (robin s) then 0 else 3
+run_status s = status_with (are_through s.lines (robin s))
 
 unfoldable pub refused_line : ℕ → List ℕ
 refused_line n = codes "refused line " ++ decimal n ++ codes "\n"

@@ -1,12 +1,12 @@
 //! The top call.
 
-ghost use Rattle.std.specs.Prelude.{◌≡◌, ◌≢◌, ◌<◌, ◌≤◌, ◌+◌, ◌⊎◌, ℕ, List, Some, None, IfOk, IfErr, OnErr, length};
+ghost use Rattle.std.specs.Prelude.{◌≡◌, ◌≢◌, ◌<◌, ◌≤◌, ◌+◌, ◌⊎◌, ℕ, List, Some, None, IfOk, IfErr, OnErr, length, ◌==◌};
 ghost use Rattle.xti_io.specs.Faults.{Rose};
 ghost use Rattle.xti_io.specs.Source.{GivesUpTo};
 ghost use Rattle.xti_model.specs.declared.script.Script.{Script};
 ghost use Rattle.xti_script.specs.Grammar.{IsScript};
 ghost use Rattle.xti_run.specs.declared.words.Command.{Command};
-ghost use Rattle.xti_run.specs.Program.{IsReplayed, IsRefusedInput, IsListed, IsRefusedByte, IsAnswered, IsRun, IsOutput, IsRefusedWords, IsWritten, IsCutOff, HasInput, IsDone, NoFault, limit, refused_line, refused_byte, refused_words, refused_size, command_of};
+ghost use Rattle.xti_run.specs.Program.{IsReplayed, IsRefusedInput, IsListed, IsRefusedByte, IsAnswered, IsRun, IsOutput, IsRefusedWords, IsWritten, IsCutOff, HasInput, IsDone, NoFault, limit, refused_line, refused_byte, refused_words, refused_size, command_of, status_with};
 
 use crate::gate::Gate;
 use crate::round_robin::replay;
@@ -19,6 +19,7 @@ use xti_base::Octets;
 use xti_frames::{FramesFail, show_frames};
 use xti_io::{ReadEnd, Sink, Source, read_all, write_all};
 use xti_journal::write_journal;
+use xti_model::Stalls;
 use xti_script::{ScriptFail, never_both, read_script};
 
 /// The most bytes of an input.
@@ -54,6 +55,13 @@ fn byte_text(alloc: Global, at: usize) -> Result<Octets, AllocError>
     Ok(Octets::from_vec(text.into_bytes()))
 }
 
+/// The status with which a journal with these stall lines comes: 3 where there are any.
+fn journal_status(stalls: &Stalls) -> u8
+    ensures { result ≡ status_with (length stalls.now == 0) }
+{
+    if stalls.is_empty() { 0 } else { 3 }
+}
+
 /// What `replay` answers to an input within the limit.
 fn replay_answer(alloc: Global, input: &[u8]) -> Result<Answer, AllocError>
     ensures { IfOk result (λ a. IsReplayed input.now a.status a.text ⊎ IsRefusedInput input.now a.status a.text) }
@@ -62,7 +70,7 @@ fn replay_answer(alloc: Global, input: &[u8]) -> Result<Answer, AllocError>
         Ok(script) => {
             let journal = replay(alloc, &script)?;
             let text = write_journal(alloc, &journal)?;
-            let status = if journal.stalls.is_empty() { 0 } else { 3 };
+            let status = journal_status(&journal.stalls);
             Ok(Answer { status, text })
         }
         Err(ScriptFail::Bad { line }) => {
