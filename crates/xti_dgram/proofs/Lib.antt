@@ -1,0 +1,5 @@
+pub mod Written
+pub mod Sound
+pub mod Sizes
+pub mod Rows
+pub mod Reached

@@ -1,0 +1,110 @@
+//! The indications of datagrams and their errors, as frames.
+
+ghost use Rattle.std.specs.Prelude.{◌≡◌, ◌≤◌, ◌^◌, ◌-◌, length, min, true, IfOk};
+ghost use Rattle.std.specs.List.{concat};
+ghost use Rattle.tpi_grammar.specs.Frame.{control_size};
+ghost use Rattle.tpi_grammar.specs.declared.kind.Kind.TheVariants.{T_UNITDATA_IND, T_UDERROR_IND};
+ghost use Rattle.tpi_prim.specs.Fields.{kind_in, primitive_in};
+ghost use Rattle.tpi_prim.specs.Primitive.{filled};
+ghost use Rattle.xti_model.specs.Endpoint.{address_of};
+ghost use Rattle.xti_model.specs.Calls.Datagrams.{datagram_from, error_to};
+ghost use Rattle.xti_end.specs.Frames.{datagram_in, error_in};
+ghost use Rattle.xti_end.specs.Held as Held;
+
+use bytes::{Bytes, BytesMut};
+use std::alloc::{AllocError, Global};
+use tpi_prim::primitive::Prim;
+use tpi_prim::{EncodeFail, Frame, encode};
+use xti_base::Octets;
+use xti_end::Endpoint;
+
+/// The code of a datagram that nobody was there to take.
+const UNDELIVERABLE: u32 = 1;
+
+/// How many bytes the parts have, up to the greatest number.
+pub(crate) fn total(parts: &[Octets]) -> usize
+    ensures { result ≡ min (length (concat parts.now)) (2 ^ 64 - 1) }
+{
+    let mut total = 0usize;
+    for part in parts {
+        total = total.saturating_add(part.as_slice().len());
+    }
+    total
+}
+
+/// The parts, joined.
+fn joined(alloc: Global, parts: &[Octets]) -> Result<Bytes, AllocError>
+    requires { length (concat parts.now) ≤ 65536 }
+    ensures { IfOk result (λ bytes. bytes ≡ concat parts.now) }
+{
+    let mut bytes = BytesMut::with_capacity(alloc, total(parts))?;
+    for part in parts {
+        bytes.extend_reserved(part.as_slice());
+    }
+    Ok(bytes.freeze()?)
+}
+
+/// The frame of a primitive that isn't too big.
+fn frame_of(alloc: Global, prim: &Prim) -> Result<Frame, AllocError>
+    requires control { control_size (filled prim.now) ≤ 1024 }
+    requires data { length (filled prim.now).user ≤ 65536 }
+    ensures { IfOk result (λ frame. primitive_in frame ≡ prim.now) }
+{
+    match encode(alloc, prim) {
+        Ok(frame) => Ok(frame),
+        Err(EncodeFail::OutOfMemory) => Err(AllocError),
+        Err(EncodeFail::TooBig) => unreachable!(),
+    }
+}
+
+/// The address of an open endpoint; empty where there is none.
+fn address_of(e: &Endpoint) -> &[u8]
+    requires { Held.is_open e.now ≡ true }
+    ensures { result.now ≡ address_of (Held.parts e.now) }
+{
+    match e.address() {
+        Some(address) => address.as_slice(),
+        None => &[],
+    }
+}
+
+/// The T_UNITDATA_IND of a datagram that the open endpoint sends.
+pub(crate) fn datagram(
+    alloc: Global,
+    e: &Endpoint,
+    options: &[u8],
+    parts: &[Octets],
+) -> Result<Frame, AllocError>
+    requires open { Held.is_open e.now ≡ true }
+    requires source { length (address_of (Held.parts e.now)) ≤ 64 }
+    requires options { length options.now ≤ 256 }
+    requires data { length (concat parts.now) ≤ 65536 }
+    ensures kind { IfOk result (λ frame. kind_in frame ≡ T_UNITDATA_IND) }
+    ensures datagram { IfOk result (λ frame. datagram_in frame ≡ datagram_from (Held.parts e.now) options.now (concat parts.now)) }
+{
+    let prim = Prim::T_UNITDATA_IND {
+        src: Bytes::copy_from_slice(alloc, address_of(e))?,
+        opt: Bytes::copy_from_slice(alloc, options)?,
+        user: joined(alloc, parts)?,
+    };
+    frame_of(alloc, &prim)
+}
+
+/// The T_UDERROR_IND of a datagram that nobody was there to take.
+pub(crate) fn datagram_error(
+    alloc: Global,
+    address: &[u8],
+    options: &[u8],
+) -> Result<Frame, AllocError>
+    requires address { length address.now ≤ 64 }
+    requires options { length options.now ≤ 256 }
+    ensures kind { IfOk result (λ frame. kind_in frame ≡ T_UDERROR_IND) }
+    ensures error { IfOk result (λ frame. error_in frame ≡ error_to address.now options.now) }
+{
+    let prim = Prim::T_UDERROR_IND {
+        dest: Bytes::copy_from_slice(alloc, address)?,
+        opt: Bytes::copy_from_slice(alloc, options)?,
+        error_type: UNDELIVERABLE,
+    };
+    frame_of(alloc, &prim)
+}

@@ -1,0 +1,11 @@
+//! The steps that send datagrams, on lent cells.
+#![tactic(auto)]
+
+mod indications;
+mod places;
+mod refusals;
+mod sending;
+mod step;
+mod writes;
+
+pub use step::dgram_step;

@@ -1,0 +1,128 @@
+//! Sending a datagram, whole or in parts.
+
+ghost use Rattle.std.specs.Prelude.{◌≡◌, ◌≤◌, ◌%◌, true, None, IfOk, IfSome, OnOk, OnErr, is_some, length, option_map, option_and_then};
+ghost use Rattle.std.specs.List.{concat};
+ghost use Rattle.tpi_grammar.specs.declared.kind.Kind.TheVariants.{T_UNITDATA_IND};
+ghost use Rattle.tpi_prim.specs.Fields.{kind_in};
+ghost use Rattle.xti_model.specs.Calls.Datagrams.{datagram_from, send_changes, send_plan};
+ghost use Rattle.xti_model.specs.Sending.{takes_datagram};
+ghost use Rattle.xti_model.specs.Step.{step_of};
+ghost use Rattle.xti_model.specs.Switch.{bound};
+ghost use Rattle.xti_model.specs.World.{changed, endpoint, the_switch};
+ghost use Rattle.xti_end.specs.Frames.{datagram_in};
+ghost use Rattle.xti_end.specs.Taken.{taken};
+ghost use Rattle.xti_lent.specs.Fit.{AtOwnPlaces, IsFit, SameCells};
+ghost use Rattle.xti_lent.specs.Lending.{cells};
+ghost use Rattle.xti_dgram.specs.Reach.{CanReach, IsHeld};
+
+use crate::indications::{datagram, datagram_error};
+use crate::refusals::refusal;
+use crate::writes::{give, mark_flow, push_error};
+use std::alloc::AllocError;
+use tpi_prim::Frame;
+use xti_base::{Errno, Fd, Octets, Prov};
+use xti_lent::{Lent, done, refused};
+use xti_model::{Applied, Reply, Spot};
+
+/// The endpoint that is bound to the address; of several the least descriptor.
+fn receiver(lent: &Lent, prov: Prov, address: &[u8]) -> Option<Fd>
+    requires { is_some lent.now.registry ≡ true }
+    ensures { option_map (λ fd. fd.0) result ≡ bound (the_switch lent.now.providers (cells lent.now)) prov address.now }
+{
+    lent.registry_ref().bound(prov, address, false)
+}
+
+/// Whether the receiver takes one more datagram; where nobody is bound it is lost.
+fn takes_datagram(lent: &Lent, to: Option<Fd>) -> bool
+    requires { AtOwnPlaces lent.now }
+    ensures { result ≡ takes_datagram (option_and_then (endpoint lent.now.providers (cells lent.now)) (option_map (λ fd. fd.0) to)) }
+{
+    match to {
+        None => true,
+        Some(to) => match lent.open_endpoint(to) {
+            None => true,
+            Some(e) => e.takes_datagram(),
+        },
+    }
+}
+
+/// The T_UNITDATA_IND of a datagram that the open endpoint sends.
+fn indication(lent: &Lent, fd: Fd, options: &[u8], parts: &[Octets]) -> Result<Frame, AllocError>
+    requires fit { IsFit lent.now }
+    requires open { is_some (endpoint lent.now.providers (cells lent.now) fd.0) ≡ true }
+    requires options { length options.now ≤ 256 }
+    requires data { length (concat parts.now) ≤ 65536 }
+    ensures kind { IfOk result (λ frame. kind_in frame ≡ T_UNITDATA_IND) }
+    ensures datagram { IfOk result (λ frame. IfSome (endpoint lent.now.providers (cells lent.now) fd.0) (λ e. datagram_in frame ≡ datagram_from e options.now (concat parts.now))) }
+{
+    match lent.open_endpoint(fd) {
+        Some(e) => datagram(lent.alloc(), e, options, parts),
+        None => unreachable!(),
+    }
+}
+
+/// The datagram waits at the receiver, and else an error at the sender; after want of memory all is as before.
+fn deliver(
+    lent: &mut Lent,
+    fd: Fd,
+    to: Option<Fd>,
+    address: &[u8],
+    options: &[u8],
+    parts: &[Octets],
+) -> Result<(), AllocError>
+    requires fit { IsFit lent.old }
+    requires open { is_some (endpoint lent.old.providers (cells lent.old) fd.0) ≡ true }
+    requires sender { IsHeld lent.old fd.0 }
+    requires receiver { IfSome to (λ to. IsHeld lent.old to.0) }
+    requires address { length address.now ≤ 64 }
+    requires options { length options.now ≤ 256 }
+    requires data { length (concat parts.now) ≤ 65536 }
+    ensures ok { OnOk result (IfSome (endpoint lent.old.providers (cells lent.old) fd.0) (λ e. cells lent.new ≡ changed lent.old.providers (cells lent.old) (send_changes fd.0 address.now options.now (concat parts.now) (option_map (λ fd. fd.0) to) e))) }
+    ensures kept { SameCells lent.old lent.new }
+    ensures err { OnErr result (lent.new ≡ lent.old) }
+{
+    match to {
+        Some(to) => {
+            let frame = indication(lent, fd, options, parts)?;
+            give(lent, fd, to, frame)
+        }
+        None => {
+            let frame = datagram_error(lent.alloc(), address, options)?;
+            push_error(lent, fd, frame)
+        }
+    }
+}
+
+/// Sends the parts as one datagram.
+pub(crate) fn send(
+    lent: &mut Lent,
+    fd: Fd,
+    address: &[u8],
+    options: &[u8],
+    parts: &[Octets],
+) -> Result<Applied, AllocError>
+    requires fit { IsFit lent.old }
+    requires reach { CanReach lent.old fd.0 address.now }
+    ensures step { IfOk result (λ a. taken a (cells lent.new) ≡ step_of lent.old.providers (cells lent.old) (send_plan lent.old.providers (cells lent.old) fd.0 address.now options.now (length parts.now) (concat parts.now))) }
+    ensures still { IfOk result (λ a. taken a (cells lent.new) ≡ None → lent.new ≡ lent.old) }
+    ensures kept { SameCells lent.old lent.new }
+    ensures err { OnErr result (lent.new ≡ lent.old) }
+{
+    let Some(e) = lent.open_endpoint(fd) else {
+        return Ok(refused(lent, fd, Errno::TBADF));
+    };
+    if let Some(reply) = refusal(e, lent.providers(), address, options, parts) {
+        return Ok(done(lent, fd, reply));
+    }
+    let nonblock = e.nonblock();
+    let to = receiver(lent, e.prov(), address);
+    if takes_datagram(lent, to) {
+        deliver(lent, fd, to, address, options, parts)?;
+        Ok(done(lent, fd, Reply::Plain))
+    } else if nonblock {
+        mark_flow(lent, fd, Some(Spot::of(address)));
+        Ok(refused(lent, fd, Errno::TFLOW))
+    } else {
+        Ok(Applied::Blocked)
+    }
+}
