@@ -8,3 +8,4 @@ mod Moving
 mod Stepping
 mod Lending
 mod Courses
+mod Beginning

@@ -11,6 +11,7 @@ ghost use Rattle.xti_lent.specs.Fit.{AllLent, AtOwnPlaces, IsFit, SameCells};
 
 use std::alloc::AllocError;
 use xti_base::Fd;
+use xti_dgram::dgram_step;
 use xti_lent::{Lent, place_of};
 use xti_model::{Applied, Call, Go};
 
@@ -47,6 +48,8 @@ pub fn apply(lent: &mut Lent, call: &Call, _go: Go) -> Result<Applied, AllocErro
         Call::TGetState { fd } => local(lent, call, *fd, _go),
         Call::TSync { fd } => local(lent, call, *fd, _go),
         Call::SetMode { fd, .. } => local(lent, call, *fd, _go),
+        Call::TSndUData { .. } => dgram_step(lent, call),
+        Call::TSndVUData { .. } => dgram_step(lent, call),
         _ => unreachable!(),
     }
 }
