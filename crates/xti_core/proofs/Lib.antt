@@ -9,3 +9,4 @@ mod Stepping
 mod Lending
 mod Courses
 mod Beginning
+mod Shown

@@ -9,11 +9,13 @@ ghost use Rattle.xti_end.specs.Taken.{taken, IsAt};
 ghost use Rattle.xti_lent.specs.Lending.{cells, is_lent};
 ghost use Rattle.xti_lent.specs.Fit.{AllLent, AtOwnPlaces, IsFit, SameCells};
 
+use crate::looking::look;
 use std::alloc::AllocError;
 use xti_base::Fd;
 use xti_dgram::dgram_step;
 use xti_lent::{Lent, place_of};
 use xti_model::{Applied, Call, Go};
+use xti_switch::switch_step;
 
 /// One step of a call that touches the cell of its descriptor alone.
 pub(crate) fn local(lent: &mut Lent, call: &Call, fd: Fd, _go: Go) -> Result<Applied, AllocError>
@@ -50,6 +52,11 @@ pub fn apply(lent: &mut Lent, call: &Call, _go: Go) -> Result<Applied, AllocErro
         Call::SetMode { fd, .. } => local(lent, call, *fd, _go),
         Call::TSndUData { .. } => dgram_step(lent, call),
         Call::TSndVUData { .. } => dgram_step(lent, call),
+        Call::TOpen { .. } => switch_step(lent, call),
+        Call::TClose { .. } => switch_step(lent, call),
+        Call::TBind { .. } => switch_step(lent, call),
+        Call::TUnbind { .. } => switch_step(lent, call),
+        Call::TLookAt { fd } => Ok(look(lent, *fd)),
         _ => unreachable!(),
     }
 }

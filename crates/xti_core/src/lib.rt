@@ -2,6 +2,7 @@
 #![tactic(auto)]
 
 mod applying;
+mod looking;
 mod store;
 mod touching;
 mod world;

@@ -19,6 +19,3 @@ local-requires-in-TSync-clause-lent c = own-lent c.args.lent.now.providers c.arg
 
 pub local-requires-in-SetMode-clause-lent : goal.local-requires-in-SetMode-clause-lent
 local-requires-in-SetMode-clause-lent c = own-lent c.args.lent.now.providers c.args.lent.now c.args.call.now _ c.in-SetMode.fd.0 c.in-SetMode.is refl c.requires.lent
-
-pub unreachable-requires : goal.unreachable-requires
-unreachable-requires c = ?
