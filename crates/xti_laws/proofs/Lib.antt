@@ -1,21 +1,21 @@
-mod Only
-mod Local
-mod Others
+pub mod Only
+pub mod Local
+pub mod Others
 mod Touched
 mod Changes
 mod Kept
 pub mod View
 mod Steady
-mod Effects
+pub mod Effects
 mod TableRows
 mod Taken
 pub mod Opening
 mod StatesOfConnections
 mod Leaving
 mod OtherStates
-mod TableWalk
+pub mod TableWalk
 mod Initialised
-mod TouchedCells
+pub mod TouchedCells
 mod TouchedAgain
 mod KnownPlaces
 mod Blocking

@@ -1,0 +1,112 @@
+-- Which lent cells are fit for a step.
+use Rattle.std.proofs.Common.{◌≡◌, ℕ, ◌+◌, ◌<◌, ◌%◌, Bool, true, false, ◌||◌, cond, eqb, List, [], ◌∷◌, length, map, Option, Some, None, refl, sym, ap, ◌∙◌, subst, arith}
+use Rattle.std.specs.Prelude.{option_map, is_some, IfSome}
+use Rattle.std.specs.List.{AllByRecursion}
+use Rattle.std.proofs.lemmas.Bool.{eq-eqb, eqb-true}
+use Rattle.xti_model.specs.declared.profile.Providers.{Providers}
+use Rattle.xti_model.specs.Endpoint.{Endpoint}
+use Rattle.xti_model.specs.Sound.{is_sound_body, Agrees}
+use Rattle.xti_model.specs.World.{World, Cell, Switch, is_among, cell_at, the_switch, switch_cell}
+use Rattle.xti_registry.specs.Known.{Known}
+use Rattle.xti_end.specs.Held.{Held, cell}
+use Rattle.xti_sound.specs.Invariant.{SoundWorld, SoundEndpoint}
+use Rattle.xti_sound.specs.Laws.{SoundWhenLent, SoundBody}
+use Rattle.xti_sound.proofs.Lent.{lent-cell}
+use Rattle.xti_lent.specs.Kept.{Distinct, IsPlace}
+use Rattle.xti_lent.specs.Lending.{Lending, held_in, held_at, cell_lent, cells, cells_by}
+use Rattle.xti_lent.specs.Fit.{IsSound, KnownTo, Agree, IsBuilt, IsOfTiclts, IsFit, place_of_held}
+use Rattle.xti_lent.proofs.Worlds.{at_number, cell_at-is}
+use Rattle.xti_lent.proofs.Lendings.{cell-is}
+use Rattle.xti_core.specs.Standing.{Kept, kept_at}
+use Rattle.xti_core.specs.Loans.{lent_or_kept, whole_at, IsLoan}
+use Rattle.xti_core.proofs.Switches.{switch-known}
+use Rattle.xti_core.proofs.Naming.{Sub, switch-sub}
+
+held-step : (P : Held → Type 0) (b : Bool) (x h : Held) (o : Option Held) → P x → (o ≡ Some h → P h) → cond b (Some x) o ≡ Some h → P h
+held-step P true x h o i j e = let s : x ≡ h = cc in subst P s i
+held-step P false x h o i j e = j e
+
+-- what holds of each endpoint that is lent holds of one that is found
+pub held-all : (P : Held → Type 0) (ms : List ℕ) (hs : List Held) (n : ℕ) (h : Held) → AllByRecursion P hs → held_in ms hs n ≡ Some h → P h
+held-all P [] hs n h a e = absurd (cc)
+held-all P (m ∷ ms) [] n h a e = absurd (cc)
+held-all P (m ∷ ms) (x ∷ hs) n h a e = held-step P (eqb m n) x h (held_in ms hs n) a.0 (λ i. held-all P ms hs n h a.1 i) e
+
+pub held-sound : (l : Lending) (n : ℕ) (h : Held) → AllByRecursion IsSound l.held → held_at l n ≡ Some h → is_sound_body h.body ≡ true
+held-sound l n h a e = held-all IsSound l.numbers l.held n h a e
+
+-- and what holds of each that is found holds of all
+held-among : (ms : List ℕ) (hs : List Held) (n : ℕ) (x : Held) → held_in ms hs n ≡ Some x → is_among ms n ≡ true
+held-among [] hs n x e = cc
+held-among (m ∷ ms) [] n x e = cc
+held-among (m ∷ ms) (h ∷ hs) n x e = go (eqb m n) e (held-among ms hs n x)
+  where
+    go : (b : Bool) → cond b (Some h) (held_in ms hs n) ≡ Some x → (held_in ms hs n ≡ Some x → is_among ms n ≡ true) → (b || is_among ms n) ≡ true
+    go true i j = refl
+    go false i j = j i
+
+abbrev head_or : ℕ → List ℕ → ℕ
+head_or d [] = d
+head_or d (n ∷ ns) = n
+
+abbrev tail_of : List ℕ → List ℕ
+tail_of [] = []
+tail_of (n ∷ ns) = ns
+
+each-held : (P : Held → Type 0) (ms : List ℕ) (hs : List Held) → Distinct ms → map place_of_held hs ≡ ms → ((h : Held) → held_in ms hs h.place ≡ Some h → P h) → AllByRecursion P hs
+each-held P ms [] d e f = tt
+each-held P [] (h ∷ hs) d e f = cc
+each-held P (m ∷ ms) (h ∷ hs) d e f = (f h (rw (eq-eqb m h.place (sym (ap (head_or 0) e))) refl), each-held P ms hs d.1 (ap tail_of e) (λ x i. f x (tail x i (eqb m x.place) refl)))
+  where
+    tail : (x : Held) → held_in ms hs x.place ≡ Some x → (b : Bool) → eqb m x.place ≡ b → held_in (m ∷ ms) (h ∷ hs) x.place ≡ Some x
+    tail x i true j =
+        let s : m ≡ x.place = eqb-true m x.place j in
+        let t : is_among ms x.place ≡ true = held-among ms hs x.place x i in
+        let u : is_among ms m ≡ true = subst (λ z. is_among ms z ≡ true) (sym s) t in
+        absurd (let v = d.0 in cc)
+    tail x i false j = rw j i
+
+among-place : (ms : List ℕ) (n : ℕ) → AllByRecursion IsPlace ms → is_among ms n ≡ true → n < 64
+among-place [] n a e = cc
+among-place (m ∷ ms) n a e = go (eqb m n) refl e (among-place ms n a.1)
+  where
+    go : (b : Bool) → eqb m n ≡ b → (b || is_among ms n) ≡ true → (is_among ms n ≡ true → n < 64) → n < 64
+    go true i j k = subst (λ z. z < 64) (eqb-true m n i) a.0
+    go false i j k = k j
+
+pub sub-whole : (s : Kept) (l : Lending) → Sub (cell_lent l) (whole_at s l)
+sub-whole s l n h = go (cell_lent l n) h
+  where
+    go : (o : Option Cell) → is_some o ≡ true → o ≡ lent_or_kept o (kept_at s n)
+    go None i = cc
+    go (Some c) i = refl
+
+-- a lent endpoint of a sound world
+held-fits : (p : Providers) (at : ℕ → Option Cell) (l : Lending) (h : Held) → SoundWorld p (cells_by at) → Sub (cell_lent l) at → IsLoan l → held_at l h.place ≡ Some h → SoundWhenLent p (the_switch p (cells_by at)) h.place (cell h)
+held-fits p at l h s u loan e =
+    let lt : h.place < 64 = among-place l.numbers h.place loan.kept.places (held-among l.numbers l.held h.place h e) in
+    let i : cell_lent l h.place ≡ Some (cell h) = cell-is l h.place h lt e in
+    let j : at h.place ≡ Some (cell h) = sym (u h.place (ap is_some i)) ∙ i in
+    lent-cell p (cells_by at) h.place (at_number h.place (cell h)) s lt (cell_at-is at h.place (omega (arith, lt)) ∙ ap (option_map (at_number h.place)) j)
+
+body-built : (o : Option Endpoint) → SoundBody o → IfSome o IsOfTiclts
+body-built None s = tt
+body-built (Some e) s = s.serves_datagrams
+
+pub sounds : (p : Providers) (at : ℕ → Option Cell) (l : Lending) → SoundWorld p (cells_by at) → Sub (cell_lent l) at → IsLoan l → AllByRecursion IsSound l.held
+sounds p at l s u loan = each-held IsSound l.numbers l.held loan.kept.distinct loan.own (λ h e. (held-fits p at l h s u loan e).is_sound_alone)
+
+-- lent cells of a sound world are fit
+pub fits : (at : ℕ → Option Cell) (l : Lending) → SoundWorld l.providers (cells_by at) → Sub (cell_lent l) at → IsLoan l → IsFit l
+fits at l s u loan = record {
+  places = loan.own;
+  sound = sounds l.providers at l s u loan;
+  agree = agree l.registry refl;
+  built = each-held IsBuilt l.numbers l.held loan.kept.distinct loan.own (λ h e. body-built h.body (held-fits l.providers at l h s u loan e).is_sound.0);
+}
+  where
+    agree : (o : Option Known) → l.registry ≡ o → Agree l.providers o l.held
+    agree None i = tt
+    agree (Some k) i =
+        let t : the_switch l.providers (cells_by at) ≡ k.switch = sym (switch-sub l.providers (cell_lent l) at u (rw i refl)) ∙ switch-known l.providers l k i in
+        each-held (KnownTo l.providers k.switch) l.numbers l.held loan.kept.distinct loan.own (λ h e. subst (λ z. Agrees l.providers z h.place h.generation h.body) t (held-fits l.providers at l h s u loan e).switch_agrees)

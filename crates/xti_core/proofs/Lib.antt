@@ -1,0 +1,12 @@
+mod Listing
+mod Switches
+mod Fitting
+mod Settling
+mod Lifting
+mod Naming
+mod Moving
+mod Stepping
+mod Lending
+mod Courses
+mod Beginning
+mod Shown

@@ -1,0 +1,120 @@
+-- A step on the lent cell of its descriptor alone is the step on all lent cells.
+use Rattle.std.proofs.Common.{◌≡◌, ℕ, zero, suc, ◌+◌, ◌<◌, ◌≤◌, ◌%◌, Bool, true, false, cond, eqb, List, [], ◌∷◌, ◌++◌, Option, Some, None, refl, sym, ap, ◌∙◌, subst, arith}
+use Rattle.std.specs.Prelude.{map, option_map, is_some, Result, Ok, Err, IfOk, OnErr}
+use Rattle.std.proofs.lemmas.Bool.{ne_eqb, eq-eqb, eqb-true}
+use Rattle.std.proofs.lemmas.Bool.Decides.{nat_tests}
+use Rattle.xti_model.specs.declared.call.Call.{Call}
+use Rattle.xti_model.specs.declared.call.Call.TheVariants as call
+use Rattle.xti_model.specs.declared.entry.Go.{Go}
+use Rattle.xti_model.specs.declared.entry.Applied.{Applied}
+use Rattle.xti_model.specs.declared.profile.Providers.{Providers}
+use Rattle.xti_model.specs.World.{World, Cell, switch_cell, is_among, only, place_of}
+use Rattle.xti_model.specs.Step.{plan, step}
+use Rattle.xti_model.specs.Touched.{named}
+use Rattle.xti_end.specs.Held.{Held, cell, alone, SameRoom}
+use Rattle.xti_registry.specs.Known.{Known}
+use Rattle.xti_end.specs.Taken.{taken, IsAt}
+use Rattle.xti_laws.specs.Laws.{Within}
+use Rattle.xti_laws.proofs.Local.{step-local}
+use Rattle.xti_laws.proofs.Others.{step-others}
+use Rattle.xti_laws.proofs.TableWalk.{told-fd}
+use Rattle.xti_lent.specs.Lending.{Lending, held_in, held_at, put_in, with_held, cell_lent, cells, cells_by, is_lent, numbered_cell}
+use Rattle.xti_lent.specs.Fit.{AtOwnPlaces, SameCells, place_of_held}
+use Rattle.xti_lent.proofs.Worlds.{from_number, same-is}
+use Rattle.xti_lent.proofs.Lendings.{cell-is, put-same, put-other}
+use Rattle.xti_lent.proofs.Open.{own-place}
+use Rattle.xti_core.proofs.Settling.{kept_by, only-is, settled}
+
+-- what a call of one cell names, and whose state it tells
+record Reads (p : Providers) (w : World) (n : ℕ) (c : Call) (g : Go) : Type 0 where
+  pub named : Within (n ∷ []) (named p w c)
+  pub told : is_among (n ∷ []) (place_of p (plan p w c g).fd) ≡ true
+
+own : (n m : ℕ) → m ≡ n → is_among (n ∷ []) m ≡ true
+own n m e = rw (eq-eqb n m (sym e)) refl
+
+reads : (p : Providers) (w : World) (n : ℕ) (c : Call) (g : Go) → IsAt p n c → Reads p w n c g
+reads p w n (call.TRcvUData fd max amax omax) g h = record { named = (own n (place_of p fd.0) h, tt); told = own n _ (ap (place_of p) (told-fd p w (call.TRcvUData fd max amax omax) g) ∙ h) }
+reads p w n (call.TRcvVUData fd sizes amax omax) g h = record { named = (own n (place_of p fd.0) h, tt); told = own n _ (ap (place_of p) (told-fd p w (call.TRcvVUData fd sizes amax omax) g) ∙ h) }
+reads p w n (call.TRcvUDErr fd amax omax) g h = record { named = (own n (place_of p fd.0) h, tt); told = own n _ (ap (place_of p) (told-fd p w (call.TRcvUDErr fd amax omax) g) ∙ h) }
+reads p w n (call.TGetState fd) g h = record { named = (own n (place_of p fd.0) h, tt); told = own n _ (ap (place_of p) (told-fd p w (call.TGetState fd) g) ∙ h) }
+reads p w n (call.TSync fd) g h = record { named = (own n (place_of p fd.0) h, tt); told = own n _ (ap (place_of p) (told-fd p w (call.TSync fd) g) ∙ h) }
+reads p w n (call.SetMode fd nonblock) g h = record { named = (own n (place_of p fd.0) h, tt); told = own n _ (ap (place_of p) (told-fd p w (call.SetMode fd nonblock) g) ∙ h) }
+reads p w n other g h = absurd h
+
+-- one cell of those by number
+none-from : (at : ℕ → Option Cell) (from k : ℕ) → ((m : ℕ) → from ≤ m → at m ≡ None) → from_number at from k ≡ []
+none-from at from zero h = refl
+none-from at from (suc k) h = rw (h from (omega arith), none-from at (from + 1) k (λ m le. h m (omega arith))) refl
+
+one-from : (at : ℕ → Option Cell) (from k n : ℕ) (c : Cell) → from ≤ n → n < from + k → at n ≡ Some c → ((m : ℕ) → eqb n m ≡ false → at m ≡ None) → from_number at from k ≡ record { number = n; cell = c } ∷ []
+one-from at from zero n c le lt e h = absurd (omega arith)
+one-from at from (suc k) n c le lt e h = go (eqb n from) refl (λ ne. one-from at (from + 1) k n c ne (omega arith) e h)
+  where
+    go : (b : Bool) → eqb n from ≡ b → (from + 1 ≤ n → from_number at (from + 1) k ≡ record { number = n; cell = c } ∷ []) → from_number at from (suc k) ≡ record { number = n; cell = c } ∷ []
+    go true i later =
+        let s : n ≡ from = eqb-true n from i in
+        let q : from_number at (from + 1) k ≡ [] = none-from at (from + 1) k (λ m le. h m (ne_eqb n m (λ z. omega arith))) in
+        let r : at from ≡ Some c = subst (λ z. at z ≡ Some c) s e in
+        rw (r, q) (ap (λ z. record { number = z; cell = c } ∷ []) (sym s))
+    go false i later =
+        let ne : from + 1 ≤ n = grind (arith, nat_tests) in
+        rw (h from i) (later ne)
+
+one-kept : (at : ℕ → Option Cell) (n : ℕ) (c : Cell) → n < 65 → at n ≡ Some c → only (n ∷ []) (cells_by at) ≡ record { number = n; cell = c } ∷ []
+unfolding cells_by
+one-kept at n c lt e = only-is (n ∷ []) at ∙ one-from (kept_by (n ∷ []) at) 0 65 n c (omega arith) (omega arith) (rw (own n n refl) e) (λ m i. rw i refl)
+
+pub alone-is : (l : Lending) (n : ℕ) (h : Held) → n < 64 → AtOwnPlaces l → held_at l n ≡ Some h → only (n ∷ []) (cells l) ≡ alone h
+alone-is l n h lt own e = one-kept (cell_lent l) n (cell h) (omega arith) (cell-is l n h lt e) ∙ ap (λ m. record { number = m; cell = cell h } ∷ []) (sym (own-place l.numbers l.held n h own e))
+
+-- an endpoint put back at its own place
+same-places : (n : ℕ) (ms : List ℕ) (hs : List Held) (h new : Held) → held_in ms hs n ≡ Some h → new.place ≡ h.place → map place_of_held (put_in ms hs n new) ≡ map place_of_held hs
+same-places n [] hs h new e i = refl
+same-places n (m ∷ ms) [] h new e i = cc
+same-places n (m ∷ ms) (x ∷ hs) h new e i = go (eqb m n) e (same-places n ms hs h new)
+  where
+    go : (b : Bool) → cond b (Some x) (held_in ms hs n) ≡ Some h → (held_in ms hs n ≡ Some h → new.place ≡ h.place → map place_of_held (put_in ms hs n new) ≡ map place_of_held hs)
+        → map place_of_held (cond b (new ∷ hs) (x ∷ put_in ms hs n new)) ≡ x.place ∷ map place_of_held hs
+    go true j k = let s : x ≡ h = cc in ap (λ z. z ∷ map place_of_held hs) (i ∙ ap place_of_held (sym s))
+    go false j k = ap (λ z. x.place ∷ z) (k j i)
+
+-- the same endpoint put back
+put-back : (n : ℕ) (ms : List ℕ) (hs : List Held) (h : Held) → held_in ms hs n ≡ Some h → put_in ms hs n h ≡ hs
+put-back n [] hs h e = refl
+put-back n (m ∷ ms) [] h e = cc
+put-back n (m ∷ ms) (x ∷ hs) h e = go (eqb m n) e (put-back n ms hs h)
+  where
+    go : (b : Bool) → cond b (Some x) (held_in ms hs n) ≡ Some h → (held_in ms hs n ≡ Some h → put_in ms hs n h ≡ hs) → cond b (h ∷ hs) (x ∷ put_in ms hs n h) ≡ x ∷ hs
+    go true j k = let s : x ≡ h = cc in ap (λ z. z ∷ hs) (sym s)
+    go false j k = ap (λ z. x ∷ z) (k j)
+
+pub same-back : (l : Lending) (n : ℕ) (h new : Held) → held_at l n ≡ Some h → new ≡ h → with_held l n new ≡ l
+same-back l n h new e i = ap (λ hs. record l { held = hs }) (ap (put_in l.numbers l.held n) i ∙ put-back n l.numbers l.held h e)
+
+pub same-cells : (l : Lending) (n : ℕ) (h new : Held) → held_at l n ≡ Some h → SameRoom h new → SameCells l (with_held l n new)
+same-cells l n h new e r = record { providers = refl; numbers = refl; places = same-places n l.numbers l.held h new e r.place }
+
+not-own : (n m : ℕ) → is_among (n ∷ []) m ≡ false → eqb m n ≡ false
+not-own n m e = grind (arith, nat_tests)
+
+-- a step of one cell
+pub lifted : (p : Providers) (l : Lending) (n : ℕ) (h new : Held) (c : Call) (g : Go) (a : Applied) → n < 64 → IsAt p n c → AtOwnPlaces l → held_at l n ≡ Some h → SameRoom h new
+    → taken a (alone new) ≡ step p (alone h) c g → taken a (cells (with_held l n new)) ≡ step p (cells l) c g
+lifted p l n h new c g a lt i own e r s =
+    let q = reads p (cells l) n c g i in
+    let o : AtOwnPlaces (with_held l n new) = same-places n l.numbers l.held h new e r.place ∙ own in
+    let m : held_at (with_held l n new) n ≡ Some new = put-same n l.numbers l.held h new e in
+    settled p (n ∷ []) (cell_lent l) (cell_lent (with_held l n new)) c g a
+    (step-local p (n ∷ []) (cells l) c g q.named q.told) (step-others p (n ∷ []) (cells l) c g q.named)
+    (λ k b j. ap (λ z. cond (eqb k 64) (option_map (λ (k : Known). switch_cell k.switch) l.registry) (option_map cell z)) (put-other n k l.numbers l.held new (not-own n k j)))
+    (ap (taken a) (alone-is (with_held l n new) n new lt o m) ∙ (s ∙ ap (λ w. step p w c g) (sym (alone-is l n h lt own e))))
+
+-- what is said of an answer
+pub if-ok : {E : Type 0} (r : Result Applied E) (P Q : Applied → Type 0) → ((a : Applied) → P a → Q a) → IfOk r P → IfOk r Q
+if-ok (Ok a) P Q f h = f a h
+if-ok (Err e) P Q f h = tt
+
+pub on-err : {E : Type 0} (r : Result Applied E) (A B : Type 0) → (A → B) → OnErr r A → OnErr r B
+on-err (Ok a) A B f h = tt
+on-err (Err e) A B f h = f h

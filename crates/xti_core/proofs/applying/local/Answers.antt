@@ -1,0 +1,30 @@
+use Rattle.std.proofs.Common.{◌≡◌, ◌%◌, ◌<◌, ◌∙◌, sym, subst, refl, Some, None, ap, arith}
+use Rattle.xti_model.specs.declared.call.Call.{Call}
+use Rattle.xti_model.specs.declared.entry.Applied.{Applied}
+use Rattle.xti_model.specs.declared.profile.Providers.{Providers}
+use Rattle.xti_model.specs.Step.{step}
+use Rattle.xti_end.specs.Held.{Held, alone}
+use Rattle.xti_end.specs.Taken.{taken, IsAt}
+use Rattle.xti_lent.specs.Lending.{held_at, with_held, cells}
+use Rattle.xti_lent.proofs.Open.{own-place}
+use Rattle.xti_core.proofs.Settling.{none-taken}
+use Rattle.xti_core.proofs.Lifting.{lifted, same-cells, same-back, if-ok, on-err}
+use Rattle.xti_core.proofs.applying.local.Goals as goal
+
+pub local-requires : goal.local-requires
+local-requires c =
+    let e : held_at c.args.lent.now c.place_of.result ≡ Some c.endpoint-e.result.now = sym c.endpoint-e.ensures.now in
+    let o = own-place c.args.lent.now.numbers c.args.lent.now.held c.place_of.result c.endpoint-e.result.now c.requires.places e in
+    subst (λ q. IsAt q c.endpoint-e.result.now.place c.args.call.now) (sym c.providers.ensures.providers) (subst (λ m. IsAt c.args.lent.now.providers m c.args.call.now) (sym (o ∙ c.place_of.ensures)) c.requires.at)
+
+pub returns : goal.returns
+returns c =
+    let e : held_at c.args.lent.now c.place_of.result ≡ Some c.endpoint-e.result.now = sym c.endpoint-e.ensures.now in
+    let at : IsAt c.args.lent.now.providers c.place_of.result c.args.call.now = subst (λ m. IsAt c.args.lent.now.providers m c.args.call.now) (sym c.place_of.ensures) c.requires.at in
+    let lt : c.place_of.result < 64 = omega (arith, c.place_of.ensures) in
+    record {
+      step = if-ok c.local.result _ _ (λ a h. lifted c.args.lent.now.providers c.args.lent.now c.place_of.result c.endpoint-e.result.now c.local.new.self c.args.call.now c.args._go a lt at c.requires.places e c.local.ensures.room (rw c.providers.ensures.providers at h)) c.local.ensures.step;
+      still = if-ok c.local.result _ _ (λ a h i. same-back c.args.lent.now c.place_of.result c.endpoint-e.result.now c.local.new.self e (h (none-taken a _ _ i))) c.local.ensures.still;
+      kept = same-cells c.args.lent.now c.place_of.result c.endpoint-e.result.now c.local.new.self e c.local.ensures.room;
+      err = on-err c.local.result _ _ (same-back c.args.lent.now c.place_of.result c.endpoint-e.result.now c.local.new.self e) c.local.ensures.err;
+    }

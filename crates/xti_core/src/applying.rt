@@ -1,0 +1,62 @@
+//! One step over lent cells.
+
+ghost use Rattle.std.specs.Prelude.{◌≡◌, true, None, IfOk, OnErr};
+ghost use Rattle.xti_model.specs.Step.{step};
+ghost use Rattle.xti_model.specs.World.{place_of};
+ghost use Rattle.xti_model.specs.Built.{is_built};
+ghost use Rattle.xti_model.specs.Touched.{touched};
+ghost use Rattle.xti_end.specs.Taken.{taken, IsAt};
+ghost use Rattle.xti_lent.specs.Lending.{cells, is_lent};
+ghost use Rattle.xti_lent.specs.Fit.{AllLent, AtOwnPlaces, IsFit, SameCells};
+
+use crate::looking::look;
+use std::alloc::AllocError;
+use xti_base::Fd;
+use xti_dgram::dgram_step;
+use xti_lent::{Lent, place_of};
+use xti_model::{Applied, Call, Go};
+use xti_switch::switch_step;
+
+/// One step of a call that touches the cell of its descriptor alone.
+pub(crate) fn local(lent: &mut Lent, call: &Call, fd: Fd, _go: Go) -> Result<Applied, AllocError>
+    requires at { IsAt lent.old.providers (place_of lent.old.providers fd.0) call.now }
+    requires places { AtOwnPlaces lent.old }
+    requires lent { is_lent lent.old (place_of lent.old.providers fd.0) ≡ true }
+    ensures step { IfOk result (λ a. taken a (cells lent.new) ≡ step lent.old.providers (cells lent.old) call.now _go) }
+    ensures still { IfOk result (λ a. taken a (cells lent.new) ≡ None → lent.new ≡ lent.old) }
+    ensures kept { SameCells lent.old lent.new }
+    ensures err { OnErr result (lent.new ≡ lent.old) }
+{
+    let p = *lent.providers();
+    let e = lent.endpoint(place_of(fd));
+    e.local(call, _go, &p)
+}
+
+/// One step of a built call over the lent cells, which are to be those that it touches: what it answers, and the state of its
+/// endpoint afterwards. Where it is blocked, and after want of memory, all is as before.
+pub fn apply(lent: &mut Lent, call: &Call, _go: Go) -> Result<Applied, AllocError>
+    requires built { is_built call.now ≡ true }
+    requires fit { IsFit lent.old }
+    requires lent { AllLent lent.old (touched lent.old.providers (cells lent.old) call.now) }
+    ensures step { IfOk result (λ a. taken a (cells lent.new) ≡ step lent.old.providers (cells lent.old) call.now _go) }
+    ensures still { IfOk result (λ a. taken a (cells lent.new) ≡ None → lent.new ≡ lent.old) }
+    ensures kept { SameCells lent.old lent.new }
+    ensures err { OnErr result (lent.new ≡ lent.old) }
+{
+    match call {
+        Call::TRcvUData { fd, .. } => local(lent, call, *fd, _go),
+        Call::TRcvVUData { fd, .. } => local(lent, call, *fd, _go),
+        Call::TRcvUDErr { fd, .. } => local(lent, call, *fd, _go),
+        Call::TGetState { fd } => local(lent, call, *fd, _go),
+        Call::TSync { fd } => local(lent, call, *fd, _go),
+        Call::SetMode { fd, .. } => local(lent, call, *fd, _go),
+        Call::TSndUData { .. } => dgram_step(lent, call),
+        Call::TSndVUData { .. } => dgram_step(lent, call),
+        Call::TOpen { .. } => switch_step(lent, call),
+        Call::TClose { .. } => switch_step(lent, call),
+        Call::TBind { .. } => switch_step(lent, call),
+        Call::TUnbind { .. } => switch_step(lent, call),
+        Call::TLookAt { fd } => Ok(look(lent, *fd)),
+        _ => unreachable!(),
+    }
+}

@@ -1,0 +1,12 @@
+//! One step over lent cells, and the world for one thread.
+#![tactic(auto)]
+
+mod applying;
+mod looking;
+mod store;
+mod touching;
+mod world;
+
+pub use applying::apply;
+pub use touching::touch;
+pub use world::World;
