@@ -1,5 +1,5 @@
 -- The course of a step of a world: cells are lent, the step is made on them, and they are taken back.
-use Rattle.std.proofs.Common.{◌≡◌, ℕ, suc, ◌<◌, Bool, true, false, List, [], ◌∷◌, length, map, Option, Some, None, refl, sym, ap, ◌∙◌, subst, arith}
+use Rattle.std.proofs.Common.{◌≡◌, ℕ, suc, true, List, [], ◌∷◌, length, map, None, refl, sym, ap, ◌∙◌, subst}
 use Rattle.std.specs.Prelude.{Result, Ok, Err, IfOk, OnErr}
 use Rattle.std.specs.List.{AllByRecursion}
 use Rattle.xti_end.specs.Held.{Held}
@@ -11,7 +11,7 @@ use Rattle.xti_model.specs.declared.entry.Applied.TheVariants as applied
 use Rattle.xti_model.specs.declared.profile.Providers.{Providers}
 use Rattle.xti_model.specs.Built.{is_built}
 use Rattle.xti_model.specs.Profile.{valid}
-use Rattle.xti_model.specs.Step.{Step, step}
+use Rattle.xti_model.specs.Step.{step}
 use Rattle.xti_model.specs.Touched.{touched}
 use Rattle.xti_model.specs.World.{World}
 use Rattle.xti_end.specs.Taken.{taken}
@@ -24,7 +24,6 @@ use Rattle.xti_core.specs.Standing.{Kept, Standing, IsStanding, kept_at, kept_ce
 use Rattle.xti_core.proofs.Lending.{nothing-whole}
 use Rattle.xti_core.specs.Loans.{whole, whole_at, IsLoan}
 use Rattle.xti_core.proofs.Fitting.{fits, sub-whole}
-use Rattle.xti_core.proofs.Settling.{none-taken}
 use Rattle.xti_core.proofs.Stepping.{step-whole, has-named}
 
 -- what is known of a step: what the world kept and what was lent of it before the step, and what it had and was lent afterwards

@@ -1,19 +1,19 @@
 -- Which lent cells are fit for a step.
-use Rattle.std.proofs.Common.{◌≡◌, ℕ, ◌+◌, ◌<◌, ◌%◌, Bool, true, false, ◌||◌, cond, eqb, List, [], ◌∷◌, length, map, Option, Some, None, refl, sym, ap, ◌∙◌, subst, arith}
+use Rattle.std.proofs.Common.{◌≡◌, ℕ, ◌<◌, Bool, true, false, ◌||◌, cond, eqb, List, [], ◌∷◌, map, Option, Some, None, refl, sym, ap, ◌∙◌, subst, arith}
 use Rattle.std.specs.Prelude.{option_map, is_some, IfSome}
 use Rattle.std.specs.List.{AllByRecursion}
 use Rattle.std.proofs.lemmas.Bool.{eq-eqb, eqb-true}
 use Rattle.xti_model.specs.declared.profile.Providers.{Providers}
 use Rattle.xti_model.specs.Endpoint.{Endpoint}
 use Rattle.xti_model.specs.Sound.{is_sound_body, Agrees}
-use Rattle.xti_model.specs.World.{World, Cell, Switch, is_among, cell_at, the_switch, switch_cell}
+use Rattle.xti_model.specs.World.{Cell, is_among, the_switch}
 use Rattle.xti_registry.specs.Known.{Known}
 use Rattle.xti_end.specs.Held.{Held, cell}
-use Rattle.xti_sound.specs.Invariant.{SoundWorld, SoundEndpoint}
+use Rattle.xti_sound.specs.Invariant.{SoundWorld}
 use Rattle.xti_sound.specs.Laws.{SoundWhenLent, SoundBody}
 use Rattle.xti_sound.proofs.Lent.{lent-cell}
 use Rattle.xti_lent.specs.Kept.{Distinct, IsPlace}
-use Rattle.xti_lent.specs.Lending.{Lending, held_in, held_at, cell_lent, cells, cells_by}
+use Rattle.xti_lent.specs.Lending.{Lending, held_in, held_at, cell_lent, cells_by}
 use Rattle.xti_lent.specs.Fit.{IsSound, KnownTo, Agree, IsBuilt, IsOfTiclts, IsFit, place_of_held}
 use Rattle.xti_lent.proofs.Worlds.{at_number, cell_at-is}
 use Rattle.xti_lent.proofs.Lendings.{cell-is}

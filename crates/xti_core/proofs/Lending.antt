@@ -1,6 +1,6 @@
 -- What is lent of a sound world, and the numbers of the touched cells.
 use Rattle.std.proofs.Common.{◌≡◌, ℕ, zero, suc, ◌+◌, ◌<◌, ◌≤◌, ◌%◌, ◌++◌, Bool, true, false, cond, eqb, ltb, List, [], ◌∷◌, length, get_or, Option, Some, None, refl, sym, ap, ◌∙◌, subst, arith}
-use Rattle.std.specs.Prelude.{option_map, is_some, slice_get, filter, slice_index}
+use Rattle.std.specs.Prelude.{option_map, is_some, slice_get, filter}
 use Rattle.std.specs.List.{AllByRecursion}
 use Rattle.std.proofs.lemmas.Bool.Decides.{nat_tests}
 use Rattle.std.proofs.lemmas.Option.{slice_get-get_or, slice_get_within, get_or_from_slice_get}
@@ -13,7 +13,7 @@ use Rattle.xti_model.specs.World.{World, Cell, cell_at, is_among, the_switch}
 use Rattle.xti_model.specs.Touched.{named, touched, others, fd_of, cell_of}
 use Rattle.xti_model.proofs.Rising.{length-listed, among-listed}
 use Rattle.xti_model.specs.Profile.{valid}
-use Rattle.xti_sound.specs.Invariant.{SoundWorld, SoundEndpoint}
+use Rattle.xti_sound.specs.Invariant.{SoundWorld}
 use Rattle.xti_sound.proofs.Lent.{switch-there}
 use Rattle.xti_lent.specs.Lending.{Lending, cell_lent, cells, cells_by, is_lent}
 use Rattle.xti_lent.specs.Fit.{AllLent}
@@ -93,8 +93,8 @@ pub rounds-lent : (p : Providers) (l0 l1 l2 l3 : Lending) (at : ℕ → Option C
 rounds-lent p l0 l1 l2 l3 at c b s1 s2 s3 m12 m23 a1 a2 a3 =
     let h = three-rounds p (cell_lent l0) (cell_lent l1) (cell_lent l2) (cell_lent l3) at c b s1 s2 s3 m12 m23 (has-named p (cell_lent l0) (cell_lent l1) c a1) (has-named p (cell_lent l1) (cell_lent l2) c a2) (has-named p (cell_lent l2) (cell_lent l3) c a3) in
     all-among (λ n. is_lent l3 n ≡ true) (touched p (cells l3) c) (λ n i.
-        let lt : n < 65 = among-all (λ m. m < 65) (touched p (cells l3) c) n (below-filter (is_among (named p (cells l3) c)) 0 65 (omega arith)) i in
-        h n lt (sym (among-listed (named p (cells l3) c) n lt) ∙ (ap (λ ns. is_among ns n) (sym (touched-listed p (cells l3) c)) ∙ i)))
+    let lt : n < 65 = among-all (λ m. m < 65) (touched p (cells l3) c) n (below-filter (is_among (named p (cells l3) c)) 0 65 (omega arith)) i in
+    h n lt (sym (among-listed (named p (cells l3) c) n lt) ∙ (ap (λ ns. is_among ns n) (sym (touched-listed p (cells l3) c)) ∙ i)))
 
 pub sub-same : (s t : Kept) (l m : Lending) → SameWhole s l t m → Sub (cell_lent m) (whole_at s l)
 sub-same s t l m h n i = sub-whole t m n i ∙ h n

@@ -1,6 +1,6 @@
 -- A step on the lent cell of its descriptor alone is the step on all lent cells.
-use Rattle.std.proofs.Common.{◌≡◌, ℕ, zero, suc, ◌+◌, ◌<◌, ◌≤◌, ◌%◌, Bool, true, false, cond, eqb, List, [], ◌∷◌, ◌++◌, Option, Some, None, refl, sym, ap, ◌∙◌, subst, arith}
-use Rattle.std.specs.Prelude.{map, option_map, is_some, Result, Ok, Err, IfOk, OnErr}
+use Rattle.std.proofs.Common.{◌≡◌, ℕ, zero, suc, ◌+◌, ◌<◌, ◌≤◌, Bool, true, false, cond, eqb, List, [], ◌∷◌, Option, Some, None, refl, sym, ap, ◌∙◌, subst, arith}
+use Rattle.std.specs.Prelude.{map, option_map, Result, Ok, Err, IfOk, OnErr}
 use Rattle.std.proofs.lemmas.Bool.{ne_eqb, eq-eqb, eqb-true}
 use Rattle.std.proofs.lemmas.Bool.Decides.{nat_tests}
 use Rattle.xti_model.specs.declared.call.Call.{Call}
@@ -18,9 +18,9 @@ use Rattle.xti_laws.specs.Laws.{Within}
 use Rattle.xti_laws.proofs.Local.{step-local}
 use Rattle.xti_laws.proofs.Others.{step-others}
 use Rattle.xti_laws.proofs.TableWalk.{told-fd}
-use Rattle.xti_lent.specs.Lending.{Lending, held_in, held_at, put_in, with_held, cell_lent, cells, cells_by, is_lent, numbered_cell}
+use Rattle.xti_lent.specs.Lending.{Lending, held_in, held_at, put_in, with_held, cell_lent, cells, cells_by}
 use Rattle.xti_lent.specs.Fit.{AtOwnPlaces, SameCells, place_of_held}
-use Rattle.xti_lent.proofs.Worlds.{from_number, same-is}
+use Rattle.xti_lent.proofs.Worlds.{from_number}
 use Rattle.xti_lent.proofs.Lendings.{cell-is, put-same, put-other}
 use Rattle.xti_lent.proofs.Open.{own-place}
 use Rattle.xti_core.proofs.Settling.{kept_by, only-is, settled}

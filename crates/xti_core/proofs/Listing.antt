@@ -1,18 +1,18 @@
 -- Cells in rising order, put together.
-use Rattle.std.proofs.Common.{ℕ, zero, suc, Bool, true, false, ◌||◌, ◌&&◌, ◌≡◌, refl, sym, ap, ◌∙◌, List, [], ◌∷◌, ◌++◌, length, map, ◌≤◌, ◌<◌, ◌+◌, eqb, Option, Some, None, arith, ◌⊎◌, inl, inr, length-append, append_assoc}
+use Rattle.std.proofs.Common.{ℕ, suc, Bool, true, false, ◌||◌, ◌&&◌, ◌≡◌, refl, sym, ap, ◌∙◌, List, [], ◌∷◌, ◌++◌, length, map, ◌≤◌, ◌+◌, Option, Some, None, arith, ◌⊎◌, inl, inr, length-append, append_assoc}
 use Rattle.std.specs.Prelude.{nat_le, is_none, is_some, option_map, option_to_list, ◌==◌}
 use Rattle.std.proofs.lemmas.Bool.Decides.{nat_tests}
 use Rattle.std.proofs.lemmas.List.{append-nil}
 use Rattle.xti_model.specs.declared.profile.Providers.{Providers}
 use Rattle.xti_model.specs.Endpoint.{Endpoint, Indication, Target, address_of}
-use Rattle.xti_model.specs.World.{World, is_among, place_of, the_switch}
+use Rattle.xti_model.specs.World.{World, place_of, the_switch}
 use Rattle.xti_model.specs.Cells.{listed}
 use Rattle.xti_model.specs.Switch.{bound}
 use Rattle.xti_base.specs.declared.kinds.Prov.{Prov}
 use Rattle.xti_model.specs.Sound.{is_sound_body, is_only_asked, requests}
-use Rattle.xti_model.specs.Touched.{of_some, cell_of, peer_cell, target_cell, caller_cells, marked_cells, bound_cell, cells_to}
+use Rattle.xti_model.specs.Touched.{of_some, cell_of, peer_cell, target_cell, caller_cells, marked_cells, cells_to}
 use Rattle.xti_end.specs.Held.{Held, parts, is_open, mark_at, parts_of, is_open_as, descriptor_of, peer_at, target_at}
-use Rattle.xti_model.proofs.Rising.{listed-same, listed-more, length-listed}
+use Rattle.xti_model.proofs.Rising.{listed-more, length-listed}
 
 pub listed-none : [] ≡ listed []
 unfolding listed

@@ -8,7 +8,7 @@ use Rattle.std.proofs.lemmas.Option.{slice_get-get_or, slice_get_past}
 use Rattle.std.proofs.Math.Seq.{map-set_same}
 use Rattle.xti_model.specs.Robin.{numbers}
 use Rattle.std.specs.List.{AllByRecursion}
-use Rattle.xti_model.specs.World.{Cell, switch_cell, is_among}
+use Rattle.xti_model.specs.World.{switch_cell, is_among}
 use Rattle.xti_lent.specs.Kept.{Distinct, IsPlace}
 use Rattle.xti_registry.specs.Known.{Known}
 use Rattle.xti_end.specs.Held.{Held, cell}

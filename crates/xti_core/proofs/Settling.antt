@@ -1,6 +1,6 @@
 -- What a step does on some cells of a world settles it on all of them.
-use Rattle.std.proofs.Common.{◌≡◌, ℕ, zero, suc, ◌+◌, ◌<◌, ◌≤◌, Bool, true, false, not, cond, eqb, List, [], ◌∷◌, ◌++◌, Option, Some, None, refl, sym, ap, ◌∙◌, subst, arith}
-use Rattle.std.specs.Prelude.{map, filter, option_map, is_some}
+use Rattle.std.proofs.Common.{◌≡◌, ℕ, zero, suc, ◌+◌, ◌<◌, Bool, true, false, cond, eqb, List, [], ◌∷◌, ◌++◌, Option, Some, None, refl, sym, ap, ◌∙◌}
+use Rattle.std.specs.Prelude.{option_map, is_some}
 use Rattle.xti_model.specs.declared.call.Call.{Call}
 use Rattle.xti_model.specs.declared.entry.Go.{Go}
 use Rattle.xti_model.specs.declared.entry.Applied.{Applied}
@@ -8,7 +8,7 @@ use Rattle.xti_model.specs.declared.entry.Applied.TheVariants as applied
 use Rattle.xti_model.specs.declared.entry.Outcome.{Outcome}
 use Rattle.xti_base.specs.declared.kinds.State.{State}
 use Rattle.xti_model.specs.declared.profile.Providers.{Providers}
-use Rattle.xti_model.specs.World.{World, Cell, Change, Numbered, cell_at, cell_number, new_cell, change, changed, is_among, only, without}
+use Rattle.xti_model.specs.World.{World, Cell, Change, Numbered, cell_at, cell_number, new_cell, changed, is_among, only, without}
 use Rattle.xti_model.specs.Step.{Step, step, plan}
 use Rattle.xti_model.specs.History.{left_by}
 use Rattle.xti_end.specs.Taken.{taken}

@@ -1,10 +1,10 @@
 -- The first pending event of an endpoint without connections, and what showing it changes.
-use Rattle.std.proofs.Common.{◌≡◌, ℕ, ◌/◌, Bool, true, false, ◌&&◌, cond, eqb, List, [], ◌∷◌, Option, Some, None, refl, sym, ap, ◌∙◌}
+use Rattle.std.proofs.Common.{◌≡◌, Bool, true, false, ◌&&◌, cond, [], ◌∷◌, Option, Some, None, refl, ap, ◌∙◌}
 use Rattle.std.specs.Prelude.{is_some}
 use Rattle.xti_base.specs.declared.kinds.Event.{Event}
 use Rattle.xti_base.specs.declared.kinds.Event.TheVariants.{T_UDERR, T_DATA, T_GODATA}
 use Rattle.xti_model.specs.Endpoint.{Endpoint}
-use Rattle.xti_model.specs.Events.{Around, is_state, some_wait}
+use Rattle.xti_model.specs.Events.{Around, some_wait}
 use Rattle.xti_model.specs.Sending.{takes_datagram}
 use Rattle.xti_model.specs.Calls.Show as Show
 use Rattle.xti_end.specs.Unconnected.{IsUnconnected}

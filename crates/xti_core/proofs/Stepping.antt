@@ -1,13 +1,11 @@
 -- A step on the lent cells of a sound world is the step of the world.
-use Rattle.std.proofs.Common.{◌≡◌, ℕ, ◌+◌, ◌<◌, ◌≤◌, ◌%◌, Bool, true, false, ◌||◌, eqb, cond, List, [], ◌∷◌, length, Option, Some, None, refl, sym, ap, ◌∙◌, subst, arith}
+use Rattle.std.proofs.Common.{◌≡◌, ℕ, ◌<◌, ◌%◌, Bool, true, false, ◌||◌, eqb, List, [], ◌∷◌, Option, Some, None, refl, sym, ap, ◌∙◌, subst, arith}
 use Rattle.std.specs.Prelude.{option_map, option_and_then, is_some, filter}
 use Rattle.std.specs.List.{AllByRecursion}
 use Rattle.std.proofs.lemmas.Bool.{eqb-true, eq-eqb}
-use Rattle.xti_base.specs.declared.kinds.State.{State}
 use Rattle.xti_model.specs.declared.call.Call.{Call}
 use Rattle.xti_model.specs.declared.call.Call.TheVariants as call
 use Rattle.xti_model.specs.declared.entry.Go.{Go}
-use Rattle.xti_model.specs.declared.entry.Outcome.{Outcome}
 use Rattle.xti_model.specs.declared.entry.Applied.{Applied}
 use Rattle.xti_model.specs.declared.entry.Applied.TheVariants as applied
 use Rattle.xti_model.specs.declared.profile.Providers.{Providers}
@@ -15,8 +13,8 @@ use Rattle.xti_model.specs.Built.{is_built}
 use Rattle.xti_model.specs.Cells.{listed}
 use Rattle.xti_model.specs.Endpoint.{Endpoint}
 use Rattle.xti_model.specs.Robin.{numbers}
-use Rattle.xti_model.specs.World.{World, Cell, endpoint, endpoint_in, generation_of, is_among, only, without, the_switch, switch_or_empty, cell_at}
-use Rattle.xti_model.specs.Step.{Step, step}
+use Rattle.xti_model.specs.World.{World, Cell, endpoint, endpoint_in, generation_of, is_among, only, without}
+use Rattle.xti_model.specs.Step.{step}
 use Rattle.xti_model.specs.Touched.{named, touched}
 use Rattle.xti_model.specs.History.{left_by}
 use Rattle.xti_model.specs.Calls.Open.{no_fd}
@@ -30,7 +28,7 @@ use Rattle.xti_lent.specs.Lending.{cells_by}
 use Rattle.xti_lent.proofs.Worlds.{at_number, cell_at-is, same-is}
 use Rattle.xti_core.specs.Loans.{lent_or_kept}
 use Rattle.xti_core.proofs.Naming.{Sub, HasNamed, named-all, endpoint-sub, switch-sub}
-use Rattle.xti_core.proofs.Settling.{kept_by, left_from, only-is, without-is, same-at, stepped, settled, none-taken}
+use Rattle.xti_core.proofs.Settling.{kept_by, left_from, only-is, without-is, same-at, stepped, settled}
 
 no-open : (p : Providers) (w : World) → SoundWorld p w → endpoint p w no_fd ≡ None
 no-open p w s = go (endpoint p w no_fd) refl

@@ -1,11 +1,11 @@
 -- The switch of lent cells.
-use Rattle.std.proofs.Common.{◌≡◌, ℕ, ◌+◌, ◌<◌, Bool, true, false, List, [], Option, Some, None, refl, sym, ap, ◌∙◌, arith}
+use Rattle.std.proofs.Common.{◌≡◌, Bool, true, false, Option, Some, None, refl, arith}
 use Rattle.std.specs.Prelude.{option_map, is_some}
 use Rattle.xti_base.specs.declared.kinds.Prov.{Prov}
 use Rattle.xti_model.specs.declared.profile.Providers.{Providers}
 use Rattle.xti_model.specs.Provider.{is_provider}
 use Rattle.xti_model.specs.Switch.{if_provider, free_place, opening_place}
-use Rattle.xti_model.specs.World.{World, Cell, Switch, switch_cell, the_switch, empty_switch, switch_or_empty, cell_at}
+use Rattle.xti_model.specs.World.{Switch, switch_cell, the_switch, empty_switch, switch_or_empty}
 use Rattle.xti_registry.specs.Known.{Known}
 use Rattle.xti_lent.specs.Lending.{Lending, cells, cell_lent}
 use Rattle.xti_lent.proofs.Worlds.{at_number, cell_at-is}

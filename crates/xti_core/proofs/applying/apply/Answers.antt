@@ -1,4 +1,4 @@
-use Rattle.std.proofs.Common.{Some, refl}
+use Rattle.std.proofs.Common.{refl}
 use Rattle.xti_core.proofs.Lending.{own-lent}
 use Rattle.xti_core.proofs.applying.apply.Goals as goal
 

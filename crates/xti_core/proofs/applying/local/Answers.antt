@@ -1,11 +1,6 @@
-use Rattle.std.proofs.Common.{◌≡◌, ◌%◌, ◌<◌, ◌∙◌, sym, subst, refl, Some, None, ap, arith}
-use Rattle.xti_model.specs.declared.call.Call.{Call}
-use Rattle.xti_model.specs.declared.entry.Applied.{Applied}
-use Rattle.xti_model.specs.declared.profile.Providers.{Providers}
-use Rattle.xti_model.specs.Step.{step}
-use Rattle.xti_end.specs.Held.{Held, alone}
-use Rattle.xti_end.specs.Taken.{taken, IsAt}
-use Rattle.xti_lent.specs.Lending.{held_at, with_held, cells}
+use Rattle.std.proofs.Common.{◌≡◌, ◌<◌, ◌∙◌, sym, subst, Some, arith}
+use Rattle.xti_end.specs.Taken.{IsAt}
+use Rattle.xti_lent.specs.Lending.{held_at}
 use Rattle.xti_lent.proofs.Open.{own-place}
 use Rattle.xti_core.proofs.Settling.{none-taken}
 use Rattle.xti_core.proofs.Lifting.{lifted, same-cells, same-back, if-ok, on-err}

@@ -1,9 +1,7 @@
-use Rattle.std.proofs.Common.{◌∙◌, ap, sym, [], ◌∷◌, ◌++◌, ◌%◌, Some, ◌≡◌}
+use Rattle.std.proofs.Common.{◌∙◌, ap, [], ◌∷◌, ◌++◌, ◌%◌}
 use Rattle.xti_model.specs.Cells.{listed}
-use Rattle.xti_model.specs.World.{place_of, endpoint}
+use Rattle.xti_model.specs.World.{place_of}
 use Rattle.xti_model.specs.Touched.{of_some, peer_cell, target_cell, caller_cells}
-use Rattle.xti_end.specs.Held.{parts}
-use Rattle.xti_lent.specs.Lending.{cells}
 use Rattle.xti_core.proofs.Listing.{listed-none, body-is}
 use Rattle.xti_core.proofs.Fitting.{held-sound}
 use Rattle.xti_core.proofs.touching.closing_cells.Goals as goal

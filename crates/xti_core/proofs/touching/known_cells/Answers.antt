@@ -1,11 +1,9 @@
-use Rattle.std.proofs.Common.{◌∙◌, ap, ◌++◌, length, ◌+◌, ◌≤◌, arith, sym}
-use Rattle.std.specs.Prelude.{option_to_list}
+use Rattle.std.proofs.Common.{◌∙◌, ap, ◌++◌, length, ◌≤◌, arith}
 use Rattle.xti_model.specs.Cells.{listed}
 use Rattle.xti_model.specs.declared.profile.Providers.{Providers}
 use Rattle.xti_model.specs.Profile.{usual}
 use Rattle.xti_model.specs.Touched.{of_some, caller_cells, peer_cell, target_cell}
-use Rattle.xti_end.specs.Held.{peer_at, target_at}
-use Rattle.xti_core.proofs.Listing.{few-callers, known-few, known-is, named-cells, listed-few}
+use Rattle.xti_core.proofs.Listing.{few-callers, known-few, named-cells, listed-few}
 use Rattle.xti_core.proofs.touching.known_cells.Goals as goal
 
 pub with-asking-requires-clause-room : goal.with-asking-requires-clause-room

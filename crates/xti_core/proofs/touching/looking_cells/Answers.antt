@@ -1,4 +1,4 @@
-use Rattle.std.proofs.Common.{◌∙◌, ap, sym, ◌∷◌}
+use Rattle.std.proofs.Common.{◌∙◌, ap, ◌∷◌}
 use Rattle.xti_model.specs.Cells.{listed}
 use Rattle.xti_model.specs.World.{place_of, endpoint}
 use Rattle.xti_model.specs.Touched.{of_some, peer_cell, marked_cells}

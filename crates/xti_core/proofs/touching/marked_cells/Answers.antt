@@ -1,4 +1,4 @@
-use Rattle.std.proofs.Common.{◌∙◌, ap, sym, [], ◌%◌}
+use Rattle.std.proofs.Common.{◌∙◌, []}
 use Rattle.xti_model.specs.Spot.{spot_bytes}
 use Rattle.xti_end.specs.Held.{parts}
 use Rattle.xti_lent.specs.Lending.{cells}

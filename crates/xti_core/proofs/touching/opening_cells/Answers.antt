@@ -1,4 +1,4 @@
-use Rattle.std.proofs.Common.{◌∙◌, [], ap}
+use Rattle.std.proofs.Common.{◌∙◌, []}
 use Rattle.xti_core.proofs.Listing.{listed-none, put-none}
 use Rattle.xti_core.proofs.touching.opening_cells.Goals as goal
 

@@ -1,4 +1,4 @@
-use Rattle.std.proofs.Common.{◌≡◌, ◌∙◌, ◌+◌, ◌∷◌, [], length, length-append, Some, sym, subst, ap, refl, arith}
+use Rattle.std.proofs.Common.{◌∷◌, [], length, length-append, Some, sym, subst, ap, refl, arith}
 use Rattle.xti_core.proofs.Beginning.{UnusedFrom, unused-in-places, unused-push, opens}
 use Rattle.xti_core.proofs.store.Store.fresh.Goals as goal
 

@@ -1,9 +1,5 @@
-use Rattle.std.proofs.Common.{◌≡◌, ◌<◌, ◌∙◌, sym, subst, rules, arith, get_or, set, ap, ℕ}
-use Rattle.std.proofs.Common.{◌++◌, ◌∷◌, []}
-use Rattle.xti_lent.specs.Lending.{Lending, is_lent}
-use Rattle.xti_core.specs.Standing.{InPlaces}
-use Rattle.xti_core.specs.Loans.{IsLoan, SameWhole, whole_at}
-use Rattle.xti_core.proofs.Moving.{moved, Moved, place-get, place-set, place-length, pushed}
+use Rattle.std.proofs.Common.{◌<◌, ◌∙◌, sym, arith, get_or, ap}
+use Rattle.xti_core.proofs.Moving.{moved, place-get, place-set, place-length}
 use Rattle.xti_core.proofs.store.Store.lend.Goals as goal
 
 pub index_mut-requires : goal.index_mut-requires

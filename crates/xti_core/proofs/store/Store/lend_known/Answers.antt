@@ -1,9 +1,8 @@
-use Rattle.std.proofs.Common.{◌≡◌, ◌<◌, ◌≤◌, ◌+◌, ◌∙◌, ℕ, length, sym, subst, ap, arith, below_more, get_or, true}
+use Rattle.std.proofs.Common.{◌≡◌, ◌∙◌, length, sym, subst, ap, arith, below_more, get_or, true}
 use Rattle.std.specs.Prelude.{is_some}
 use Rattle.std.specs.List.{AllByRecursion}
-use Rattle.xti_model.specs.Touched.{touched}
 use Rattle.xti_lent.specs.Lending.{cells, cell_lent, is_lent}
-use Rattle.xti_core.specs.Loans.{whole_at, SameWhole, IsLoan}
+use Rattle.xti_core.specs.Loans.{whole_at}
 use Rattle.xti_core.proofs.Fitting.{sounds, sub-whole}
 use Rattle.xti_core.proofs.Lending.{there-is, touched-below, few-touched, not-past, got, all-by}
 use Rattle.xti_core.proofs.store.Store.lend_known.Goals as goal

@@ -1,12 +1,11 @@
-use Rattle.std.proofs.Common.{◌≡◌, ◌+◌, ◌≤◌, ◌∙◌, ℕ, length, sym, subst, ap, arith}
+use Rattle.std.proofs.Common.{◌∙◌, length, sym, subst, ap, arith}
 use Rattle.xti_model.specs.declared.profile.Providers.{Providers}
 use Rattle.xti_sound.specs.Invariant.{SoundWorld}
 use Rattle.xti_lent.specs.Fit.{AllLent}
-use Rattle.xti_lent.specs.Lending.{cells, is_lent}
+use Rattle.xti_lent.specs.Lending.{cells}
 use Rattle.xti_model.specs.Touched.{touched}
 use Rattle.xti_core.specs.Loans.{whole, whole_at, IsLoan, SameWhole}
 use Rattle.xti_core.proofs.Lending.{rounds-lent, sub-same, whole-same, loan-nothing}
-use Rattle.xti_core.proofs.Courses.{made, unmade, fit-lent, stays-sound}
 use Rattle.xti_core.proofs.store.Store.lend_touched.Goals as goal
 
 pub lend_known-requires-clause-room : goal.lend_known-requires-clause-room

@@ -1,4 +1,4 @@
-use Rattle.std.proofs.Common.{◌≡◌, ◌<◌, ◌∙◌, sym, subst, ap, arith}
+use Rattle.std.proofs.Common.{◌∙◌, sym, subst, ap, arith}
 use Rattle.xti_core.specs.Loans.{IsLoan, whole_at}
 use Rattle.xti_core.proofs.Moving.{unmoved, place-set, place-length}
 use Rattle.xti_core.proofs.store.Store.take_back.Goals as goal

@@ -1,15 +1,9 @@
-use Rattle.std.proofs.Common.{◌≡◌, ◌∙◌, sym, subst, ap, ℕ, true}
-use Rattle.xti_model.specs.declared.entry.Applied.{Applied}
-use Rattle.xti_model.specs.declared.profile.Providers.{Providers}
-use Rattle.xti_model.specs.Profile.{valid}
-use Rattle.xti_model.specs.Step.{step}
-use Rattle.xti_end.specs.Taken.{taken}
-use Rattle.xti_lent.specs.Lending.{Lending, cells}
-use Rattle.xti_sound.specs.Invariant.{SoundWorld}
-use Rattle.xti_core.specs.Standing.{kept_cells, nothing_lent}
+use Rattle.std.proofs.Common.{◌∙◌, ap}
+use Rattle.xti_lent.specs.Lending.{Lending}
+use Rattle.xti_core.specs.Standing.{kept_cells}
 use Rattle.xti_core.proofs.Settling.{none-taken}
 use Rattle.xti_core.proofs.Lifting.{if-ok, on-err}
-use Rattle.xti_core.proofs.Courses.{course, made, unmade, stays-sound, fit-lent, fit-before, standing-after, standing, nothing-world, loan-after}
+use Rattle.xti_core.proofs.Courses.{course, made, unmade, stays-sound, fit-before, standing-after, standing, nothing-world}
 use Rattle.xti_core.proofs.world.World.step.Goals as goal
 
 pub lend_touched-requires-clause-sound : goal.lend_touched-requires-clause-sound
