@@ -156,7 +156,6 @@ fn plain_before(place: usize, own: &Table, setup: &Table, call: &NamedCall) -> C
     }
 }
 
-
 /// The call of a line at this place, with numbers in place of names.
 pub(crate) fn call_before(
     place: usize,
@@ -187,8 +186,9 @@ pub(crate) fn call_before(
             fd: fd_before(place, own, setup, fd.as_slice()),
             nonblock: *nonblock,
         }),
-        NamedCall::TSndUData { .. } | NamedCall::TSndVUData { .. } =>
-            send_before(place, own, setup, call),
+        NamedCall::TSndUData { .. } | NamedCall::TSndVUData { .. } => send_before(
+            place, own, setup, call,
+        ),
         NamedCall::TRcvUData { .. } | NamedCall::TRcvVUData { .. } | NamedCall::TRcvUDErr { .. } =>
             receive_before(place, own, setup, call),
         NamedCall::TClose { .. }

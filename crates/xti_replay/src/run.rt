@@ -11,8 +11,8 @@ ghost use Rattle.xti_replay.specs.Progress.{Told, IsNext, Of, InStep, HasStepped
 use crate::names::call_before;
 use crate::workers::{WORKERS, Worker, workers_of};
 use std::alloc::{AllocError, Global};
-use xti_model::{Act, Applied, Call, Entries, Entry, Go, Line, Providers};
 use xti_core::World;
+use xti_model::{Act, Applied, Call, Entries, Entry, Go, Line, Providers};
 
 /// A bound on the steps of a script.
 const MOST_STEPS: u32 = 4_294_304;

@@ -1,5 +1,5 @@
 -- What is answered to a script.
-use Rattle.std.proofs.Common.{◌≡◌, ℕ, Bool, true, false, List, [], ◌∷◌, length, refl, sym, ap, ◌∙◌, subst, eqb, arith}
+use Rattle.std.proofs.Common.{◌≡◌, ℕ, Bool, true, false, List, [], ◌∷◌, length, refl, ap, ◌∙◌, subst, eqb, arith}
 use Rattle.std.proofs.lemmas.Bool.{ne_eqb}
 use Rattle.std.specs.Prelude.{◌↔◌, ◌==◌}
 use Rattle.xti_model.specs.declared.entry.Entry.{Entry}
@@ -13,7 +13,7 @@ use Rattle.xti_model.specs.Complete.{Follows, Each, workers, Complete}
 use Rattle.xti_replay.specs.Stalls.{stalls_of, are_through}
 use Rattle.xti_script.specs.Grammar.{IsScript}
 use Rattle.xti_journal.specs.JournalText.{journal_text}
-use Rattle.xti_run.specs.Program.{IsReplayed, replayed, run_status, status_with}
+use Rattle.xti_run.specs.Program.{IsReplayed, status_with}
 
 status-is : (b : Bool) (stalls : List StallLine) → ((stalls ≡ []) ↔ (b ≡ true)) → status_with (length stalls == 0) ≡ status_with b
 status-is true [] h = refl

@@ -1,4 +1,4 @@
-use Rattle.std.proofs.Common.{inl, refl}
+use Rattle.std.proofs.Common.{inl}
 use Rattle.xti_run.proofs.Answered.{IsRunOf, replayed-is}
 use Rattle.xti_run.proofs.top.replay_answer.Goals as goal
 
