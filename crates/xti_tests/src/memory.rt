@@ -3,12 +3,12 @@
 use std::alloc::{AllocError, Global};
 use std::test::*;
 use xti_base::{Calls, Octets, Parts, Prov, Room, State};
+use xti_core::World;
 use xti_io::{MemSink, MemSource, SureSink, read_all};
 use xti_journal::{write_entry, write_journal};
 use xti_model::{Act, Applied, Call, Entry, Go, Outcome, Providers, Reply, usual_is_valid};
 use xti_run::{Words, replay};
 use xti_script::read_script;
-use xti_core::World;
 
 #[test]
 fn lists(rt: HostRuntime) -> Result<(), Fail> {
