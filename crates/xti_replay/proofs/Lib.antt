@@ -7,3 +7,4 @@ pub mod Steps
 pub mod Keeping
 pub mod Turning
 pub mod Stalling
+mod Few

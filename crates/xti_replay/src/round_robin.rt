@@ -1,8 +1,9 @@
 //! Scripts, run by turns.
 
-ghost use Rattle.std.specs.Prelude.{◌≡◌, ◌↔◌, ◌++◌, [], length, IfOk, OnOk, true};
+ghost use Rattle.std.specs.Prelude.{◌≡◌, ◌≤◌, ◌+◌, ◌↔◌, ◌++◌, [], length, IfOk, OnOk, true};
 ghost use Rattle.xti_model.specs.History.{Legal};
 ghost use Rattle.xti_model.specs.Robin.{robin};
+ghost use Rattle.xti_model.specs.Work.{script_bytes};
 ghost use Rattle.xti_model.specs.Complete.{Follows, Each, workers, Complete};
 ghost use Rattle.xti_replay.specs.Playable.{IsPlayable};
 ghost use Rattle.xti_replay.specs.Stalls.{stall_of, stalls_of, are_through};
@@ -55,6 +56,7 @@ pub fn replay(alloc: Global, s: &Script) -> Result<Journal, AllocError>
     ensures legal { IfOk result (λ j. Legal s.now.providers j.entries) }
     ensures follows { IfOk result (λ j. Each (Follows j.entries s.now.lines) workers) }
     ensures complete { IfOk result (λ j. Complete s.now.providers j.entries s.now.lines) }
+    ensures few { IfOk result (λ j. length j.entries ≤ length s.now.lines + script_bytes s.now.lines) }
 {
     robin_is_legal();
     robin_follows();

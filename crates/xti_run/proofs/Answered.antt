@@ -1,7 +1,7 @@
 -- What is answered to a script.
 use Rattle.std.proofs.Common.{◌≡◌, ℕ, Bool, true, false, List, [], ◌∷◌, length, refl, ap, ◌∙◌, subst, eqb, arith}
 use Rattle.std.proofs.lemmas.Bool.{ne_eqb}
-use Rattle.std.specs.Prelude.{◌↔◌, ◌==◌}
+use Rattle.std.specs.Prelude.{◌↔◌, ◌==◌, ◌+◌, ◌≤◌}
 use Rattle.xti_model.specs.declared.entry.Entry.{Entry}
 use Rattle.xti_model.specs.declared.script.Script.{Script}
 use Rattle.xti_model.specs.declared.script.StallLine.{StallLine}
@@ -10,6 +10,7 @@ use Rattle.xti_model.specs.declared.profile.Providers.{Providers}
 use Rattle.xti_model.specs.History.{Legal}
 use Rattle.xti_model.specs.Robin.{robin}
 use Rattle.xti_model.specs.Complete.{Follows, Each, workers, Complete}
+use Rattle.xti_model.specs.Work.{script_bytes}
 use Rattle.xti_replay.specs.Stalls.{stalls_of, are_through}
 use Rattle.xti_script.specs.Grammar.{IsScript}
 use Rattle.xti_journal.specs.JournalText.{journal_text}
@@ -30,6 +31,7 @@ pub record IsRunOf (s : Script) (j : Journal) : Type 0 where
   pub legal : Legal s.providers j.entries
   pub follows : Each (Follows j.entries s.lines) workers
   pub complete : Complete s.providers j.entries s.lines
+  pub few : length j.entries ≤ length s.lines + script_bytes s.lines
 
 same-journal : (p q : Providers) (es fs : List Entry) (xs ys : List StallLine) → p ≡ q → es ≡ fs → xs ≡ ys → journal_text (record { providers = p; entries = es; stalls = xs }) ≡ journal_text (record { providers = q; entries = fs; stalls = ys })
 same-journal p q es fs xs ys a b c = rw (a, b, c) refl
@@ -43,4 +45,5 @@ replayed-is s input text j status is r n t = record {
   legal = subst (λ (es : List Entry). Legal s.providers es) r.entries r.legal;
   follows = subst (λ (es : List Entry). Each (Follows es s.lines) workers) r.entries r.follows;
   complete = subst (λ (es : List Entry). Complete s.providers es s.lines) r.entries r.complete;
+  few = subst (λ (es : List Entry). length es ≤ length s.lines + script_bytes s.lines) r.entries r.few;
 }

@@ -1,5 +1,5 @@
 -- What the program answers.
-use Rattle.std.specs.Prelude.{◌≡◌, Bool, true, false, ℕ, ◌<◌, ◌≤◌, List, [], ◌∷◌, ◌++◌, length, take, codes, decimal, Option, Some, None, ◌⊎◌, if◌then◌else◌}
+use Rattle.std.specs.Prelude.{◌≡◌, Bool, true, false, ℕ, ◌+◌, ◌<◌, ◌≤◌, List, [], ◌∷◌, ◌++◌, length, take, codes, decimal, Option, Some, None, ◌⊎◌, if◌then◌else◌}
 use Rattle.std.specs.Str.{bytes_eq}
 use Rattle.xti_io.specs.Faults.{Rose}
 use Rattle.xti_io.specs.Sink.{Takes}
@@ -8,6 +8,7 @@ use Rattle.xti_model.specs.declared.script.Journal.{Journal}
 use Rattle.xti_model.specs.History.{Legal}
 use Rattle.xti_model.specs.Robin.{robin}
 use Rattle.xti_model.specs.Complete.{Follows, Each, workers, Complete}
+use Rattle.xti_model.specs.Work.{script_bytes}
 use Rattle.xti_replay.specs.Stalls.{stalls_of, are_through}
 use Rattle.xti_script.specs.Grammar.{IsScript}
 use Rattle.xti_script.specs.Refused.{IsRefusedAt}
@@ -54,7 +55,8 @@ command_of (word ∷ []) = named word
 command_of other = None
 
 -- The input spells a script: the journal of its run, with a stall line for each worker that is not through. The run is legal, has each worker's calls in script order, each once,
--- and ends early only where each worker that is not through is blocked. Status 0 where every worker is through, else 3.
+-- and ends early only where each worker that is not through is blocked; it has no more steps than the script has calls and bytes of arguments.
+-- Status 0 where every worker is through, else 3.
 pub record IsReplayed (input : List ℕ) (status : ℕ) (text : List ℕ) : Type 0 where
   pub script : Script
   pub is_script : IsScript script input
@@ -63,6 +65,7 @@ pub record IsReplayed (input : List ℕ) (status : ℕ) (text : List ℕ) : Type
   pub legal : Legal script.providers (robin script)
   pub follows : Each (Follows (robin script) script.lines) workers
   pub complete : Complete script.providers (robin script) script.lines
+  pub few : length (robin script) ≤ length script.lines + script_bytes script.lines
 
 -- the input spells none: status 2, and the first line by which it does not
 pub record IsRefusedInput (input : List ℕ) (status : ℕ) (text : List ℕ) : Type 0 where

@@ -1,8 +1,9 @@
 //! The run of a script on one thread.
 
-ghost use Rattle.std.specs.Prelude.{◌≡◌, ◌↔◌, [], IfOk, true};
+ghost use Rattle.std.specs.Prelude.{◌≡◌, ◌↔◌, ◌+◌, ◌≤◌, [], length, IfOk, true};
 ghost use Rattle.xti_model.specs.History.{Legal};
 ghost use Rattle.xti_model.specs.Robin.{robin};
+ghost use Rattle.xti_model.specs.Work.{script_bytes};
 ghost use Rattle.xti_model.specs.Complete.{Follows, Each, workers, Complete};
 ghost use Rattle.xti_replay.specs.Stalls.{stalls_of, are_through};
 ghost use Rattle.xti_script.specs.Grammar.{HasText};
@@ -15,6 +16,7 @@ use xti_script::{scripts_are_built, scripts_are_small, scripts_have_workers};
 pub fn replay(alloc: Global, s: &Script) -> Result<Journal, AllocError>
     requires { HasText s.now }
     ensures entries { IfOk result (λ j. j.entries ≡ robin s.now) }
+    ensures few { IfOk result (λ j. length j.entries ≤ length s.now.lines + script_bytes s.now.lines) }
     ensures providers { IfOk result (λ j. j.providers ≡ s.now.providers) }
     ensures stalls { IfOk result (λ j. j.stalls ≡ stalls_of s.now) }
     ensures through { IfOk result (λ j. (j.stalls ≡ []) ↔ (are_through s.now.lines j.entries ≡ true)) }

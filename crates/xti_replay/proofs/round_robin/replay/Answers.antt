@@ -1,4 +1,5 @@
 use Rattle.xti_replay.proofs.Stalling.{ends}
+use Rattle.xti_replay.proofs.Few.{robin-few}
 use Rattle.xti_replay.proofs.round_robin.replay.Goals as goal
 
 pub returns-clause-entries : goal.returns-clause-entries
@@ -18,3 +19,6 @@ returns-clause-follows c = rw (returns-clause-entries c) (c.robin_follows.ensure
 
 pub returns-clause-complete : goal.returns-clause-complete
 returns-clause-complete c = rw (returns-clause-entries c) (c.robin_is_complete.ensures c.args.s.now c.requires.bound)
+
+pub returns-clause-few : goal.returns-clause-few
+returns-clause-few c = rw (returns-clause-entries c) (robin-few c.args.s.now)

@@ -12,5 +12,6 @@ returns-in_ok-text-in-Ok c =
       legal = c.in_ok-journal-in-Ok.ensures.legal;
       follows = c.in_ok-journal-in-Ok.ensures.follows;
       complete = c.in_ok-journal-in-Ok.ensures.complete;
+      few = c.in_ok-journal-in-Ok.ensures.few;
     } in
     inl (replayed-is c.in-Ok.script c.args.input.now c.in_ok-text-in-Ok.text c.in_ok-journal-in-Ok.journal c.journal_status-status.result c.in-Ok.ensures.found r c.journal_status-status.ensures c.in_ok-text-in-Ok.ensures)
