@@ -2,13 +2,17 @@
 
 ghost use Rattle.std.specs.Prelude.{◌≡◌, ◌++◌, ◌∷◌, [], ℕ, List, OnOk, OnErr, IfOk};
 
+use smallvec::SmallVec;
 use std::alloc::{AllocError, Global};
 use std::marker::Model;
 
-/// A list of bytes: an address, options or data (XNS, netbuf).
+/// How many bytes a list holds in the value itself.
+const INLINE: usize = 16;
+
+/// A list of bytes: an address, options or data (XNS, netbuf). Up to 16 bytes stand in the value itself and take no memory.
 #[derive(Drop)]
 pub struct Octets {
-    bytes: Vec<u8>,
+    bytes: SmallVec<u8, INLINE>,
 }
 
 impl Model for Octets {
@@ -23,7 +27,7 @@ impl Octets {
         ensures { result ≡ [] }
     {
         Octets {
-            bytes: Vec::new(alloc),
+            bytes: SmallVec::new(alloc),
         }
     }
 
@@ -32,7 +36,7 @@ impl Octets {
         ensures { IfOk result (λ o. o ≡ bytes.now) }
     {
         Ok(Octets {
-            bytes: Vec::from_slice(alloc, bytes)?,
+            bytes: SmallVec::from_slice(alloc, bytes)?,
         })
     }
 
@@ -40,15 +44,17 @@ impl Octets {
     pub fn from_vec(bytes: Vec<u8>) -> Octets
         ensures { result ≡ bytes.items }
     {
-        Octets { bytes }
+        Octets {
+            bytes: SmallVec::from_vec(bytes),
+        }
     }
 
-    /// The bytes, given back. Takes no memory.
-    pub fn into_vec(self) -> Vec<u8>
-        ensures { result.items ≡ self }
+    /// The bytes, given back.
+    pub fn into_vec(self) -> Result<Vec<u8>, AllocError>
+        ensures { IfOk result (λ bytes. bytes.items ≡ self) }
     {
         let Octets { bytes } = self;
-        bytes
+        Ok(bytes.into_vec()?)
     }
 
     /// The same bytes once more.
@@ -56,7 +62,7 @@ impl Octets {
         ensures { IfOk result (λ o. o ≡ self.now) }
     {
         Ok(Octets {
-            bytes: self.bytes.clone()?,
+            bytes: SmallVec::from_slice(*self.bytes.allocator(), self.bytes.as_slice())?,
         })
     }
 
