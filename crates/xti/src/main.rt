@@ -18,13 +18,14 @@ usage: xti replay
        xti frames
        xti --help | -h | --version
 
-replay  reads a script of XTI calls from standard input, makes the calls one
-        after the other, and prints their journal on standard output
+replay  reads a script of XTI calls from standard input, makes the calls of
+        its workers by turns, and prints their journal on standard output
 frames  reads TPI frames one after the other from standard input, and prints a
         line for each on standard output
 
 status: 0 done, 1 the words are no command, 2 the input is refused,
-        4 want of memory, 5 reading failed, 6 writing failed
+        3 a worker is blocked at the end, 4 want of memory,
+        5 reading failed, 6 writing failed
 ";
 
 /// The text that the words ask for where they are no command: the usage or the version.
