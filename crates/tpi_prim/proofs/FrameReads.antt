@@ -3,6 +3,7 @@ use Rattle.std.proofs.Common.{◌≡◌, ◌≤◌, ◌<◌, ◌+◌, ℕ, suc, 
 use Rattle.std.proofs.Math.Seq.{drop-append_seam, take-append_seam}
 use Rattle.std.specs.Int.{w32, from_be_bytes}
 use Rattle.std.specs.List.{AllByRecursion}
+use Rattle.std.specs.Prelude.{Result, Ok, Err, IfOk, OnOk}
 use Rattle.std.proofs.lemmas.Nat.{from_be_bytes-to_be_bytes_4}
 use Rattle.tpi_grammar.specs.Frame.{Row, Slot, upto, part, Value, num, text, Filled, IsFilled, IsIn, Fit, table, spelling, be, words, parts, offset, head, slots_size, control_size}
 use Rattle.tpi_grammar.specs.Kinds.{row_of}
@@ -388,3 +389,9 @@ reads_back p bs s =
     let own = of_its_kind p in
     let read = kind_read (kind_of p) (filled p).values (filled p).user bs (subst IsFilled own s.good) (s.text ∙ ap spelling own) in
     rw (← kind_found bs (kind_of p) (word_in bs 8) read.prim_type refl) (read_back p bs read)
+
+-- what is encoded by the row that a primitive fills in is read as the primitive
+pub read_by_row : {E : Type 0} (p : Prim) (f : Filled) (r : Result (List ℕ) E) → f ≡ filled p → OnOk r (IsFilled f) → IfOk r (λ bs. bs ≡ spelling f)
+    → IfOk r (λ bs. primitive_in bs ≡ p)
+read_by_row p f (Ok bs) same good spelled = reads_back p bs (by_row p f bs same good spelled)
+read_by_row p f (Err e) same good spelled = tt

@@ -3,14 +3,15 @@
 ghost use Rattle.std.specs.Prelude.{◌≡◌, ◌≤◌, ◌<◌, ◌+◌, ◌-◌, ◌^◌, [], ◌∷◌, ◌++◌, ◌↔◌, length, IfOk, IfErr, OnOk, IsErrOf};
 ghost use Rattle.std.specs.Option.{SomeIff};
 ghost use Rattle.tpi_grammar.specs.Kinds.{row_of};
-ghost use Rattle.tpi_grammar.specs.Frame.{text, AreBytes, IsFilled, spelling, words, parts, offset, head, control_size};
+ghost use Rattle.tpi_grammar.specs.Frame.{text, AreBytes, IsFilled, spelling, words, parts, offset, head, control_size, be};
 ghost use Rattle.tpi_prim.specs.Primitive.{filled, Spells};
 ghost use Rattle.tpi_prim.specs.Fields.{primitive_in};
+ghost use Rattle.tpi_prim.specs.declared.primitive.Prim.TheVariants.{T_UNITDATA_IND, T_UDERROR_IND};
 ghost use Rattle.tpi_prim.specs.Lent.{value_of, values_of, filled_by, HasShape, IsTooBig};
 
-use crate::frames::Frame;
+use crate::frames::{Frame, FrameBytes};
 use crate::primitive::Prim;
-use bytes::{BufMut, Bytes, BytesMut};
+use bytes::Bytes;
 use std::alloc::{AllocError, AllocFailed, Global};
 use thiserror::Error;
 use tpi_grammar::Kind;
@@ -54,13 +55,49 @@ pub fn encode(alloc: Global, prim: &Prim) -> Result<Frame, EncodeFail>
     ensures read { IfOk result (λ frame. primitive_in frame ≡ prim.now) }
     ensures too_big { IsErrOf result EncodeFail.TooBig ↔ IsTooBig (filled prim.now) }
 {
-    let lent = Lent::of(prim);
-    let control = lent.control_len().ok_or(EncodeFail::TooBig)?;
-    if lent.user.len() > 65536 {
-        return Err(EncodeFail::TooBig);
-    }
-    let frame = lent.encode(alloc, control)?;
-    Ok(frame)
+    Lent::of(prim).frame(alloc)
+}
+
+/// The frame of a T_UNITDATA_IND with these fields. They are lent, so that none is copied on the way to the frame.
+pub fn encode_unitdata_ind<'a>(
+    alloc: Global,
+    src: &'a [u8],
+    opt: &'a [u8],
+    user: &'a [u8],
+) -> Result<Frame, EncodeFail>
+    ensures spelled { IfOk result (λ frame. Spells (T_UNITDATA_IND src.now opt.now user.now) frame) }
+    ensures read { IfOk result (λ frame. primitive_in frame ≡ T_UNITDATA_IND src.now opt.now user.now) }
+    ensures too_big { IsErrOf result EncodeFail.TooBig ↔ IsTooBig (filled (T_UNITDATA_IND src.now opt.now user.now)) }
+{
+    let lent = Lent {
+        kind: Kind::T_UNITDATA_IND,
+        fields: [Field::Bytes(src), Field::Bytes(opt), Field::Nothing],
+        user,
+    };
+    lent.frame(alloc)
+}
+
+/// The frame of a T_UDERROR_IND with these fields. They are lent, so that none is copied on the way to the frame.
+pub fn encode_uderror_ind<'a>(
+    alloc: Global,
+    dest: &'a [u8],
+    opt: &'a [u8],
+    error_type: u32,
+) -> Result<Frame, EncodeFail>
+    ensures spelled { IfOk result (λ frame. Spells (T_UDERROR_IND dest.now opt.now error_type) frame) }
+    ensures read { IfOk result (λ frame. primitive_in frame ≡ T_UDERROR_IND dest.now opt.now error_type) }
+    ensures too_big { IsErrOf result EncodeFail.TooBig ↔ IsTooBig (filled (T_UDERROR_IND dest.now opt.now error_type)) }
+{
+    let lent = Lent {
+        kind: Kind::T_UDERROR_IND,
+        fields: [
+            Field::Bytes(dest),
+            Field::Bytes(opt),
+            Field::Number(error_type),
+        ],
+        user: &[],
+    };
+    lent.frame(alloc)
 }
 
 /// What stands at a slot, lent.
@@ -93,6 +130,22 @@ impl Lent<'_> {
         }
     }
 
+    /// The frame of the primitive. The limits are looked at before memory is taken.
+    fn frame(&self, alloc: Global) -> Result<Frame, EncodeFail>
+        requires shape { HasShape (row_of self.now.kind).slots (values_of self.now.fields) }
+        requires room { length self.now.user.now ≤ 65536 → length self.now.user.now ≤ (row_of self.now.kind).most_data }
+        ensures spelled { IfOk result (λ frame. frame ≡ spelling (filled_by self.now)) }
+        ensures filled { OnOk result (IsFilled (filled_by self.now)) }
+        ensures too_big { IsErrOf result EncodeFail.TooBig ↔ IsTooBig (filled_by self.now) }
+    {
+        let control = self.control_len().ok_or(EncodeFail::TooBig)?;
+        if self.user.len() > 65536 {
+            return Err(EncodeFail::TooBig);
+        }
+        let frame = self.encode(alloc, control)?;
+        Ok(frame)
+    }
+
     /// How long the control part is; `None` over 1,024 bytes.
     fn control_len(&self) -> Option<u32>
         ensures { SomeIff result (control_size (filled_by self.now) ≤ 1024) (control_size (filled_by self.now)) }
@@ -112,15 +165,14 @@ impl Lent<'_> {
     {
         let user = self.user;
         let len = 8 + control as usize + user.len();
-        let mut out = BytesMut::with_capacity(alloc, len)?;
-        out.put_u32(control)?;
-        out.put_u32(user.len() as u32)?;
-        out.put_u32(self.kind.number())?;
+        let mut out = FrameBytes::with_capacity(alloc, len)?;
+        put_word(&mut out, control)?;
+        put_word(&mut out, user.len() as u32)?;
+        put_word(&mut out, self.kind.number())?;
         put_words(&mut out, self.kind.head(), &self.fields)?;
         put_parts(&mut out, &self.fields)?;
         put_bytes(&mut out, user)?;
-        let bytes = out.freeze()?;
-        Ok(Frame::of(bytes))
+        Ok(Frame::of(out))
     }
 }
 
@@ -150,8 +202,15 @@ fn offset_of(len: u32, place: u32) -> u32
     if len == 0 { 0 } else { place }
 }
 
+/// Writes a word, high byte first.
+fn put_word(out: &mut FrameBytes, word: u32) -> Result<(), AllocError>
+    ensures { OnOk result (out.new.items ≡ out.old.items ++ be word) }
+{
+    out.extend_from_slice(&word.to_be_bytes())
+}
+
 /// Writes the words of the fields, whose parts lie from this place of the control part on.
-fn put_words(out: &mut BytesMut, place: u32, fields: &[Field<'_>]) -> Result<(), AllocError>
+fn put_words(out: &mut FrameBytes, place: u32, fields: &[Field<'_>]) -> Result<(), AllocError>
     requires { place + length (parts (values_of fields.now)) < 2 ^ 32 }
     ensures { OnOk result (out.new.items ≡ out.old.items ++ words place (values_of fields.now)) }
 {
@@ -160,28 +219,28 @@ fn put_words(out: &mut BytesMut, place: u32, fields: &[Field<'_>]) -> Result<(),
     };
     match first {
         Field::Number(n) => {
-            out.put_u32(*n)?;
+            put_word(out, *n)?;
             put_words(out, place, others)
         }
         Field::Bytes(bytes) => {
             let len = bytes.len() as u32;
-            out.put_u32(len)?;
-            out.put_u32(offset_of(len, place))?;
+            put_word(out, len)?;
+            put_word(out, offset_of(len, place))?;
             put_words(out, place + len, others)
         }
         Field::Nothing => put_words(out, place, others),
     }
 }
 
-fn put_bytes(out: &mut BytesMut, bytes: &[u8]) -> Result<(), AllocError>
+fn put_bytes(out: &mut FrameBytes, bytes: &[u8]) -> Result<(), AllocError>
     ensures written { OnOk result (out.new.items ≡ out.old.items ++ bytes.now) }
     ensures bytes { AreBytes bytes.now }
 {
-    out.put_slice(bytes)
+    out.extend_from_slice(bytes)
 }
 
 /// Writes the parts of the fields.
-fn put_parts(out: &mut BytesMut, fields: &[Field<'_>]) -> Result<(), AllocError>
+fn put_parts(out: &mut FrameBytes, fields: &[Field<'_>]) -> Result<(), AllocError>
     ensures written { OnOk result (out.new.items ≡ out.old.items ++ parts (values_of fields.now)) }
     ensures bytes { OnOk result (AreBytes (parts (values_of fields.now))) }
 {

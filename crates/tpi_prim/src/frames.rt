@@ -9,14 +9,21 @@ ghost use Rattle.tpi_prim.specs.Primitive.{more_of, seq_of, reason_of, part_of, 
 ghost use Rattle.tpi_prim.specs.Fields.{word_in, part_in, user_in, kind_in, primitive_in, LiesIn, seq_place, reason_place, part_place};
 
 use crate::primitive::Part;
-use bytes::{Buf, Bytes};
+use bytes::Buf;
+use smallvec::SmallVec;
 use std::marker::Model;
 use tpi_grammar::Kind;
+
+/// How many bytes a frame holds in the value itself.
+const INLINE: usize = 64;
+
+/// The bytes of a frame, or of its front while it is written. Up to 64 bytes stand in the value itself and take no memory.
+pub(crate) type FrameBytes = SmallVec<u8, INLINE>;
 
 /// The bytes of one encoded primitive.
 #[derive(Drop)]
 pub struct Frame {
-    bytes: Bytes,
+    bytes: FrameBytes,
 }
 
 impl Model for Frame {
@@ -25,15 +32,15 @@ impl Model for Frame {
 
     ghost Value = { List ℕ };
 
-    ghost view = { λ f. f.bytes };
+    ghost view = { λ f. f.bytes.items };
 
-    ghost invariant = { λ f. IsFrame f.bytes };
+    ghost invariant = { λ f. IsFrame f.bytes.items };
 }
 
 impl Frame {
-    pub(crate) fn of(bytes: Bytes) -> Frame
-        requires { IsFrame bytes }
-        ensures { result ≡ bytes }
+    pub(crate) fn of(bytes: FrameBytes) -> Frame
+        requires { IsFrame bytes.items }
+        ensures { result ≡ bytes.items }
     {
         Frame { bytes }
     }
