@@ -1,7 +1,8 @@
 -- The endpoint under a number, by the place of the number in its list.
-use Rattle.std.proofs.Common.{◌≡◌, ℕ, suc, ◌+◌, ◌<◌, Bool, true, false, not, ◌||◌, cond, eqb, ltb, List, [], ◌∷◌, ◌++◌, length, get_or, set, Option, Some, None, refl, sym, ap, ◌∙◌, arith}
+use Rattle.std.proofs.Common.{◌≡◌, ℕ, zero, suc, ◌+◌, ◌<◌, Bool, true, false, not, ◌||◌, cond, eqb, ltb, List, [], ◌∷◌, ◌++◌, length, get_or, set, Option, Some, None, refl, sym, ap, ◌∙◌, subst, arith}
 use Rattle.std.specs.Prelude.{is_some, option_map, ◌==◌}
 use Rattle.std.specs.List.{position, position_or_len, AllByRecursion}
+use Rattle.std.proofs.lemmas.Bool.{eq-eqb, eqb-true}
 use Rattle.std.proofs.lemmas.Bool.Decides.{nat_tests}
 use Rattle.xti_model.specs.World.{is_among}
 use Rattle.xti_end.specs.Held.{Held}
@@ -135,3 +136,32 @@ none-of (Some x) e = cc
 
 pub nowhere : (n : ℕ) (ms : List ℕ) (hs : List Held) → length hs ≡ length ms → None ≡ place_among n ms → None ≡ held_in ms hs n
 nowhere n ms hs e s = sym (none-of (held_in ms hs n) (sym (has-is n ms hs e) ∙ sym (ap is_some s)))
+
+or-true : (b : Bool) → (b || true) ≡ true
+or-true true = refl
+or-true false = refl
+
+-- where no number stands twice, a number that stands at a place is found there
+among-at : (ms : List ℕ) (i n d : ℕ) → i < length ms → get_or ms i d ≡ n → is_among ms n ≡ true
+among-at [] i n d lt e = absurd (omega arith)
+among-at (m ∷ ms) zero n d lt e = rw (eq-eqb m n e) refl
+among-at (m ∷ ms) (suc i) n d lt e = rw (among-at ms i n d (omega arith) e) (or-true (eqb m n))
+
+index-at : (ms : List ℕ) (i n d : ℕ) → Distinct ms → i < length ms → get_or ms i d ≡ n → index n ms ≡ i
+index-at [] i n d u lt e = absurd (omega arith)
+index-at (m ∷ ms) zero n d u lt e = rw (eq-eqb m n e) refl
+index-at (m ∷ ms) (suc i) n d u lt e = go (eqb m n) refl (index-at ms i n d u.1 (omega arith) e)
+  where
+    go : (b : Bool) → eqb m n ≡ b → index n ms ≡ i → cond (not b) (1 + index n ms) 0 ≡ suc i
+    go true j k =
+        let s : m ≡ n = eqb-true m n j in
+        let a : is_among ms n ≡ true = among-at ms i n d (omega arith) e in
+        let v : is_among ms m ≡ false = u.0 in
+        absurd (let w = subst (λ z. is_among ms z ≡ false) s v in cc)
+    go false j k = omega (arith, k)
+
+pub found-at : (ms : List ℕ) (i n d : ℕ) → Distinct ms → i < length ms → get_or ms i d ≡ n → Some i ≡ place_among n ms
+found-at ms i n d u lt e =
+    let k : index n ms ≡ i = index-at ms i n d u lt e in
+    let t : ltb (index n ms) (length ms) ≡ true = grind (arith, nat_tests) in
+    rw (t, k) refl

@@ -7,6 +7,7 @@ ghost use Rattle.xti_model.specs.Profile.{valid, usual};
 ghost use Rattle.xti_model.specs.World.{endpoint, place_of};
 ghost use Rattle.xti_end.specs.Held.{is_open_as, parts};
 ghost use Rattle.xti_lent.specs.Fit.{AtOwnPlaces};
+ghost use Rattle.xti_lent.specs.Kept.{Distinct};
 ghost use Rattle.xti_lent.specs.Lending.{held_at, is_lent, cells};
 ghost use Rattle.xti_lent.specs.Lends.{LendsEndpoint, LendsRegistry};
 
@@ -18,13 +19,16 @@ use xti_end::Endpoint;
 use xti_model::Providers;
 use xti_registry::Registry;
 
-/// The cells that a step is lent: at most ten endpoints, each under the number of its place, and the switch's table.
+/// How many places there are, and so the most endpoints that can be lent.
+const PLACES: usize = 64;
+
+/// The cells that a step is lent: endpoints, each under the number of its place, and the switch's table.
 #[derive(Drop)]
 pub struct Lent {
     alloc: Global,
     providers: Providers,
-    numbers: ArrayVec<u32, 10>,
-    endpoints: ArrayVec<Endpoint, 10, Global>,
+    numbers: ArrayVec<u32, PLACES>,
+    endpoints: ArrayVec<Endpoint, PLACES, Global>,
     registry: Option<Registry>,
 }
 
@@ -69,7 +73,7 @@ impl Lent {
         requires place { place < 64 }
         requires own { e.place ≡ place }
         requires apart { held_at self.old place ≡ None }
-        requires room { length self.old.numbers < 10 }
+        requires room { length self.old.numbers < 64 }
         ensures { self.new ≡ record self.old { numbers = self.old.numbers ++ place ∷ []; held = self.old.held ++ e ∷ [] } }
     {
         self.numbers.push(place);
@@ -194,10 +198,15 @@ pub fn place_of(fd: Fd) -> u32
     fd.0 % 64
 }
 
-/// The first place of a number.
+/// Where a number stands among numbers of which none stands twice. Where all places are lent in their order, each stands at its own.
 fn index_of(numbers: &[u32], number: u32) -> Option<usize>
+    requires { Distinct numbers.now }
     ensures index { result ≡ position (λ n. n == number) numbers.now }
     ensures bound { IfSome result (λ i. i < length numbers.now) }
 {
+    let own = number as usize;
+    if own < numbers.len() && numbers[own] == number {
+        return Some(own);
+    }
     numbers.iter().position(|n| *n == number)
 }
