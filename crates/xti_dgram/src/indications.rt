@@ -1,20 +1,16 @@
 //! The indications of datagrams and their errors, as frames.
 
-ghost use Rattle.std.specs.Prelude.{◌≡◌, ◌≤◌, ◌^◌, ◌-◌, length, min, true, IfOk};
+ghost use Rattle.std.specs.Prelude.{◌≡◌, ◌≤◌, ◌^◌, ◌-◌, length, min, true, Ok, IfOk, IsErrOf};
 ghost use Rattle.std.specs.List.{concat};
-ghost use Rattle.tpi_grammar.specs.Frame.{control_size};
 ghost use Rattle.tpi_grammar.specs.declared.kind.Kind.TheVariants.{T_UNITDATA_IND, T_UDERROR_IND};
-ghost use Rattle.tpi_prim.specs.Fields.{kind_in, primitive_in};
-ghost use Rattle.tpi_prim.specs.Primitive.{filled};
+ghost use Rattle.tpi_prim.specs.Fields.{kind_in};
 ghost use Rattle.xti_model.specs.Endpoint.{address_of};
 ghost use Rattle.xti_model.specs.Calls.Datagrams.{datagram_from, error_to};
 ghost use Rattle.xti_end.specs.Frames.{datagram_in, error_in};
 ghost use Rattle.xti_end.specs.Held as Held;
 
-use bytes::{Bytes, BytesMut};
 use std::alloc::{AllocError, Global};
-use tpi_prim::primitive::Prim;
-use tpi_prim::{EncodeFail, Frame, encode};
+use tpi_prim::{EncodeFail, Frame, encode_uderror_ind, encode_unitdata_ind};
 use xti_base::Octets;
 use xti_end::Endpoint;
 
@@ -33,24 +29,23 @@ pub(crate) fn total(parts: &[Octets]) -> usize
 }
 
 /// The parts, joined.
-fn joined(alloc: Global, parts: &[Octets]) -> Result<Bytes, AllocError>
+fn joined(alloc: Global, parts: &[Octets]) -> Result<Vec<u8>, AllocError>
     requires { length (concat parts.now) ≤ 65536 }
-    ensures { IfOk result (λ bytes. bytes ≡ concat parts.now) }
+    ensures { IfOk result (λ bytes. bytes.items ≡ concat parts.now) }
 {
-    let mut bytes = BytesMut::with_capacity(alloc, total(parts))?;
+    let mut bytes = Vec::with_capacity(alloc, total(parts))?;
     for part in parts {
-        bytes.extend_reserved(part.as_slice());
+        bytes.extend_from_slice(part.as_slice())?;
     }
-    Ok(bytes.freeze()?)
+    Ok(bytes)
 }
 
 /// The frame of a primitive that isn't too big.
-fn frame_of(alloc: Global, prim: &Prim) -> Result<Frame, AllocError>
-    requires control { control_size (filled prim.now) ≤ 1024 }
-    requires data { length (filled prim.now).user ≤ 65536 }
-    ensures { IfOk result (λ frame. primitive_in frame ≡ prim.now) }
+fn unless_too_big(encoded: Result<Frame, EncodeFail>) -> Result<Frame, AllocError>
+    requires { IsErrOf encoded EncodeFail.TooBig → ⊥ }
+    ensures { IfOk result (λ frame. encoded ≡ Ok frame) }
 {
-    match encode(alloc, prim) {
+    match encoded {
         Ok(frame) => Ok(frame),
         Err(EncodeFail::OutOfMemory) => Err(AllocError),
         Err(EncodeFail::TooBig) => unreachable!(),
@@ -68,7 +63,7 @@ fn address_of(e: &Endpoint) -> &[u8]
     }
 }
 
-/// The T_UNITDATA_IND of a datagram that the open endpoint sends.
+/// The T_UNITDATA_IND of a datagram that the open endpoint sends. A datagram of one part is copied once.
 pub(crate) fn datagram(
     alloc: Global,
     e: &Endpoint,
@@ -82,12 +77,31 @@ pub(crate) fn datagram(
     ensures kind { IfOk result (λ frame. kind_in frame ≡ T_UNITDATA_IND) }
     ensures datagram { IfOk result (λ frame. datagram_in frame ≡ datagram_from (Held.parts e.now) options.now (concat parts.now)) }
 {
-    let prim = Prim::T_UNITDATA_IND {
-        src: Bytes::copy_from_slice(alloc, address_of(e))?,
-        opt: Bytes::copy_from_slice(alloc, options)?,
-        user: joined(alloc, parts)?,
-    };
-    frame_of(alloc, &prim)
+    match parts {
+        [only] => datagram_of(alloc, address_of(e), options, only.as_slice()),
+        _ => datagram_of(
+            alloc,
+            address_of(e),
+            options,
+            joined(alloc, parts)?.as_slice(),
+        ),
+    }
+}
+
+/// The T_UNITDATA_IND of a datagram from an address.
+fn datagram_of(
+    alloc: Global,
+    source: &[u8],
+    options: &[u8],
+    bytes: &[u8],
+) -> Result<Frame, AllocError>
+    requires source { length source.now ≤ 64 }
+    requires options { length options.now ≤ 256 }
+    requires data { length bytes.now ≤ 65536 }
+    ensures kind { IfOk result (λ frame. kind_in frame ≡ T_UNITDATA_IND) }
+    ensures datagram { IfOk result (λ frame. datagram_in frame ≡ record { source = source.now; options = options.now; bytes = bytes.now }) }
+{
+    unless_too_big(encode_unitdata_ind(alloc, source, options, bytes))
 }
 
 /// The T_UDERROR_IND of a datagram that nobody was there to take.
@@ -101,10 +115,5 @@ pub(crate) fn datagram_error(
     ensures kind { IfOk result (λ frame. kind_in frame ≡ T_UDERROR_IND) }
     ensures error { IfOk result (λ frame. error_in frame ≡ error_to address.now options.now) }
 {
-    let prim = Prim::T_UDERROR_IND {
-        dest: Bytes::copy_from_slice(alloc, address)?,
-        opt: Bytes::copy_from_slice(alloc, options)?,
-        error_type: UNDELIVERABLE,
-    };
-    frame_of(alloc, &prim)
+    unless_too_big(encode_uderror_ind(alloc, address, options, UNDELIVERABLE))
 }
