@@ -1,7 +1,4 @@
 mod Least
-mod Order
-mod Keys
+mod Chains
 mod Addresses
-mod Found
-mod Lookups
 mod Keeping

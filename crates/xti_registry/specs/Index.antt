@@ -1,57 +1,44 @@
--- The order in which bindings are looked up, and an index in that order.
-use Rattle.std.specs.Prelude.{◌≡◌, ◌<◌, ◌-◌, ◌==◌, not, nat_lt, if◌then◌else◌, ℕ, Bool, true, false, List, [], ◌∷◌, length, map, slice_index_or}
-use Rattle.std.specs.Cmp.Lexicographic.{slice_cmp}
+-- The chains in which bindings are looked up: a binding stands in the chain of its address's word.
+use Rattle.std.specs.Prelude.{◌≡◌, ◌≤◌, ◌<◌, ◌+◌, ◌-◌, ◌*◌, ◌%◌, ◌^◌, ◌==◌, ℕ, Bool, true, false, List, [], ◌∷◌, length, take, drop, slice_index_or}
 use Rattle.std.specs.List.{AllByRecursion}
-use Rattle.std.specs.Ordering.{nat_cmp, ordering_then, is_lt}
-use Rattle.std.specs.declared.cmp.Ordering.{Ordering}
 use Rattle.xti_base.specs.Kinds.{prov_number}
 use Rattle.xti_base.specs.declared.kinds.Prov.{Prov}
 use Rattle.xti_base.specs.declared.kinds.Prov.TheVariants.{Other}
-use Rattle.xti_model.specs.World.{Binding, is_among}
+use Rattle.xti_model.specs.World.{Binding}
 
--- by provider, and of one provider by address
-abbrev pub by_address : Binding → Binding → Ordering
-by_address b c =
-    ordering_then (nat_cmp (prov_number b.prov) (prov_number c.prov)) (slice_cmp nat_cmp b.address c.address)
+-- a word with further bytes mixed in
+abbrev pub mixed : ℕ → List ℕ → ℕ
+mixed word [] = word
+mixed word (b ∷ bs) = mixed (((word * 31) % 2 ^ 32 + b) % 2 ^ 32) bs
 
-abbrev pub is_before : Binding → Binding → Bool
-is_before b c = is_lt (by_address b c)
+-- the word of a provider's address: of the last 8 bytes, in which addresses differ mostly
+abbrev pub word_of : Prov → List ℕ → ℕ
+word_of prov address = mixed (prov_number prov) (drop (length address - 8) address)
 
-abbrev pub NotBefore : Binding → Binding → Type 0
-NotBefore b c = is_before c b ≡ false
+abbrev pub chain_of : ℕ → ℕ
+chain_of word = word % 64
 
-abbrev pub Before : Binding → Binding → Type 0
-Before b c = is_before c b ≡ true
+abbrev pub binding_chain : Binding → ℕ
+binding_chain b = chain_of (word_of b.prov b.address)
 
--- a binding to the address, to compare with
-abbrev pub binding_to : Prov → List ℕ → Binding
-binding_to prov address = record { prov = prov; address = address; fd = 0; listening = false }
+abbrev pub is_in : ℕ → Binding → Bool
+is_in chain b = binding_chain b == chain
 
--- none comes before one that stands in front of it
-abbrev pub Rises : List Binding → Type 0
-Rises [] = Unit {0}
-Rises (b ∷ bs) = AllByRecursion (NotBefore b) bs × Rises bs
+abbrev pub IsElsewhere : ℕ → Binding → Type 0
+IsElsewhere chain b = is_in chain b ≡ false
 
 abbrev pub binding_at : List Binding → ℕ → Binding
-binding_at bs key = slice_index_or bs key (binding_to Other [])
+binding_at bs i = slice_index_or bs i (record { prov = Other; address = []; fd = 0; listening = false })
 
--- the bindings in the order of the keys
-abbrev pub listed : List Binding → List ℕ → List Binding
-listed bs keys = map (binding_at bs) keys
+-- how many bindings there are up to the last one in the chain; 0 where none is in it
+pub record IsLast (bs : List Binding) (chain n : ℕ) : Type 0 where
+  pub within : n ≤ length bs
+  pub itself : 1 ≤ n → is_in chain (binding_at bs (n - 1)) ≡ true
+  pub behind : AllByRecursion (IsElsewhere chain) (drop n bs)
 
-abbrev pub IsBelow : ℕ → ℕ → Type 0
-IsBelow n key = key < n
-
--- the keys are the bindings' places, all of them, in rising order of the bindings
-pub record IsIndex (bs : List Binding) (keys : List ℕ) : Type 0 where
-  pub within : AllByRecursion (IsBelow (length bs)) keys
-  pub complete : (key : ℕ) → key < length bs → is_among keys key ≡ true
-  pub rises : Rises (listed bs keys)
-
--- whether a key is another one than that of the binding that goes
-abbrev pub is_other : ℕ → ℕ → Bool
-is_other gone key = not (key == gone)
-
--- the place of another binding when that one is gone
-abbrev pub closed_up : ℕ → ℕ → ℕ
-closed_up gone key = if nat_lt gone key then key - 1 else key
+-- the last binding in each chain, and of each binding the one before it in its chain
+pub record IsIndex (bs : List Binding) (last before : List ℕ) : Type 0 where
+  pub chains : length last ≡ 64
+  pub bindings : length before ≡ length bs
+  pub last_is : (chain : ℕ) → chain < 64 → IsLast bs chain (slice_index_or last chain 0)
+  pub before_is : (i : ℕ) → i < length bs → IsLast (take i bs) (binding_chain (binding_at bs i)) (slice_index_or before i 0)

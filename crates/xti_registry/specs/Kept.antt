@@ -9,9 +9,9 @@ pub record IsCounted (place : Place) : Type 0 where
   pub again : place.is_open ≡ true → place.generation + 1 < 2 ^ 26
 
 -- there are 64 places; the index is one of the bindings; and there is room for as many more as are promised
-pub record IsKept (places : List Place) (bindings : List Binding) (index : List ℕ) (spare capacity index_capacity : ℕ) : Type 0 where
+pub record IsKept (places : List Place) (bindings : List Binding) (last before : List ℕ) (spare capacity index_capacity : ℕ) : Type 0 where
   pub places_known : length places ≡ 64
   pub counted : All IsCounted places
-  pub indexed : IsIndex bindings index
+  pub indexed : IsIndex bindings last before
   pub room : length bindings + spare ≤ capacity
-  pub index_room : length index + spare ≤ index_capacity
+  pub index_room : length bindings + spare ≤ index_capacity

@@ -7,7 +7,7 @@ ghost use Rattle.xti_model.specs.World.{descriptor, opening_switch, places};
 ghost use Rattle.xti_registry.specs.Known.{bound_at, switch_with};
 ghost use Rattle.xti_registry.specs.Index.{IsIndex};
 
-use crate::index::{first_at, forget, least_at};
+use crate::index::{Index, forget};
 use crate::tables::{Binding, Place};
 use arrayvec::ArrayVec;
 use itoa::Buffer;
@@ -30,8 +30,7 @@ const LONGEST: usize = 21;
 pub struct Registry {
     places: Vec<Place>,
     bindings: Vec<Binding>,
-    /// The places of the bindings in their list, in the order of their addresses.
-    index: Vec<usize>,
+    index: Index,
     spare: usize,
 }
 
@@ -47,7 +46,7 @@ impl Model for Registry {
       spare = r.spare;
     } };
 
-    ghost invariant = { λ r. IsKept r.places.items r.bindings.items r.index.items r.spare (vec_capacity r.bindings) (vec_capacity r.index) };
+    ghost invariant = { λ r. IsKept r.places.items r.bindings.items r.index.last.items r.index.before.items r.spare (vec_capacity r.bindings) (vec_capacity r.index.before) };
 }
 
 /// Whether the place is closed and can be used.
@@ -78,13 +77,16 @@ fn numbered_address(n: usize) -> ArrayVec<u8, LONGEST>
 }
 
 /// The first number from 0 on whose address no endpoint of the provider is bound to.
-fn free_number(bindings: &[Binding], index: &[usize], prov: Prov) -> usize
-    requires { IsIndex bindings.now index.now }
+fn free_number(bindings: &[Binding], index: &Index, prov: Prov) -> usize
+    requires { IsIndex bindings.now index.now.last.items index.now.before.items }
     ensures { free_address (switch_with bindings.now) prov 0 (length bindings.now) ≡ numbered_address result }
 {
     for n in 0..bindings.len() {
         let address = numbered_address(n);
-        if least_at(bindings, index, prov, address.as_slice(), false).is_none() {
+        if index
+            .least_at(bindings, prov, address.as_slice(), false)
+            .is_none()
+        {
             return n;
         }
     }
@@ -107,17 +109,17 @@ impl Registry {
         Ok(Registry {
             places,
             bindings: Vec::new(alloc),
-            index: Vec::new(alloc),
+            index: Index::new(alloc)?,
             spare: 0,
         })
     }
 
     /// The least descriptor that is bound to the address; with `listening`, of the endpoints with a queue alone. Takes no memory.
-    /// The cost is in proportion to the logarithm of the number of bindings, and to how many share the address.
+    /// The cost is in proportion to how many bindings stand in the address's chain, one of 64.
     pub fn bound(&self, prov: Prov, addr: &[u8], listening: bool) -> Option<Fd>
         ensures { option_map (λ fd. fd.0) result ≡ bound_at self.now.switch prov addr.now listening }
     {
-        let least = least_at(&self.bindings, &self.index, prov, addr, listening)?;
+        let least = self.index.least_at(&self.bindings, prov, addr, listening)?;
         Some(Fd(least))
     }
 
@@ -149,7 +151,7 @@ impl Registry {
     {
         if self.spare == 0 {
             self.bindings.reserve(1)?;
-            self.index.reserve(1)?;
+            self.index.reserve()?;
             self.spare = 1;
         }
         Ok(())
@@ -161,14 +163,9 @@ impl Registry {
         ensures switch { self.new.switch ≡ give_address prov addr fd.0 listening self.old.switch }
         ensures spare { self.old.spare ≤ self.new.spare + 1 }
     {
-        let at = first_at(&self.bindings, &self.index, prov, addr.as_slice());
-        self.index.insert(at, self.bindings.len()).unwrap();
-        self.bindings.push_reserved(Binding {
-            prov,
-            address: addr,
-            fd,
-            listening,
-        });
+        let binding = Binding::new(prov, addr, fd, listening);
+        self.index.add(binding.chain());
+        self.bindings.push_reserved(binding);
         self.spare -= 1;
     }
 

@@ -10,7 +10,7 @@ loop-preserved c = rw (c.in_ok-push.ensures.items, c.loop.invariant) (replicate_
 pub invariant_of-result : goal.invariant_of-result
 invariant_of-result c =
     let e : c.loop.counter ≡ 64 = omega arith in
-    kept_opening c.loop.places.items c.new.result.items c.new-2.result.items _ _ (rw e at c.loop.invariant) c.new.ensures.items c.new-2.ensures.items
+    kept_opening c.loop.places.items c.new.result.items c.in_ok-new.field-0.last.items c.in_ok-new.field-0.before.items _ _ (rw e at c.loop.invariant) c.new.ensures.items c.in_ok-new.ensures.last c.in_ok-new.ensures.before
 
 pub returns : goal.returns
 returns c =
