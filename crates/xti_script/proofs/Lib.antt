@@ -1,4 +1,5 @@
 pub mod Lines
+pub mod FirstWord
 pub mod WordLaws
 pub mod FieldLaws
 pub mod CallLaws

@@ -1,4 +1,5 @@
 pub mod Texts
+pub mod Words
 pub mod Values
 pub mod Numbers
 pub mod Fields

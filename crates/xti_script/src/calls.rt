@@ -4,13 +4,14 @@ ghost use Rattle.std.specs.Prelude.{◌≡◌, ◌≤◌, IfOk, OnSome, IfSome, 
 ghost use Rattle.std.specs.Option.{option_copied};
 ghost use Rattle.xti_script.specs.Texts.{words_of};
 ghost use Rattle.xti_script.specs.Grammar.{last_worker};
-ghost use Rattle.xti_script.specs.Reading.{views, mode_of, open_mode, provider_of, can_define, open_with, open_of, set_mode_with, set_mode_of, with_values, with_fields, call_of, worker_of, call_by, any_line_of};
+ghost use Rattle.xti_script.specs.Reading.{mode_of, open_mode, provider_of, can_define, open_with, open_of, set_mode_with, set_mode_of, with_values, with_fields, call_of, worker_of, call_by, any_line_of};
 
 use crate::draft::Draft;
 use crate::fields::read_fields;
-use crate::texts::{is_name, words_of};
+use crate::texts::is_name;
 use crate::values::{Values, number_in};
 use crate::verbs::{Verb, call_with, form, verb_of};
+use crate::words::Words;
 use std::alloc::{AllocError, Global};
 use xti_base::{Octets, Prov};
 use xti_model::{Line, NamedCall};
@@ -31,13 +32,13 @@ fn mode_of(word: &[u8]) -> Option<bool>
     }
 }
 
-fn open_mode(words: &[&[u8]]) -> Option<bool>
-    ensures { result ≡ open_mode (views words.now) }
+fn open_mode(words: &mut Words) -> Option<bool>
+    ensures { result ≡ open_mode words.old }
 {
-    match words {
-        [] => Some(false),
-        [word] => mode_of(word),
-        _ => None,
+    match words.next() {
+        None => Some(false),
+        Some(word) if words.is_empty() => mode_of(word),
+        Some(_) => None,
     }
 }
 
@@ -83,19 +84,20 @@ fn read_open(
     alloc: Global,
     draft: &Draft,
     worker: u32,
-    words: &[&[u8]],
+    words: &mut Words,
 ) -> Result<Option<NamedCall>, AllocError>
-    ensures { IfOk result (λ call. call ≡ open_of draft.now worker (views words.now)) }
+    ensures { IfOk result (λ call. call ≡ open_of draft.now worker words.old) }
 {
-    match words {
-        [name, prov, mode @ ..] => {
-            if can_define(draft, worker, name) {
-                open_with(alloc, name, provider_of(prov), open_mode(mode))
-            } else {
-                Ok(None)
-            }
-        }
-        _ => Ok(None),
+    let Some(name) = words.next() else {
+        return Ok(None);
+    };
+    let Some(prov) = words.next() else {
+        return Ok(None);
+    };
+    if can_define(draft, worker, name) {
+        open_with(alloc, name, provider_of(prov), open_mode(words))
+    } else {
+        Ok(None)
     }
 }
 
@@ -120,19 +122,20 @@ fn read_set_mode(
     alloc: Global,
     draft: &Draft,
     worker: u32,
-    words: &[&[u8]],
+    words: &mut Words,
 ) -> Result<Option<NamedCall>, AllocError>
-    ensures { IfOk result (λ call. call ≡ set_mode_of draft.now worker (views words.now)) }
+    ensures { IfOk result (λ call. call ≡ set_mode_of draft.now worker words.old) }
 {
-    match words {
-        [name, mode] => {
-            if draft.defines(worker, name) {
-                set_mode_with(alloc, name, mode_of(mode))
-            } else {
-                Ok(None)
-            }
-        }
-        _ => Ok(None),
+    let Some(name) = words.next() else {
+        return Ok(None);
+    };
+    let Some(mode) = words.next() else {
+        return Ok(None);
+    };
+    if words.is_empty() && draft.defines(worker, name) {
+        set_mode_with(alloc, name, mode_of(mode))
+    } else {
+        Ok(None)
     }
 }
 
@@ -156,20 +159,18 @@ fn read_with_fields(
     draft: &Draft,
     worker: u32,
     verb: Option<Verb>,
-    words: &[&[u8]],
+    words: &mut Words,
 ) -> Result<Option<NamedCall>, AllocError>
-    ensures { IfOk result (λ call. call ≡ with_fields draft.now worker verb (views words.now)) }
+    ensures { IfOk result (λ call. call ≡ with_fields draft.now worker verb words.old) }
 {
-    match (verb, words) {
-        (Some(verb), [name, fields @ ..]) => {
-            if !draft.defines(worker, name) {
-                return Ok(None);
-            }
-            let values = read_fields(alloc, form(verb), fields)?;
-            with_values(alloc, verb, name, values)
-        }
-        _ => Ok(None),
+    let (Some(verb), Some(name)) = (verb, words.next()) else {
+        return Ok(None);
+    };
+    if !draft.defines(worker, name) {
+        return Ok(None);
     }
+    let values = read_fields(alloc, form(verb), words)?;
+    with_values(alloc, verb, name, values)
 }
 
 #[tactic(auto, unfolding(crate::specs::Reading::call_of))]
@@ -177,21 +178,19 @@ fn read_call(
     alloc: Global,
     draft: &Draft,
     worker: u32,
-    words: &[&[u8]],
+    words: &mut Words,
 ) -> Result<Option<NamedCall>, AllocError>
-    ensures { IfOk result (λ call. call ≡ call_of draft.now worker (views words.now)) }
+    ensures { IfOk result (λ call. call ≡ call_of draft.now worker words.old) }
 {
-    match words {
-        [word, words @ ..] => {
-            if *word == b"open".as_slice() {
-                read_open(alloc, draft, worker, words)
-            } else if *word == b"mode".as_slice() {
-                read_set_mode(alloc, draft, worker, words)
-            } else {
-                read_with_fields(alloc, draft, worker, verb_of(word), words)
-            }
-        }
-        _ => Ok(None),
+    let Some(word) = words.next() else {
+        return Ok(None);
+    };
+    if word == b"open".as_slice() {
+        read_open(alloc, draft, worker, words)
+    } else if word == b"mode".as_slice() {
+        read_set_mode(alloc, draft, worker, words)
+    } else {
+        read_with_fields(alloc, draft, worker, verb_of(word), words)
     }
 }
 
@@ -209,10 +208,10 @@ fn call_by(
     alloc: Global,
     draft: &Draft,
     worker: Option<u32>,
-    words: &[&[u8]],
+    words: &mut Words,
 ) -> Result<Option<Line>, AllocError>
     requires { IfSome worker (λ worker. worker ≤ last_worker) }
-    ensures line { IfOk result (λ line. line ≡ call_by draft.now worker (views words.now)) }
+    ensures line { IfOk result (λ line. line ≡ call_by draft.now worker words.old) }
     ensures worker { IfOk result (λ line. IfSome line (λ line. line.worker ≤ last_worker)) }
 {
     match worker {
@@ -224,18 +223,8 @@ fn call_by(
     }
 }
 
-#[tactic(auto, unfolding(crate::specs::Reading::any_line_of))]
-fn read_words(alloc: Global, draft: &Draft, words: &[&[u8]]) -> Result<Option<Line>, AllocError>
-    ensures line { IfOk result (λ line. line ≡ any_line_of draft.now (views words.now)) }
-    ensures worker { IfOk result (λ line. IfSome line (λ line. line.worker ≤ last_worker)) }
-{
-    match words {
-        [word, words @ ..] => call_by(alloc, draft, worker_of(word), words),
-        _ => Ok(None),
-    }
-}
-
 /// The line that a text gives behind the lines of the draft, whatever the limits; `None` where it gives none.
+#[tactic(auto, unfolding(crate::specs::Reading::any_line_of))]
 pub(crate) fn read_line(
     alloc: Global,
     draft: &Draft,
@@ -244,6 +233,9 @@ pub(crate) fn read_line(
     ensures line { IfOk result (λ line. line ≡ any_line_of draft.now (words_of text.now)) }
     ensures worker { IfOk result (λ line. IfSome line (λ line. line.worker ≤ last_worker)) }
 {
-    let words = words_of(alloc, text)?;
-    read_words(alloc, draft, words.as_slice())
+    let mut words = Words::of(text);
+    match words.next() {
+        Some(word) => call_by(alloc, draft, worker_of(word), &mut words),
+        None => Ok(None),
+    }
 }

@@ -3,9 +3,10 @@
 ghost use Rattle.std.specs.Prelude.{◌≡◌, IfOk};
 ghost use Rattle.std.specs.Option.{option_copied};
 ghost use Rattle.xti_script.specs.Fields.{key_word, kind_of, usual_value};
-ghost use Rattle.xti_script.specs.Reading.{views, behind_key, written_value, field_value, field_rest, fields_of};
+ghost use Rattle.xti_script.specs.Reading.{behind_key, written_value, field_value, field_rest, fields_of};
 
 use crate::values::{Kind, Value, Values, value_in};
+use crate::words::Words;
 use std::alloc::{AllocError, Global};
 use xti_base::Octets;
 
@@ -96,42 +97,33 @@ fn written_value(alloc: Global, key: Key, text: Option<&[u8]>) -> Result<Option<
     }
 }
 
-fn field_value(alloc: Global, key: Key, words: &[&[u8]]) -> Result<Option<Value>, AllocError>
-    ensures { IfOk result (λ value. value ≡ field_value key (views words.now)) }
+/// What is behind the key of the next word, where this is a field with the key; the word is taken then.
+fn field_text<'a>(key: Key, words: &mut Words<'a>) -> Option<&'a [u8]>
+    ensures text { written_value key (option_copied result) ≡ field_value key words.old }
+    ensures rest { words.new ≡ field_rest key words.old }
 {
-    match words {
-        [] => Ok(usual_value(alloc, key)),
-        [word, ..] => written_value(alloc, key, behind_key(key_word(key), word)),
-    }
-}
-
-fn field_rest<'a, 'b>(key: Key, words: &'a [&'b [u8]]) -> &'a [&'b [u8]]
-    ensures { views result.now ≡ field_rest key (views words.now) }
-{
-    match words {
-        [word, rest @ ..] if word.starts_with(key_word(key)) => rest,
-        _ => words,
-    }
+    let text = behind_key(key_word(key), words.first()?)?;
+    words.next();
+    Some(text)
 }
 
 /// The values of the fields with these keys, where the words are these fields, each written or left out.
 pub(crate) fn read_fields(
     alloc: Global,
     keys: &[Key],
-    words: &[&[u8]],
+    words: &mut Words,
 ) -> Result<Option<Values>, AllocError>
-    ensures { IfOk result (λ values. values ≡ fields_of keys.now (views words.now)) }
+    ensures { IfOk result (λ values. values ≡ fields_of keys.now words.old) }
 {
     let mut values = Values::new(alloc);
-    let mut rest = words;
     for key in keys {
-        match field_value(alloc, *key, rest)? {
+        let text = field_text(*key, words);
+        match written_value(alloc, *key, text)? {
             Some(value) => values.push(value)?,
             None => return Ok(None),
         }
-        rest = field_rest(*key, rest);
     }
-    if rest.is_empty() {
+    if words.is_empty() {
         Ok(Some(values))
     } else {
         Ok(None)

@@ -10,6 +10,7 @@ mod script_text;
 mod texts;
 mod values;
 mod verbs;
+mod words;
 
 pub use laws::{never_both, scripts_are_built, scripts_are_small, scripts_have_workers};
 pub use script_text::{ScriptFail, read_script};

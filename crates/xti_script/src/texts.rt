@@ -1,8 +1,8 @@
-//! Lines, words, names and short texts.
+//! Lines, pieces of words, names and short texts.
 
 ghost use Rattle.std.specs.Prelude.{◌≡◌, ◌∷◌, ◌<◌, ◌==◌, ◌&&◌, position, length, nat_le, IfOk};
 ghost use Rattle.std.specs.List.{list_all};
-ghost use Rattle.xti_script.specs.Texts.{lines_of, pieces_of, words_of, is_lower, is_upper, is_digit, is_name_byte, is_name, is_text_byte, is_plain_text};
+ghost use Rattle.xti_script.specs.Texts.{lines_of, pieces_of, is_lower, is_upper, is_digit, is_name_byte, is_name, is_text_byte, is_plain_text};
 ghost use Rattle.xti_script.specs.Reading.{views};
 
 use std::alloc::{AllocError, Global};
@@ -38,13 +38,6 @@ pub(crate) fn pieces_of(alloc: Global, separator: u8, text: &[u8]) -> Result<Vec
         pieces.push(piece)?;
     }
     Ok(pieces)
-}
-
-/// The words of a line.
-pub(crate) fn words_of(alloc: Global, line: &[u8]) -> Result<Vec<&[u8]>, AllocError>
-    ensures { IfOk result (λ words. views words.items ≡ words_of line.now) }
-{
-    pieces_of(alloc, b' ', line)
 }
 
 fn is_lower(c: u8) -> bool

@@ -1,0 +1,86 @@
+//! Taking the words of a line one after the other.
+
+ghost use Rattle.std.specs.Prelude.{◌≡◌, ◌∷◌, ◌==◌, [], position, length, slice_get, IfSome, IfNone};
+ghost use Rattle.std.specs.Option.{option_copied};
+ghost use Rattle.xti_script.specs.Texts.{words_of};
+ghost use Rattle.xti_script.specs.Words.{words_behind};
+
+use std::marker::Model;
+
+fn word_end(text: &[u8]) -> Option<usize>
+    ensures { result ≡ position (λ c. c == 32) text.now }
+{
+    text.iter().position(|c| *c == b' ')
+}
+
+/// The first word of a line, and what is behind its space; `None` where it is the last word.
+fn first_word(line: &[u8]) -> (&[u8], Option<&[u8]>)
+    ensures { words_of line.now ≡ result.0.now ∷ words_behind (option_copied result.1) }
+{
+    match word_end(line) {
+        Some(end) => {
+            let (word, behind) = line.split_at(end);
+            let (_, rest) = behind.split_at(1);
+            (word, Some(rest))
+        }
+        None => (line, None),
+    }
+}
+
+/// The words of a line that are not taken yet.
+#[derive(Drop)]
+pub(crate) struct Words<'a> {
+    first: Option<&'a [u8]>,
+    /// What is behind the first word and its space.
+    behind: Option<&'a [u8]>,
+}
+
+impl<'a> Model for Words<'a> {
+    ghost use Rattle.std.specs.Prelude.{ℕ, List};
+    ghost use Rattle.std.specs.Option.{option_copied};
+    ghost use Rattle.xti_script.specs.Words.{words_left};
+
+    ghost Value = { List (List ℕ) };
+
+    ghost view = { λ w. words_left (option_copied w.first) (option_copied w.behind) };
+}
+
+impl<'a> Words<'a> {
+    /// The words of the line.
+    pub(crate) fn of(line: &'a [u8]) -> Words<'a>
+        ensures { result ≡ words_of line.now }
+    {
+        let (word, behind) = first_word(line);
+        Words {
+            first: Some(word),
+            behind,
+        }
+    }
+
+    /// The next word, which stays.
+    pub(crate) fn first(&self) -> Option<&'a [u8]>
+        ensures { option_copied result ≡ slice_get self.now 0 }
+    {
+        self.first
+    }
+
+    /// Whether no word is left.
+    pub(crate) fn is_empty(&self) -> bool
+        ensures { result ≡ (length self.now == 0) }
+    {
+        self.first.is_none()
+    }
+
+    /// Takes the next word.
+    pub(crate) fn next(&mut self) -> Option<&'a [u8]>
+        ensures some { IfSome result (λ word. self.old ≡ word.now ∷ self.new) }
+        ensures none { IfNone result ((self.old ≡ []) × (self.new ≡ [])) }
+    {
+        let word = self.first?;
+        match self.behind {
+            Some(text) => *self = Words::of(text),
+            None => self.first = None,
+        }
+        Some(word)
+    }
+}
