@@ -1,7 +1,8 @@
 //! Making frames of primitives.
 
-ghost use Rattle.std.specs.Prelude.{◌≡◌, ◌≤◌, ◌<◌, ◌+◌, ◌-◌, ◌^◌, [], ◌∷◌, ◌++◌, ◌↔◌, length, IfOk, IfErr, OnOk, IsErrOf};
+ghost use Rattle.std.specs.Prelude.{◌≡◌, ◌≤◌, ◌<◌, ◌+◌, ◌-◌, ◌*◌, ◌^◌, [], ◌∷◌, ◌++◌, ◌↔◌, length, IfOk, IfErr, OnOk, IsErrOf};
 ghost use Rattle.std.specs.Option.{SomeIff};
+ghost use Rattle.arrayvec.specs.ArrayVec.{array_vec_len};
 ghost use Rattle.tpi_grammar.specs.Kinds.{row_of};
 ghost use Rattle.tpi_grammar.specs.Frame.{text, AreBytes, IsFilled, spelling, words, parts, offset, head, control_size, be};
 ghost use Rattle.tpi_prim.specs.Primitive.{filled, Spells};
@@ -11,6 +12,7 @@ ghost use Rattle.tpi_prim.specs.Lent.{value_of, values_of, filled_by, HasShape, 
 
 use crate::frames::{Frame, FrameBytes};
 use crate::primitive::Prim;
+use arrayvec::ArrayVec;
 use bytes::Bytes;
 use std::alloc::{AllocError, AllocFailed, Global};
 use thiserror::Error;
@@ -108,6 +110,12 @@ enum Field<'a> {
     Nothing,
 }
 
+/// The most bytes that stand before the parts: three words, and two of each field.
+const MOST_HEAD: usize = 36;
+
+/// What stands before the parts.
+type Head = ArrayVec<u8, MOST_HEAD>;
+
 /// A primitive whose fields are lent.
 #[derive(Clone, Copy)]
 struct Lent<'a> {
@@ -166,13 +174,24 @@ impl Lent<'_> {
         let user = self.user;
         let len = 8 + control as usize + user.len();
         let mut out = FrameBytes::with_capacity(alloc, len)?;
-        put_word(&mut out, control)?;
-        put_word(&mut out, user.len() as u32)?;
-        put_word(&mut out, self.kind.number())?;
-        put_words(&mut out, self.kind.head(), &self.fields)?;
+        out.extend_from_slice(self.head(control).as_slice())?;
         put_parts(&mut out, &self.fields)?;
         put_bytes(&mut out, user)?;
         Ok(Frame::of(out))
+    }
+
+    /// The two lengths, PRIM_type and the words, which stand before the parts.
+    fn head(&self, control: u32) -> Head
+        requires small { control_size (filled_by self.now) ≤ 1024 }
+        requires data { length self.now.user.now ≤ 65536 }
+        ensures { result.items ≡ be control ++ be (length self.now.user.now) ++ be (row_of self.now.kind).number ++ words (head (row_of self.now.kind).slots) (values_of self.now.fields) }
+    {
+        let mut out = Head::new();
+        put_word(&mut out, control);
+        put_word(&mut out, self.user.len() as u32);
+        put_word(&mut out, self.kind.number());
+        put_words(&mut out, self.kind.head(), &self.fields);
+        out
     }
 }
 
@@ -203,30 +222,33 @@ fn offset_of(len: u32, place: u32) -> u32
 }
 
 /// Writes a word, high byte first.
-fn put_word(out: &mut FrameBytes, word: u32) -> Result<(), AllocError>
-    ensures { OnOk result (out.new.items ≡ out.old.items ++ be word) }
+fn put_word(out: &mut Head, word: u32)
+    requires { array_vec_len out.old + 4 ≤ 36 }
+    ensures items { out.new.items ≡ out.old.items ++ be word }
+    ensures len { array_vec_len out.new ≡ array_vec_len out.old + 4 }
 {
-    out.extend_from_slice(&word.to_be_bytes())
+    out.try_extend_from_slice(&word.to_be_bytes()).unwrap();
 }
 
 /// Writes the words of the fields, whose parts lie from this place of the control part on.
-fn put_words(out: &mut FrameBytes, place: u32, fields: &[Field<'_>]) -> Result<(), AllocError>
-    requires { place + length (parts (values_of fields.now)) < 2 ^ 32 }
-    ensures { OnOk result (out.new.items ≡ out.old.items ++ words place (values_of fields.now)) }
+fn put_words(out: &mut Head, place: u32, fields: &[Field<'_>])
+    requires room { array_vec_len out.old + 8 * length fields.now ≤ 36 }
+    requires parts { place + length (parts (values_of fields.now)) < 2 ^ 32 }
+    ensures { out.new.items ≡ out.old.items ++ words place (values_of fields.now) }
 {
     let [first, others @ ..] = fields else {
-        return Ok(());
+        return;
     };
     match first {
         Field::Number(n) => {
-            put_word(out, *n)?;
-            put_words(out, place, others)
+            put_word(out, *n);
+            put_words(out, place, others);
         }
         Field::Bytes(bytes) => {
             let len = bytes.len() as u32;
-            put_word(out, len)?;
-            put_word(out, offset_of(len, place))?;
-            put_words(out, place + len, others)
+            put_word(out, len);
+            put_word(out, offset_of(len, place));
+            put_words(out, place + len, others);
         }
         Field::Nothing => put_words(out, place, others),
     }
