@@ -108,15 +108,23 @@ fn put_end(out: &mut Vec<u8>, count: u64) -> Result<(), AllocError>
     put_text(out, "\n")
 }
 
+/// Appends the text of a journal; `Err` is want of memory.
+#[tactic(auto, unfolding(crate::specs::JournalText::journal_text))]
+pub fn append_journal(out: &mut Vec<u8>, j: &Journal) -> Result<(), AllocError>
+    ensures { OnOk result (out.new.items ≡ out.old.items ++ journal_text j.now) }
+{
+    put_head(out, &j.providers)?;
+    put_entries(out, j.entries.as_slice())?;
+    put_stalls(out, j.stalls.as_slice())?;
+    put_end(out, j.entries.len() as u64)
+}
+
 /// The text of a journal; `Err` is want of memory.
 pub fn write_journal(alloc: Global, j: &Journal) -> Result<Octets, AllocError>
     ensures { IfOk result (λ text. text ≡ journal_text j.now) }
 {
     let mut out = Vec::new(alloc);
-    put_head(&mut out, &j.providers)?;
-    put_entries(&mut out, j.entries.as_slice())?;
-    put_stalls(&mut out, j.stalls.as_slice())?;
-    put_end(&mut out, j.entries.len() as u64)?;
+    append_journal(&mut out, j)?;
     Ok(Octets::from_vec(out))
 }
 

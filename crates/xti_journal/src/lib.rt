@@ -8,5 +8,5 @@ mod replies;
 mod tests;
 mod words;
 
-pub use journal::{write_entry, write_journal};
+pub use journal::{append_journal, write_entry, write_journal};
 pub use xti_model::{Entries, Entry, Journal, StallLine, Stalls};

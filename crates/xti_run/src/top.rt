@@ -3,6 +3,7 @@
 ghost use Rattle.std.specs.Prelude.{◌≡◌, ◌≢◌, ◌<◌, ◌≤◌, ◌+◌, ◌⊎◌, ℕ, List, Some, None, IfOk, IfErr, OnErr, length, ◌==◌};
 ghost use Rattle.xti_io.specs.Faults.{Rose};
 ghost use Rattle.xti_io.specs.Source.{GivesUpTo};
+ghost use Rattle.xti_journal.specs.JournalText.{journal_text};
 ghost use Rattle.xti_model.specs.declared.script.Script.{Script};
 ghost use Rattle.xti_script.specs.Grammar.{IsScript};
 ghost use Rattle.xti_run.specs.declared.words.Command.{Command};
@@ -18,8 +19,8 @@ use tpi_grammar::frames_law;
 use xti_base::Octets;
 use xti_frames::{FramesFail, show_frames};
 use xti_io::{ReadEnd, Sink, Source, read_all, write_all};
-use xti_journal::write_journal;
-use xti_model::Stalls;
+use xti_journal::append_journal;
+use xti_model::{Journal, Stalls};
 use xti_script::{ScriptFail, never_both, read_script};
 
 /// The most bytes of an input.
@@ -62,14 +63,24 @@ fn journal_status(stalls: &Stalls) -> u8
     if stalls.is_empty() { 0 } else { 3 }
 }
 
-/// What `replay` answers to an input within the limit.
-fn replay_answer(alloc: Global, input: &[u8]) -> Result<Answer, AllocError>
-    ensures { IfOk result (λ a. IsReplayed input.now a.status a.text ⊎ IsRefusedInput input.now a.status a.text) }
+/// The text of the journal, in the room of bytes that are done with.
+fn text_of(journal: &Journal, room: Octets) -> Result<Octets, AllocError>
+    ensures { IfOk result (λ text. text ≡ journal_text journal.now) }
 {
-    match read_script(alloc, input) {
+    let mut text = room.into_vec()?;
+    text.clear();
+    append_journal(&mut text, journal)?;
+    Ok(Octets::from_vec(text))
+}
+
+/// What `replay` answers to an input within the limit.
+fn replay_answer(alloc: Global, input: Octets) -> Result<Answer, AllocError>
+    ensures { IfOk result (λ a. IsReplayed input a.status a.text ⊎ IsRefusedInput input a.status a.text) }
+{
+    match read_script(alloc, input.as_slice()) {
         Ok(script) => {
             let journal = replay(alloc, &script)?;
-            let text = write_journal(alloc, &journal)?;
+            let text = text_of(&journal, input)?;
             let status = journal_status(&journal.stalls);
             Ok(Answer { status, text })
         }
@@ -96,12 +107,12 @@ fn frames_answer(alloc: Global, input: &[u8]) -> Result<Answer, AllocError>
 }
 
 /// What the command answers to an input within the limit.
-fn answer_to(alloc: Global, command: Command, input: &[u8]) -> Result<Answer, AllocError>
-    ensures { IfOk result (λ a. IsAnswered command input.now a.status a.text) }
+fn answer_to(alloc: Global, command: Command, input: Octets) -> Result<Answer, AllocError>
+    ensures { IfOk result (λ a. IsAnswered command input a.status a.text) }
 {
     match command {
         Command::Replay => replay_answer(alloc, input),
-        Command::Frames => frames_answer(alloc, input),
+        Command::Frames => frames_answer(alloc, input.as_slice()),
     }
 }
 
@@ -133,7 +144,7 @@ fn answer_from<R: Source>(alloc: Global, command: Command, source: &mut R) -> Re
     ensures later { R.faults source.old ≤ R.faults source.new }
 {
     match read_all(alloc, source, LIMIT) {
-        Ok(input) => match answer_to(alloc, command, input.as_slice()) {
+        Ok(input) => match answer_to(alloc, command, input) {
             Ok(answer) => Ok(answer),
             Err(_) => Err(Status(4)),
         },

@@ -3,7 +3,7 @@ use Rattle.xti_run.proofs.Left.{gives_front, answered, too_long}
 use Rattle.xti_run.proofs.top.answer_from.Goals as goal
 
 pub returns-in-Ok-answer_to-clause-ok : goal.returns-in-Ok-answer_to-clause-ok
-returns-in-Ok-answer_to-clause-ok g c = answered _ _ _ _ _ _ c.in-Ok.ensures.all c.in-Ok.ensures.bound (rw (← c.as_slice.ensures) c.in-Ok-answer_to.ensures)
+returns-in-Ok-answer_to-clause-ok g c = answered _ _ _ _ _ _ c.in-Ok.ensures.all c.in-Ok.ensures.bound c.in-Ok-answer_to.ensures
 
 pub returns-in-Ok-answer_to-clause-read : goal.returns-in-Ok-answer_to-clause-read
 returns-in-Ok-answer_to-clause-read g c = gives_front _ _ _ c.in-Ok.ensures.all c.in-Ok.ensures.bound

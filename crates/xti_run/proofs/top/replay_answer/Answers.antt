@@ -14,4 +14,4 @@ returns-in_ok-text-in-Ok c =
       complete = c.in_ok-journal-in-Ok.ensures.complete;
       few = c.in_ok-journal-in-Ok.ensures.few;
     } in
-    inl (replayed-is c.in-Ok.script c.args.input.now c.in_ok-text-in-Ok.text c.in_ok-journal-in-Ok.journal c.journal_status-status.result c.in-Ok.ensures.found r c.journal_status-status.ensures c.in_ok-text-in-Ok.ensures)
+    inl (replayed-is c.in-Ok.script c.args.input c.in_ok-text-in-Ok.text c.in_ok-journal-in-Ok.journal c.journal_status-status.result (rw (← c.as_slice.ensures) c.in-Ok.ensures.found) r c.journal_status-status.ensures c.in_ok-text-in-Ok.ensures)
