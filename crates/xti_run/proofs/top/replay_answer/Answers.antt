@@ -2,8 +2,8 @@ use Rattle.std.proofs.Common.{inl}
 use Rattle.xti_run.proofs.Answered.{IsRunOf, replayed-is}
 use Rattle.xti_run.proofs.top.replay_answer.Goals as goal
 
-pub returns-in_ok-text-in-Ok : goal.returns-in_ok-text-in-Ok
-returns-in_ok-text-in-Ok c =
+pub returns-in-Ok : goal.returns-in-Ok
+returns-in-Ok c =
     let r : IsRunOf c.in-Ok.script c.in_ok-journal-in-Ok.journal = record {
       entries = c.in_ok-journal-in-Ok.ensures.entries;
       providers = c.in_ok-journal-in-Ok.ensures.providers;
