@@ -17,8 +17,7 @@ use Rattle.xti_lent.specs.Lending.{Lending, held_in, held_at, cell_lent, cells_b
 use Rattle.xti_lent.specs.Fit.{IsSound, KnownTo, Agree, IsBuilt, IsOfTiclts, IsFit, place_of_held}
 use Rattle.xti_lent.proofs.Worlds.{at_number, cell_at-is}
 use Rattle.xti_lent.proofs.Lendings.{cell-is}
-use Rattle.xti_core.specs.Standing.{Kept, kept_at}
-use Rattle.xti_core.specs.Loans.{lent_or_kept, whole_at, IsLoan}
+use Rattle.xti_core.specs.Standing.{IsLoan}
 use Rattle.xti_core.proofs.Switches.{switch-known}
 use Rattle.xti_core.proofs.Naming.{Sub, switch-sub}
 
@@ -73,13 +72,6 @@ among-place (m ∷ ms) n a e = go (eqb m n) refl e (among-place ms n a.1)
     go : (b : Bool) → eqb m n ≡ b → (b || is_among ms n) ≡ true → (is_among ms n ≡ true → n < 64) → n < 64
     go true i j k = subst (λ z. z < 64) (eqb-true m n i) a.0
     go false i j k = k j
-
-pub sub-whole : (s : Kept) (l : Lending) → Sub (cell_lent l) (whole_at s l)
-sub-whole s l n h = go (cell_lent l n) h
-  where
-    go : (o : Option Cell) → is_some o ≡ true → o ≡ lent_or_kept o (kept_at s n)
-    go None i = cc
-    go (Some c) i = refl
 
 -- a lent endpoint of a sound world
 held-fits : (p : Providers) (at : ℕ → Option Cell) (l : Lending) (h : Held) → SoundWorld p (cells_by at) → Sub (cell_lent l) at → IsLoan l → held_at l h.place ≡ Some h → SoundWhenLent p (the_switch p (cells_by at)) h.place (cell h)

@@ -4,7 +4,6 @@ mod Fitting
 mod Settling
 mod Lifting
 mod Naming
-mod Moving
 mod Stepping
 mod Lending
 mod Courses

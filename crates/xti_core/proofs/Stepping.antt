@@ -26,7 +26,6 @@ use Rattle.xti_sound.specs.Invariant.{SoundWorld}
 use Rattle.xti_sound.proofs.Lent.{open-fits}
 use Rattle.xti_lent.specs.Lending.{cells_by}
 use Rattle.xti_lent.proofs.Worlds.{at_number, cell_at-is, same-is}
-use Rattle.xti_core.specs.Loans.{lent_or_kept}
 use Rattle.xti_core.proofs.Naming.{Sub, HasNamed, named-all, endpoint-sub, switch-sub}
 use Rattle.xti_core.proofs.Settling.{kept_by, left_from, only-is, without-is, same-at, stepped, settled}
 
@@ -110,6 +109,11 @@ whole p lt at c g b s u h =
       lent = λ n l i. h n l (sym (among-listed (named p (cells_by lt) c) n l) ∙ (ap (λ ns. is_among ns n) (sym (touched-listed p (cells_by lt) c) ∙ e) ∙ i));
     }
 
+-- a lent cell stands for that of its place
+abbrev pub lent_or_kept : Option Cell → Option Cell → Option Cell
+lent_or_kept None kept = kept
+lent_or_kept (Some c) kept = Some c
+
 or-same : (t : List ℕ) (mt k : ℕ → Option Cell) → ((n : ℕ) → n < 65 → is_among t n ≡ true → is_some (mt n) ≡ true) → only t (cells_by (λ n. lent_or_kept (mt n) (k n))) ≡ only t (cells_by mt)
 or-same t mt k h = only-is t (λ n. lent_or_kept (mt n) (k n)) ∙ (same-is _ _ (λ n l. go n l (is_among t n) refl) ∙ sym (only-is t mt))
   where
@@ -128,6 +132,7 @@ restrict-taken t applied.Blocked w = refl
 outside : (t : List ℕ) (mt lt : ℕ → Option Cell) (n : ℕ) → is_among t n ≡ false → left_from t mt n ≡ left_from t lt n → mt n ≡ lt n
 outside t mt lt n q e = rw q at e
 
+-- some cells of a sound world are lent, among them all that the call names
 pub step-whole : (p : Providers) (lt mt k : ℕ → Option Cell) (c : Call) (g : Go) (a : Applied) → is_built c ≡ true → SoundWorld p (cells_by (λ n. lent_or_kept (lt n) (k n))) → Sub lt (λ n. lent_or_kept (lt n) (k n)) → HasNamed p lt lt c
     → taken a (cells_by mt) ≡ step p (cells_by lt) c g → taken a (cells_by (λ n. lent_or_kept (mt n) (k n))) ≡ step p (cells_by (λ n. lent_or_kept (lt n) (k n))) c g
 step-whole p lt mt k c g a b s u h e = go a e (whole p lt (λ n. lent_or_kept (lt n) (k n)) c g b s u h) (touched p (cells_by (λ n. lent_or_kept (lt n) (k n))) c) refl

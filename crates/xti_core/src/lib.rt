@@ -3,7 +3,6 @@
 
 mod applying;
 mod looking;
-mod store;
 mod touching;
 mod world;
 

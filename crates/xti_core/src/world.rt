@@ -8,28 +8,32 @@ ghost use Rattle.xti_model.specs.World.{opening};
 ghost use Rattle.xti_end.specs.Taken.{taken};
 
 use crate::applying::apply;
-use crate::store::Store;
 use std::alloc::{AllocError, Global};
 use std::marker::Model;
+use xti_end::Endpoint;
 use xti_lent::Lent;
 use xti_model::{Applied, Call, Go, Providers};
+use xti_registry::Registry;
+
+/// How many places there are.
+const PLACES: u32 = 64;
 
 /// All cells, for one thread: contracts see the providers, and the cells by rising number.
 #[derive(Drop)]
 pub struct World {
-    store: Store,
-    /// Holds the cells of the step that is made; between two steps it is empty.
+    /// All cells stay lent to the steps of the one thread, the endpoints in the order of their places: so none moves for a step.
     lent: Lent,
 }
 
 impl Model for World {
-    ghost use Rattle.xti_core.specs.Standing.{Standing, IsStanding, kept_cells};
+    ghost use Rattle.xti_lent.specs.Lending.{cells};
+    ghost use Rattle.xti_core.specs.Standing.{Standing, IsStanding};
 
     ghost Value = { Standing };
 
-    ghost view = { λ w. record { providers = w.lent.providers; cells = kept_cells w.store } };
+    ghost view = { λ w. record { providers = w.lent.providers; cells = cells w.lent } };
 
-    ghost invariant = { λ w. IsStanding w.store w.lent };
+    ghost invariant = { λ w. IsStanding w.lent };
 }
 
 impl World {
@@ -38,17 +42,19 @@ impl World {
         requires { valid p.now ≡ true }
         ensures { IfOk result (λ w. w ≡ record { providers = p.now; cells = opening p.now }) }
     {
-        Ok(World {
-            store: Store::fresh(alloc, p)?,
-            lent: Lent::new(alloc, p),
-        })
+        let registry = Registry::fresh(alloc, p)?;
+        let mut lent = Lent::new(alloc, p);
+        for place in 0..PLACES {
+            lent.lend(place, Endpoint::closed(alloc, place));
+        }
+        lent.lend_registry(registry);
+        Ok(World { lent })
     }
 
     /// One step of a built call: what it answers, and the state of its endpoint afterwards. Where it is blocked, and after want
     /// of memory, all is as before. The cost is in proportion to the touched cells and to the bytes that move.
     ///
-    /// The step on the touched cells alone is the step on all, by the laws `steps_are_local` and
-    /// `touched_cells_settle_a_step`; the world stays one that `worlds_stay_sound` speaks of.
+    /// The cells are fit for the step, as those of every world that `worlds_stay_sound` speaks of; the world stays one of these.
     pub fn step(&mut self, call: &Call, go: Go) -> Result<Applied, AllocError>
         requires { is_built call.now ≡ true }
         ensures step { IfOk result (λ a. taken a self.new.cells ≡ step self.old.providers self.old.cells call.now go) }
@@ -56,9 +62,6 @@ impl World {
         ensures providers { self.new.providers ≡ self.old.providers }
         ensures err { OnErr result (self.new ≡ self.old) }
     {
-        self.store.lend_touched(call, &mut self.lent);
-        let applied = apply(&mut self.lent, call, go);
-        self.store.take_back(&mut self.lent);
-        applied
+        apply(&mut self.lent, call, go)
     }
 }

@@ -1,14 +1,52 @@
-use Rattle.std.proofs.Common.{sym, subst, ap, refl}
+use Rattle.std.proofs.Common.{◌≡◌, ◌∙◌, ◌∷◌, [], ◌++◌, length, length-append, sym, subst, ap, arith}
+use Rattle.xti_model.specs.Robin.{numbers}
 use Rattle.xti_model.specs.World.{opening}
-use Rattle.xti_sound.specs.Invariant.{SoundWorld}
-use Rattle.xti_sound.proofs.Beginning.{opening-sound}
-use Rattle.xti_lent.specs.Lending.{Lending}
-use Rattle.xti_core.specs.Standing.{kept_cells, nothing_lent}
-use Rattle.xti_core.proofs.Courses.{standing, standing-after}
+use Rattle.xti_lent.specs.Lending.{Lending, cells}
+use Rattle.xti_core.proofs.Beginning.{UnusedFrom, AllClosed, numbers-push, numbers-length, next-apart, unused-push, opens, stands-first, same-standing}
 use Rattle.xti_core.proofs.world.World.fresh.Goals as goal
 
+pub lend-requires-clause-apart : goal.lend-requires-clause-apart
+lend-requires-clause-apart c = next-apart c.loop-place.lent c.loop-place.place c.loop-place.invariant.numbered
+
+pub lend-requires-clause-room : goal.lend-requires-clause-room
+lend-requires-clause-room c = let e = ap length c.loop-place.invariant.numbered ∙ numbers-length 0 c.loop-place.place in omega (arith, e)
+
+pub loop-place-preserved : goal.loop-place-preserved
+loop-place-preserved c =
+    let h : c.lend.new.self.held ≡ c.loop-place.lent.held ++ c.closed.result ∷ [] = ap (λ (l : Lending). l.held) c.lend.ensures in
+    let n = ap (λ (l : Lending). l.numbers) c.lend.ensures in
+    record {
+      providers = ap (λ (l : Lending). l.providers) c.lend.ensures ∙ c.loop-place.invariant.providers;
+      numbered = n ∙ (ap (λ ns. ns ++ c.loop-place.place ∷ []) c.loop-place.invariant.numbered ∙ numbers-push 0 c.loop-place.place c.loop-place.place (omega arith));
+      unused = subst (UnusedFrom 0) (sym h) (unused-push 0 c.loop-place.lent.held c.closed.result c.loop-place.invariant.unused (omega (arith, c.closed.ensures.place, c.loop-place.invariant.count)) c.closed.ensures.generation c.closed.ensures.body);
+      count = let l = ap length h in omega (arith, l, length-append c.loop-place.lent.held (c.closed.result ∷ []), c.loop-place.invariant.count);
+      registry = ap (λ (l : Lending). l.registry) c.lend.ensures ∙ c.loop-place.invariant.registry;
+    }
+
 pub invariant_of-result : goal.invariant_of-result
-invariant_of-result c = standing-after c.args.p.now c.in_ok-fresh.field-0 (nothing_lent c.args.p.now) c.new.result refl c.new.ensures c.requires (subst (SoundWorld c.args.p.now) (sym c.in_ok-fresh.ensures) (opening-sound c.args.p.now))
+invariant_of-result c =
+    let e : c.loop-place.place ≡ 64 = omega (arith, c.loop-place-test.false, c.loop-place.auto.place-end) in
+    let h : c.lend_registry.new.self.held ≡ c.loop-place.lent.held = ap (λ (l : Lending). l.held) c.lend_registry.ensures in
+    let a : AllClosed c.args.p.now c.in_ok-registry.registry c.lend_registry.new.self = record {
+      providers = ap (λ (l : Lending). l.providers) c.lend_registry.ensures ∙ (c.loop-place.invariant.providers ∙ ap (λ (l : Lending). l.providers) c.new-lent.ensures);
+      numbered = ap (λ (l : Lending). l.numbers) c.lend_registry.ensures ∙ (c.loop-place.invariant.numbered ∙ ap (numbers 0) e);
+      unused = subst (UnusedFrom 0) (sym h) c.loop-place.invariant.unused;
+      count = ap length h ∙ (c.loop-place.invariant.count ∙ e);
+      registry = ap (λ (l : Lending). l.registry) c.lend_registry.ensures;
+      switch = c.in_ok-registry.ensures;
+    } in
+    stands-first c.args.p.now c.in_ok-registry.registry c.lend_registry.new.self c.requires a
 
 pub returns : goal.returns
-returns c = standing c.new.result.providers c.args.p.now (kept_cells c.in_ok-fresh.field-0) (opening c.args.p.now) (ap (λ (l : Lending). l.providers) c.new.ensures) c.in_ok-fresh.ensures
+returns c =
+    let e : c.loop-place.place ≡ 64 = omega (arith, c.loop-place-test.false, c.loop-place.auto.place-end) in
+    let h : c.lend_registry.new.self.held ≡ c.loop-place.lent.held = ap (λ (l : Lending). l.held) c.lend_registry.ensures in
+    let a : AllClosed c.args.p.now c.in_ok-registry.registry c.lend_registry.new.self = record {
+      providers = ap (λ (l : Lending). l.providers) c.lend_registry.ensures ∙ (c.loop-place.invariant.providers ∙ ap (λ (l : Lending). l.providers) c.new-lent.ensures);
+      numbered = ap (λ (l : Lending). l.numbers) c.lend_registry.ensures ∙ (c.loop-place.invariant.numbered ∙ ap (numbers 0) e);
+      unused = subst (UnusedFrom 0) (sym h) c.loop-place.invariant.unused;
+      count = ap length h ∙ (c.loop-place.invariant.count ∙ e);
+      registry = ap (λ (l : Lending). l.registry) c.lend_registry.ensures;
+      switch = c.in_ok-registry.ensures;
+    } in
+    same-standing c.lend_registry.new.self.providers c.args.p.now (cells c.lend_registry.new.self) (opening c.args.p.now) a.providers (opens c.args.p.now c.in_ok-registry.registry c.lend_registry.new.self a)
