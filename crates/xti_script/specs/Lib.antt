@@ -2,6 +2,7 @@ pub mod Texts
 pub mod Words
 pub mod Values
 pub mod Numbers
+pub mod Listed
 pub mod Fields
 pub mod Calls
 pub mod Grammar

@@ -1,9 +1,10 @@
 //! Reading the words of a line.
 
-ghost use Rattle.std.specs.Prelude.{◌≡◌, ◌≤◌, IfOk, OnSome, IfSome, Some};
+ghost use Rattle.std.specs.Prelude.{◌≡◌, ◌≤◌, IfOk, OnSome, IfSome, Some, option_map};
 ghost use Rattle.std.specs.Option.{option_copied};
 ghost use Rattle.xti_script.specs.Texts.{words_of};
 ghost use Rattle.xti_script.specs.Grammar.{last_worker};
+ghost use Rattle.xti_script.specs.Listed.{values_of};
 ghost use Rattle.xti_script.specs.Reading.{mode_of, open_mode, provider_of, can_define, open_with, open_of, set_mode_with, set_mode_of, with_values, with_fields, call_of, worker_of, call_by, any_line_of};
 
 use crate::draft::Draft;
@@ -145,7 +146,7 @@ fn with_values(
     fd: &[u8],
     values: Option<Values>,
 ) -> Result<Option<NamedCall>, AllocError>
-    ensures { IfOk result (λ call. call ≡ with_values verb fd.now values) }
+    ensures { IfOk result (λ call. call ≡ with_values verb fd.now (option_map values_of values)) }
 {
     match values {
         Some(values) => Ok(call_with(verb, Octets::copy_of(alloc, fd)?, values)),

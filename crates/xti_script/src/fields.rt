@@ -1,7 +1,8 @@
 //! The fields of calls: words `key=value` in a fixed order, of which those with a usual value may be left out.
 
-ghost use Rattle.std.specs.Prelude.{◌≡◌, IfOk};
+ghost use Rattle.std.specs.Prelude.{◌≡◌, ◌∷◌, [], IfOk, option_map};
 ghost use Rattle.std.specs.Option.{option_copied};
+ghost use Rattle.xti_script.specs.Listed.{values_of, keys_of};
 ghost use Rattle.xti_script.specs.Fields.{key_word, kind_of, usual_value};
 ghost use Rattle.xti_script.specs.Reading.{behind_key, written_value, field_value, field_rest, fields_of};
 
@@ -31,6 +32,15 @@ pub(crate) enum Key {
     Amax,
     /// The most bytes of options that the caller takes.
     Omax,
+}
+
+/// The keys of a call's fields, in their order.
+#[derive(Clone, Copy, Debug, PartialEq, Eq)]
+pub(crate) enum Form {
+    /// No fields.
+    Empty,
+    Two(Key, Key),
+    Three(Key, Key, Key),
 }
 
 /// The key as it is written, with its sign.
@@ -88,15 +98,6 @@ fn behind_key<'a>(key: &[u8], word: &'a [u8]) -> Option<&'a [u8]>
     }
 }
 
-fn written_value(alloc: Global, key: Key, text: Option<&[u8]>) -> Result<Option<Value>, AllocError>
-    ensures { IfOk result (λ value. value ≡ written_value key (option_copied text.entry)) }
-{
-    match text {
-        Some(text) => value_in(alloc, kind_of(key), text),
-        None => Ok(usual_value(alloc, key)),
-    }
-}
-
 /// What is behind the key of the next word, where this is a field with the key; the word is taken then.
 fn field_text<'a>(key: Key, words: &mut Words<'a>) -> Option<&'a [u8]>
     ensures text { written_value key (option_copied result) ≡ field_value key words.old }
@@ -107,25 +108,84 @@ fn field_text<'a>(key: Key, words: &mut Words<'a>) -> Option<&'a [u8]>
     Some(text)
 }
 
+/// The value of the field with this key, whose word is taken where it is written.
+fn read_field(alloc: Global, key: Key, words: &mut Words) -> Result<Option<Value>, AllocError>
+    ensures value { IfOk result (λ value. value ≡ field_value key words.old) }
+    ensures rest { words.new ≡ field_rest key words.old }
+{
+    match field_text(key, words) {
+        Some(text) => value_in(alloc, kind_of(key), text),
+        None => Ok(usual_value(alloc, key)),
+    }
+}
+
+fn read_none(words: &Words) -> Option<Values>
+    ensures { option_map values_of result ≡ fields_of [] words.now }
+{
+    if words.is_empty() {
+        Some(Values::Empty)
+    } else {
+        None
+    }
+}
+
+fn read_two(
+    alloc: Global,
+    first: Key,
+    second: Key,
+    words: &mut Words,
+) -> Result<Option<Values>, AllocError>
+    ensures { IfOk result (λ values. option_map values_of values ≡ fields_of (first ∷ second ∷ []) words.old) }
+{
+    let Some(first) = read_field(alloc, first, words)? else {
+        return Ok(None);
+    };
+    let Some(second) = read_field(alloc, second, words)? else {
+        return Ok(None);
+    };
+    if words.is_empty() {
+        Ok(Some(Values::Two(first, second)))
+    } else {
+        Ok(None)
+    }
+}
+
+fn read_three(
+    alloc: Global,
+    first: Key,
+    second: Key,
+    third: Key,
+    words: &mut Words,
+) -> Result<Option<Values>, AllocError>
+    ensures { IfOk result (λ values. option_map values_of values ≡ fields_of (first ∷ second ∷ third ∷ []) words.old) }
+{
+    let Some(first) = read_field(alloc, first, words)? else {
+        return Ok(None);
+    };
+    let Some(second) = read_field(alloc, second, words)? else {
+        return Ok(None);
+    };
+    let Some(third) = read_field(alloc, third, words)? else {
+        return Ok(None);
+    };
+    if words.is_empty() {
+        Ok(Some(Values::Three(first, second, third)))
+    } else {
+        Ok(None)
+    }
+}
+
 /// The values of the fields with these keys, where the words are these fields, each written or left out.
 pub(crate) fn read_fields(
     alloc: Global,
-    keys: &[Key],
+    form: Form,
     words: &mut Words,
 ) -> Result<Option<Values>, AllocError>
-    ensures { IfOk result (λ values. values ≡ fields_of keys.now words.old) }
+    ensures { IfOk result (λ values. option_map values_of values ≡ fields_of (keys_of form) words.old) }
 {
-    let mut values = Values::new(alloc);
-    for key in keys {
-        let text = field_text(*key, words);
-        match written_value(alloc, *key, text)? {
-            Some(value) => values.push(value)?,
-            None => return Ok(None),
-        }
-    }
-    if words.is_empty() {
-        Ok(Some(values))
-    } else {
-        Ok(None)
+    match form {
+        Form::Empty => Ok(read_none(words)),
+        Form::Two(first, second) => read_two(alloc, first, second, words),
+        Form::Three(first, second, third) => read_three(alloc, first, second, third, words),
     }
 }

@@ -8,7 +8,7 @@ ghost use Rattle.xti_script.specs.Reading.{views, behind_key};
 
 use crate::texts::{are_digits, is_digit, is_plain_text, pieces_of};
 use std::alloc::{AllocError, Global};
-use xti_base::{Items, Octets, Parts, Sizes};
+use xti_base::{Octets, Parts, Sizes};
 
 /// The most parts or sizes of a word.
 const MOST_PIECES: usize = 32;
@@ -35,8 +35,14 @@ pub(crate) enum Value {
     Sizes(Sizes),
 }
 
-/// Values of fields, in order.
-pub(crate) type Values = Items<Value>;
+/// The values of a call's fields, in order.
+#[derive(Drop)]
+pub(crate) enum Values {
+    /// Those of a call with no fields.
+    Empty,
+    Two(Value, Value),
+    Three(Value, Value, Value),
+}
 
 fn with_digit(number: u32, c: u8) -> Option<u32>
     ensures { result ≡ with_digit number c }

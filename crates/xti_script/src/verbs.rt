@@ -3,8 +3,9 @@
 ghost use Rattle.std.specs.Prelude.{◌≡◌};
 ghost use Rattle.xti_script.specs.Calls.{verb_word, form, bind_with, send_with, send_parts_with, receive_with, receive_parts_with, receive_error_with, call_with, alone};
 ghost use Rattle.xti_script.specs.Reading.{verb_of};
+ghost use Rattle.xti_script.specs.Listed.{keys_of, values_of};
 
-use crate::fields::Key;
+use crate::fields::{Form, Key};
 use crate::values::{Value, Values};
 use xti_model::{Name, NamedCall};
 
@@ -66,166 +67,148 @@ pub(crate) fn verb_of(word: &[u8]) -> Option<Verb>
 }
 
 /// The fields of the call, in their order.
-pub(crate) fn form(verb: Verb) -> &'static [Key]
-    ensures { result.now ≡ form verb }
+pub(crate) fn form(verb: Verb) -> Form
+    ensures { keys_of result ≡ form verb }
 {
     match verb {
-        Verb::Close | Verb::Unbind | Verb::Look | Verb::GetState | Verb::Sync => &[],
-        Verb::Bind => &[Key::Addr, Key::Qlen, Key::Amax],
-        Verb::SndUData => &[Key::Addr, Key::Opt, Key::Data],
-        Verb::SndVUData => &[Key::Addr, Key::Opt, Key::Parts],
-        Verb::RcvUData => &[Key::Max, Key::Amax, Key::Omax],
-        Verb::RcvVUData => &[Key::Sizes, Key::Amax, Key::Omax],
-        Verb::RcvUDErr => &[Key::Amax, Key::Omax],
+        Verb::Close | Verb::Unbind | Verb::Look | Verb::GetState | Verb::Sync => Form::Empty,
+        Verb::Bind => Form::Three(Key::Addr, Key::Qlen, Key::Amax),
+        Verb::SndUData => Form::Three(Key::Addr, Key::Opt, Key::Data),
+        Verb::SndVUData => Form::Three(Key::Addr, Key::Opt, Key::Parts),
+        Verb::RcvUData => Form::Three(Key::Max, Key::Amax, Key::Omax),
+        Verb::RcvVUData => Form::Three(Key::Sizes, Key::Amax, Key::Omax),
+        Verb::RcvUDErr => Form::Two(Key::Amax, Key::Omax),
     }
 }
 
 fn bind_with(fd: Name, values: Values) -> Option<NamedCall>
-    ensures { result ≡ bind_with fd values }
+    ensures { result ≡ bind_with fd (values_of values) }
 {
-    let mut values = values.into_vec().into_iter();
-    let Some(Value::Bytes(addr)) = values.next() else {
+    let Values::Three(addr, qlen, amax) = values else {
         return None;
     };
-    let Some(Value::Number(qlen)) = values.next() else {
+    let Value::Bytes(addr) = addr else {
         return None;
     };
-    let Some(Value::Number(amax)) = values.next() else {
+    let Value::Number(qlen) = qlen else {
         return None;
     };
-    match values.next() {
-        None => Some(NamedCall::TBind {
-            fd,
-            addr,
-            qlen,
-            amax,
-        }),
-        Some(_) => None,
-    }
+    let Value::Number(amax) = amax else {
+        return None;
+    };
+    Some(NamedCall::TBind {
+        fd,
+        addr,
+        qlen,
+        amax,
+    })
 }
 
 fn send_with(fd: Name, values: Values) -> Option<NamedCall>
-    ensures { result ≡ send_with fd values }
+    ensures { result ≡ send_with fd (values_of values) }
 {
-    let mut values = values.into_vec().into_iter();
-    let Some(Value::Bytes(addr)) = values.next() else {
+    let Values::Three(addr, opt, bytes) = values else {
         return None;
     };
-    let Some(Value::Bytes(opt)) = values.next() else {
+    let Value::Bytes(addr) = addr else {
         return None;
     };
-    let Some(Value::Bytes(bytes)) = values.next() else {
+    let Value::Bytes(opt) = opt else {
         return None;
     };
-    match values.next() {
-        None => Some(NamedCall::TSndUData {
-            fd,
-            addr,
-            opt,
-            bytes,
-        }),
-        Some(_) => None,
-    }
+    let Value::Bytes(bytes) = bytes else {
+        return None;
+    };
+    Some(NamedCall::TSndUData {
+        fd,
+        addr,
+        opt,
+        bytes,
+    })
 }
 
 fn send_parts_with(fd: Name, values: Values) -> Option<NamedCall>
-    ensures { result ≡ send_parts_with fd values }
+    ensures { result ≡ send_parts_with fd (values_of values) }
 {
-    let mut values = values.into_vec().into_iter();
-    let Some(Value::Bytes(addr)) = values.next() else {
+    let Values::Three(addr, opt, parts) = values else {
         return None;
     };
-    let Some(Value::Bytes(opt)) = values.next() else {
+    let Value::Bytes(addr) = addr else {
         return None;
     };
-    let Some(Value::Parts(parts)) = values.next() else {
+    let Value::Bytes(opt) = opt else {
         return None;
     };
-    match values.next() {
-        None => Some(NamedCall::TSndVUData {
-            fd,
-            addr,
-            opt,
-            parts,
-        }),
-        Some(_) => None,
-    }
+    let Value::Parts(parts) = parts else {
+        return None;
+    };
+    Some(NamedCall::TSndVUData {
+        fd,
+        addr,
+        opt,
+        parts,
+    })
 }
 
 fn receive_with(fd: Name, values: Values) -> Option<NamedCall>
-    ensures { result ≡ receive_with fd values }
+    ensures { result ≡ receive_with fd (values_of values) }
 {
-    let mut values = values.into_vec().into_iter();
-    let Some(Value::Number(max)) = values.next() else {
+    let Values::Three(Value::Number(max), Value::Number(amax), Value::Number(omax)) = values else {
         return None;
     };
-    let Some(Value::Number(amax)) = values.next() else {
-        return None;
-    };
-    let Some(Value::Number(omax)) = values.next() else {
-        return None;
-    };
-    match values.next() {
-        None => Some(NamedCall::TRcvUData {
-            fd,
-            max,
-            amax,
-            omax,
-        }),
-        Some(_) => None,
-    }
+    Some(NamedCall::TRcvUData {
+        fd,
+        max,
+        amax,
+        omax,
+    })
 }
 
 fn receive_parts_with(fd: Name, values: Values) -> Option<NamedCall>
-    ensures { result ≡ receive_parts_with fd values }
+    ensures { result ≡ receive_parts_with fd (values_of values) }
 {
-    let mut values = values.into_vec().into_iter();
-    let Some(Value::Sizes(sizes)) = values.next() else {
+    let Values::Three(sizes, amax, omax) = values else {
         return None;
     };
-    let Some(Value::Number(amax)) = values.next() else {
+    let Value::Sizes(sizes) = sizes else {
         return None;
     };
-    let Some(Value::Number(omax)) = values.next() else {
+    let Value::Number(amax) = amax else {
         return None;
     };
-    match values.next() {
-        None => Some(NamedCall::TRcvVUData {
-            fd,
-            sizes,
-            amax,
-            omax,
-        }),
-        Some(_) => None,
-    }
+    let Value::Number(omax) = omax else {
+        return None;
+    };
+    Some(NamedCall::TRcvVUData {
+        fd,
+        sizes,
+        amax,
+        omax,
+    })
 }
 
 fn receive_error_with(fd: Name, values: Values) -> Option<NamedCall>
-    ensures { result ≡ receive_error_with fd values }
+    ensures { result ≡ receive_error_with fd (values_of values) }
 {
-    let mut values = values.into_vec().into_iter();
-    let Some(Value::Number(amax)) = values.next() else {
+    let Values::Two(Value::Number(amax), Value::Number(omax)) = values else {
         return None;
     };
-    let Some(Value::Number(omax)) = values.next() else {
-        return None;
-    };
-    match values.next() {
-        None => Some(NamedCall::TRcvUDErr { fd, amax, omax }),
-        Some(_) => None,
-    }
+    Some(NamedCall::TRcvUDErr { fd, amax, omax })
 }
 
 fn alone(call: NamedCall, values: Values) -> Option<NamedCall>
-    ensures { result ≡ alone call values }
+    ensures { result ≡ alone call (values_of values) }
 {
-    if values.is_empty() { Some(call) } else { None }
+    match values {
+        Values::Empty => Some(call),
+        _ => None,
+    }
 }
 
 /// The call of the endpoint with these values.
 #[tactic(auto, unfolding(crate::specs::Calls::call_with))]
 pub(crate) fn call_with(verb: Verb, fd: Name, values: Values) -> Option<NamedCall>
-    ensures { result ≡ call_with verb fd values }
+    ensures { result ≡ call_with verb fd (values_of values) }
 {
     match verb {
         Verb::Close => alone(NamedCall::TClose { fd }, values),
