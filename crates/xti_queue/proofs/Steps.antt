@@ -168,7 +168,7 @@ none_left hs n max empty =
 
 -- ---- how long the front is
 
-taken_long : (m : ℕ) (u : List ℕ) → m ≤ length u → length (take m u) ≡ m
+pub taken_long : (m : ℕ) (u : List ℕ) → m ≤ length u → length (take m u) ≡ m
 taken_long zero u full = refl
 taken_long (suc m) [] full = absurd (omega (arith, full))
 taken_long (suc m) (x ∷ u) full = ap suc (taken_long m u (omega (arith, full)))

@@ -1,6 +1,6 @@
 //! Taking from the front of waiting frames.
 
-ghost use Rattle.std.specs.Prelude.{◌≡◌, ◌≤◌, ◌<◌, ◌+◌, ◌-◌, ◌++◌, [], ◌∷◌, ℕ, List, true, false, if◌then◌else◌, length, take, drop, vec_len, vec_capacity};
+ghost use Rattle.std.specs.Prelude.{◌≡◌, ◌≤◌, ◌<◌, ◌+◌, ◌-◌, ◌++◌, [], ◌∷◌, ℕ, List, true, false, if◌then◌else◌, length, take, drop, vec_len, vec_capacity, IfOk, IfSome, IfNone, OnErr};
 ghost use Rattle.std.specs.VecDeque.{deque_len, deque_capacity};
 ghost use Rattle.tpi_grammar.specs.Frame.{AreBytes};
 ghost use Rattle.tpi_prim.specs.Primitive.{user_of};
@@ -8,10 +8,13 @@ ghost use Rattle.tpi_prim.specs.Fields.{kind_in, primitive_in};
 ghost use Rattle.xti_model.specs.Symbols as waiting;
 ghost use Rattle.xti_queue.specs.Indications.{can_wait, ends_message, begun, left_behind};
 ghost use Rattle.xti_queue.specs.Kept.{AllWait, IsWithin};
-ghost use Rattle.xti_queue.specs.Front.{symbols_in, StopsAt};
+ghost use Rattle.xti_queue.specs.Front.{symbols_in, StopsAt, IsTakenFrom};
 
+use crate::queue::Piece;
+use std::alloc::{AllocError, Global};
 use std::collections::VecDeque;
 use tpi_prim::{Frame, Kind};
+use xti_base::Octets;
 
 /// The user data of a frame behind the first bytes.
 pub(crate) fn rest_of(frame: &Frame, taken: usize) -> &[u8]
@@ -44,7 +47,7 @@ pub(crate) fn ends(frame: &Frame) -> bool
 }
 
 /// How many bytes stand at the front, at most `max`, before an end.
-pub(crate) fn run_len(held: &VecDeque<Frame>, taken: usize, max: usize) -> usize
+fn run_len(held: &VecDeque<Frame>, taken: usize, max: usize) -> usize
     requires wait { AllWait held.now.items }
     requires within { IsWithin taken held.now.items }
     ensures { result ≡ length (waiting.front max (symbols_in taken held.now.items)) }
@@ -121,12 +124,7 @@ fn take_front(
 }
 
 /// Takes frames from the front until an end, `max` bytes, or the end of the queue.
-pub(crate) fn take_run(
-    held: &mut VecDeque<Frame>,
-    taken: &mut usize,
-    bytes: &mut Vec<u8>,
-    max: usize,
-) -> bool
+fn take_run(held: &mut VecDeque<Frame>, taken: &mut usize, bytes: &mut Vec<u8>, max: usize) -> bool
     requires wait { AllWait held.old.items }
     requires within { IsWithin taken.old held.old.items }
     requires empty { bytes.old.items ≡ [] }
@@ -149,4 +147,65 @@ pub(crate) fn take_run(
             Step::More => {}
         }
     }
+}
+
+/// Takes what the first frame alone gives: its next `max` bytes where it has more, and all of it where a message ends behind it.
+/// `None` where the piece goes on behind it, and where no frame waits; then, and after want of memory, all is as before.
+fn take_first(
+    alloc: Global,
+    held: &mut VecDeque<Frame>,
+    taken: &mut usize,
+    max: usize,
+) -> Result<Option<Piece>, AllocError>
+    requires wait { AllWait held.old.items }
+    requires within { IsWithin taken.old held.old.items }
+    ensures piece { IfOk result (λ some. IfSome some (λ p. IsTakenFrom max taken.old held.old.items taken.new held.new.items p.bytes p.ended)) }
+    ensures none { IfOk result (λ some. IfNone some ((held.new ≡ held.old) × (taken.new ≡ taken.old))) }
+    ensures err { OnErr result ((held.new ≡ held.old) × (taken.new ≡ taken.old)) }
+    ensures capacity { deque_capacity held.new ≡ deque_capacity held.old }
+{
+    let Some(frame) = held.front() else {
+        return Ok(None);
+    };
+    let rest = rest_of(frame, *taken);
+    if max < rest.len() {
+        let bytes = Octets::copy_of(alloc, &rest[..max])?;
+        *taken += max;
+        return Ok(Some(Piece {
+            bytes,
+            ended: false,
+        }));
+    }
+    if !ends(frame) {
+        return Ok(None);
+    }
+    let bytes = Octets::copy_of(alloc, rest)?;
+    held.pop_front();
+    *taken = 0;
+    Ok(Some(Piece { bytes, ended: true }))
+}
+
+/// Takes from the frames at the front until an end, `max` bytes, or the end of the queue; after want of memory all is as before.
+pub(crate) fn take_piece(
+    alloc: Global,
+    held: &mut VecDeque<Frame>,
+    taken: &mut usize,
+    max: usize,
+) -> Result<Piece, AllocError>
+    requires wait { AllWait held.old.items }
+    requires within { IsWithin taken.old held.old.items }
+    ensures piece { IfOk result (λ p. IsTakenFrom max taken.old held.old.items taken.new held.new.items p.bytes p.ended) }
+    ensures err { OnErr result ((held.new ≡ held.old) × (taken.new ≡ taken.old)) }
+    ensures capacity { deque_capacity held.new ≡ deque_capacity held.old }
+{
+    if let Some(piece) = take_first(alloc, held, taken, max)? {
+        return Ok(piece);
+    }
+    let count = run_len(held, *taken, max);
+    let mut bytes = Vec::with_capacity(alloc, count)?;
+    let ended = take_run(held, taken, &mut bytes, max);
+    Ok(Piece {
+        bytes: Octets::from_vec(bytes),
+        ended,
+    })
 }

@@ -8,7 +8,7 @@ ghost use Rattle.xti_model.specs.Symbols as waiting;
 ghost use Rattle.xti_queue.specs.Indications.{can_wait, symbols_of, left_behind};
 ghost use Rattle.xti_queue.specs.Queue.{frames, symbols};
 
-use crate::front::{ends, rest_of, run_len, take_run};
+use crate::front::{ends, rest_of, take_piece};
 use std::alloc::{AllocError, Global};
 use std::collections::VecDeque;
 use std::marker::Model;
@@ -113,15 +113,10 @@ impl ReadQueue {
         ensures spare { self.new.spare ≡ self.old.spare }
         ensures err { OnErr result (self.new ≡ self.old) }
     {
-        let count = run_len(&self.held, self.taken, max);
-        let mut bytes = Vec::with_capacity(self.alloc, count)?;
-        let ended = take_run(&mut self.held, &mut self.taken, &mut bytes, max);
-        self.bytes -= bytes.len();
-        self.ends -= usize::from(ended);
-        Ok(Piece {
-            bytes: Octets::from_vec(bytes),
-            ended,
-        })
+        let piece = take_piece(self.alloc, &mut self.held, &mut self.taken, max)?;
+        self.bytes -= piece.bytes.as_slice().len();
+        self.ends -= usize::from(piece.ended);
+        Ok(piece)
     }
 
     /// Takes the first frame out, also where a part of it was taken before. Takes no memory.
