@@ -2,15 +2,37 @@
 
 ghost use Rattle.std.specs.Prelude.{◌≡◌, ◌∷◌, ◌<◌, ◌==◌, ◌&&◌, position, length, nat_le, IfOk};
 ghost use Rattle.std.specs.List.{list_all};
-ghost use Rattle.xti_script.specs.Texts.{lines_of, pieces_of, is_lower, is_upper, is_digit, is_name_byte, is_name, is_text_byte, is_plain_text};
+ghost use Rattle.xti_script.specs.Texts.{lines_of, pieces_of, is_lower, is_digit, is_name_byte, is_name, is_text_byte, is_plain_text};
 ghost use Rattle.xti_script.specs.Reading.{views};
 
+use memchr::memchr;
 use std::alloc::{AllocError, Global};
+
+/// 1 at each byte that may stand behind `t:`: letters, digits, `_`, `.` and `-`.
+#[rattlefmt::skip]
+static TEXT_BYTES: [u8; 256] = [
+    0, 0, 0, 0, 0, 0, 0, 0, 0, 0, 0, 0, 0, 0, 0, 0,
+    0, 0, 0, 0, 0, 0, 0, 0, 0, 0, 0, 0, 0, 0, 0, 0,
+    0, 0, 0, 0, 0, 0, 0, 0, 0, 0, 0, 0, 0, 1, 1, 0,
+    1, 1, 1, 1, 1, 1, 1, 1, 1, 1, 0, 0, 0, 0, 0, 0,
+    0, 1, 1, 1, 1, 1, 1, 1, 1, 1, 1, 1, 1, 1, 1, 1,
+    1, 1, 1, 1, 1, 1, 1, 1, 1, 1, 1, 0, 0, 0, 0, 1,
+    0, 1, 1, 1, 1, 1, 1, 1, 1, 1, 1, 1, 1, 1, 1, 1,
+    1, 1, 1, 1, 1, 1, 1, 1, 1, 1, 1, 0, 0, 0, 0, 0,
+    0, 0, 0, 0, 0, 0, 0, 0, 0, 0, 0, 0, 0, 0, 0, 0,
+    0, 0, 0, 0, 0, 0, 0, 0, 0, 0, 0, 0, 0, 0, 0, 0,
+    0, 0, 0, 0, 0, 0, 0, 0, 0, 0, 0, 0, 0, 0, 0, 0,
+    0, 0, 0, 0, 0, 0, 0, 0, 0, 0, 0, 0, 0, 0, 0, 0,
+    0, 0, 0, 0, 0, 0, 0, 0, 0, 0, 0, 0, 0, 0, 0, 0,
+    0, 0, 0, 0, 0, 0, 0, 0, 0, 0, 0, 0, 0, 0, 0, 0,
+    0, 0, 0, 0, 0, 0, 0, 0, 0, 0, 0, 0, 0, 0, 0, 0,
+    0, 0, 0, 0, 0, 0, 0, 0, 0, 0, 0, 0, 0, 0, 0, 0,
+];
 
 fn line_end(text: &[u8]) -> Option<usize>
     ensures { result ≡ position (λ c. c == 10) text.now }
 {
-    text.iter().position(|c| *c == b'\n')
+    memchr(b'\n', text)
 }
 
 /// The first line, and what is behind its end.
@@ -44,12 +66,6 @@ fn is_lower(c: u8) -> bool
     ensures { result ≡ is_lower c }
 {
     b'a' <= c && c <= b'z'
-}
-
-fn is_upper(c: u8) -> bool
-    ensures { result ≡ is_upper c }
-{
-    b'A' <= c && c <= b'Z'
 }
 
 /// Whether the byte is a decimal digit.
@@ -91,7 +107,7 @@ pub(crate) fn is_name(text: &[u8]) -> bool
 fn is_text_byte(c: u8) -> bool
     ensures { result ≡ is_text_byte c }
 {
-    is_lower(c) || is_upper(c) || is_digit(c) || c == b'_' || c == b'.' || c == b'-'
+    TEXT_BYTES[c as usize] == 1
 }
 
 fn are_text_bytes(text: &[u8]) -> bool
