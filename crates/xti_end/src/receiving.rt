@@ -1,11 +1,9 @@
 //! t_rcvudata and t_rcvvudata.
 
 ghost use Rattle.std.specs.Prelude.{◌≡◌, ℕ, [], true, false, length, sum, take, IfOk, OnOk, OnErr, None};
-ghost use Rattle.std.specs.List.{list_any};
 ghost use Rattle.tpi_grammar.specs.Frame.{AreBytes};
 ghost use Rattle.xti_model.specs.Arguments.{is_too_many};
 ghost use Rattle.xti_model.specs.Events.{some_wait};
-ghost use Rattle.xti_model.specs.Plan.{is_too_long};
 ghost use Rattle.xti_model.specs.Step.{step_of};
 ghost use Rattle.xti_model.specs.World.{place_of};
 ghost use Rattle.xti_model.specs.Calls.Datagrams as Datagrams;
@@ -27,6 +25,13 @@ fn bytes(bytes: &[u8]) -> &[u8]
     ensures bytes { AreBytes bytes.now }
 {
     bytes
+}
+
+/// Bytes of a datagram, and whether more of it are left.
+#[derive(Drop)]
+struct Received {
+    bytes: Octets,
+    more: bool,
 }
 
 impl Endpoint {
@@ -70,22 +75,6 @@ impl Endpoint {
         }
     }
 
-    /// Whether a field of the first datagram is longer than the caller takes.
-    fn overflows(&self, amax: u32, omax: u32) -> bool
-        requires { is_open self.now ≡ true }
-        ensures { result ≡ list_any is_too_long (Datagrams.fields (Datagrams.told (parts self.now)) amax omax) }
-    {
-        is_too_long(self.source(), amax) || is_too_long(self.options(), omax)
-    }
-
-    /// Whether more than `max` bytes of the first datagram are left.
-    fn has_rest(&self, max: usize) -> bool
-        requires { is_open self.now ≡ true }
-        ensures { result ≡ Datagrams.has_rest max (Datagrams.first_of (parts self.now)) }
-    {
-        self.rest().len() > max
-    }
-
     /// The first datagram is gone. Takes no memory.
     fn drop_datagram(&mut self)
         requires { is_open self.old ≡ true }
@@ -98,36 +87,20 @@ impl Endpoint {
     }
 
     /// The next `max` bytes of the first datagram, which is gone where none are left; after want of memory all is as before.
-    fn take_bytes(&mut self, max: usize) -> Result<Octets, AllocError>
+    fn take_bytes(&mut self, max: usize) -> Result<Received, AllocError>
         requires open { is_open self.old ≡ true }
         requires waits { some_wait (parts self.old).datagrams ≡ true }
-        ensures bytes { IfOk result (λ bytes. bytes ≡ take max (Datagrams.first_of (parts self.old)).bytes) }
+        ensures bytes { IfOk result (λ received. received.bytes ≡ take max (Datagrams.first_of (parts self.old)).bytes) }
+        ensures more { IfOk result (λ received. received.more ≡ Datagrams.has_rest max (Datagrams.first_of (parts self.old))) }
         ensures left { OnOk result (self.new ≡ with_parts (Datagrams.received max) self.old) }
         ensures err { OnErr result (self.new ≡ self.old) }
     {
         let begun = self.rest().len() > max;
         let piece = self.datagrams.take(max)?;
         self.set_begun(begun);
-        Ok(piece.bytes)
-    }
-
-    /// What is told of the first datagram, of which at most `max` bytes are received; after want of memory all is as before.
-    fn receive(&mut self, max: usize, amax: u32, omax: u32) -> Result<Reply, AllocError>
-        requires open { is_open self.old ≡ true }
-        requires waits { some_wait (parts self.old).datagrams ≡ true }
-        ensures reply { IfOk result (λ reply. reply ≡ Datagrams.got (Datagrams.told (parts self.old)) max amax omax) }
-        ensures left { OnOk result (self.new ≡ with_parts (Datagrams.received max) self.old) }
-        ensures err { OnErr result (self.new ≡ self.old) }
-    {
-        let addr = trimmed_copy(self.alloc, self.source(), amax)?;
-        let opt = trimmed_copy(self.alloc, self.options(), omax)?;
-        let flags = if self.has_rest(max) { 1 } else { 0 };
-        let bytes = self.take_bytes(max)?;
-        Ok(Reply::UData {
-            addr,
-            opt,
-            bytes,
-            flags,
+        Ok(Received {
+            bytes: piece.bytes,
+            more: begun,
         })
     }
 
@@ -148,11 +121,22 @@ impl Endpoint {
         ensures room { SameRoom self.old self.new }
         ensures err { OnErr result (self.new ≡ self.old) }
     {
-        if self.overflows(amax, omax) {
+        let source = self.source();
+        let options = self.options();
+        if is_too_long(source, amax) || is_too_long(options, omax) {
             self.drop_datagram();
             return Ok(done(self, p, fd, Reply::Overflow { seq: Seq(0) }));
         }
-        let reply = self.receive(max, amax, omax)?;
+        let addr = trimmed_copy(self.alloc, source, amax)?;
+        let opt = trimmed_copy(self.alloc, options, omax)?;
+        let Received { bytes, more } = self.take_bytes(max)?;
+        let flags = if more { 1 } else { 0 };
+        let reply = Reply::UData {
+            addr,
+            opt,
+            bytes,
+            flags,
+        };
         Ok(done(self, p, fd, reply))
     }
 
