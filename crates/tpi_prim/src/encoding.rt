@@ -269,7 +269,11 @@ fn put_parts(out: &mut FrameBytes, fields: &[Field<'_>]) -> Result<(), AllocErro
     let [first, others @ ..] = fields else {
         return Ok(());
     };
-    put_bytes(out, part_of(first))?;
+    if let Field::Bytes(bytes) = first
+        && !bytes.is_empty()
+    {
+        put_bytes(out, bytes)?;
+    }
     put_parts(out, others)
 }
 
