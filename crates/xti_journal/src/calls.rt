@@ -4,7 +4,10 @@ ghost use Rattle.std.specs.Prelude.{◌≡◌, ◌++◌, OnOk, IsTrue};
 ghost use Rattle.xti_journal.specs.JournalText.{call_text, act_text};
 ghost use Rattle.xti_model.specs.Families.{is_address_or_options, is_connection_request, is_connection_receipt, is_send, is_receive};
 
-use crate::words::{put_mode, put_most, put_octets, put_parts, put_sizes};
+use crate::words::{
+    put_address_and_options, put_address_limits, put_mode, put_most, put_octets, put_parts,
+    put_sizes,
+};
 use std::alloc::AllocError;
 use xti_model::{Act, Call};
 use xti_text::{put_number, put_text};
@@ -62,8 +65,7 @@ fn put_connection_request(out: &mut Vec<u8>, call: &Call) -> Result<(), AllocErr
             umax,
         } => {
             put_number(out, "connect ", fd.0 as u64)?;
-            put_octets(out, " addr=", addr)?;
-            put_octets(out, " opt=", opt)?;
+            put_address_and_options(out, addr, opt)?;
             put_octets(out, " udata=", udata)?;
             put_most(out, *amax, *omax, *umax)
         }
@@ -144,8 +146,7 @@ fn put_send(out: &mut Vec<u8>, call: &Call) -> Result<(), AllocError>
             bytes,
         } => {
             put_number(out, "sndudata ", fd.0 as u64)?;
-            put_octets(out, " addr=", addr)?;
-            put_octets(out, " opt=", opt)?;
+            put_address_and_options(out, addr, opt)?;
             put_octets(out, " data=", bytes)
         }
         Call::TSndVUData {
@@ -155,8 +156,7 @@ fn put_send(out: &mut Vec<u8>, call: &Call) -> Result<(), AllocError>
             parts,
         } => {
             put_number(out, "sndvudata ", fd.0 as u64)?;
-            put_octets(out, " addr=", addr)?;
-            put_octets(out, " opt=", opt)?;
+            put_address_and_options(out, addr, opt)?;
             put_parts(out, " parts=", parts.as_slice())
         }
         _ => unreachable!(),
@@ -185,8 +185,7 @@ fn put_receive(out: &mut Vec<u8>, call: &Call) -> Result<(), AllocError>
         } => {
             put_number(out, "rcvudata ", fd.0 as u64)?;
             put_number(out, " max=", *max as u64)?;
-            put_number(out, " amax=", *amax as u64)?;
-            put_number(out, " omax=", *omax as u64)
+            put_address_limits(out, *amax, *omax)
         }
         Call::TRcvVUData {
             fd,
@@ -196,13 +195,11 @@ fn put_receive(out: &mut Vec<u8>, call: &Call) -> Result<(), AllocError>
         } => {
             put_number(out, "rcvvudata ", fd.0 as u64)?;
             put_sizes(out, " sizes=", sizes.as_slice())?;
-            put_number(out, " amax=", *amax as u64)?;
-            put_number(out, " omax=", *omax as u64)
+            put_address_limits(out, *amax, *omax)
         }
         Call::TRcvUDErr { fd, amax, omax } => {
             put_number(out, "rcvuderr ", fd.0 as u64)?;
-            put_number(out, " amax=", *amax as u64)?;
-            put_number(out, " omax=", *omax as u64)
+            put_address_limits(out, *amax, *omax)
         }
         _ => unreachable!(),
     }

@@ -1,7 +1,7 @@
 //! The words of a journal's lines, each written behind the text that parts it from the word before.
 
-ghost use Rattle.std.specs.Prelude.{◌≡◌, ◌++◌, OnOk};
-ghost use Rattle.xti_text.specs.Words.{octets_word};
+ghost use Rattle.std.specs.Prelude.{◌≡◌, ◌++◌, OnOk, codes};
+ghost use Rattle.xti_text.specs.Words.{number_word, octets_word};
 ghost use Rattle.xti_journal.specs.JournalText.{bit_word, mode_word, limit_word, parts_word, sizes_word, most_words};
 
 use std::alloc::AllocError;
@@ -71,10 +71,29 @@ pub(crate) fn put_sizes(out: &mut Vec<u8>, key: &str, sizes: &[u32]) -> Result<(
     }
 }
 
+// The most bytes that the caller takes of address and options.
+pub(crate) fn put_address_limits(out: &mut Vec<u8>, amax: u32, omax: u32) -> Result<(), AllocError>
+    ensures { OnOk result (out.new.items ≡ out.old.items ++ number_word (codes " amax=") amax ++ number_word (codes " omax=") omax) }
+{
+    put_number(out, " amax=", amax as u64)?;
+    put_number(out, " omax=", omax as u64)
+}
+
+// The address and the options of a call.
+pub(crate) fn put_address_and_options(
+    out: &mut Vec<u8>,
+    addr: &Octets,
+    opt: &Octets,
+) -> Result<(), AllocError>
+    ensures { OnOk result (out.new.items ≡ out.old.items ++ octets_word (codes " addr=") addr.now ++ octets_word (codes " opt=") opt.now) }
+{
+    put_octets(out, " addr=", addr)?;
+    put_octets(out, " opt=", opt)
+}
+
 pub(crate) fn put_most(out: &mut Vec<u8>, amax: u32, omax: u32, umax: u32) -> Result<(), AllocError>
     ensures { OnOk result (out.new.items ≡ out.old.items ++ most_words amax omax umax) }
 {
-    put_number(out, " amax=", amax as u64)?;
-    put_number(out, " omax=", omax as u64)?;
+    put_address_limits(out, amax, omax)?;
     put_number(out, " umax=", umax as u64)
 }

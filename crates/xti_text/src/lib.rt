@@ -1,12 +1,15 @@
 //! The words of printed lines, each written behind the text that parts it from the word before.
 #![tactic(auto)]
 
-ghost use Rattle.std.specs.Prelude.{◌≡◌, ◌*◌, ◌++◌, ◌<◌, OnOk, length, decimal};
+ghost use Rattle.std.specs.Prelude.{◌≡◌, ◌*◌, ◌+◌, ◌++◌, ◌<◌, ◌≤◌, OnOk, length, codes, decimal};
 ghost use Rattle.std.specs.List.{flat_map};
 ghost use Rattle.xti_text.specs.Words.{number_word, signed_word, hex_digit, hex_pair, octets_word};
 
 use itoa::Buffer;
 use std::alloc::AllocError;
+
+/// Fewer bytes are written one by one.
+const FEW: usize = 8;
 
 /// Appends a text.
 #[inline(always)]
@@ -35,16 +38,58 @@ pub fn put_signed(out: &mut Vec<u8>, key: &str, n: i64) -> Result<(), AllocError
     put_text(out, buffer.format(n))
 }
 
+// A number of one digit is written where it is called for, and the others in functions of their own, which keeps this one short.
+#[inline]
 #[tactic(auto, using(std::proofs::lemmas::Fmt::decimal_digit))]
 fn put_decimal(out: &mut Vec<u8>, n: u64) -> Result<(), AllocError>
     ensures { OnOk result (out.new.items ≡ out.old.items ++ decimal n) }
 {
     if n < 10 {
-        let digit = b'0' + n as u8;
-        return out.extend_from_slice(&[digit]);
+        return out.extend_from_slice(&[digit(n)]);
     }
+    if n < 100_000 {
+        return put_digits(out, n);
+    }
+    put_long(out, n)
+}
+
+#[inline(never)]
+fn put_long(out: &mut Vec<u8>, n: u64) -> Result<(), AllocError>
+    ensures { OnOk result (out.new.items ≡ out.old.items ++ decimal n) }
+{
     let mut buffer = Buffer::new();
     put_text(out, buffer.format(n))
+}
+
+fn digit(n: u64) -> u8
+    requires { n < 10 }
+    ensures { result ≡ 48 + n }
+{
+    b'0' + n as u8
+}
+
+// Two to five digits, each count of them copied as a whole.
+#[inline(never)]
+#[tactic(auto, using(crate::proofs::Digits::two, crate::proofs::Digits::three, crate::proofs::Digits::four, crate::proofs::Digits::five))]
+fn put_digits(out: &mut Vec<u8>, n: u64) -> Result<(), AllocError>
+    requires { (10 ≤ n) × (n < 100000) }
+    ensures { OnOk result (out.new.items ≡ out.old.items ++ decimal n) }
+{
+    let tens = n / 10;
+    let hundreds = tens / 10;
+    let thousands = hundreds / 10;
+    let [hundred, ten, one] = [digit(hundreds % 10), digit(tens % 10), digit(n % 10)];
+    if n < 100 {
+        return out.extend_from_slice(&[ten, one]);
+    }
+    if n < 1_000 {
+        return out.extend_from_slice(&[hundred, ten, one]);
+    }
+    let thousand = digit(thousands % 10);
+    if n < 10_000 {
+        return out.extend_from_slice(&[thousand, hundred, ten, one]);
+    }
+    out.extend_from_slice(&[digit(thousands / 10), thousand, hundred, ten, one])
 }
 
 fn hex_digit(d: u8) -> u8
@@ -60,10 +105,34 @@ pub fn put_octets(out: &mut Vec<u8>, key: &str, bytes: &[u8]) -> Result<(), Allo
     ensures { OnOk result (out.new.items ≡ out.old.items ++ octets_word key.now bytes.now) }
 {
     put_text(out, key)?;
-    put_text(out, "x:")?;
-    put_pairs(out, bytes)
+    put_hex(out, bytes)
 }
 
+#[inline(never)]
+fn put_hex(out: &mut Vec<u8>, bytes: &[u8]) -> Result<(), AllocError>
+    ensures { OnOk result (out.new.items ≡ out.old.items ++ codes "x:" ++ flat_map hex_pair bytes.now) }
+{
+    put_text(out, "x:")?;
+    if bytes.is_empty() {
+        Ok(())
+    } else if bytes.len() < FEW {
+        put_few_pairs(out, bytes)
+    } else {
+        put_pairs(out, bytes)
+    }
+}
+
+#[inline(never)]
+fn put_few_pairs(out: &mut Vec<u8>, bytes: &[u8]) -> Result<(), AllocError>
+    ensures { OnOk result (out.new.items ≡ out.old.items ++ flat_map hex_pair bytes.now) }
+{
+    for b in bytes {
+        out.extend_from_slice(&[hex_digit(*b / 16), hex_digit(*b % 16)])?;
+    }
+    Ok(())
+}
+
+#[inline(never)]
 fn put_pairs(out: &mut Vec<u8>, bytes: &[u8]) -> Result<(), AllocError>
     ensures { OnOk result (out.new.items ≡ out.old.items ++ flat_map hex_pair bytes.now) }
 {
