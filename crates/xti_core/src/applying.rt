@@ -44,18 +44,16 @@ pub fn apply(lent: &mut Lent, call: &Call, _go: Go) -> Result<Applied, AllocErro
     ensures err { OnErr result (lent.new ≡ lent.old) }
 {
     match call {
-        Call::TRcvUData { fd, .. } => local(lent, call, *fd, _go),
-        Call::TRcvVUData { fd, .. } => local(lent, call, *fd, _go),
-        Call::TRcvUDErr { fd, .. } => local(lent, call, *fd, _go),
-        Call::TGetState { fd } => local(lent, call, *fd, _go),
-        Call::TSync { fd } => local(lent, call, *fd, _go),
-        Call::SetMode { fd, .. } => local(lent, call, *fd, _go),
-        Call::TSndUData { .. } => dgram_step(lent, call),
-        Call::TSndVUData { .. } => dgram_step(lent, call),
-        Call::TOpen { .. } => switch_step(lent, call),
-        Call::TClose { .. } => switch_step(lent, call),
-        Call::TBind { .. } => switch_step(lent, call),
-        Call::TUnbind { .. } => switch_step(lent, call),
+        Call::TRcvUData { fd, .. }
+        | Call::TRcvVUData { fd, .. }
+        | Call::TRcvUDErr { fd, .. }
+        | Call::TGetState { fd }
+        | Call::TSync { fd }
+        | Call::SetMode { fd, .. } => local(lent, call, *fd, _go),
+        Call::TSndUData { .. } | Call::TSndVUData { .. } => dgram_step(lent, call),
+        Call::TOpen { .. } | Call::TClose { .. } | Call::TBind { .. } | Call::TUnbind { .. } => {
+            switch_step(lent, call)
+        }
         Call::TLookAt { fd } => Ok(look(lent, *fd)),
         _ => unreachable!(),
     }

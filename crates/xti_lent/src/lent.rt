@@ -198,7 +198,7 @@ pub fn place_of(fd: Fd) -> u32
     fd.0 % 64
 }
 
-/// Where a number stands among numbers of which none stands twice. Where all places are lent in their order, each stands at its own.
+/// Where a number stands among numbers of which none stands twice. If all places are lent in their order, each stands at its own.
 fn index_of(numbers: &[u32], number: u32) -> Option<usize>
     requires { Distinct numbers.now }
     ensures index { result ≡ position (λ n. n == number) numbers.now }

@@ -1,21 +1,25 @@
-use Rattle.std.proofs.Common.{refl}
+use Rattle.std.proofs.Common.{◌≡◌, Some, refl, ap, inl, inr}
+use Rattle.xti_model.specs.Touched.{fd_of}
 use Rattle.xti_core.proofs.Lending.{own-lent}
 use Rattle.xti_core.proofs.applying.apply.Goals as goal
 
 pub local-requires-clause-lent : goal.local-requires-clause-lent
-local-requires-clause-lent c = own-lent c.args.lent.now.providers c.args.lent.now c.args.call.now _ c.in-TRcvUData.fd.0 c.in-TRcvUData.is refl c.requires.lent
-
-pub local-requires-in-TRcvVUData-clause-lent : goal.local-requires-in-TRcvVUData-clause-lent
-local-requires-in-TRcvVUData-clause-lent c = own-lent c.args.lent.now.providers c.args.lent.now c.args.call.now _ c.in-TRcvVUData.fd.0 c.in-TRcvVUData.is refl c.requires.lent
-
-pub local-requires-in-TRcvUDErr-clause-lent : goal.local-requires-in-TRcvUDErr-clause-lent
-local-requires-in-TRcvUDErr-clause-lent c = own-lent c.args.lent.now.providers c.args.lent.now c.args.call.now _ c.in-TRcvUDErr.fd.0 c.in-TRcvUDErr.is refl c.requires.lent
-
-pub local-requires-in-TGetState-clause-lent : goal.local-requires-in-TGetState-clause-lent
-local-requires-in-TGetState-clause-lent c = own-lent c.args.lent.now.providers c.args.lent.now c.args.call.now _ c.in-TGetState.fd.0 c.in-TGetState.is refl c.requires.lent
-
-pub local-requires-in-TSync-clause-lent : goal.local-requires-in-TSync-clause-lent
-local-requires-in-TSync-clause-lent c = own-lent c.args.lent.now.providers c.args.lent.now c.args.call.now _ c.in-TSync.fd.0 c.in-TSync.is refl c.requires.lent
-
-pub local-requires-in-SetMode-clause-lent : goal.local-requires-in-SetMode-clause-lent
-local-requires-in-SetMode-clause-lent c = own-lent c.args.lent.now.providers c.args.lent.now c.args.call.now _ c.in-SetMode.fd.0 c.in-SetMode.is refl c.requires.lent
+local-requires-clause-lent c =
+    let f : fd_of c.args.call.now ≡ Some c.in-TRcvUData.fd.0 =
+    elim c.in-TRcvUData.is [
+      | inl h ↦ ap fd_of h.3
+      | inr r ↦ elim r [
+        | inl h ↦ ap fd_of h.3
+        | inr r ↦ elim r [
+          | inl h ↦ ap fd_of h.2
+          | inr r ↦ elim r [
+            | inl h ↦ ap fd_of h
+            | inr r ↦ elim r [
+              | inl h ↦ ap fd_of h
+              | inr h ↦ ap fd_of h.1
+            ]
+          ]
+        ]
+      ]
+    ] in
+    own-lent c.args.lent.now.providers c.args.lent.now c.args.call.now _ c.in-TRcvUData.fd.0 refl f c.requires.lent
