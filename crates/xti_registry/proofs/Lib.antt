@@ -1,4 +1,5 @@
 mod Least
 mod Chains
+mod Found
 mod Addresses
 mod Keeping

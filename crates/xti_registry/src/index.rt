@@ -1,6 +1,6 @@
 //! The bindings by their addresses: chains of bindings, each of those whose addresses' words fall together.
 
-ghost use Rattle.std.specs.Prelude.{◌≡◌, ◌≤◌, ◌<◌, ◌+◌, ◌++◌, ◌∷◌, [], if◌then◌else◌, not, ◌==◌, length, map, filter, replicate, slice_index_or, slice_set, vec_capacity, IfOk, OnOk};
+ghost use Rattle.std.specs.Prelude.{◌≡◌, ◌≤◌, ◌<◌, ◌+◌, ◌++◌, ◌∷◌, [], if◌then◌else◌, not, ◌==◌, length, map, filter, replicate, slice_index_or, slice_set, vec_capacity, position, IfOk, OnOk, IfSome};
 ghost use Rattle.xti_model.specs.Switch.{less, least};
 ghost use Rattle.xti_registry.specs.Known.{is_asked};
 ghost use Rattle.xti_registry.specs.Index.{IsIndex, word_of};
@@ -116,7 +116,15 @@ impl Index {
     }
 }
 
-/// Takes the bindings of the descriptor out.
+/// The first binding of the descriptor.
+fn position_of(bindings: &[Binding], fd: Fd) -> Option<usize>
+    ensures place { result ≡ position (λ b. b.fd == fd.0) bindings.now }
+    ensures bound { IfSome result (λ place. place < length bindings.now) }
+{
+    bindings.iter().position(|b| b.fd == fd)
+}
+
+/// Takes the bindings of the descriptor out. Mostly there is one, or none.
 pub(crate) fn forget(bindings: &mut Vec<Binding>, index: &mut Index, fd: Fd)
     requires index { IsIndex bindings.old.items index.old.last.items index.old.before.items }
     requires room { length bindings.old.items ≤ vec_capacity index.old.before }
@@ -126,6 +134,10 @@ pub(crate) fn forget(bindings: &mut Vec<Binding>, index: &mut Index, fd: Fd)
     ensures capacity { vec_capacity bindings.new ≡ vec_capacity bindings.old }
     ensures index_capacity { vec_capacity index.new.before ≡ vec_capacity index.old.before }
 {
+    let Some(first) = position_of(bindings, fd) else {
+        return;
+    };
+    bindings.remove(first);
     bindings.retain(|b| b.fd != fd);
     index.rebuild(bindings);
 }
