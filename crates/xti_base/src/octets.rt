@@ -35,6 +35,10 @@ impl Octets {
     pub fn copy_of(alloc: Global, bytes: &[u8]) -> Result<Octets, AllocError>
         ensures { IfOk result (λ o. o ≡ bytes.now) }
     {
+        // Most options are empty.
+        if bytes.is_empty() {
+            return Ok(Octets::new(alloc));
+        }
         Ok(Octets {
             bytes: SmallVec::from_slice(alloc, bytes)?,
         })
@@ -61,9 +65,7 @@ impl Octets {
     pub fn copy(&self) -> Result<Octets, AllocError>
         ensures { IfOk result (λ o. o ≡ self.now) }
     {
-        Ok(Octets {
-            bytes: SmallVec::from_slice(*self.bytes.allocator(), self.bytes.as_slice())?,
-        })
+        Octets::copy_of(*self.bytes.allocator(), self.bytes.as_slice())
     }
 
     /// Adds a byte at the end; after want of memory the bytes are as before.
