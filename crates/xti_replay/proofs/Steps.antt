@@ -83,6 +83,13 @@ pub turn-by : (p : Providers) (lines : List Line) (w : World) (past : List Entry
 turn-by p lines w past number next call o n e made =
     ap (option_and_then (turn_going p w number)) (goes lines past number next call n e) ∙ ap (option_map (turn_of number (beginning call))) made
 
+abbrev held : Call → Option Call → Call
+held d None = d
+held d (Some call) = call
+
+pub same-call : (one other : Call) → Some one ≡ Some other → one ≡ other
+same-call one other e = ap (held one) e
+
 pub makes-made : (p : Providers) (lines : List Line) (number : ℕ) (before after : Standing) (past all : List Entry) (old new : Worker) (call : Call) (outcome : Outcome) (state : State)
     → Told lines past number old → IsNext lines past number old.next → old.next ≡ Some call → Some (record { outcome = outcome; after = state; world = after.cells }) ≡ step p before.cells call go.Begin
     → all ≡ past ++ record { worker = number; act = act.Begin call; outcome = outcome; after = state } ∷ [] → new.places ≡ old.places → new.begun ≡ old.begun + 1

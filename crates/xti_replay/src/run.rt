@@ -41,16 +41,16 @@ fn make(
     ensures makes { IfOk result (λ made. Makes lines.now number world.old world.new entries.old entries.new worker.old worker.new made (turn world.old.providers lines.now world.old.cells entries.old number)) }
     ensures providers { world.new.providers ≡ world.old.providers }
 {
-    let Some(call) = worker.next.take() else {
+    let Some(call) = &worker.next else {
         return Ok(false);
     };
-    match world.step(&call, Go::Begin)? {
-        Applied::Blocked => {
-            worker.next = Some(call);
-            Ok(false)
-        }
+    match world.step(call, Go::Begin)? {
+        Applied::Blocked => Ok(false),
         Applied::Step { outcome, after } => {
             worker.advance(alloc, lines, &outcome)?;
+            let Some(call) = worker.next.take() else {
+                unreachable!();
+            };
             entries.push(Entry {
                 worker: number,
                 act: Act::Begin(call),

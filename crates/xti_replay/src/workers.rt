@@ -52,6 +52,7 @@ impl Worker {
         requires more { self.old.begun < length self.old.places.items }
         requires within { slice_index self.old.places.items self.old.begun < length lines.now }
         ensures places { self.new.places ≡ self.old.places }
+        ensures next { self.new.next ≡ self.old.next }
         ensures count { OnOk result (self.new.begun ≡ self.old.begun + 1) }
         ensures names { OnOk result ((line : Line) (name : List ℕ) → slice_get lines.now (slice_index self.old.places.items self.old.begun) ≡ Some line → known_in self.new.names name ≡ or_known (known_in self.old.names name) (if opens name line.call then Some (record { place = slice_index self.old.places.items self.old.begun; number = number_of outcome.now }) else None)) }
     {
