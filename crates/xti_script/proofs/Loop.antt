@@ -4,7 +4,7 @@ use Rattle.std.proofs.lemmas.Bool.{eqb-true}
 use Rattle.std.proofs.lemmas.List.{nil_from_length}
 use Rattle.xti_model.specs.declared.script.Line.{Line}
 use Rattle.xti_script.specs.Texts.{lines_of, words_of}
-use Rattle.xti_script.specs.Reading.{longer, extended, any_line_of, line_of, lines_from}
+use Rattle.xti_script.specs.Reading.{longer, line_of, lines_from}
 
 record Grown (earlier : List Line) (o : Option Line) (more : List Line) : Type 0 where
   line : Line
@@ -47,15 +47,3 @@ ends n earlier rest total true t h so_far =
     let e : rest ≡ [] = nil_from_length rest (eqb-true _ _ (sym h)) in
     let one : lines_from n earlier (lines_of rest) ≡ Ok earlier = rw e refl in
     sym so_far ∙ one
-
-pub is_extended : (earlier : List Line) (words : List (List ℕ)) (o : Option Line) (line : Line) → o ≡ any_line_of earlier words → o ≡ Some line → extended earlier line ≡ longer earlier (line_of earlier words)
-unfolding line_of extended
-is_extended earlier words o line e s =
-    let h : any_line_of earlier words ≡ Some line = sym e ∙ s in
-    rw h refl
-
-pub not_added : (earlier : List Line) (words : List (List ℕ)) (o : Option Line) → o ≡ any_line_of earlier words → o ≡ None → None ≡ longer earlier (line_of earlier words)
-unfolding line_of
-not_added earlier words o e s =
-    let h : any_line_of earlier words ≡ None = sym e ∙ s in
-    rw h refl

@@ -156,6 +156,10 @@ room_for earlier call = room_after (length earlier) (most_bytes - script_bytes e
 unfoldable pub extended : List Line → Line → Option (List Line)
 extended earlier line = longer earlier (within earlier (Some line))
 
+-- the lines and that of the worker's call, where there is a call and the limits allow it
+abbrev pub with_call : List Line → ℕ → Option NamedCall → Option (List Line)
+with_call earlier worker call = longer earlier (within earlier (by_worker worker call))
+
 -- the lines behind this one, where there is one; else the number of the line that is wrong
 abbrev pub behind : {A : Type 0} → ℕ → Option Line → (Line → Result A ℕ) → Result A ℕ
 behind number None others = Err number

@@ -1,11 +1,11 @@
 //! Reading the words of a line.
 
-ghost use Rattle.std.specs.Prelude.{◌≡◌, ◌≤◌, IfOk, OnSome, IfSome, Some, option_map};
+ghost use Rattle.std.specs.Prelude.{◌≡◌, ◌≤◌, IfOk, IfSome, Some, option_map};
 ghost use Rattle.std.specs.Option.{option_copied};
 ghost use Rattle.xti_script.specs.Texts.{words_of};
 ghost use Rattle.xti_script.specs.Grammar.{last_worker};
 ghost use Rattle.xti_script.specs.Listed.{values_of};
-ghost use Rattle.xti_script.specs.Reading.{mode_of, open_mode, provider_of, can_define, open_with, open_of, set_mode_with, set_mode_of, with_values, with_fields, call_of, worker_of, call_by, any_line_of};
+ghost use Rattle.xti_script.specs.Reading.{mode_of, open_mode, provider_of, can_define, open_with, open_of, set_mode_with, set_mode_of, with_values, with_fields, call_of, worker_of, call_by, with_call, within, longer, line_of};
 
 use crate::draft::Draft;
 use crate::fields::read_fields;
@@ -62,6 +62,23 @@ fn can_define(draft: &Draft, worker: u32, name: &[u8]) -> bool
     is_name(name) && !draft.defines(worker, name)
 }
 
+/// The lines and that of the worker's call; `None` where there is no call, or a limit is in the way.
+#[tactic(auto, unfolding(crate::specs::Reading::extended))]
+fn with_call(
+    alloc: Global,
+    draft: Draft,
+    worker: u32,
+    call: Option<NamedCall>,
+) -> Result<Option<Draft>, AllocError>
+    requires { worker ≤ last_worker }
+    ensures { IfOk result (λ more. more ≡ with_call draft worker call) }
+{
+    match call {
+        Some(call) => draft.with(alloc, Line { worker, call }),
+        None => Ok(None),
+    }
+}
+
 fn open_with(
     alloc: Global,
     name: &[u8],
@@ -83,11 +100,12 @@ fn open_with(
 #[tactic(auto, unfolding(crate::specs::Reading::open_of))]
 fn read_open(
     alloc: Global,
-    draft: &Draft,
+    draft: Draft,
     worker: u32,
     words: &mut Words,
-) -> Result<Option<NamedCall>, AllocError>
-    ensures { IfOk result (λ call. call ≡ open_of draft.now worker words.old) }
+) -> Result<Option<Draft>, AllocError>
+    requires { worker ≤ last_worker }
+    ensures { IfOk result (λ more. more ≡ with_call draft worker (open_of draft worker words.old)) }
 {
     let Some(name) = words.next() else {
         return Ok(None);
@@ -95,11 +113,11 @@ fn read_open(
     let Some(prov) = words.next() else {
         return Ok(None);
     };
-    if can_define(draft, worker, name) {
-        open_with(alloc, name, provider_of(prov), open_mode(words))
-    } else {
-        Ok(None)
+    if !can_define(&draft, worker, name) {
+        return Ok(None);
     }
+    let call = open_with(alloc, name, provider_of(prov), open_mode(words))?;
+    with_call(alloc, draft, worker, call)
 }
 
 fn set_mode_with(
@@ -121,11 +139,12 @@ fn set_mode_with(
 #[tactic(auto, unfolding(crate::specs::Reading::set_mode_of))]
 fn read_set_mode(
     alloc: Global,
-    draft: &Draft,
+    draft: Draft,
     worker: u32,
     words: &mut Words,
-) -> Result<Option<NamedCall>, AllocError>
-    ensures { IfOk result (λ call. call ≡ set_mode_of draft.now worker words.old) }
+) -> Result<Option<Draft>, AllocError>
+    requires { worker ≤ last_worker }
+    ensures { IfOk result (λ more. more ≡ with_call draft worker (set_mode_of draft worker words.old)) }
 {
     let Some(name) = words.next() else {
         return Ok(None);
@@ -133,11 +152,11 @@ fn read_set_mode(
     let Some(mode) = words.next() else {
         return Ok(None);
     };
-    if words.is_empty() && draft.defines(worker, name) {
-        set_mode_with(alloc, name, mode_of(mode))
-    } else {
-        Ok(None)
+    if !words.is_empty() || !draft.defines(worker, name) {
+        return Ok(None);
     }
+    let call = set_mode_with(alloc, name, mode_of(mode))?;
+    with_call(alloc, draft, worker, call)
 }
 
 fn with_values(
@@ -157,12 +176,13 @@ fn with_values(
 #[tactic(auto, unfolding(crate::specs::Reading::with_fields))]
 fn read_with_fields(
     alloc: Global,
-    draft: &Draft,
+    draft: Draft,
     worker: u32,
     verb: Option<Verb>,
     words: &mut Words,
-) -> Result<Option<NamedCall>, AllocError>
-    ensures { IfOk result (λ call. call ≡ with_fields draft.now worker verb words.old) }
+) -> Result<Option<Draft>, AllocError>
+    requires { worker ≤ last_worker }
+    ensures { IfOk result (λ more. more ≡ with_call draft worker (with_fields draft worker verb words.old)) }
 {
     let (Some(verb), Some(name)) = (verb, words.next()) else {
         return Ok(None);
@@ -171,17 +191,19 @@ fn read_with_fields(
         return Ok(None);
     }
     let values = read_fields(alloc, form(verb), words)?;
-    with_values(alloc, verb, name, values)
+    let call = with_values(alloc, verb, name, values)?;
+    with_call(alloc, draft, worker, call)
 }
 
 #[tactic(auto, unfolding(crate::specs::Reading::call_of))]
 fn read_call(
     alloc: Global,
-    draft: &Draft,
+    draft: Draft,
     worker: u32,
     words: &mut Words,
-) -> Result<Option<NamedCall>, AllocError>
-    ensures { IfOk result (λ call. call ≡ call_of draft.now worker words.old) }
+) -> Result<Option<Draft>, AllocError>
+    requires { worker ≤ last_worker }
+    ensures { IfOk result (λ more. more ≡ with_call draft worker (call_of draft worker words.old)) }
 {
     let Some(word) = words.next() else {
         return Ok(None);
@@ -207,32 +229,27 @@ fn worker_of(word: &[u8]) -> Option<u32>
 
 fn call_by(
     alloc: Global,
-    draft: &Draft,
+    draft: Draft,
     worker: Option<u32>,
     words: &mut Words,
-) -> Result<Option<Line>, AllocError>
+) -> Result<Option<Draft>, AllocError>
     requires { IfSome worker (λ worker. worker ≤ last_worker) }
-    ensures line { IfOk result (λ line. line ≡ call_by draft.now worker words.old) }
-    ensures worker { IfOk result (λ line. IfSome line (λ line. line.worker ≤ last_worker)) }
+    ensures { IfOk result (λ more. more ≡ longer draft (within draft (call_by draft worker words.old))) }
 {
     match worker {
-        Some(worker) => match read_call(alloc, draft, worker, words)? {
-            Some(call) => Ok(Some(Line { worker, call })),
-            None => Ok(None),
-        },
+        Some(worker) => read_call(alloc, draft, worker, words),
         None => Ok(None),
     }
 }
 
-/// The line that a text gives behind the lines of the draft, whatever the limits; `None` where it gives none.
-#[tactic(auto, unfolding(crate::specs::Reading::any_line_of))]
+/// The lines and the one that the text gives behind them; `None` where it gives none.
+#[tactic(auto, unfolding(crate::specs::Reading::any_line_of, crate::specs::Reading::line_of))]
 pub(crate) fn read_line(
     alloc: Global,
-    draft: &Draft,
+    draft: Draft,
     text: &[u8],
-) -> Result<Option<Line>, AllocError>
-    ensures line { IfOk result (λ line. line ≡ any_line_of draft.now (words_of text.now)) }
-    ensures worker { IfOk result (λ line. IfSome line (λ line. line.worker ≤ last_worker)) }
+) -> Result<Option<Draft>, AllocError>
+    ensures { IfOk result (λ more. more ≡ longer draft (line_of draft (words_of text.now))) }
 {
     let mut words = Words::of(text);
     match words.next() {

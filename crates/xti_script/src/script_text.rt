@@ -3,10 +3,10 @@
 ghost use Rattle.std.specs.Prelude.{◌≡◌, [], ℕ, List, IfOk, IfErr};
 ghost use Rattle.xti_model.specs.declared.script.Script.{Script};
 ghost use Rattle.xti_script.specs.declared.script_text.ScriptFail.TheVariants.{OutOfMemory};
-ghost use Rattle.xti_script.specs.Texts.{lines_of, words_of};
+ghost use Rattle.xti_script.specs.Texts.{lines_of};
 ghost use Rattle.xti_script.specs.Grammar.{IsScript};
 ghost use Rattle.xti_script.specs.Refused.{IsRefusedAt};
-ghost use Rattle.xti_script.specs.Reading.{longer, line_of, lines_from, all_of};
+ghost use Rattle.xti_script.specs.Reading.{lines_from, all_of};
 ghost use Rattle.xti_script.specs.Read.{IsRead, IsBad};
 ghost use Rattle.xti_script.specs.Gives.{Gives};
 
@@ -36,16 +36,6 @@ impl From<AllocError> for ScriptFail {
     }
 }
 
-/// The lines and the one that the text gives behind them; `None` where it gives none.
-fn add_line(alloc: Global, draft: Draft, text: &[u8]) -> Result<Option<Draft>, AllocError>
-    ensures { IfOk result (λ more. more ≡ longer draft (line_of draft (words_of text.now))) }
-{
-    match read_line(alloc, &draft, text)? {
-        Some(line) => draft.with(alloc, line),
-        None => Ok(None),
-    }
-}
-
 fn read_lines(alloc: Global, text: &[u8]) -> Result<Lines, ScriptFail>
     ensures { Gives result (lines_from 2 [] (lines_of text.now)) }
 {
@@ -54,7 +44,7 @@ fn read_lines(alloc: Global, text: &[u8]) -> Result<Lines, ScriptFail>
     let mut number = 2u64;
     while !rest.is_empty() {
         let (line, behind) = first_line(rest);
-        match add_line(alloc, draft, line)? {
+        match read_line(alloc, draft, line)? {
             Some(longer) => draft = longer,
             None => return Err(ScriptFail::Bad { line: number }),
         }
