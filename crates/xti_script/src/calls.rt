@@ -64,7 +64,7 @@ fn can_define(draft: &Draft, worker: u32, name: &[u8]) -> bool
 
 /// The lines and that of the worker's call; `None` where there is no call, or a limit is in the way.
 #[tactic(auto, unfolding(crate::specs::Reading::extended))]
-fn with_call(
+fn add_call(
     alloc: Global,
     draft: Draft,
     worker: u32,
@@ -79,20 +79,27 @@ fn with_call(
     }
 }
 
-fn open_with(
+#[tactic(auto, unfolding(crate::specs::Reading::extended))]
+fn add_open(
     alloc: Global,
+    draft: Draft,
+    worker: u32,
     name: &[u8],
     prov: Option<Prov>,
     nonblock: Option<bool>,
-) -> Result<Option<NamedCall>, AllocError>
-    ensures { IfOk result (λ call. call ≡ open_with name.now prov nonblock) }
+) -> Result<Option<Draft>, AllocError>
+    requires { worker ≤ last_worker }
+    ensures { IfOk result (λ more. more ≡ with_call draft worker (open_with name.now prov nonblock)) }
 {
     match (prov, nonblock) {
-        (Some(prov), Some(nonblock)) => Ok(Some(NamedCall::TOpen {
-            name: Octets::copy_of(alloc, name)?,
-            prov,
-            nonblock,
-        })),
+        (Some(prov), Some(nonblock)) => {
+            let call = NamedCall::TOpen {
+                name: Octets::copy_of(alloc, name)?,
+                prov,
+                nonblock,
+            };
+            draft.with(alloc, Line { worker, call })
+        }
         _ => Ok(None),
     }
 }
@@ -116,22 +123,33 @@ fn read_open(
     if !can_define(&draft, worker, name) {
         return Ok(None);
     }
-    let call = open_with(alloc, name, provider_of(prov), open_mode(words))?;
-    with_call(alloc, draft, worker, call)
+    add_open(
+        alloc,
+        draft,
+        worker,
+        name,
+        provider_of(prov),
+        open_mode(words),
+    )
 }
 
-fn set_mode_with(
+#[tactic(auto, unfolding(crate::specs::Reading::extended))]
+fn add_set_mode(
     alloc: Global,
+    draft: Draft,
+    worker: u32,
     fd: &[u8],
     nonblock: Option<bool>,
-) -> Result<Option<NamedCall>, AllocError>
-    ensures { IfOk result (λ call. call ≡ set_mode_with fd.now nonblock) }
+) -> Result<Option<Draft>, AllocError>
+    requires { worker ≤ last_worker }
+    ensures { IfOk result (λ more. more ≡ with_call draft worker (set_mode_with fd.now nonblock)) }
 {
     match nonblock {
-        Some(nonblock) => Ok(Some(NamedCall::SetMode {
-            fd: Octets::copy_of(alloc, fd)?,
-            nonblock,
-        })),
+        Some(nonblock) => {
+            let fd = Octets::copy_of(alloc, fd)?;
+            let call = NamedCall::SetMode { fd, nonblock };
+            draft.with(alloc, Line { worker, call })
+        }
         None => Ok(None),
     }
 }
@@ -155,20 +173,25 @@ fn read_set_mode(
     if !words.is_empty() || !draft.defines(worker, name) {
         return Ok(None);
     }
-    let call = set_mode_with(alloc, name, mode_of(mode))?;
-    with_call(alloc, draft, worker, call)
+    add_set_mode(alloc, draft, worker, name, mode_of(mode))
 }
 
-fn with_values(
+fn add_values(
     alloc: Global,
+    draft: Draft,
+    worker: u32,
     verb: Verb,
     fd: &[u8],
     values: Option<Values>,
-) -> Result<Option<NamedCall>, AllocError>
-    ensures { IfOk result (λ call. call ≡ with_values verb fd.now (option_map values_of values)) }
+) -> Result<Option<Draft>, AllocError>
+    requires { worker ≤ last_worker }
+    ensures { IfOk result (λ more. more ≡ with_call draft worker (with_values verb fd.now (option_map values_of values))) }
 {
     match values {
-        Some(values) => Ok(call_with(verb, Octets::copy_of(alloc, fd)?, values)),
+        Some(values) => {
+            let call = call_with(verb, Octets::copy_of(alloc, fd)?, values);
+            add_call(alloc, draft, worker, call)
+        }
         None => Ok(None),
     }
 }
@@ -191,8 +214,7 @@ fn read_with_fields(
         return Ok(None);
     }
     let values = read_fields(alloc, form(verb), words)?;
-    let call = with_values(alloc, verb, name, values)?;
-    with_call(alloc, draft, worker, call)
+    add_values(alloc, draft, worker, verb, name, values)
 }
 
 #[tactic(auto, unfolding(crate::specs::Reading::call_of))]
