@@ -191,9 +191,6 @@ room_is_for lines now names left call o k v e =
 leaves : (total used n more : ℕ) → n ≤ total - used → used ≤ total → more ≡ (total - used) - n → more + (used + (0 + n)) ≡ total
 leaves total used n more h u e = omega arith
 
-empty_rest : (total used n : ℕ) → n ≤ total - used → total < used → n ≡ 0
-empty_rest total used n h u = omega arith
-
 pub room_left : (lines : List Line) (line : Line) (o : Option ℕ) (more : ℕ) → script_bytes lines ≤ most_bytes → o ≡ room_for lines line.call → o ≡ Some more → more + script_bytes (lines ++ line ∷ []) ≡ most_bytes
 unfolding room_for
 room_left lines line o more u e s =
@@ -201,7 +198,7 @@ room_left lines line o more u e s =
     let sum : script_bytes (lines ++ line ∷ []) ≡ script_bytes lines + (0 + argument_bytes line.call) = sum_by-append (λ (l : Line). argument_bytes l.call) lines (line ∷ []) in
     ap (λ (n : ℕ). more + n) sum ∙ leaves most_bytes (script_bytes lines) (argument_bytes line.call) more t.fits u t.rest
 
-pub one_longer : (lines more_lines : List Line) (line : Line) (more : ℕ) (o : Option ℕ) → script_bytes lines ≤ most_bytes → more_lines ≡ lines ++ line ∷ [] → o ≡ room_for lines line.call → o ≡ Some more → Some more_lines ≡ extended lines line
+pub one_longer : (lines more_lines : List Line) (line : Line) (more : ℕ) (o : Option ℕ) → script_bytes lines ≤ most_bytes → more_lines ≡ lines ++ line ∷ [] → o ≡ room_for lines line.call → o ≡ Some more → (true, more_lines) ≡ extended lines line
 unfolding extended room_for
 one_longer lines more_lines line more o u m e s =
     let t = room_is (length lines) (most_bytes - script_bytes lines) line.call more o e s in
@@ -209,14 +206,14 @@ one_longer lines more_lines line more o u m e s =
     let size : leb (script_bytes lines + argument_bytes line.call) most_bytes ≡ true = le-leb _ _ (less_most most_bytes (script_bytes lines) (argument_bytes line.call) u t.fits) in
     rw (m, count, size) refl
 
-pub no_longer : (lines : List Line) (line : Line) (o : Option ℕ) → o ≡ room_for lines line.call → o ≡ None → None ≡ extended lines line
+pub no_longer : (lines : List Line) (line : Line) (o : Option ℕ) → o ≡ room_for lines line.call → o ≡ None → (false, lines) ≡ extended lines line
 unfolding extended room_for room_after
 no_longer lines line o e s = by_test (ltb (length lines) most_lines) refl (sym e ∙ s)
   where
     nothing : Option ℕ
     nothing = None
 
-    by_test : (t : Bool) → ltb (length lines) most_lines ≡ t → cond t (less (most_bytes - script_bytes lines) (argument_bytes line.call)) None ≡ nothing → None ≡ extended lines line
+    by_test : (t : Bool) → ltb (length lines) most_lines ≡ t → cond t (less (most_bytes - script_bytes lines) (argument_bytes line.call)) None ≡ nothing → (false, lines) ≡ extended lines line
     by_test false t r = rw t refl
     by_test true t r =
         let over : most_bytes - script_bytes lines < argument_bytes line.call = less_fails (most_bytes - script_bytes lines) (argument_bytes line.call) (less (most_bytes - script_bytes lines) (argument_bytes line.call)) refl r in

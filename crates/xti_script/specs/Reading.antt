@@ -143,21 +143,21 @@ within earlier (Some line) = if has_room earlier line then Some line else None
 unfoldable pub line_of : List Line → List (List ℕ) → Option Line
 line_of earlier words = within earlier (any_line_of earlier words)
 
--- the lines and one more, where there is one
-abbrev pub longer : List Line → Option Line → Option (List Line)
-longer earlier None = None
-longer earlier (Some line) = Some (earlier ++ line ∷ [])
+-- whether there is one more line, and the lines with it
+abbrev pub longer : List Line → Option Line → Bool × List Line
+longer earlier None = (false, earlier)
+longer earlier (Some line) = (true, earlier ++ line ∷ [])
 
 -- how many bytes the arguments of further lines may have behind the call, where the limits allow it
 unfoldable pub room_for : List Line → NamedCall → Option ℕ
 room_for earlier call = room_after (length earlier) (most_bytes - script_bytes earlier) call
 
--- the lines and this one, where the limits allow it
-unfoldable pub extended : List Line → Line → Option (List Line)
+-- whether the limits allow this line, and the lines with it
+unfoldable pub extended : List Line → Line → Bool × List Line
 extended earlier line = longer earlier (within earlier (Some line))
 
--- the lines and that of the worker's call, where there is a call and the limits allow it
-abbrev pub with_call : List Line → ℕ → Option NamedCall → Option (List Line)
+-- whether there is a call that the limits allow, and the lines with that of the worker's call
+abbrev pub with_call : List Line → ℕ → Option NamedCall → Bool × List Line
 with_call earlier worker call = longer earlier (within earlier (by_worker worker call))
 
 -- the lines behind this one, where there is one; else the number of the line that is wrong

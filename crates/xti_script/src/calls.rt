@@ -62,34 +62,34 @@ fn can_define(draft: &Draft, worker: u32, name: &[u8]) -> bool
     is_name(name) && !draft.defines(worker, name)
 }
 
-/// The lines and that of the worker's call; `None` where there is no call, or a limit is in the way.
+/// Adds the worker's call; false where there is no call, or a limit is in the way.
 #[tactic(auto, unfolding(crate::specs::Reading::extended))]
 fn add_call(
     alloc: Global,
-    draft: Draft,
+    draft: &mut Draft,
     worker: u32,
     call: Option<NamedCall>,
-) -> Result<Option<Draft>, AllocError>
+) -> Result<bool, AllocError>
     requires { worker ≤ last_worker }
-    ensures { IfOk result (λ more. more ≡ with_call draft worker call) }
+    ensures { IfOk result (λ added. (added, draft.new) ≡ with_call draft.old worker call) }
 {
     match call {
-        Some(call) => draft.with(alloc, Line { worker, call }),
-        None => Ok(None),
+        Some(call) => draft.add(alloc, Line { worker, call }),
+        None => Ok(false),
     }
 }
 
 #[tactic(auto, unfolding(crate::specs::Reading::extended))]
 fn add_open(
     alloc: Global,
-    draft: Draft,
+    draft: &mut Draft,
     worker: u32,
     name: &[u8],
     prov: Option<Prov>,
     nonblock: Option<bool>,
-) -> Result<Option<Draft>, AllocError>
+) -> Result<bool, AllocError>
     requires { worker ≤ last_worker }
-    ensures { IfOk result (λ more. more ≡ with_call draft worker (open_with name.now prov nonblock)) }
+    ensures { IfOk result (λ added. (added, draft.new) ≡ with_call draft.old worker (open_with name.now prov nonblock)) }
 {
     match (prov, nonblock) {
         (Some(prov), Some(nonblock)) => {
@@ -98,30 +98,30 @@ fn add_open(
                 prov,
                 nonblock,
             };
-            draft.with(alloc, Line { worker, call })
+            draft.add(alloc, Line { worker, call })
         }
-        _ => Ok(None),
+        _ => Ok(false),
     }
 }
 
 #[tactic(auto, unfolding(crate::specs::Reading::open_of))]
 fn read_open(
     alloc: Global,
-    draft: Draft,
+    draft: &mut Draft,
     worker: u32,
     words: &mut Words,
-) -> Result<Option<Draft>, AllocError>
+) -> Result<bool, AllocError>
     requires { worker ≤ last_worker }
-    ensures { IfOk result (λ more. more ≡ with_call draft worker (open_of draft worker words.old)) }
+    ensures { IfOk result (λ added. (added, draft.new) ≡ with_call draft.old worker (open_of draft.old worker words.old)) }
 {
     let Some(name) = words.next() else {
-        return Ok(None);
+        return Ok(false);
     };
     let Some(prov) = words.next() else {
-        return Ok(None);
+        return Ok(false);
     };
-    if !can_define(&draft, worker, name) {
-        return Ok(None);
+    if !can_define(draft, worker, name) {
+        return Ok(false);
     }
     add_open(
         alloc,
@@ -136,82 +136,82 @@ fn read_open(
 #[tactic(auto, unfolding(crate::specs::Reading::extended))]
 fn add_set_mode(
     alloc: Global,
-    draft: Draft,
+    draft: &mut Draft,
     worker: u32,
     fd: &[u8],
     nonblock: Option<bool>,
-) -> Result<Option<Draft>, AllocError>
+) -> Result<bool, AllocError>
     requires { worker ≤ last_worker }
-    ensures { IfOk result (λ more. more ≡ with_call draft worker (set_mode_with fd.now nonblock)) }
+    ensures { IfOk result (λ added. (added, draft.new) ≡ with_call draft.old worker (set_mode_with fd.now nonblock)) }
 {
     match nonblock {
         Some(nonblock) => {
             let fd = Octets::copy_of(alloc, fd)?;
             let call = NamedCall::SetMode { fd, nonblock };
-            draft.with(alloc, Line { worker, call })
+            draft.add(alloc, Line { worker, call })
         }
-        None => Ok(None),
+        None => Ok(false),
     }
 }
 
 #[tactic(auto, unfolding(crate::specs::Reading::set_mode_of))]
 fn read_set_mode(
     alloc: Global,
-    draft: Draft,
+    draft: &mut Draft,
     worker: u32,
     words: &mut Words,
-) -> Result<Option<Draft>, AllocError>
+) -> Result<bool, AllocError>
     requires { worker ≤ last_worker }
-    ensures { IfOk result (λ more. more ≡ with_call draft worker (set_mode_of draft worker words.old)) }
+    ensures { IfOk result (λ added. (added, draft.new) ≡ with_call draft.old worker (set_mode_of draft.old worker words.old)) }
 {
     let Some(name) = words.next() else {
-        return Ok(None);
+        return Ok(false);
     };
     let Some(mode) = words.next() else {
-        return Ok(None);
+        return Ok(false);
     };
     if !words.is_empty() || !draft.defines(worker, name) {
-        return Ok(None);
+        return Ok(false);
     }
     add_set_mode(alloc, draft, worker, name, mode_of(mode))
 }
 
 fn add_values(
     alloc: Global,
-    draft: Draft,
+    draft: &mut Draft,
     worker: u32,
     verb: Verb,
     fd: &[u8],
     values: Option<Values>,
-) -> Result<Option<Draft>, AllocError>
+) -> Result<bool, AllocError>
     requires { worker ≤ last_worker }
-    ensures { IfOk result (λ more. more ≡ with_call draft worker (with_values verb fd.now (option_map values_of values))) }
+    ensures { IfOk result (λ added. (added, draft.new) ≡ with_call draft.old worker (with_values verb fd.now (option_map values_of values))) }
 {
     match values {
         Some(values) => {
             let call = call_with(verb, Octets::copy_of(alloc, fd)?, values);
             add_call(alloc, draft, worker, call)
         }
-        None => Ok(None),
+        None => Ok(false),
     }
 }
 
 #[tactic(auto, unfolding(crate::specs::Reading::with_fields))]
 fn read_with_fields(
     alloc: Global,
-    draft: Draft,
+    draft: &mut Draft,
     worker: u32,
     verb: Option<Verb>,
     words: &mut Words,
-) -> Result<Option<Draft>, AllocError>
+) -> Result<bool, AllocError>
     requires { worker ≤ last_worker }
-    ensures { IfOk result (λ more. more ≡ with_call draft worker (with_fields draft worker verb words.old)) }
+    ensures { IfOk result (λ added. (added, draft.new) ≡ with_call draft.old worker (with_fields draft.old worker verb words.old)) }
 {
     let (Some(verb), Some(name)) = (verb, words.next()) else {
-        return Ok(None);
+        return Ok(false);
     };
     if !draft.defines(worker, name) {
-        return Ok(None);
+        return Ok(false);
     }
     let values = read_fields(alloc, form(verb), words)?;
     add_values(alloc, draft, worker, verb, name, values)
@@ -220,15 +220,15 @@ fn read_with_fields(
 #[tactic(auto, unfolding(crate::specs::Reading::call_of))]
 fn read_call(
     alloc: Global,
-    draft: Draft,
+    draft: &mut Draft,
     worker: u32,
     words: &mut Words,
-) -> Result<Option<Draft>, AllocError>
+) -> Result<bool, AllocError>
     requires { worker ≤ last_worker }
-    ensures { IfOk result (λ more. more ≡ with_call draft worker (call_of draft worker words.old)) }
+    ensures { IfOk result (λ added. (added, draft.new) ≡ with_call draft.old worker (call_of draft.old worker words.old)) }
 {
     let Some(word) = words.next() else {
-        return Ok(None);
+        return Ok(false);
     };
     if word == b"open".as_slice() {
         read_open(alloc, draft, worker, words)
@@ -251,31 +251,27 @@ fn worker_of(word: &[u8]) -> Option<u32>
 
 fn call_by(
     alloc: Global,
-    draft: Draft,
+    draft: &mut Draft,
     worker: Option<u32>,
     words: &mut Words,
-) -> Result<Option<Draft>, AllocError>
+) -> Result<bool, AllocError>
     requires { IfSome worker (λ worker. worker ≤ last_worker) }
-    ensures { IfOk result (λ more. more ≡ longer draft (within draft (call_by draft worker words.old))) }
+    ensures { IfOk result (λ added. (added, draft.new) ≡ longer draft.old (within draft.old (call_by draft.old worker words.old))) }
 {
     match worker {
         Some(worker) => read_call(alloc, draft, worker, words),
-        None => Ok(None),
+        None => Ok(false),
     }
 }
 
-/// The lines and the one that the text gives behind them; `None` where it gives none.
+/// Adds the line that the text gives behind the others; false where it gives none.
 #[tactic(auto, unfolding(crate::specs::Reading::any_line_of, crate::specs::Reading::line_of))]
-pub(crate) fn read_line(
-    alloc: Global,
-    draft: Draft,
-    text: &[u8],
-) -> Result<Option<Draft>, AllocError>
-    ensures { IfOk result (λ more. more ≡ longer draft (line_of draft (words_of text.now))) }
+pub(crate) fn read_line(alloc: Global, draft: &mut Draft, text: &[u8]) -> Result<bool, AllocError>
+    ensures { IfOk result (λ added. (added, draft.new) ≡ longer draft.old (line_of draft.old (words_of text.now))) }
 {
     let mut words = Words::of(text);
     match words.next() {
         Some(word) => call_by(alloc, draft, worker_of(word), &mut words),
-        None => Ok(None),
+        None => Ok(false),
     }
 }

@@ -1,9 +1,11 @@
 //! The lines that are read so far, and what they say together.
 
-ghost use Rattle.std.specs.Prelude.{◌≡◌, ◌≤◌, ◌++◌, ◌+◌, ◌∷◌, [], length, IfOk};
+ghost use Rattle.std.specs.Prelude.{◌≡◌, ◌≤◌, ◌<◌, ◌+◌, ◌||◌, ◌++◌, ◌∷◌, [], ℕ, List, length, vec_len, vec_capacity, IfOk, IsOk, OnOk, OnErr};
 ghost use Rattle.std.specs.List.{concat};
 ghost use Rattle.xti_model.specs.Work.{argument_bytes, script_bytes};
 ghost use Rattle.xti_script.specs.Grammar.{last_worker, most_bytes, is_defined};
+ghost use Rattle.xti_script.specs.TextSets.{has_at};
+ghost use Rattle.xti_script.specs.Known.{is_own};
 ghost use Rattle.xti_script.specs.Reading.{less, room_after, room_for, extended};
 
 use crate::names::Names;
@@ -118,17 +120,53 @@ fn room_after(count: usize, left: usize, call: &NamedCall) -> Option<usize>
     }
 }
 
-fn with_line(mut lines: Lines, line: Line) -> Result<Lines, AllocError>
-    ensures { IfOk result (λ more. more ≡ lines ++ line ∷ []) }
+/// Makes room for the line, and adds the name that it defines; for want of memory nothing is added.
+fn make_way(
+    alloc: Global,
+    lines: &mut Vec<Line>,
+    names: &mut Names,
+    line: &Line,
+) -> Result<(), AllocError>
+    requires { line.now.worker ≤ last_worker }
+    ensures lines { lines.new.items ≡ lines.old.items }
+    ensures room { OnOk result (vec_len lines.new < vec_capacity lines.new) }
+    ensures names { OnOk result ((worker : ℕ) (name : List ℕ) → has_at names.new worker name ≡ (has_at names.old worker name || is_own worker name line.now)) }
+    ensures err { OnErr result (names.new ≡ names.old) }
+{
+    lines.reserve(1)?;
+    names.add(alloc, line)
+}
+
+fn add_line(lines: &mut Vec<Line>, line: Line) -> Result<(), AllocError>
+    requires { vec_len lines.old < vec_capacity lines.old }
+    ensures ok { lines.new.items ≡ lines.old.items ++ line ∷ [] }
+    ensures always { IsOk result }
 {
     lines.push(line)?;
-    Ok(lines)
+    Ok(())
+}
+
+/// Adds the line, and the name that it defines; for want of memory nothing is added.
+fn add_both(
+    alloc: Global,
+    lines: &mut Vec<Line>,
+    names: &mut Names,
+    line: Line,
+) -> Result<(), AllocError>
+    requires { line.worker ≤ last_worker }
+    ensures lines { OnOk result (lines.new.items ≡ lines.old.items ++ line ∷ []) }
+    ensures names { OnOk result ((worker : ℕ) (name : List ℕ) → has_at names.new worker name ≡ (has_at names.old worker name || is_own worker name line)) }
+    ensures same_lines { OnErr result (lines.new.items ≡ lines.old.items) }
+    ensures same_names { OnErr result (names.new ≡ names.old) }
+{
+    make_way(alloc, lines, names, &line)?;
+    add_line(lines, line)
 }
 
 /// The lines that are read so far.
 #[derive(Drop)]
 pub(crate) struct Draft {
-    lines: Lines,
+    lines: Vec<Line>,
     names: Names,
     /// How many bytes the arguments of further lines may have.
     left: usize,
@@ -141,9 +179,9 @@ impl Model for Draft {
 
     ghost Value = { List Line };
 
-    ghost view = { λ d. d.lines };
+    ghost view = { λ d. d.lines.items };
 
-    ghost invariant = { λ d. Knows d.lines d.names d.left };
+    ghost invariant = { λ d. Knows d.lines.items d.names d.left };
 }
 
 impl Draft {
@@ -153,7 +191,7 @@ impl Draft {
     {
         Ok(Draft {
             names: Names::new(alloc)?,
-            lines: Lines::new(alloc),
+            lines: Vec::new(alloc),
             left: MOST_BYTES,
         })
     }
@@ -163,29 +201,33 @@ impl Draft {
         ensures room { result ≡ room_for self.now call.now }
         ensures bytes { script_bytes self.now ≤ most_bytes }
     {
-        room_after(self.lines.len(), self.left, call)
+        room_after(self.lines.as_slice().len(), self.left, call)
     }
 
-    /// The lines and one more, behind which the arguments of further lines may have so many bytes.
-    fn grown(self, alloc: Global, line: Line, left: usize) -> Result<Draft, AllocError>
+    /// Adds the line, behind which the arguments of further lines may have so many bytes.
+    fn grow(&mut self, alloc: Global, line: Line, left: usize) -> Result<(), AllocError>
         requires worker { line.worker ≤ last_worker }
-        requires left { left + script_bytes (self ++ line ∷ []) ≡ most_bytes }
-        ensures { IfOk result (λ draft. draft ≡ self ++ line ∷ []) }
+        requires left { left + script_bytes (self.old ++ line ∷ []) ≡ most_bytes }
+        ensures ok { OnOk result (self.new ≡ self.old ++ line ∷ []) }
+        ensures err { OnErr result (self.new ≡ self.old) }
     {
-        let Draft { lines, names, .. } = self;
-        let names = names.with(alloc, &line)?;
-        let lines = with_line(lines, line)?;
-        Ok(Draft { lines, names, left })
+        add_both(alloc, &mut self.lines, &mut self.names, line)?;
+        self.left = left;
+        Ok(())
     }
 
-    /// The lines and one more; `None` where a limit is in the way.
-    pub(crate) fn with(self, alloc: Global, line: Line) -> Result<Option<Draft>, AllocError>
+    /// Adds a line; false where a limit is in the way. The lines are as before then, and for want of memory.
+    pub(crate) fn add(&mut self, alloc: Global, line: Line) -> Result<bool, AllocError>
         requires { line.worker ≤ last_worker }
-        ensures { IfOk result (λ draft. draft ≡ extended self line) }
+        ensures ok { IfOk result (λ added. (added, self.new) ≡ extended self.old line) }
+        ensures err { OnErr result (self.new ≡ self.old) }
     {
         match self.room_for(&line.call) {
-            Some(left) => Ok(Some(self.grown(alloc, line, left)?)),
-            None => Ok(None),
+            Some(left) => {
+                self.grow(alloc, line, left)?;
+                Ok(true)
+            }
+            None => Ok(false),
         }
     }
 
@@ -194,7 +236,7 @@ impl Draft {
         ensures { result ≡ self }
     {
         let Draft { lines, .. } = self;
-        lines
+        Lines::from_vec(lines)
     }
 
     /// Whether a line of the worker or of worker 0 defines the name.

@@ -1,6 +1,6 @@
 //! The names that each worker's lines define.
 
-ghost use Rattle.std.specs.Prelude.{◌≡◌, ◌≤◌, ◌<◌, ◌||◌, ◌&&◌, ◌==◌, ℕ, false, List, length, IfOk, OnOk};
+ghost use Rattle.std.specs.Prelude.{◌≡◌, ◌≤◌, ◌<◌, ◌||◌, ◌&&◌, ◌==◌, ℕ, false, List, length, IfOk, OnOk, OnErr};
 ghost use Rattle.std.specs.Str.{bytes_eq};
 ghost use Rattle.xti_script.specs.Grammar.{last_worker};
 ghost use Rattle.xti_script.specs.TextSets.{has, has_at};
@@ -23,7 +23,8 @@ fn has(texts: &TextSet, bytes: &[u8]) -> bool
 }
 
 fn add_text(alloc: Global, texts: &mut TextSet, text: &[u8]) -> Result<(), AllocError>
-    ensures { OnOk result ((other : List ℕ) → has texts.new other ≡ (has texts.old other || bytes_eq text.now other)) }
+    ensures ok { OnOk result ((other : List ℕ) → has texts.new other ≡ (has texts.old other || bytes_eq text.now other)) }
+    ensures err { OnErr result (texts.new ≡ texts.old) }
 {
     texts.insert(Vec::from_slice(alloc, text)?)?;
     Ok(())
@@ -47,7 +48,8 @@ fn is_defined(sets: &[TextSet], worker: usize, name: &[u8]) -> bool
 
 fn add_at(alloc: Global, sets: &mut [TextSet], place: usize, text: &[u8]) -> Result<(), AllocError>
     requires { place < length sets.old }
-    ensures { OnOk result ((at : ℕ) (other : List ℕ) → has_at sets.new at other ≡ (has_at sets.old at other || ((place == at) && bytes_eq text.now other))) }
+    ensures ok { OnOk result ((at : ℕ) (other : List ℕ) → has_at sets.new at other ≡ (has_at sets.old at other || ((place == at) && bytes_eq text.now other))) }
+    ensures err { OnErr result (sets.new ≡ sets.old) }
 {
     add_text(alloc, &mut sets[place], text)
 }
@@ -66,7 +68,8 @@ fn empty_sets(alloc: Global) -> Result<Vec<TextSet>, AllocError>
 /// Adds the name that the line defines.
 fn add_name(alloc: Global, sets: &mut [TextSet], line: &Line) -> Result<(), AllocError>
     requires { line.now.worker < length sets.old }
-    ensures { OnOk result ((worker : ℕ) (name : List ℕ) → has_at sets.new worker name ≡ (has_at sets.old worker name || is_own worker name line.now)) }
+    ensures ok { OnOk result ((worker : ℕ) (name : List ℕ) → has_at sets.new worker name ≡ (has_at sets.old worker name || is_own worker name line.now)) }
+    ensures err { OnErr result (sets.new ≡ sets.old) }
 {
     match &line.call {
         NamedCall::TOpen { name, .. } => {
@@ -74,20 +77,6 @@ fn add_name(alloc: Global, sets: &mut [TextSet], line: &Line) -> Result<(), Allo
         }
         _ => Ok(()),
     }
-}
-
-/// The names, and the one that the line defines.
-fn with_name(
-    alloc: Global,
-    mut names: Vec<TextSet>,
-    line: &Line,
-) -> Result<Vec<TextSet>, AllocError>
-    requires { line.now.worker < length names.items }
-    ensures workers { IfOk result (λ more. length more.items ≡ length names.items) }
-    ensures names { IfOk result (λ more. (worker : ℕ) (name : List ℕ) → has_at more.items worker name ≡ (has_at names.items worker name || is_own worker name line.now)) }
-{
-    add_name(alloc, names.as_mut_slice(), line)?;
-    Ok(names)
 }
 
 /// The names that each worker's lines define.
@@ -117,15 +106,13 @@ impl Names {
         })
     }
 
-    /// The names, and the one that the line defines.
-    pub(crate) fn with(self, alloc: Global, line: &Line) -> Result<Names, AllocError>
+    /// Adds the name that the line defines; for want of memory the names are as before.
+    pub(crate) fn add(&mut self, alloc: Global, line: &Line) -> Result<(), AllocError>
         requires { line.now.worker ≤ last_worker }
-        ensures { IfOk result (λ more. (worker : ℕ) (name : List ℕ) → has_at more worker name ≡ (has_at self worker name || is_own worker name line.now)) }
+        ensures ok { OnOk result ((worker : ℕ) (name : List ℕ) → has_at self.new worker name ≡ (has_at self.old worker name || is_own worker name line.now)) }
+        ensures err { OnErr result (self.new ≡ self.old) }
     {
-        let Names { sets } = self;
-        Ok(Names {
-            sets: with_name(alloc, sets, line)?,
-        })
+        add_name(alloc, self.sets.as_mut_slice(), line)
     }
 
     /// Whether the name is one of the worker, or of worker 0.

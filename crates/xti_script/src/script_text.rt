@@ -44,9 +44,8 @@ fn read_lines(alloc: Global, text: &[u8]) -> Result<Lines, ScriptFail>
     let mut number = 2u64;
     while !rest.is_empty() {
         let (line, behind) = first_line(rest);
-        match read_line(alloc, draft, line)? {
-            Some(longer) => draft = longer,
-            None => return Err(ScriptFail::Bad { line: number }),
+        if !read_line(alloc, &mut draft, line)? {
+            return Err(ScriptFail::Bad { line: number });
         }
         rest = behind;
         number += 1;
