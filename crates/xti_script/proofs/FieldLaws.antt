@@ -6,7 +6,7 @@ use Rattle.std.proofs.lemmas.Bool.{and_parts, eq-eqb}
 use Rattle.std.proofs.lemmas.Bool.Decides.{Decides-eqb}
 use Rattle.std.proofs.Math.Seq.{drop-append_seam}
 use Rattle.std.proofs.lemmas.Slice.Eq.{starts_is}
-use Rattle.xti_script.specs.declared.values.Value.{Value}
+use Rattle.xti_script.specs.FieldValue.{Value}
 use Rattle.xti_script.specs.declared.fields.Key.{Key}
 use Rattle.xti_script.specs.declared.verbs.Verb.{Verb}
 use Rattle.xti_script.specs.declared.verbs.Verb.TheVariants.{Close, Unbind, Bind, SndUData, SndVUData, RcvUData, RcvVUData, RcvUDErr, Look, GetState, Sync}

@@ -2,8 +2,8 @@
 use Rattle.std.specs.Prelude.{ℕ, List, [], ◌∷◌, codes, Option, Some, None}
 use Rattle.xti_model.specs.declared.script.NamedCall.{NamedCall}
 use Rattle.xti_model.specs.declared.script.NamedCall.TheVariants as call
-use Rattle.xti_script.specs.declared.values.Value.{Value}
-use Rattle.xti_script.specs.declared.values.Value.TheVariants.{Bytes, Number, Parts, Sizes}
+use Rattle.xti_script.specs.FieldValue.{Value}
+use Rattle.xti_script.specs.FieldValue.Value.{Bytes, Number, Parts, Sizes}
 use Rattle.xti_script.specs.declared.fields.Key.{Key}
 use Rattle.xti_script.specs.declared.fields.Key.TheVariants as key
 use Rattle.xti_script.specs.declared.verbs.Verb.{Verb}

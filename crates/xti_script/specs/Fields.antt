@@ -1,9 +1,9 @@
 -- The fields of calls: words `key=value` in a fixed order, of which those with a usual value may be left out.
 use Rattle.std.specs.Prelude.{◌≡◌, ℕ, List, [], ◌∷◌, ◌++◌, codes, ◌⊎◌, Option, Some, None}
-use Rattle.xti_script.specs.declared.values.Kind.{Kind}
-use Rattle.xti_script.specs.declared.values.Kind.TheVariants as kind
-use Rattle.xti_script.specs.declared.values.Value.{Value}
-use Rattle.xti_script.specs.declared.values.Value.TheVariants as value
+use Rattle.xti_script.specs.Kinds.{Kind}
+use Rattle.xti_script.specs.Kinds.{Kind as kind}
+use Rattle.xti_script.specs.FieldValue.{Value}
+use Rattle.xti_script.specs.FieldValue.{Value as value}
 use Rattle.xti_script.specs.declared.fields.Key.{Key}
 use Rattle.xti_script.specs.declared.fields.Key.TheVariants.{Addr, Opt, Data, Parts, Sizes, Qlen, Max, Amax, Omax}
 use Rattle.xti_script.specs.Values.{value_in}

@@ -11,7 +11,7 @@ use Rattle.xti_model.specs.Profile.{usual}
 use Rattle.xti_model.specs.Resolve.{opens}
 use Rattle.xti_model.specs.Built.{opens_built}
 use Rattle.xti_model.specs.Work.{argument_bytes, script_bytes}
-use Rattle.xti_script.specs.declared.values.Value.{Value}
+use Rattle.xti_script.specs.FieldValue.{Value}
 use Rattle.xti_script.specs.declared.verbs.Verb.{Verb}
 use Rattle.xti_script.specs.Texts.{lines_of, words_of, is_name}
 use Rattle.xti_script.specs.Values.{number_in}

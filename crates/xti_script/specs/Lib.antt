@@ -1,5 +1,7 @@
 pub mod Texts
 pub mod Words
+pub mod Kinds
+pub mod FieldValue
 pub mod Values
 pub mod Numbers
 pub mod Listed

@@ -1,10 +1,10 @@
 -- What words stand for: numbers, bytes, and several of them.
 use Rattle.std.specs.Prelude.{ℕ, ◌+◌, ◌-◌, ◌*◌, ◌==◌, Bool, false, not, ◌&&◌, nat_eq, nat_lt, nat_le, List, [], ◌∷◌, length, drop, codes, Option, Some, None, if◌then◌else◌, option_map}
 use Rattle.std.specs.List.{list_all, starts_with}
-use Rattle.xti_script.specs.declared.values.Kind.{Kind}
-use Rattle.xti_script.specs.declared.values.Kind.TheVariants as kind
-use Rattle.xti_script.specs.declared.values.Value.{Value}
-use Rattle.xti_script.specs.declared.values.Value.TheVariants as value
+use Rattle.xti_script.specs.Kinds.{Kind}
+use Rattle.xti_script.specs.Kinds.{Kind as kind}
+use Rattle.xti_script.specs.FieldValue.{Value}
+use Rattle.xti_script.specs.FieldValue.{Value as value}
 use Rattle.xti_script.specs.Texts.{pieces_of, is_digit, is_plain_text}
 
 -- the number of the digits, behind a number

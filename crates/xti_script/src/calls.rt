@@ -1,17 +1,16 @@
 //! Reading the words of a line.
 
-ghost use Rattle.std.specs.Prelude.{◌≡◌, ◌≤◌, IfOk, IfSome, Some, option_map};
+ghost use Rattle.std.specs.Prelude.{◌≡◌, ◌≤◌, IfOk, IfSome, Some};
 ghost use Rattle.std.specs.Option.{option_copied};
 ghost use Rattle.xti_script.specs.Texts.{words_of};
 ghost use Rattle.xti_script.specs.Grammar.{last_worker};
-ghost use Rattle.xti_script.specs.Listed.{values_of};
-ghost use Rattle.xti_script.specs.Reading.{mode_of, open_mode, provider_of, can_define, open_with, open_of, set_mode_with, set_mode_of, with_values, with_fields, call_of, worker_of, call_by, with_call, within, longer, line_of};
+ghost use Rattle.xti_script.specs.Reading.{mode_of, open_mode, provider_of, can_define, open_with, open_of, set_mode_with, set_mode_of, with_fields, call_of, worker_of, call_by, with_call, within, longer, line_of};
 
 use crate::draft::Draft;
-use crate::fields::read_fields;
+use crate::field_calls::read_fields;
 use crate::texts::is_name;
-use crate::values::{Values, number_in};
-use crate::verbs::{Verb, call_with, form, verb_of};
+use crate::values::number_in;
+use crate::verbs::{Verb, verb_of};
 use crate::words::Words;
 use std::alloc::{AllocError, Global};
 use xti_base::{Octets, Prov};
@@ -60,23 +59,6 @@ fn can_define(draft: &Draft, worker: u32, name: &[u8]) -> bool
     ensures { result ≡ can_define draft.now worker name.now }
 {
     is_name(name) && !draft.defines(worker, name)
-}
-
-/// Adds the worker's call; false where there is no call, or a limit is in the way.
-#[tactic(auto, unfolding(crate::specs::Reading::extended))]
-fn add_call(
-    alloc: Global,
-    draft: &mut Draft,
-    worker: u32,
-    call: Option<NamedCall>,
-) -> Result<bool, AllocError>
-    requires { worker ≤ last_worker }
-    ensures { IfOk result (λ added. (added, draft.new) ≡ with_call draft.old worker call) }
-{
-    match call {
-        Some(call) => draft.add(alloc, Line { worker, call }),
-        None => Ok(false),
-    }
 }
 
 #[tactic(auto, unfolding(crate::specs::Reading::extended))]
@@ -176,26 +158,6 @@ fn read_set_mode(
     add_set_mode(alloc, draft, worker, name, mode_of(mode))
 }
 
-fn add_values(
-    alloc: Global,
-    draft: &mut Draft,
-    worker: u32,
-    verb: Verb,
-    fd: &[u8],
-    values: Option<Values>,
-) -> Result<bool, AllocError>
-    requires { worker ≤ last_worker }
-    ensures { IfOk result (λ added. (added, draft.new) ≡ with_call draft.old worker (with_values verb fd.now (option_map values_of values))) }
-{
-    match values {
-        Some(values) => {
-            let call = call_with(verb, Octets::copy_of(alloc, fd)?, values);
-            add_call(alloc, draft, worker, call)
-        }
-        None => Ok(false),
-    }
-}
-
 #[tactic(auto, unfolding(crate::specs::Reading::with_fields))]
 fn read_with_fields(
     alloc: Global,
@@ -213,8 +175,8 @@ fn read_with_fields(
     if !draft.defines(worker, name) {
         return Ok(false);
     }
-    let values = read_fields(alloc, form(verb), words)?;
-    add_values(alloc, draft, worker, verb, name, values)
+    let fd = Octets::copy_of(alloc, name)?;
+    read_fields(alloc, draft, worker, verb, fd, words)
 }
 
 #[tactic(auto, unfolding(crate::specs::Reading::call_of))]

@@ -1,15 +1,17 @@
 //! The fields of calls: words `key=value` in a fixed order, of which those with a usual value may be left out.
 
-ghost use Rattle.std.specs.Prelude.{◌≡◌, ◌∷◌, [], IfOk, option_map};
+ghost use Rattle.std.specs.Prelude.{◌≡◌, IfOk, option_map};
 ghost use Rattle.std.specs.Option.{option_copied};
-ghost use Rattle.xti_script.specs.Listed.{values_of, keys_of};
+ghost use Rattle.xti_script.specs.Kinds.{Kind as kind};
+ghost use Rattle.xti_script.specs.FieldValue.{Value as value};
+ghost use Rattle.xti_script.specs.Listed.{usual_is};
 ghost use Rattle.xti_script.specs.Fields.{key_word, kind_of, usual_value};
-ghost use Rattle.xti_script.specs.Reading.{behind_key, written_value, field_value, field_rest, fields_of};
+ghost use Rattle.xti_script.specs.Reading.{behind_key, written_value, field_value, field_rest};
 
-use crate::values::{Kind, Value, Values, value_in};
+use crate::values::{bytes_in, number_in, parts_in, sizes_in};
 use crate::words::Words;
 use std::alloc::{AllocError, Global};
-use xti_base::Octets;
+use xti_base::{Octets, Parts, Sizes};
 
 /// The keys of fields.
 #[derive(Clone, Copy, Debug, PartialEq, Eq)]
@@ -61,28 +63,45 @@ fn key_word(key: Key) -> &'static [u8]
     }
 }
 
-fn kind_of(key: Key) -> Kind
-    ensures { result ≡ kind_of key }
+/// The value of a field that is left out.
+#[derive(Clone, Copy, Debug, PartialEq, Eq)]
+enum Usual {
+    /// No bytes.
+    Empty,
+    Number(u32),
+}
+
+/// The value of a field that is left out; `None` where it must stand.
+fn usual_value(key: Key) -> Option<Usual>
+    ensures { option_map usual_is result ≡ usual_value key }
 {
     match key {
-        Key::Addr | Key::Opt | Key::Data => Kind::Bytes,
-        Key::Parts => Kind::Parts,
-        Key::Sizes => Kind::Sizes,
-        Key::Qlen | Key::Max | Key::Amax | Key::Omax => Kind::Number,
+        Key::Addr | Key::Opt => Some(Usual::Empty),
+        Key::Data | Key::Parts | Key::Sizes => None,
+        Key::Qlen => Some(Usual::Number(0)),
+        Key::Max => Some(Usual::Number(65536)),
+        Key::Amax => Some(Usual::Number(64)),
+        Key::Omax => Some(Usual::Number(256)),
     }
 }
 
-/// The value of a field that is left out; `None` where it must stand. Takes no memory.
-fn usual_value(alloc: Global, key: Key) -> Option<Value>
-    ensures { result ≡ usual_value key }
+fn usual_bytes(alloc: Global, key: Key) -> Option<Octets>
+    requires { kind_of key ≡ kind.Bytes }
+    ensures { option_map value.Bytes result ≡ usual_value key }
 {
-    match key {
-        Key::Addr | Key::Opt => Some(Value::Bytes(Octets::new(alloc))),
-        Key::Data | Key::Parts | Key::Sizes => None,
-        Key::Qlen => Some(Value::Number(0)),
-        Key::Max => Some(Value::Number(65536)),
-        Key::Amax => Some(Value::Number(64)),
-        Key::Omax => Some(Value::Number(256)),
+    match usual_value(key) {
+        Some(Usual::Empty) => Some(Octets::new(alloc)),
+        _ => None,
+    }
+}
+
+fn usual_number(key: Key) -> Option<u32>
+    requires { kind_of key ≡ kind.Number }
+    ensures { option_map value.Number result ≡ usual_value key }
+{
+    match usual_value(key) {
+        Some(Usual::Number(number)) => Some(number),
+        _ => None,
     }
 }
 
@@ -108,84 +127,62 @@ fn field_text<'a>(key: Key, words: &mut Words<'a>) -> Option<&'a [u8]>
     Some(text)
 }
 
-/// The value of the field with this key, whose word is taken where it is written.
-fn read_field(alloc: Global, key: Key, words: &mut Words) -> Result<Option<Value>, AllocError>
-    ensures value { IfOk result (λ value. value ≡ field_value key words.old) }
+/// The bytes of the field with this key, whose word is taken where it is written.
+pub(crate) fn read_bytes(
+    alloc: Global,
+    key: Key,
+    words: &mut Words,
+) -> Result<Option<Octets>, AllocError>
+    requires { kind_of key ≡ kind.Bytes }
+    ensures value { IfOk result (λ bytes. option_map value.Bytes bytes ≡ field_value key words.old) }
     ensures rest { words.new ≡ field_rest key words.old }
 {
     match field_text(key, words) {
-        Some(text) => value_in(alloc, kind_of(key), text),
-        None => Ok(usual_value(alloc, key)),
+        Some(text) => bytes_in(alloc, text),
+        None => Ok(usual_bytes(alloc, key)),
     }
 }
 
-fn read_none(words: &Words) -> Option<Values>
-    ensures { option_map values_of result ≡ fields_of [] words.now }
+/// The number of the field with this key, whose word is taken where it is written.
+pub(crate) fn read_number(key: Key, words: &mut Words) -> Option<u32>
+    requires { kind_of key ≡ kind.Number }
+    ensures value { option_map value.Number result ≡ field_value key words.old }
+    ensures rest { words.new ≡ field_rest key words.old }
 {
-    if words.is_empty() {
-        Some(Values::Empty)
-    } else {
-        None
+    match field_text(key, words) {
+        Some(text) => number_in(text),
+        None => usual_number(key),
     }
 }
 
-fn read_two(
+/// The parts of the field, whose word is taken where it is written.
+pub(crate) fn read_parts(
     alloc: Global,
-    first: Key,
-    second: Key,
+    key: Key,
     words: &mut Words,
-) -> Result<Option<Values>, AllocError>
-    ensures { IfOk result (λ values. option_map values_of values ≡ fields_of (first ∷ second ∷ []) words.old) }
+) -> Result<Option<Parts>, AllocError>
+    requires { kind_of key ≡ kind.Parts }
+    ensures value { IfOk result (λ parts. option_map value.Parts parts ≡ field_value key words.old) }
+    ensures rest { words.new ≡ field_rest key words.old }
 {
-    let Some(first) = read_field(alloc, first, words)? else {
-        return Ok(None);
-    };
-    let Some(second) = read_field(alloc, second, words)? else {
-        return Ok(None);
-    };
-    if words.is_empty() {
-        Ok(Some(Values::Two(first, second)))
-    } else {
-        Ok(None)
+    match field_text(key, words) {
+        Some(text) => parts_in(alloc, text),
+        None => Ok(None),
     }
 }
 
-fn read_three(
+/// The sizes of the field, whose word is taken where it is written.
+pub(crate) fn read_sizes(
     alloc: Global,
-    first: Key,
-    second: Key,
-    third: Key,
+    key: Key,
     words: &mut Words,
-) -> Result<Option<Values>, AllocError>
-    ensures { IfOk result (λ values. option_map values_of values ≡ fields_of (first ∷ second ∷ third ∷ []) words.old) }
+) -> Result<Option<Sizes>, AllocError>
+    requires { kind_of key ≡ kind.Sizes }
+    ensures value { IfOk result (λ sizes. option_map value.Sizes sizes ≡ field_value key words.old) }
+    ensures rest { words.new ≡ field_rest key words.old }
 {
-    let Some(first) = read_field(alloc, first, words)? else {
-        return Ok(None);
-    };
-    let Some(second) = read_field(alloc, second, words)? else {
-        return Ok(None);
-    };
-    let Some(third) = read_field(alloc, third, words)? else {
-        return Ok(None);
-    };
-    if words.is_empty() {
-        Ok(Some(Values::Three(first, second, third)))
-    } else {
-        Ok(None)
-    }
-}
-
-/// The values of the fields with these keys, where the words are these fields, each written or left out.
-pub(crate) fn read_fields(
-    alloc: Global,
-    form: Form,
-    words: &mut Words,
-) -> Result<Option<Values>, AllocError>
-    ensures { IfOk result (λ values. option_map values_of values ≡ fields_of (keys_of form) words.old) }
-{
-    match form {
-        Form::Empty => Ok(read_none(words)),
-        Form::Two(first, second) => read_two(alloc, first, second, words),
-        Form::Three(first, second, third) => read_three(alloc, first, second, third, words),
+    match field_text(key, words) {
+        Some(text) => sizes_in(alloc, text),
+        None => Ok(None),
     }
 }

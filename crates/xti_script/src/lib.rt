@@ -3,6 +3,7 @@
 
 mod calls;
 mod draft;
+mod field_calls;
 mod fields;
 mod laws;
 mod names;

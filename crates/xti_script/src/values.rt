@@ -2,7 +2,7 @@
 
 ghost use Rattle.std.specs.Prelude.{◌≡◌, ◌==◌, ◌≤◌, ◌∷◌, [], length, IfOk, Some};
 ghost use Rattle.xti_script.specs.Texts.{is_plain_text};
-ghost use Rattle.xti_script.specs.Values.{is_decimal, number_in, hex_digit, hex_pair, hex_bytes, plain_bytes, bytes_in, each_in, list_in, value_in};
+ghost use Rattle.xti_script.specs.Values.{is_decimal, number_in, hex_digit, hex_pair, hex_bytes, plain_bytes, bytes_in, each_in, list_in};
 ghost use Rattle.xti_script.specs.Numbers.{with_digit, digits_behind, first_byte};
 ghost use Rattle.xti_script.specs.Reading.{views, behind_key};
 
@@ -12,37 +12,6 @@ use xti_base::{Octets, Parts, Sizes};
 
 /// The most parts or sizes of a word.
 const MOST_PIECES: usize = 32;
-
-/// The kinds of values.
-#[derive(Clone, Copy, Debug, PartialEq, Eq)]
-pub(crate) enum Kind {
-    /// One byte word.
-    Bytes,
-    /// A number.
-    Number,
-    /// Byte words that commas part.
-    Parts,
-    /// Numbers that commas part.
-    Sizes,
-}
-
-/// The value of a field.
-#[derive(Drop)]
-pub(crate) enum Value {
-    Bytes(Octets),
-    Number(u32),
-    Parts(Parts),
-    Sizes(Sizes),
-}
-
-/// The values of a call's fields, in order.
-#[derive(Drop)]
-pub(crate) enum Values {
-    /// Those of a call with no fields.
-    Empty,
-    Two(Value, Value),
-    Three(Value, Value, Value),
-}
 
 fn with_digit(number: u32, c: u8) -> Option<u32>
     ensures { result ≡ with_digit number c }
@@ -151,7 +120,7 @@ fn plain_bytes(alloc: Global, text: &[u8]) -> Result<Option<Octets>, AllocError>
 
 /// The bytes that a word spells: `t:` and plain text, or `x:` and pairs of hexadecimal digits.
 #[tactic(auto, unfolding(crate::specs::Values::bytes_in))]
-fn bytes_in(alloc: Global, word: &[u8]) -> Result<Option<Octets>, AllocError>
+pub(crate) fn bytes_in(alloc: Global, word: &[u8]) -> Result<Option<Octets>, AllocError>
     ensures { IfOk result (λ bytes. bytes ≡ bytes_in word.now) }
 {
     if word.starts_with(b"t:".as_slice()) {
@@ -191,8 +160,9 @@ fn each_number(alloc: Global, pieces: &[&[u8]]) -> Result<Option<Sizes>, AllocEr
     Ok(Some(sizes))
 }
 
+/// The byte words that a word spells, parted by commas.
 #[tactic(auto, unfolding(crate::specs::Values::list_in))]
-fn parts_in(alloc: Global, word: &[u8]) -> Result<Option<Parts>, AllocError>
+pub(crate) fn parts_in(alloc: Global, word: &[u8]) -> Result<Option<Parts>, AllocError>
     ensures { IfOk result (λ parts. parts ≡ list_in bytes_in word.now) }
 {
     let pieces = pieces_of(alloc, b',', word)?;
@@ -203,8 +173,9 @@ fn parts_in(alloc: Global, word: &[u8]) -> Result<Option<Parts>, AllocError>
     }
 }
 
+/// The numbers that a word spells, parted by commas.
 #[tactic(auto, unfolding(crate::specs::Values::list_in))]
-fn sizes_in(alloc: Global, word: &[u8]) -> Result<Option<Sizes>, AllocError>
+pub(crate) fn sizes_in(alloc: Global, word: &[u8]) -> Result<Option<Sizes>, AllocError>
     ensures { IfOk result (λ sizes. sizes ≡ list_in number_in word.now) }
 {
     let pieces = pieces_of(alloc, b',', word)?;
@@ -212,17 +183,5 @@ fn sizes_in(alloc: Global, word: &[u8]) -> Result<Option<Sizes>, AllocError>
         each_number(alloc, pieces.as_slice())
     } else {
         Ok(None)
-    }
-}
-
-/// What a text stands for as this kind of value.
-pub(crate) fn value_in(alloc: Global, kind: Kind, text: &[u8]) -> Result<Option<Value>, AllocError>
-    ensures { IfOk result (λ value. value ≡ value_in kind text.now) }
-{
-    match kind {
-        Kind::Bytes => Ok(bytes_in(alloc, text)?.map(Value::Bytes)),
-        Kind::Number => Ok(number_in(text).map(Value::Number)),
-        Kind::Parts => Ok(parts_in(alloc, text)?.map(Value::Parts)),
-        Kind::Sizes => Ok(sizes_in(alloc, text)?.map(Value::Sizes)),
     }
 }

@@ -1,12 +1,11 @@
-//! The calls of one endpoint: their words, their fields, and the calls that these make.
+//! The calls of one endpoint: their words and their fields.
 
-ghost use Rattle.std.specs.Prelude.{◌≡◌};
-ghost use Rattle.xti_script.specs.Calls.{verb_word, form, bind_with, send_with, send_parts_with, receive_with, receive_parts_with, receive_error_with, call_with, alone};
+ghost use Rattle.std.specs.Prelude.{◌≡◌, []};
+ghost use Rattle.xti_script.specs.Calls.{form, call_with};
 ghost use Rattle.xti_script.specs.Reading.{verb_of};
-ghost use Rattle.xti_script.specs.Listed.{keys_of, values_of};
+ghost use Rattle.xti_script.specs.Listed.{keys_of};
 
 use crate::fields::{Form, Key};
-use crate::values::{Value, Values};
 use xti_model::{Name, NamedCall};
 
 /// The calls of one endpoint that have fields alone.
@@ -25,45 +24,36 @@ pub(crate) enum Verb {
     Sync,
 }
 
-const VERBS: [Verb; 11] = [
-    Verb::Close,
-    Verb::Unbind,
-    Verb::Bind,
-    Verb::SndUData,
-    Verb::SndVUData,
-    Verb::RcvUData,
-    Verb::RcvVUData,
-    Verb::RcvUDErr,
-    Verb::Look,
-    Verb::GetState,
-    Verb::Sync,
-];
-
-#[tactic(auto, unfolding(crate::specs::Calls::verb_word))]
-fn verb_word(verb: Verb) -> &'static [u8]
-    ensures { result.now ≡ verb_word verb }
-{
-    match verb {
-        Verb::Close => b"close",
-        Verb::Unbind => b"unbind",
-        Verb::Bind => b"bind",
-        Verb::SndUData => b"sndudata",
-        Verb::SndVUData => b"sndvudata",
-        Verb::RcvUData => b"rcvudata",
-        Verb::RcvVUData => b"rcvvudata",
-        Verb::RcvUDErr => b"rcvuderr",
-        Verb::Look => b"look",
-        Verb::GetState => b"getstate",
-        Verb::Sync => b"sync",
-    }
-}
-
 /// What a word calls.
-#[tactic(auto, unfolding(crate::specs::Reading::verb_of))]
+#[tactic(auto, unfolding(crate::specs::Reading::verb_of, crate::specs::Calls::verb_word))]
 pub(crate) fn verb_of(word: &[u8]) -> Option<Verb>
     ensures { result ≡ verb_of word.now }
 {
-    VERBS.iter().copied().find(|verb| word == verb_word(*verb))
+    if word == b"close".as_slice() {
+        Some(Verb::Close)
+    } else if word == b"unbind".as_slice() {
+        Some(Verb::Unbind)
+    } else if word == b"bind".as_slice() {
+        Some(Verb::Bind)
+    } else if word == b"sndudata".as_slice() {
+        Some(Verb::SndUData)
+    } else if word == b"sndvudata".as_slice() {
+        Some(Verb::SndVUData)
+    } else if word == b"rcvudata".as_slice() {
+        Some(Verb::RcvUData)
+    } else if word == b"rcvvudata".as_slice() {
+        Some(Verb::RcvVUData)
+    } else if word == b"rcvuderr".as_slice() {
+        Some(Verb::RcvUDErr)
+    } else if word == b"look".as_slice() {
+        Some(Verb::Look)
+    } else if word == b"getstate".as_slice() {
+        Some(Verb::GetState)
+    } else if word == b"sync".as_slice() {
+        Some(Verb::Sync)
+    } else {
+        None
+    }
 }
 
 /// The fields of the call, in their order.
@@ -81,146 +71,17 @@ pub(crate) fn form(verb: Verb) -> Form
     }
 }
 
-fn bind_with(fd: Name, values: Values) -> Option<NamedCall>
-    ensures { result ≡ bind_with fd (values_of values) }
-{
-    let Values::Three(addr, qlen, amax) = values else {
-        return None;
-    };
-    let Value::Bytes(addr) = addr else {
-        return None;
-    };
-    let Value::Number(qlen) = qlen else {
-        return None;
-    };
-    let Value::Number(amax) = amax else {
-        return None;
-    };
-    Some(NamedCall::TBind {
-        fd,
-        addr,
-        qlen,
-        amax,
-    })
-}
-
-fn send_with(fd: Name, values: Values) -> Option<NamedCall>
-    ensures { result ≡ send_with fd (values_of values) }
-{
-    let Values::Three(addr, opt, bytes) = values else {
-        return None;
-    };
-    let Value::Bytes(addr) = addr else {
-        return None;
-    };
-    let Value::Bytes(opt) = opt else {
-        return None;
-    };
-    let Value::Bytes(bytes) = bytes else {
-        return None;
-    };
-    Some(NamedCall::TSndUData {
-        fd,
-        addr,
-        opt,
-        bytes,
-    })
-}
-
-fn send_parts_with(fd: Name, values: Values) -> Option<NamedCall>
-    ensures { result ≡ send_parts_with fd (values_of values) }
-{
-    let Values::Three(addr, opt, parts) = values else {
-        return None;
-    };
-    let Value::Bytes(addr) = addr else {
-        return None;
-    };
-    let Value::Bytes(opt) = opt else {
-        return None;
-    };
-    let Value::Parts(parts) = parts else {
-        return None;
-    };
-    Some(NamedCall::TSndVUData {
-        fd,
-        addr,
-        opt,
-        parts,
-    })
-}
-
-fn receive_with(fd: Name, values: Values) -> Option<NamedCall>
-    ensures { result ≡ receive_with fd (values_of values) }
-{
-    let Values::Three(Value::Number(max), Value::Number(amax), Value::Number(omax)) = values else {
-        return None;
-    };
-    Some(NamedCall::TRcvUData {
-        fd,
-        max,
-        amax,
-        omax,
-    })
-}
-
-fn receive_parts_with(fd: Name, values: Values) -> Option<NamedCall>
-    ensures { result ≡ receive_parts_with fd (values_of values) }
-{
-    let Values::Three(sizes, amax, omax) = values else {
-        return None;
-    };
-    let Value::Sizes(sizes) = sizes else {
-        return None;
-    };
-    let Value::Number(amax) = amax else {
-        return None;
-    };
-    let Value::Number(omax) = omax else {
-        return None;
-    };
-    Some(NamedCall::TRcvVUData {
-        fd,
-        sizes,
-        amax,
-        omax,
-    })
-}
-
-fn receive_error_with(fd: Name, values: Values) -> Option<NamedCall>
-    ensures { result ≡ receive_error_with fd (values_of values) }
-{
-    let Values::Two(Value::Number(amax), Value::Number(omax)) = values else {
-        return None;
-    };
-    Some(NamedCall::TRcvUDErr { fd, amax, omax })
-}
-
-fn alone(call: NamedCall, values: Values) -> Option<NamedCall>
-    ensures { result ≡ alone call (values_of values) }
-{
-    match values {
-        Values::Empty => Some(call),
-        _ => None,
-    }
-}
-
-/// The call of the endpoint with these values.
+/// The call without fields; `None` where the call has fields.
 #[tactic(auto, unfolding(crate::specs::Calls::call_with))]
-pub(crate) fn call_with(verb: Verb, fd: Name, values: Values) -> Option<NamedCall>
-    ensures { result ≡ call_with verb fd (values_of values) }
+pub(crate) fn call_alone(verb: Verb, fd: Name) -> Option<NamedCall>
+    ensures { result ≡ call_with verb fd [] }
 {
     match verb {
-        Verb::Close => alone(NamedCall::TClose { fd }, values),
-        Verb::Unbind => alone(NamedCall::TUnbind { fd }, values),
-        Verb::Bind => bind_with(fd, values),
-        Verb::SndUData => send_with(fd, values),
-        Verb::SndVUData => send_parts_with(fd, values),
-        Verb::RcvUData => receive_with(fd, values),
-        Verb::RcvVUData => receive_parts_with(fd, values),
-        Verb::RcvUDErr => receive_error_with(fd, values),
-        Verb::Look => alone(NamedCall::TLookAt { fd }, values),
-        Verb::GetState => alone(NamedCall::TGetState { fd }, values),
-        Verb::Sync => alone(NamedCall::TSync { fd }, values),
+        Verb::Close => Some(NamedCall::TClose { fd }),
+        Verb::Unbind => Some(NamedCall::TUnbind { fd }),
+        Verb::Look => Some(NamedCall::TLookAt { fd }),
+        Verb::GetState => Some(NamedCall::TGetState { fd }),
+        Verb::Sync => Some(NamedCall::TSync { fd }),
+        _ => None,
     }
 }
