@@ -4,15 +4,14 @@ ghost use Rattle.std.specs.Prelude.{◌≡◌, ◌≤◌, IfOk, IfSome, Some};
 ghost use Rattle.std.specs.Option.{option_copied};
 ghost use Rattle.xti_script.specs.Texts.{words_of};
 ghost use Rattle.xti_script.specs.Grammar.{last_worker};
-ghost use Rattle.xti_script.specs.Reading.{mode_of, open_mode, provider_of, can_define, open_with, open_of, set_mode_with, set_mode_of, with_fields, call_of, worker_of, call_by, with_call, within, longer, line_of};
+ghost use Rattle.xti_script.specs.Reading.{mode_of, open_mode, provider_of, can_define, open_of, set_mode_of, with_fields, call_of, worker_of, with_call, longer, line_of};
 
-use crate::draft::Draft;
+use crate::draft::{Added, Draft};
 use crate::field_calls::read_fields;
 use crate::texts::is_name;
 use crate::values::number_in;
 use crate::verbs::{Verb, verb_of};
 use crate::words::Words;
-use std::alloc::{AllocError, Global};
 use xti_base::{Octets, Prov};
 use xti_model::{Line, NamedCall};
 
@@ -61,38 +60,8 @@ fn can_define(draft: &Draft, worker: u32, name: &[u8]) -> bool
     is_name(name) && !draft.defines(worker, name)
 }
 
-#[tactic(auto, unfolding(crate::specs::Reading::extended))]
-fn add_open(
-    alloc: Global,
-    draft: &mut Draft,
-    worker: u32,
-    name: &[u8],
-    prov: Option<Prov>,
-    nonblock: Option<bool>,
-) -> Result<bool, AllocError>
-    requires { worker ≤ last_worker }
-    ensures { IfOk result (λ added. (added, draft.new) ≡ with_call draft.old worker (open_with name.now prov nonblock)) }
-{
-    match (prov, nonblock) {
-        (Some(prov), Some(nonblock)) => {
-            let call = NamedCall::TOpen {
-                name: Octets::copy_of(alloc, name)?,
-                prov,
-                nonblock,
-            };
-            draft.add(alloc, Line { worker, call })
-        }
-        _ => Ok(false),
-    }
-}
-
-#[tactic(auto, unfolding(crate::specs::Reading::open_of))]
-fn read_open(
-    alloc: Global,
-    draft: &mut Draft,
-    worker: u32,
-    words: &mut Words,
-) -> Result<bool, AllocError>
+#[tactic(auto, unfolding(crate::specs::Reading::open_of, crate::specs::Reading::extended))]
+fn read_open(draft: &mut Draft, worker: u32, words: &mut Words) -> Added
     requires { worker ≤ last_worker }
     ensures { IfOk result (λ added. (added, draft.new) ≡ with_call draft.old worker (open_of draft.old worker words.old)) }
 {
@@ -105,67 +74,45 @@ fn read_open(
     if !can_define(draft, worker, name) {
         return Ok(false);
     }
-    add_open(
-        alloc,
-        draft,
-        worker,
+    let Some(prov) = provider_of(prov) else {
+        return Ok(false);
+    };
+    let Some(nonblock) = open_mode(words) else {
+        return Ok(false);
+    };
+    let name = Octets::copy_of(draft.alloc(), name)?;
+    let call = NamedCall::TOpen {
         name,
-        provider_of(prov),
-        open_mode(words),
-    )
+        prov,
+        nonblock,
+    };
+    draft.add(Line { worker, call })
 }
 
-#[tactic(auto, unfolding(crate::specs::Reading::extended))]
-fn add_set_mode(
-    alloc: Global,
-    draft: &mut Draft,
-    worker: u32,
-    fd: &[u8],
-    nonblock: Option<bool>,
-) -> Result<bool, AllocError>
-    requires { worker ≤ last_worker }
-    ensures { IfOk result (λ added. (added, draft.new) ≡ with_call draft.old worker (set_mode_with fd.now nonblock)) }
-{
-    match nonblock {
-        Some(nonblock) => {
-            let fd = Octets::copy_of(alloc, fd)?;
-            let call = NamedCall::SetMode { fd, nonblock };
-            draft.add(alloc, Line { worker, call })
-        }
-        None => Ok(false),
-    }
-}
-
-#[tactic(auto, unfolding(crate::specs::Reading::set_mode_of))]
-fn read_set_mode(
-    alloc: Global,
-    draft: &mut Draft,
-    worker: u32,
-    words: &mut Words,
-) -> Result<bool, AllocError>
+#[tactic(auto, unfolding(crate::specs::Reading::set_mode_of, crate::specs::Reading::extended))]
+fn read_set_mode(draft: &mut Draft, worker: u32, words: &mut Words) -> Added
     requires { worker ≤ last_worker }
     ensures { IfOk result (λ added. (added, draft.new) ≡ with_call draft.old worker (set_mode_of draft.old worker words.old)) }
 {
-    let Some(name) = words.next() else {
+    let Some(fd) = words.next() else {
         return Ok(false);
     };
     let Some(mode) = words.next() else {
         return Ok(false);
     };
-    if !words.is_empty() || !draft.defines(worker, name) {
+    if !words.is_empty() || !draft.defines(worker, fd) {
         return Ok(false);
     }
-    add_set_mode(alloc, draft, worker, name, mode_of(mode))
+    let Some(nonblock) = mode_of(mode) else {
+        return Ok(false);
+    };
+    let fd = Octets::copy_of(draft.alloc(), fd)?;
+    let call = NamedCall::SetMode { fd, nonblock };
+    draft.add(Line { worker, call })
 }
 
 #[tactic(auto, unfolding(crate::specs::Reading::with_fields))]
-fn read_with_fields(
-    alloc: Global,
-    draft: &mut Draft,
-    worker: u32,
-    verb: Option<Verb>,
-    words: &mut Words,
-) -> Result<bool, AllocError>
+fn read_with_fields(draft: &mut Draft, worker: u32, verb: Option<Verb>, words: &mut Words) -> Added
     requires { worker ≤ last_worker }
     ensures { IfOk result (λ added. (added, draft.new) ≡ with_call draft.old worker (with_fields draft.old worker verb words.old)) }
 {
@@ -175,17 +122,12 @@ fn read_with_fields(
     if !draft.defines(worker, name) {
         return Ok(false);
     }
-    let fd = Octets::copy_of(alloc, name)?;
-    read_fields(alloc, draft, worker, verb, fd, words)
+    let fd = Octets::copy_of(draft.alloc(), name)?;
+    read_fields(draft, worker, verb, fd, words)
 }
 
 #[tactic(auto, unfolding(crate::specs::Reading::call_of))]
-fn read_call(
-    alloc: Global,
-    draft: &mut Draft,
-    worker: u32,
-    words: &mut Words,
-) -> Result<bool, AllocError>
+fn read_call(draft: &mut Draft, worker: u32, words: &mut Words) -> Added
     requires { worker ≤ last_worker }
     ensures { IfOk result (λ added. (added, draft.new) ≡ with_call draft.old worker (call_of draft.old worker words.old)) }
 {
@@ -193,11 +135,11 @@ fn read_call(
         return Ok(false);
     };
     if word == b"open".as_slice() {
-        read_open(alloc, draft, worker, words)
+        read_open(draft, worker, words)
     } else if word == b"mode".as_slice() {
-        read_set_mode(alloc, draft, worker, words)
+        read_set_mode(draft, worker, words)
     } else {
-        read_with_fields(alloc, draft, worker, verb_of(word), words)
+        read_with_fields(draft, worker, verb_of(word), words)
     }
 }
 
@@ -211,29 +153,17 @@ fn worker_of(word: &[u8]) -> Option<u32>
     }
 }
 
-fn call_by(
-    alloc: Global,
-    draft: &mut Draft,
-    worker: Option<u32>,
-    words: &mut Words,
-) -> Result<bool, AllocError>
-    requires { IfSome worker (λ worker. worker ≤ last_worker) }
-    ensures { IfOk result (λ added. (added, draft.new) ≡ longer draft.old (within draft.old (call_by draft.old worker words.old))) }
-{
-    match worker {
-        Some(worker) => read_call(alloc, draft, worker, words),
-        None => Ok(false),
-    }
-}
-
 /// Adds the line that the text gives behind the others; false where it gives none.
 #[tactic(auto, unfolding(crate::specs::Reading::any_line_of, crate::specs::Reading::line_of))]
-pub(crate) fn read_line(alloc: Global, draft: &mut Draft, text: &[u8]) -> Result<bool, AllocError>
+pub(crate) fn read_line(draft: &mut Draft, text: &[u8]) -> Added
     ensures { IfOk result (λ added. (added, draft.new) ≡ longer draft.old (line_of draft.old (words_of text.now))) }
 {
     let mut words = Words::of(text);
-    match words.next() {
-        Some(word) => call_by(alloc, draft, worker_of(word), &mut words),
+    let Some(word) = words.next() else {
+        return Ok(false);
+    };
+    match worker_of(word) {
+        Some(worker) => read_call(draft, worker, &mut words),
         None => Ok(false),
     }
 }

@@ -120,13 +120,11 @@ fn room_after(count: usize, left: usize, call: &NamedCall) -> Option<usize>
     }
 }
 
+/// Whether a line was added, or want of memory.
+pub(crate) type Added = Result<bool, AllocError>;
+
 /// Makes room for the line, and adds the name that it defines; for want of memory nothing is added.
-fn make_way(
-    alloc: Global,
-    lines: &mut Vec<Line>,
-    names: &mut Names,
-    line: &Line,
-) -> Result<(), AllocError>
+fn make_way(lines: &mut Vec<Line>, names: &mut Names, line: &Line) -> Result<(), AllocError>
     requires { line.now.worker ≤ last_worker }
     ensures lines { lines.new.items ≡ lines.old.items }
     ensures room { OnOk result (vec_len lines.new < vec_capacity lines.new) }
@@ -134,7 +132,7 @@ fn make_way(
     ensures err { OnErr result (names.new ≡ names.old) }
 {
     lines.reserve(1)?;
-    names.add(alloc, line)
+    names.add(*lines.allocator(), line)
 }
 
 fn add_line(lines: &mut Vec<Line>, line: Line) -> Result<(), AllocError>
@@ -147,19 +145,14 @@ fn add_line(lines: &mut Vec<Line>, line: Line) -> Result<(), AllocError>
 }
 
 /// Adds the line, and the name that it defines; for want of memory nothing is added.
-fn add_both(
-    alloc: Global,
-    lines: &mut Vec<Line>,
-    names: &mut Names,
-    line: Line,
-) -> Result<(), AllocError>
+fn add_both(lines: &mut Vec<Line>, names: &mut Names, line: Line) -> Result<(), AllocError>
     requires { line.worker ≤ last_worker }
     ensures lines { OnOk result (lines.new.items ≡ lines.old.items ++ line ∷ []) }
     ensures names { OnOk result ((worker : ℕ) (name : List ℕ) → has_at names.new worker name ≡ (has_at names.old worker name || is_own worker name line)) }
     ensures same_lines { OnErr result (lines.new.items ≡ lines.old.items) }
     ensures same_names { OnErr result (names.new ≡ names.old) }
 {
-    make_way(alloc, lines, names, &line)?;
+    make_way(lines, names, &line)?;
     add_line(lines, line)
 }
 
@@ -205,30 +198,35 @@ impl Draft {
     }
 
     /// Adds the line, behind which the arguments of further lines may have so many bytes.
-    fn grow(&mut self, alloc: Global, line: Line, left: usize) -> Result<(), AllocError>
+    fn grow(&mut self, line: Line, left: usize) -> Result<(), AllocError>
         requires worker { line.worker ≤ last_worker }
         requires left { left + script_bytes (self.old ++ line ∷ []) ≡ most_bytes }
         ensures ok { OnOk result (self.new ≡ self.old ++ line ∷ []) }
         ensures err { OnErr result (self.new ≡ self.old) }
     {
-        add_both(alloc, &mut self.lines, &mut self.names, line)?;
+        add_both(&mut self.lines, &mut self.names, line)?;
         self.left = left;
         Ok(())
     }
 
     /// Adds a line; false where a limit is in the way. The lines are as before then, and for want of memory.
-    pub(crate) fn add(&mut self, alloc: Global, line: Line) -> Result<bool, AllocError>
+    pub(crate) fn add(&mut self, line: Line) -> Added
         requires { line.worker ≤ last_worker }
         ensures ok { IfOk result (λ added. (added, self.new) ≡ extended self.old line) }
         ensures err { OnErr result (self.new ≡ self.old) }
     {
         match self.room_for(&line.call) {
             Some(left) => {
-                self.grow(alloc, line, left)?;
+                self.grow(line, left)?;
                 Ok(true)
             }
             None => Ok(false),
         }
+    }
+
+    /// Where the lines are allocated.
+    pub(crate) fn alloc(&self) -> Global {
+        *self.lines.allocator()
     }
 
     /// The lines. Takes no memory.

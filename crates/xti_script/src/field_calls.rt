@@ -5,29 +5,22 @@ ghost use Rattle.xti_script.specs.Calls.{form};
 ghost use Rattle.xti_script.specs.Grammar.{last_worker};
 ghost use Rattle.xti_script.specs.Reading.{fields_of, with_values, with_call};
 
-use crate::draft::Draft;
+use crate::draft::{Added, Draft};
 use crate::fields::{Form, read_bytes, read_number, read_parts, read_sizes};
 use crate::verbs::{Verb, call_alone, form};
 use crate::words::Words;
-use std::alloc::{AllocError, Global};
 use xti_model::{Line, Name, NamedCall};
 
 /// Adds the bind whose fields are the words; false where they are none.
 #[tactic(auto, unfolding(crate::specs::Reading::extended, crate::specs::Calls::call_with))]
-fn read_bind(
-    alloc: Global,
-    draft: &mut Draft,
-    worker: u32,
-    fd: Name,
-    words: &mut Words,
-) -> Result<bool, AllocError>
+fn read_bind(draft: &mut Draft, worker: u32, fd: Name, words: &mut Words) -> Added
     requires { worker ≤ last_worker }
     ensures { IfOk result (λ added. (added, draft.new) ≡ with_call draft.old worker (with_values Verb.Bind fd (fields_of (form Verb.Bind) words.old))) }
 {
     let Form::Three(addr, qlen, amax) = form(Verb::Bind) else {
         unreachable!()
     };
-    let Some(addr) = read_bytes(alloc, addr, words)? else {
+    let Some(addr) = read_bytes(draft.alloc(), addr, words)? else {
         return Ok(false);
     };
     let Some(qlen) = read_number(qlen, words) else {
@@ -45,31 +38,25 @@ fn read_bind(
         qlen,
         amax,
     };
-    draft.add(alloc, Line { worker, call })
+    draft.add(Line { worker, call })
 }
 
 /// Adds the send.
 #[tactic(auto, unfolding(crate::specs::Reading::extended, crate::specs::Calls::call_with))]
-fn read_send(
-    alloc: Global,
-    draft: &mut Draft,
-    worker: u32,
-    fd: Name,
-    words: &mut Words,
-) -> Result<bool, AllocError>
+fn read_send(draft: &mut Draft, worker: u32, fd: Name, words: &mut Words) -> Added
     requires { worker ≤ last_worker }
     ensures { IfOk result (λ added. (added, draft.new) ≡ with_call draft.old worker (with_values Verb.SndUData fd (fields_of (form Verb.SndUData) words.old))) }
 {
     let Form::Three(addr, opt, bytes) = form(Verb::SndUData) else {
         unreachable!()
     };
-    let Some(addr) = read_bytes(alloc, addr, words)? else {
+    let Some(addr) = read_bytes(draft.alloc(), addr, words)? else {
         return Ok(false);
     };
-    let Some(opt) = read_bytes(alloc, opt, words)? else {
+    let Some(opt) = read_bytes(draft.alloc(), opt, words)? else {
         return Ok(false);
     };
-    let Some(bytes) = read_bytes(alloc, bytes, words)? else {
+    let Some(bytes) = read_bytes(draft.alloc(), bytes, words)? else {
         return Ok(false);
     };
     if !words.is_empty() {
@@ -81,31 +68,25 @@ fn read_send(
         opt,
         bytes,
     };
-    draft.add(alloc, Line { worker, call })
+    draft.add(Line { worker, call })
 }
 
 /// Adds the send of parts.
 #[tactic(auto, unfolding(crate::specs::Reading::extended, crate::specs::Calls::call_with))]
-fn read_send_parts(
-    alloc: Global,
-    draft: &mut Draft,
-    worker: u32,
-    fd: Name,
-    words: &mut Words,
-) -> Result<bool, AllocError>
+fn read_send_parts(draft: &mut Draft, worker: u32, fd: Name, words: &mut Words) -> Added
     requires { worker ≤ last_worker }
     ensures { IfOk result (λ added. (added, draft.new) ≡ with_call draft.old worker (with_values Verb.SndVUData fd (fields_of (form Verb.SndVUData) words.old))) }
 {
     let Form::Three(addr, opt, parts) = form(Verb::SndVUData) else {
         unreachable!()
     };
-    let Some(addr) = read_bytes(alloc, addr, words)? else {
+    let Some(addr) = read_bytes(draft.alloc(), addr, words)? else {
         return Ok(false);
     };
-    let Some(opt) = read_bytes(alloc, opt, words)? else {
+    let Some(opt) = read_bytes(draft.alloc(), opt, words)? else {
         return Ok(false);
     };
-    let Some(parts) = read_parts(alloc, parts, words)? else {
+    let Some(parts) = read_parts(draft.alloc(), parts, words)? else {
         return Ok(false);
     };
     if !words.is_empty() {
@@ -117,18 +98,12 @@ fn read_send_parts(
         opt,
         parts,
     };
-    draft.add(alloc, Line { worker, call })
+    draft.add(Line { worker, call })
 }
 
 /// Adds the receive.
 #[tactic(auto, unfolding(crate::specs::Reading::extended, crate::specs::Calls::call_with))]
-fn read_receive(
-    alloc: Global,
-    draft: &mut Draft,
-    worker: u32,
-    fd: Name,
-    words: &mut Words,
-) -> Result<bool, AllocError>
+fn read_receive(draft: &mut Draft, worker: u32, fd: Name, words: &mut Words) -> Added
     requires { worker ≤ last_worker }
     ensures { IfOk result (λ added. (added, draft.new) ≡ with_call draft.old worker (with_values Verb.RcvUData fd (fields_of (form Verb.RcvUData) words.old))) }
 {
@@ -153,25 +128,19 @@ fn read_receive(
         amax,
         omax,
     };
-    draft.add(alloc, Line { worker, call })
+    draft.add(Line { worker, call })
 }
 
 /// Adds the receive of parts.
 #[tactic(auto, unfolding(crate::specs::Reading::extended, crate::specs::Calls::call_with))]
-fn read_receive_parts(
-    alloc: Global,
-    draft: &mut Draft,
-    worker: u32,
-    fd: Name,
-    words: &mut Words,
-) -> Result<bool, AllocError>
+fn read_receive_parts(draft: &mut Draft, worker: u32, fd: Name, words: &mut Words) -> Added
     requires { worker ≤ last_worker }
     ensures { IfOk result (λ added. (added, draft.new) ≡ with_call draft.old worker (with_values Verb.RcvVUData fd (fields_of (form Verb.RcvVUData) words.old))) }
 {
     let Form::Three(sizes, amax, omax) = form(Verb::RcvVUData) else {
         unreachable!()
     };
-    let Some(sizes) = read_sizes(alloc, sizes, words)? else {
+    let Some(sizes) = read_sizes(draft.alloc(), sizes, words)? else {
         return Ok(false);
     };
     let Some(amax) = read_number(amax, words) else {
@@ -189,18 +158,12 @@ fn read_receive_parts(
         amax,
         omax,
     };
-    draft.add(alloc, Line { worker, call })
+    draft.add(Line { worker, call })
 }
 
 /// Adds the receive of an error.
 #[tactic(auto, unfolding(crate::specs::Reading::extended, crate::specs::Calls::call_with))]
-fn read_receive_error(
-    alloc: Global,
-    draft: &mut Draft,
-    worker: u32,
-    fd: Name,
-    words: &mut Words,
-) -> Result<bool, AllocError>
+fn read_receive_error(draft: &mut Draft, worker: u32, fd: Name, words: &mut Words) -> Added
     requires { worker ≤ last_worker }
     ensures { IfOk result (λ added. (added, draft.new) ≡ with_call draft.old worker (with_values Verb.RcvUDErr fd (fields_of (form Verb.RcvUDErr) words.old))) }
 {
@@ -217,19 +180,12 @@ fn read_receive_error(
         return Ok(false);
     }
     let call = NamedCall::TRcvUDErr { fd, amax, omax };
-    draft.add(alloc, Line { worker, call })
+    draft.add(Line { worker, call })
 }
 
 /// Adds the call that has no fields; false where it has some or a word is left.
 #[tactic(auto, unfolding(crate::specs::Reading::extended))]
-fn read_alone(
-    alloc: Global,
-    draft: &mut Draft,
-    worker: u32,
-    verb: Verb,
-    fd: Name,
-    words: &Words,
-) -> Result<bool, AllocError>
+fn read_alone(draft: &mut Draft, worker: u32, verb: Verb, fd: Name, words: &Words) -> Added
     requires { worker ≤ last_worker }
     ensures { IfOk result (λ added. (added, draft.new) ≡ with_call draft.old worker (with_values verb fd (fields_of [] words.now))) }
 {
@@ -237,32 +193,31 @@ fn read_alone(
         return Ok(false);
     }
     match call_alone(verb, fd) {
-        Some(call) => draft.add(alloc, Line { worker, call }),
+        Some(call) => draft.add(Line { worker, call }),
         None => Ok(false),
     }
 }
 
 /// Adds the call of the endpoint whose fields are the words; false where they are not its fields.
 pub(crate) fn read_fields(
-    alloc: Global,
     draft: &mut Draft,
     worker: u32,
     verb: Verb,
     fd: Name,
     words: &mut Words,
-) -> Result<bool, AllocError>
+) -> Added
     requires { worker ≤ last_worker }
     ensures { IfOk result (λ added. (added, draft.new) ≡ with_call draft.old worker (with_values verb fd (fields_of (form verb) words.old))) }
 {
     match verb {
-        Verb::Bind => read_bind(alloc, draft, worker, fd, words),
-        Verb::SndUData => read_send(alloc, draft, worker, fd, words),
-        Verb::SndVUData => read_send_parts(alloc, draft, worker, fd, words),
-        Verb::RcvUData => read_receive(alloc, draft, worker, fd, words),
-        Verb::RcvVUData => read_receive_parts(alloc, draft, worker, fd, words),
-        Verb::RcvUDErr => read_receive_error(alloc, draft, worker, fd, words),
+        Verb::Bind => read_bind(draft, worker, fd, words),
+        Verb::SndUData => read_send(draft, worker, fd, words),
+        Verb::SndVUData => read_send_parts(draft, worker, fd, words),
+        Verb::RcvUData => read_receive(draft, worker, fd, words),
+        Verb::RcvVUData => read_receive_parts(draft, worker, fd, words),
+        Verb::RcvUDErr => read_receive_error(draft, worker, fd, words),
         Verb::Close | Verb::Unbind | Verb::Look | Verb::GetState | Verb::Sync => {
-            read_alone(alloc, draft, worker, verb, fd, words)
+            read_alone(draft, worker, verb, fd, words)
         }
     }
 }

@@ -44,7 +44,7 @@ fn read_lines(alloc: Global, text: &[u8]) -> Result<Lines, ScriptFail>
     let mut number = 2u64;
     while !rest.is_empty() {
         let (line, behind) = first_line(rest);
-        if !read_line(alloc, &mut draft, line)? {
+        if !read_line(&mut draft, line)? {
             return Err(ScriptFail::Bad { line: number });
         }
         rest = behind;
