@@ -13,7 +13,7 @@ use Rattle.xti_model.specs.Work.{argument_bytes, script_bytes}
 use Rattle.xti_script.specs.Grammar.{defines, is_defined, most_lines, most_bytes}
 use Rattle.xti_script.specs.TextSets.{TextSet, has, has_at}
 use Rattle.xti_script.specs.Known.{is_own, Knows}
-use Rattle.xti_script.specs.Reading.{less, room_after, room_for, extended}
+use Rattle.xti_script.specs.Reading.{less, room_after, extended}
 
 -- ---- one more text in the set at a place
 
@@ -174,59 +174,43 @@ test_no : (n m : ℕ) (t : Bool) → leb n m ≡ t → m < n → t ≡ false
 test_no n m true e h = let u : n ≤ m = leb-true n m e in absurd (omega arith)
 test_no n m false e h = refl
 
-less_most : (total used n : ℕ) → used ≤ total → n ≤ total - used → used + n ≤ total
-less_most total used n h k = omega arith
+fits_in : (total left used n : ℕ) → left + used ≡ total → n ≤ left → used + n ≤ total
+fits_in total left used n h k = omega arith
 
-over_most : (total used n : ℕ) → total - used < n → total < used + n
-over_most total used n h = omega arith
+is_over : (total left used n : ℕ) → left + used ≡ total → left < n → total < used + n
+is_over total left used n h k = omega arith
 
-pub room_is_for : (lines now : List Line) (names : List TextSet) (left : ℕ) (call : NamedCall) (o : Option ℕ) → Knows lines names left → lines ≡ now → o ≡ room_after (length lines) left call → o ≡ room_for now call
-unfolding room_for
-room_is_for lines now names left call o k v e =
-    let used : ℕ = script_bytes lines in
-    let h : left + script_bytes lines ≡ most_bytes = k.bytes in
-    let is : left ≡ most_bytes - script_bytes lines = omega arith in
-    rw (← v) (e ∙ ap (λ (n : ℕ). room_after (length lines) n call) is)
+leaves : (total left used n more : ℕ) → left + used ≡ total → n ≤ left → more ≡ left - n → more + (used + (0 + n)) ≡ total
+leaves total left used n more h k e = omega arith
 
-leaves : (total used n more : ℕ) → n ≤ total - used → used ≤ total → more ≡ (total - used) - n → more + (used + (0 + n)) ≡ total
-leaves total used n more h u e = omega arith
-
-pub room_left : (lines : List Line) (line : Line) (o : Option ℕ) (more : ℕ) → script_bytes lines ≤ most_bytes → o ≡ room_for lines line.call → o ≡ Some more → more + script_bytes (lines ++ line ∷ []) ≡ most_bytes
-unfolding room_for
-room_left lines line o more u e s =
-    let t = room_is (length lines) (most_bytes - script_bytes lines) line.call more o e s in
-    let sum : script_bytes (lines ++ line ∷ []) ≡ script_bytes lines + (0 + argument_bytes line.call) = sum_by-append (λ (l : Line). argument_bytes l.call) lines (line ∷ []) in
-    ap (λ (n : ℕ). more + n) sum ∙ leaves most_bytes (script_bytes lines) (argument_bytes line.call) more t.fits u t.rest
-
-pub one_longer : (lines more_lines : List Line) (line : Line) (more : ℕ) (o : Option ℕ) → script_bytes lines ≤ most_bytes → more_lines ≡ lines ++ line ∷ [] → o ≡ room_for lines line.call → o ≡ Some more → (true, more_lines) ≡ extended lines line
-unfolding extended room_for
-one_longer lines more_lines line more o u m e s =
-    let t = room_is (length lines) (most_bytes - script_bytes lines) line.call more o e s in
+-- the limits allow a line where there is room for it
+pub line_added : (lines now more_lines : List Line) (names : List TextSet) (left more : ℕ) (line : Line) (o : Option ℕ) → Knows lines names left → lines ≡ now → more_lines ≡ lines ++ line ∷ [] → o ≡ room_after (length lines) left line.call → o ≡ Some more
+    → (true, more_lines) ≡ extended now line
+unfolding extended
+line_added lines now more_lines names left more line o k v m e s =
+    let t = room_is (length lines) left line.call more o e s in
     let count : ltb (length lines) most_lines ≡ true = lt-ltb _ _ t.few in
-    let size : leb (script_bytes lines + argument_bytes line.call) most_bytes ≡ true = le-leb _ _ (less_most most_bytes (script_bytes lines) (argument_bytes line.call) u t.fits) in
-    rw (m, count, size) refl
+    let size : leb (script_bytes lines + argument_bytes line.call) most_bytes ≡ true = le-leb _ _ (fits_in most_bytes left (script_bytes lines) (argument_bytes line.call) k.bytes t.fits) in
+    rw (← v, m) (rw (count, size) refl)
 
-pub no_longer : (lines : List Line) (line : Line) (o : Option ℕ) → o ≡ room_for lines line.call → o ≡ None → (false, lines) ≡ extended lines line
-unfolding extended room_for room_after
-no_longer lines line o e s = by_test (ltb (length lines) most_lines) refl (sym e ∙ s)
+pub line_refused : (lines now more_lines : List Line) (names : List TextSet) (left : ℕ) (line : Line) (o : Option ℕ) → Knows lines names left → lines ≡ now → more_lines ≡ lines → o ≡ room_after (length lines) left line.call → o ≡ None → (false, more_lines) ≡ extended now line
+unfolding extended room_after
+line_refused lines now more_lines names left line o k v m e s = rw (← v, m) (by_test (ltb (length lines) most_lines) refl (sym e ∙ s))
   where
     nothing : Option ℕ
     nothing = None
 
-    by_test : (t : Bool) → ltb (length lines) most_lines ≡ t → cond t (less (most_bytes - script_bytes lines) (argument_bytes line.call)) None ≡ nothing → (false, lines) ≡ extended lines line
+    by_test : (t : Bool) → ltb (length lines) most_lines ≡ t → cond t (less left (argument_bytes line.call)) None ≡ nothing → (false, lines) ≡ extended lines line
     by_test false t r = rw t refl
     by_test true t r =
-        let over : most_bytes - script_bytes lines < argument_bytes line.call = less_fails (most_bytes - script_bytes lines) (argument_bytes line.call) (less (most_bytes - script_bytes lines) (argument_bytes line.call)) refl r in
-        let size : leb (script_bytes lines + argument_bytes line.call) most_bytes ≡ false = test_no (script_bytes lines + argument_bytes line.call) most_bytes (leb (script_bytes lines + argument_bytes line.call) most_bytes) refl (over_most most_bytes (script_bytes lines) (argument_bytes line.call) over) in
+        let over : left < argument_bytes line.call = less_fails left (argument_bytes line.call) (less left (argument_bytes line.call)) refl r in
+        let size : leb (script_bytes lines + argument_bytes line.call) most_bytes ≡ false = test_no (script_bytes lines + argument_bytes line.call) most_bytes (leb (script_bytes lines + argument_bytes line.call) most_bytes) refl (is_over most_bytes left (script_bytes lines) (argument_bytes line.call) k.bytes over) in
         rw size (rw and_no refl)
 
-pub knows_more : (lines now more_lines : List Line) (line : Line) (old new : List TextSet) (left more : ℕ) → Knows lines old left → lines ≡ now → more_lines ≡ lines ++ line ∷ []
-    → ((worker : ℕ) (name : List ℕ) → has_at new worker name ≡ (has_at old worker name || is_own worker name line)) → more + script_bytes (now ++ line ∷ []) ≡ most_bytes → Knows more_lines new more
-knows_more lines now more_lines line old new left more k v m names e =
-    let bytes : more + script_bytes (lines ++ line ∷ []) ≡ most_bytes = ap (λ (ls : List Line). more + script_bytes (ls ++ line ∷ [])) v ∙ e in
+pub knows_more : (lines more_lines : List Line) (line : Line) (old new : List TextSet) (left more : ℕ) (o : Option ℕ) → Knows lines old left → more_lines ≡ lines ++ line ∷ [] → o ≡ room_after (length lines) left line.call → o ≡ Some more
+    → ((worker : ℕ) (name : List ℕ) → has_at new worker name ≡ (has_at old worker name || is_own worker name line)) → Knows more_lines new more
+knows_more lines more_lines line old new left more o k m e s names =
+    let t = room_is (length lines) left line.call more o e s in
+    let sum : script_bytes (lines ++ line ∷ []) ≡ script_bytes lines + (0 + argument_bytes line.call) = sum_by-append (λ (l : Line). argument_bytes l.call) lines (line ∷ []) in
+    let bytes : more + script_bytes (lines ++ line ∷ []) ≡ most_bytes = ap (λ (n : ℕ). more + n) sum ∙ leaves most_bytes left (script_bytes lines) (argument_bytes line.call) more k.bytes t.fits t.rest in
     rw m (record { own = own_of_more lines line old new k.own names; bytes = bytes })
-
-pub bytes_within : (lines now : List Line) (names : List TextSet) (left : ℕ) → Knows lines names left → lines ≡ now → script_bytes now ≤ most_bytes
-bytes_within lines now names left k v =
-    let h : left + script_bytes lines ≡ most_bytes = k.bytes in
-    rw (← v) (omega arith)

@@ -148,10 +148,6 @@ abbrev pub longer : List Line → Option Line → Bool × List Line
 longer earlier None = (false, earlier)
 longer earlier (Some line) = (true, earlier ++ line ∷ [])
 
--- how many bytes the arguments of further lines may have behind the call, where the limits allow it
-unfoldable pub room_for : List Line → NamedCall → Option ℕ
-room_for earlier call = room_after (length earlier) (most_bytes - script_bytes earlier) call
-
 -- whether the limits allow this line, and the lines with it
 unfoldable pub extended : List Line → Line → Bool × List Line
 extended earlier line = longer earlier (within earlier (Some line))

@@ -1,12 +1,12 @@
 //! The lines that are read so far, and what they say together.
 
-ghost use Rattle.std.specs.Prelude.{◌≡◌, ◌≤◌, ◌<◌, ◌+◌, ◌||◌, ◌++◌, ◌∷◌, [], ℕ, List, length, vec_len, vec_capacity, IfOk, IsOk, OnOk, OnErr};
+ghost use Rattle.std.specs.Prelude.{◌≡◌, ◌≤◌, ◌+◌, ◌||◌, ◌++◌, ◌∷◌, [], ℕ, List, length, IfOk, IfSome, IfNone, OnErr};
 ghost use Rattle.std.specs.List.{concat};
-ghost use Rattle.xti_model.specs.Work.{argument_bytes, script_bytes};
-ghost use Rattle.xti_script.specs.Grammar.{last_worker, most_bytes, is_defined};
+ghost use Rattle.xti_model.specs.Work.{argument_bytes};
+ghost use Rattle.xti_script.specs.Grammar.{last_worker, is_defined};
 ghost use Rattle.xti_script.specs.TextSets.{has_at};
 ghost use Rattle.xti_script.specs.Known.{is_own};
-ghost use Rattle.xti_script.specs.Reading.{less, room_after, room_for, extended};
+ghost use Rattle.xti_script.specs.Reading.{less, room_after, extended};
 
 use crate::names::Names;
 use std::alloc::{AllocError, Global};
@@ -123,37 +123,60 @@ fn room_after(count: usize, left: usize, call: &NamedCall) -> Option<usize>
 /// Whether a line was added, or want of memory.
 pub(crate) type Added = Result<bool, AllocError>;
 
-/// Makes room for the line, and adds the name that it defines; for want of memory nothing is added.
-fn make_way(lines: &mut Vec<Line>, names: &mut Names, line: &Line) -> Result<(), AllocError>
+/// What is left of so many bytes behind the line, whose name is added; `None` where a limit is in the way.
+fn admit(
+    names: &mut Names,
+    alloc: Global,
+    count: usize,
+    left: usize,
+    line: &Line,
+) -> Result<Option<usize>, AllocError>
     requires { line.now.worker ≤ last_worker }
-    ensures lines { lines.new.items ≡ lines.old.items }
-    ensures room { OnOk result (vec_len lines.new < vec_capacity lines.new) }
-    ensures names { OnOk result ((worker : ℕ) (name : List ℕ) → has_at names.new worker name ≡ (has_at names.old worker name || is_own worker name line.now)) }
+    ensures room { IfOk result (λ room. room ≡ room_after count left line.now.call) }
+    ensures some { IfOk result (λ room. IfSome room (λ _. (worker : ℕ) (name : List ℕ) → has_at names.new worker name ≡ (has_at names.old worker name || is_own worker name line.now))) }
+    ensures none { IfOk result (λ room. IfNone room (names.new ≡ names.old)) }
     ensures err { OnErr result (names.new ≡ names.old) }
 {
-    lines.reserve(1)?;
-    names.add(*lines.allocator(), line)
+    match room_after(count, left, &line.call) {
+        Some(left) => {
+            names.add(alloc, line)?;
+            Ok(Some(left))
+        }
+        None => Ok(None),
+    }
 }
 
-fn add_line(lines: &mut Vec<Line>, line: Line) -> Result<(), AllocError>
-    requires { vec_len lines.old < vec_capacity lines.old }
-    ensures ok { lines.new.items ≡ lines.old.items ++ line ∷ [] }
-    ensures always { IsOk result }
-{
-    lines.push(line)?;
-    Ok(())
-}
-
-/// Adds the line, and the name that it defines; for want of memory nothing is added.
-fn add_both(lines: &mut Vec<Line>, names: &mut Names, line: Line) -> Result<(), AllocError>
+/// Adds the line; what is left of so many bytes behind it. `None` where a limit is in the way: then, and for want of
+/// memory, nothing is added.
+fn add_line(
+    lines: &mut Vec<Line>,
+    names: &mut Names,
+    left: usize,
+    line: Line,
+) -> Result<Option<usize>, AllocError>
     requires { line.worker ≤ last_worker }
-    ensures lines { OnOk result (lines.new.items ≡ lines.old.items ++ line ∷ []) }
-    ensures names { OnOk result ((worker : ℕ) (name : List ℕ) → has_at names.new worker name ≡ (has_at names.old worker name || is_own worker name line)) }
-    ensures same_lines { OnErr result (lines.new.items ≡ lines.old.items) }
-    ensures same_names { OnErr result (names.new ≡ names.old) }
+    ensures room { IfOk result (λ room. room ≡ room_after (length lines.old.items) left line.call) }
+    ensures some { IfOk result (λ room. IfSome room (λ _. (worker : ℕ) (name : List ℕ) → has_at names.new worker name ≡ (has_at names.old worker name || is_own worker name line))) }
+    ensures more { IfOk result (λ room. IfSome room (λ _. lines.new.items ≡ lines.old.items ++ line ∷ [])) }
+    ensures none { IfOk result (λ room. IfNone room (names.new ≡ names.old)) }
+    ensures same { IfOk result (λ room. IfNone room (lines.new.items ≡ lines.old.items)) }
+    ensures err { OnErr result (names.new ≡ names.old) }
+    ensures kept { OnErr result (lines.new.items ≡ lines.old.items) }
 {
-    make_way(lines, names, &line)?;
-    add_line(lines, line)
+    let alloc = *lines.allocator();
+    let count = lines.as_slice().len();
+    lines.push(line)?;
+    match admit(names, alloc, count, left, &lines[count]) {
+        Ok(Some(left)) => Ok(Some(left)),
+        Ok(None) => {
+            lines.truncate(count);
+            Ok(None)
+        }
+        Err(e) => {
+            lines.truncate(count);
+            Err(e)
+        }
+    }
 }
 
 /// The lines that are read so far.
@@ -189,35 +212,15 @@ impl Draft {
         })
     }
 
-    /// How many bytes the arguments of further lines may have behind this call; `None` where a limit is in the way.
-    fn room_for(&self, call: &NamedCall) -> Option<usize>
-        ensures room { result ≡ room_for self.now call.now }
-        ensures bytes { script_bytes self.now ≤ most_bytes }
-    {
-        room_after(self.lines.as_slice().len(), self.left, call)
-    }
-
-    /// Adds the line, behind which the arguments of further lines may have so many bytes.
-    fn grow(&mut self, line: Line, left: usize) -> Result<(), AllocError>
-        requires worker { line.worker ≤ last_worker }
-        requires left { left + script_bytes (self.old ++ line ∷ []) ≡ most_bytes }
-        ensures ok { OnOk result (self.new ≡ self.old ++ line ∷ []) }
-        ensures err { OnErr result (self.new ≡ self.old) }
-    {
-        add_both(&mut self.lines, &mut self.names, line)?;
-        self.left = left;
-        Ok(())
-    }
-
     /// Adds a line; false where a limit is in the way. The lines are as before then, and for want of memory.
     pub(crate) fn add(&mut self, line: Line) -> Added
         requires { line.worker ≤ last_worker }
         ensures ok { IfOk result (λ added. (added, self.new) ≡ extended self.old line) }
         ensures err { OnErr result (self.new ≡ self.old) }
     {
-        match self.room_for(&line.call) {
+        match add_line(&mut self.lines, &mut self.names, self.left, line)? {
             Some(left) => {
-                self.grow(line, left)?;
+                self.left = left;
                 Ok(true)
             }
             None => Ok(false),

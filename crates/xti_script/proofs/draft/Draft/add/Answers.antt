@@ -1,11 +1,11 @@
-use Rattle.xti_script.proofs.Workers.{room_left, one_longer, no_longer}
+use Rattle.xti_script.proofs.Workers.{knows_more, line_added, line_refused}
 use Rattle.xti_script.proofs.draft.Draft.add.Goals as goal
 
-pub grow-requires-clause-left : goal.grow-requires-clause-left
-grow-requires-clause-left c = room_left _ _ _ _ c.room_for.ensures.bytes c.room_for.ensures.room c.in-Some.is
+pub invariant_of-self-in-Some : goal.invariant_of-self-in-Some
+invariant_of-self-in-Some c = knows_more _ _ _ _ _ _ _ _ c.self.invariant (rw c.in-Some.is at c.in_ok-left.ensures.more) c.in_ok-left.ensures.room c.in-Some.is (rw c.in-Some.is at c.in_ok-left.ensures.some)
+
+pub returns-in-Some-clause-ok : goal.returns-in-Some-clause-ok
+returns-in-Some-clause-ok c = line_added _ _ _ _ _ _ _ _ c.self.invariant c.self.view_is (rw c.in-Some.is at c.in_ok-left.ensures.more) c.in_ok-left.ensures.room c.in-Some.is
 
 pub returns-in-None-clause-ok : goal.returns-in-None-clause-ok
-returns-in-None-clause-ok c = no_longer _ _ _ c.room_for.ensures.room c.in-None.is
-
-pub returns-in_ok-grow-in-Some-clause-ok : goal.returns-in_ok-grow-in-Some-clause-ok
-returns-in_ok-grow-in-Some-clause-ok c = one_longer _ _ _ _ _ c.room_for.ensures.bytes c.in_ok-grow-in-Some.ensures.ok c.room_for.ensures.room c.in-Some.is
+returns-in-None-clause-ok c = line_refused _ _ _ _ _ _ _ c.self.invariant c.self.view_is (rw c.in-None.is at c.in_ok-left.ensures.same) c.in_ok-left.ensures.room c.in-None.is
