@@ -4,7 +4,7 @@ ghost use Rattle.std.specs.Prelude.{◌≡◌, ◌≤◌, IfOk, IfSome, Some};
 ghost use Rattle.std.specs.Option.{option_copied};
 ghost use Rattle.xti_script.specs.Texts.{words_of};
 ghost use Rattle.xti_script.specs.Grammar.{last_worker};
-ghost use Rattle.xti_script.specs.Reading.{mode_of, open_mode, provider_of, can_define, open_of, set_mode_of, with_fields, call_of, worker_of, with_call, longer, line_of};
+ghost use Rattle.xti_script.specs.Reading.{mode_of, open_mode, provider_of, open_of, set_mode_of, with_fields, call_of, worker_of, with_call, longer, line_of};
 
 use crate::draft::{Added, Draft};
 use crate::field_calls::read_fields;
@@ -54,12 +54,6 @@ fn provider_of(word: &[u8]) -> Option<Prov>
     }
 }
 
-fn can_define(draft: &Draft, worker: u32, name: &[u8]) -> bool
-    ensures { result ≡ can_define draft.now worker name.now }
-{
-    is_name(name) && !draft.defines(worker, name)
-}
-
 #[tactic(auto, unfolding(crate::specs::Reading::open_of, crate::specs::Reading::extended))]
 fn read_open(draft: &mut Draft, worker: u32, words: &mut Words) -> Added
     requires { worker ≤ last_worker }
@@ -71,7 +65,7 @@ fn read_open(draft: &mut Draft, worker: u32, words: &mut Words) -> Added
     let Some(prov) = words.next() else {
         return Ok(false);
     };
-    if !can_define(draft, worker, name) {
+    if !is_name(name) || draft.defines(worker, name) {
         return Ok(false);
     }
     let Some(prov) = provider_of(prov) else {

@@ -85,26 +85,6 @@ fn usual_value(key: Key) -> Option<Usual>
     }
 }
 
-fn usual_bytes(alloc: Global, key: Key) -> Option<Octets>
-    requires { kind_of key ≡ kind.Bytes }
-    ensures { option_map value.Bytes result ≡ usual_value key }
-{
-    match usual_value(key) {
-        Some(Usual::Empty) => Some(Octets::new(alloc)),
-        _ => None,
-    }
-}
-
-fn usual_number(key: Key) -> Option<u32>
-    requires { kind_of key ≡ kind.Number }
-    ensures { option_map value.Number result ≡ usual_value key }
-{
-    match usual_value(key) {
-        Some(Usual::Number(number)) => Some(number),
-        _ => None,
-    }
-}
-
 /// What is behind the key; `None` where the word doesn't begin with it.
 fn behind_key<'a>(key: &[u8], word: &'a [u8]) -> Option<&'a [u8]>
     ensures { option_copied result ≡ behind_key key.now word.now }
@@ -139,7 +119,10 @@ pub(crate) fn read_bytes(
 {
     match field_text(key, words) {
         Some(text) => bytes_in(alloc, text),
-        None => Ok(usual_bytes(alloc, key)),
+        None => match usual_value(key) {
+            Some(Usual::Empty) => Ok(Some(Octets::new(alloc))),
+            _ => Ok(None),
+        },
     }
 }
 
@@ -151,7 +134,10 @@ pub(crate) fn read_number(key: Key, words: &mut Words) -> Option<u32>
 {
     match field_text(key, words) {
         Some(text) => number_in(text),
-        None => usual_number(key),
+        None => match usual_value(key) {
+            Some(Usual::Number(number)) => Some(number),
+            _ => None,
+        },
     }
 }
 

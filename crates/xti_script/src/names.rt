@@ -16,12 +16,6 @@ const WORKERS: usize = 33;
 
 type TextSet = BTreeSet<Vec<u8>>;
 
-fn has(texts: &TextSet, bytes: &[u8]) -> bool
-    ensures { result ≡ has texts.now bytes.now }
-{
-    texts.contains(bytes)
-}
-
 fn add_text(alloc: Global, texts: &mut TextSet, text: &[u8]) -> Result<(), AllocError>
     ensures ok { OnOk result ((other : List ℕ) → has texts.new other ≡ (has texts.old other || bytes_eq text.now other)) }
     ensures err { OnErr result (texts.new ≡ texts.old) }
@@ -34,7 +28,7 @@ fn has_at(sets: &[TextSet], place: usize, bytes: &[u8]) -> bool
     ensures { result ≡ has_at sets.now place bytes.now }
 {
     match sets.get(place) {
-        Some(texts) => has(texts, bytes),
+        Some(texts) => texts.contains(bytes),
         None => false,
     }
 }
