@@ -1,11 +1,12 @@
 -- The sets of the names of each worker, and one more name.
-use Rattle.std.proofs.Common.{◌≡◌, ℕ, zero, suc, ◌+◌, ◌-◌, ◌<◌, ◌≤◌, Bool, true, false, cond, ◌&&◌, ◌||◌, eqb, ltb, leb, List, [], ◌∷◌, ◌++◌, length, Option, Some, None, refl, sym, ap, ◌∙◌, arith, set}
+use Rattle.std.proofs.Common.{◌≡◌, ℕ, zero, suc, ◌+◌, ◌-◌, ◌<◌, ◌≤◌, Bool, true, false, cond, ◌&&◌, ◌||◌, eqb, ltb, leb, List, [], ◌∷◌, ◌++◌, length, Option, Some, None, refl, sym, ap, ◌∙◌, arith, set, take}
 use Rattle.std.specs.Prelude.{slice_get}
 use Rattle.std.specs.List.{list_any}
 use Rattle.std.specs.Str.{bytes_eq}
 use Rattle.std.proofs.lemmas.Bool.{ltb-true, lt-ltb, leb-true, leb-false, le-leb, eq-eqb, eqb-true}
 use Rattle.std.proofs.lemmas.List.Folds.{list_any-append}
 use Rattle.std.proofs.lemmas.List.Sums.{sum_by-append}
+use Rattle.std.proofs.Math.Seq.{take-append_seam}
 use Rattle.xti_model.specs.declared.script.NamedCall.{NamedCall}
 use Rattle.xti_model.specs.declared.script.Line.{Line}
 use Rattle.xti_model.specs.Resolve.{opens}
@@ -208,9 +209,13 @@ line_refused lines now more_lines names left line o k v m e s = rw (← v, m) (b
         rw size (rw and_no refl)
 
 pub knows_more : (lines more_lines : List Line) (line : Line) (old new : List TextSet) (left more : ℕ) (o : Option ℕ) → Knows lines old left → more_lines ≡ lines ++ line ∷ [] → o ≡ room_after (length lines) left line.call → o ≡ Some more
-    → ((worker : ℕ) (name : List ℕ) → has_at new worker name ≡ (has_at old worker name || is_own worker name line)) → Knows more_lines new more
-knows_more lines more_lines line old new left more o k m e s names =
+    → length new ≡ length old → ((worker : ℕ) (name : List ℕ) → has_at new worker name ≡ (has_at old worker name || is_own worker name line)) → Knows more_lines new more
+knows_more lines more_lines line old new left more o k m e s w names =
     let t = room_is (length lines) left line.call more o e s in
     let sum : script_bytes (lines ++ line ∷ []) ≡ script_bytes lines + (0 + argument_bytes line.call) = sum_by-append (λ (l : Line). argument_bytes l.call) lines (line ∷ []) in
     let bytes : more + script_bytes (lines ++ line ∷ []) ≡ most_bytes = ap (λ (n : ℕ). more + n) sum ∙ leaves most_bytes left (script_bytes lines) (argument_bytes line.call) more k.bytes t.fits t.rest in
-    rw m (record { own = own_of_more lines line old new k.own names; bytes = bytes })
+    rw m (record { workers = w ∙ k.workers; own = own_of_more lines line old new k.own names; bytes = bytes })
+
+-- the names as a slice of the whole writes them back
+pub knows_written : (lines : List Line) (new rest : List TextSet) (count left : ℕ) → Knows lines new left → count ≡ length new → Knows lines (take count (new ++ rest)) left
+knows_written lines new rest count left k e = rw (e, take-append_seam new rest) k

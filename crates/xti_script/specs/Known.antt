@@ -1,5 +1,5 @@
 -- What is kept beside the lines so far, so that no line is looked up in them.
-use Rattle.std.specs.Prelude.{◌≡◌, ℕ, ◌+◌, ◌==◌, Bool, ◌&&◌, List}
+use Rattle.std.specs.Prelude.{◌≡◌, ℕ, ◌+◌, ◌==◌, Bool, ◌&&◌, List, length}
 use Rattle.std.specs.List.{list_any}
 use Rattle.xti_model.specs.declared.script.Line.{Line}
 use Rattle.xti_model.specs.Resolve.{opens}
@@ -11,7 +11,8 @@ use Rattle.xti_script.specs.Grammar.{most_bytes}
 abbrev pub is_own : ℕ → List ℕ → Line → Bool
 is_own worker name line = (line.worker == worker) && opens name line.call
 
--- the names that each worker's lines define, and how many bytes the arguments of further lines may have
+-- the names that each of 33 workers' lines define, and how many bytes the arguments of further lines may have
 pub record Knows (lines : List Line) (names : List TextSet) (left : ℕ) : Type 0 where
+  pub workers : length names ≡ 33
   pub own : (worker : ℕ) (name : List ℕ) → has_at names worker name ≡ list_any (is_own worker name) lines
   pub bytes : left + script_bytes lines ≡ most_bytes

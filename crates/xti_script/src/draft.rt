@@ -1,6 +1,6 @@
 //! The lines that are read so far, and what they say together.
 
-ghost use Rattle.std.specs.Prelude.{◌≡◌, ◌≤◌, ◌+◌, ◌||◌, ◌++◌, ◌∷◌, [], ℕ, List, length, IfOk, IfSome, IfNone, OnErr};
+ghost use Rattle.std.specs.Prelude.{◌≡◌, ◌≤◌, ◌<◌, ◌+◌, ◌||◌, ◌++◌, ◌∷◌, [], ℕ, List, length, IfOk, IfSome, IfNone, OnErr};
 ghost use Rattle.std.specs.List.{concat};
 ghost use Rattle.xti_model.specs.Work.{argument_bytes};
 ghost use Rattle.xti_script.specs.Grammar.{last_worker, is_defined};
@@ -8,7 +8,7 @@ ghost use Rattle.xti_script.specs.TextSets.{has_at};
 ghost use Rattle.xti_script.specs.Known.{is_own};
 ghost use Rattle.xti_script.specs.Reading.{less, room_after, extended};
 
-use crate::names::Names;
+use crate::names::{TextSet, add_name, empty_sets, is_defined};
 use std::alloc::{AllocError, Global};
 use std::marker::Model;
 use xti_base::Octets;
@@ -125,13 +125,13 @@ pub(crate) type Added = Result<bool, AllocError>;
 
 /// What is left of so many bytes behind the line, whose name is added; `None` where a limit is in the way.
 fn admit(
-    names: &mut Names,
+    names: &mut [TextSet],
     alloc: Global,
     count: usize,
     left: usize,
     line: &Line,
 ) -> Result<Option<usize>, AllocError>
-    requires { line.now.worker ≤ last_worker }
+    requires { line.now.worker < length names.old }
     ensures room { IfOk result (λ room. room ≡ room_after count left line.now.call) }
     ensures some { IfOk result (λ room. IfSome room (λ _. (worker : ℕ) (name : List ℕ) → has_at names.new worker name ≡ (has_at names.old worker name || is_own worker name line.now))) }
     ensures none { IfOk result (λ room. IfNone room (names.new ≡ names.old)) }
@@ -139,7 +139,7 @@ fn admit(
 {
     match room_after(count, left, &line.call) {
         Some(left) => {
-            names.add(alloc, line)?;
+            add_name(alloc, names, line)?;
             Ok(Some(left))
         }
         None => Ok(None),
@@ -150,11 +150,11 @@ fn admit(
 /// memory, nothing is added.
 fn add_line(
     lines: &mut Vec<Line>,
-    names: &mut Names,
+    names: &mut [TextSet],
     left: usize,
     line: Line,
 ) -> Result<Option<usize>, AllocError>
-    requires { line.worker ≤ last_worker }
+    requires { line.worker < length names.old }
     ensures room { IfOk result (λ room. room ≡ room_after (length lines.old.items) left line.call) }
     ensures some { IfOk result (λ room. IfSome room (λ _. (worker : ℕ) (name : List ℕ) → has_at names.new worker name ≡ (has_at names.old worker name || is_own worker name line))) }
     ensures more { IfOk result (λ room. IfSome room (λ _. lines.new.items ≡ lines.old.items ++ line ∷ [])) }
@@ -183,7 +183,8 @@ fn add_line(
 #[derive(Drop)]
 pub(crate) struct Draft {
     lines: Vec<Line>,
-    names: Names,
+    /// The names that each worker's lines define.
+    names: Vec<TextSet>,
     /// How many bytes the arguments of further lines may have.
     left: usize,
 }
@@ -197,7 +198,7 @@ impl Model for Draft {
 
     ghost view = { λ d. d.lines.items };
 
-    ghost invariant = { λ d. Knows d.lines.items d.names d.left };
+    ghost invariant = { λ d. Knows d.lines.items d.names.items d.left };
 }
 
 impl Draft {
@@ -206,7 +207,7 @@ impl Draft {
         ensures { IfOk result (λ draft. draft ≡ []) }
     {
         Ok(Draft {
-            names: Names::new(alloc)?,
+            names: empty_sets(alloc)?,
             lines: Vec::new(alloc),
             left: MOST_BYTES,
         })
@@ -218,7 +219,7 @@ impl Draft {
         ensures ok { IfOk result (λ added. (added, self.new) ≡ extended self.old line) }
         ensures err { OnErr result (self.new ≡ self.old) }
     {
-        match add_line(&mut self.lines, &mut self.names, self.left, line)? {
+        match add_line(&mut self.lines, self.names.as_mut_slice(), self.left, line)? {
             Some(left) => {
                 self.left = left;
                 Ok(true)
@@ -244,6 +245,6 @@ impl Draft {
     pub(crate) fn defines(&self, worker: u32, name: &[u8]) -> bool
         ensures { result ≡ is_defined self.now worker name.now }
     {
-        self.names.have(worker, name)
+        is_defined(self.names.as_slice(), worker, name)
     }
 }

@@ -1,20 +1,19 @@
 //! The names that each worker's lines define.
 
-ghost use Rattle.std.specs.Prelude.{◌≡◌, ◌≤◌, ◌<◌, ◌||◌, ◌&&◌, ◌==◌, ℕ, false, List, length, IfOk, OnOk, OnErr};
+ghost use Rattle.std.specs.Prelude.{◌≡◌, ◌<◌, ◌||◌, ◌&&◌, ◌==◌, ℕ, false, List, length, IfOk, OnOk, OnErr};
 ghost use Rattle.std.specs.Str.{bytes_eq};
-ghost use Rattle.xti_script.specs.Grammar.{last_worker};
 ghost use Rattle.xti_script.specs.TextSets.{has, has_at};
 ghost use Rattle.xti_script.specs.Known.{is_own};
 
 use std::alloc::{AllocError, Global};
 use std::collections::BTreeSet;
-use std::marker::Model;
 use xti_model::{Line, NamedCall};
 
 /// How many workers there are.
 const WORKERS: usize = 33;
 
-type TextSet = BTreeSet<Vec<u8>>;
+/// A set of names.
+pub(crate) type TextSet = BTreeSet<Vec<u8>>;
 
 fn add_text(alloc: Global, texts: &mut TextSet, text: &[u8]) -> Result<(), AllocError>
     ensures ok { OnOk result ((other : List ℕ) → has texts.new other ≡ (has texts.old other || bytes_eq text.now other)) }
@@ -34,10 +33,10 @@ fn has_at(sets: &[TextSet], place: usize, bytes: &[u8]) -> bool
 }
 
 /// Whether the sets have the name for the worker, or for worker 0.
-fn is_defined(sets: &[TextSet], worker: usize, name: &[u8]) -> bool
+pub(crate) fn is_defined(sets: &[TextSet], worker: u32, name: &[u8]) -> bool
     ensures { result ≡ (has_at sets.now worker name.now || has_at sets.now 0 name.now) }
 {
-    has_at(sets, worker, name) || has_at(sets, 0, name)
+    has_at(sets, worker as usize, name) || has_at(sets, 0, name)
 }
 
 fn add_at(alloc: Global, sets: &mut [TextSet], place: usize, text: &[u8]) -> Result<(), AllocError>
@@ -48,7 +47,8 @@ fn add_at(alloc: Global, sets: &mut [TextSet], place: usize, text: &[u8]) -> Res
     add_text(alloc, &mut sets[place], text)
 }
 
-fn empty_sets(alloc: Global) -> Result<Vec<TextSet>, AllocError>
+/// A set without names for each worker.
+pub(crate) fn empty_sets(alloc: Global) -> Result<Vec<TextSet>, AllocError>
     ensures workers { IfOk result (λ sets. length sets.items ≡ 33) }
     ensures empty { IfOk result (λ sets. (at : ℕ) (other : List ℕ) → has_at sets.items at other ≡ false) }
 {
@@ -59,8 +59,8 @@ fn empty_sets(alloc: Global) -> Result<Vec<TextSet>, AllocError>
     Ok(sets)
 }
 
-/// Adds the name that the line defines.
-fn add_name(alloc: Global, sets: &mut [TextSet], line: &Line) -> Result<(), AllocError>
+/// Adds the name that the line defines; for want of memory the names are as before.
+pub(crate) fn add_name(alloc: Global, sets: &mut [TextSet], line: &Line) -> Result<(), AllocError>
     requires { line.now.worker < length sets.old }
     ensures ok { OnOk result ((worker : ℕ) (name : List ℕ) → has_at sets.new worker name ≡ (has_at sets.old worker name || is_own worker name line.now)) }
     ensures err { OnErr result (sets.new ≡ sets.old) }
@@ -70,49 +70,5 @@ fn add_name(alloc: Global, sets: &mut [TextSet], line: &Line) -> Result<(), Allo
             add_at(alloc, sets, line.worker as usize, name.as_slice())
         }
         _ => Ok(()),
-    }
-}
-
-/// The names that each worker's lines define.
-#[derive(Drop)]
-pub(crate) struct Names {
-    sets: Vec<TextSet>,
-}
-
-impl Model for Names {
-    ghost use Rattle.std.specs.Prelude.{◌≡◌, List, length};
-    ghost use Rattle.xti_script.specs.TextSets.{TextSet};
-
-    ghost Value = { List TextSet };
-
-    ghost view = { λ n. n.sets.items };
-
-    ghost invariant = { λ n. length n.sets.items ≡ 33 };
-}
-
-impl Names {
-    /// No names.
-    pub(crate) fn new(alloc: Global) -> Result<Names, AllocError>
-        ensures { IfOk result (λ names. (worker : ℕ) (name : List ℕ) → has_at names worker name ≡ false) }
-    {
-        Ok(Names {
-            sets: empty_sets(alloc)?,
-        })
-    }
-
-    /// Adds the name that the line defines; for want of memory the names are as before.
-    pub(crate) fn add(&mut self, alloc: Global, line: &Line) -> Result<(), AllocError>
-        requires { line.now.worker ≤ last_worker }
-        ensures ok { OnOk result ((worker : ℕ) (name : List ℕ) → has_at self.new worker name ≡ (has_at self.old worker name || is_own worker name line.now)) }
-        ensures err { OnErr result (self.new ≡ self.old) }
-    {
-        add_name(alloc, self.sets.as_mut_slice(), line)
-    }
-
-    /// Whether the name is one of the worker, or of worker 0.
-    pub(crate) fn have(&self, worker: u32, name: &[u8]) -> bool
-        ensures { result ≡ (has_at self.now worker name.now || has_at self.now 0 name.now) }
-    {
-        is_defined(self.sets.as_slice(), worker as usize, name)
     }
 }

@@ -1,8 +1,14 @@
-use Rattle.xti_script.proofs.Workers.{knows_more, line_added, line_refused}
+use Rattle.std.proofs.Common.{sym, ◌∙◌}
+use Rattle.xti_script.proofs.Workers.{knows_more, knows_written, line_added, line_refused}
 use Rattle.xti_script.proofs.draft.Draft.add.Goals as goal
 
 pub invariant_of-self-in-Some : goal.invariant_of-self-in-Some
-invariant_of-self-in-Some c = knows_more _ _ _ _ _ _ _ _ c.self.invariant (rw c.in-Some.is at c.in_ok-left.ensures.more) c.in_ok-left.ensures.room c.in-Some.is (rw c.in-Some.is at c.in_ok-left.ensures.some)
+invariant_of-self-in-Some c =
+    let more = rw c.in-Some.is at c.in_ok-left.ensures.more in
+    let names = rw c.as_mut_slice.ensures.value at (rw c.in-Some.is at c.in_ok-left.ensures.some) in
+    let count = rw c.as_mut_slice.ensures.value at c.add_line.auto.names in
+    let known = knows_more _ _ _ _ _ _ _ _ c.self.invariant more c.in_ok-left.ensures.room c.in-Some.is count names in
+    knows_written _ _ _ _ _ known (sym (c.add_line.auto.names ∙ c.as_mut_slice.ensures.len))
 
 pub returns-in-Some-clause-ok : goal.returns-in-Some-clause-ok
 returns-in-Some-clause-ok c = line_added _ _ _ _ _ _ _ _ c.self.invariant c.self.view_is (rw c.in-Some.is at c.in_ok-left.ensures.more) c.in_ok-left.ensures.room c.in-Some.is
