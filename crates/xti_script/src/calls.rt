@@ -59,10 +59,7 @@ fn read_open(draft: &mut Draft, worker: u32, words: &mut Words) -> Added
     requires { worker ≤ last_worker }
     ensures { IfOk result (λ added. (added, draft.new) ≡ with_call draft.old worker (open_of draft.old worker words.old)) }
 {
-    let Some(name) = words.next() else {
-        return Ok(false);
-    };
-    let Some(prov) = words.next() else {
+    let (Some(name), Some(prov)) = (words.next(), words.next()) else {
         return Ok(false);
     };
     if !is_name(name) || draft.defines(worker, name) {
@@ -88,10 +85,7 @@ fn read_set_mode(draft: &mut Draft, worker: u32, words: &mut Words) -> Added
     requires { worker ≤ last_worker }
     ensures { IfOk result (λ added. (added, draft.new) ≡ with_call draft.old worker (set_mode_of draft.old worker words.old)) }
 {
-    let Some(fd) = words.next() else {
-        return Ok(false);
-    };
-    let Some(mode) = words.next() else {
+    let (Some(fd), Some(mode)) = (words.next(), words.next()) else {
         return Ok(false);
     };
     if !words.is_empty() || !draft.defines(worker, fd) {

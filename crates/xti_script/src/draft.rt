@@ -146,8 +146,8 @@ fn admit(
     }
 }
 
-/// Adds the line; what is left of so many bytes behind it. `None` where a limit is in the way: then, and for want of
-/// memory, nothing is added.
+/// Adds the line, which is moved but once; what is left of so many bytes behind it. `None` where a limit is in the way:
+/// then, and for want of memory, nothing is added.
 fn add_line(
     lines: &mut Vec<Line>,
     names: &mut [TextSet],

@@ -2,7 +2,7 @@
 
 ghost use Rattle.std.specs.Prelude.{◌≡◌, ◌==◌, ◌≤◌, ◌∷◌, [], length, IfOk, Some};
 ghost use Rattle.xti_script.specs.Texts.{is_plain_text};
-ghost use Rattle.xti_script.specs.Values.{is_decimal, number_in, hex_digit, hex_pair, hex_bytes, plain_bytes, bytes_in, each_in, list_in};
+ghost use Rattle.xti_script.specs.Values.{is_decimal, number_in, hex_digit, hex_bytes, plain_bytes, bytes_in, each_in, list_in};
 ghost use Rattle.xti_script.specs.Numbers.{with_digit, digits_behind, first_byte};
 ghost use Rattle.xti_script.specs.Reading.{views, behind_key};
 
@@ -70,20 +70,14 @@ fn hex_digit(c: u8) -> Option<u8>
     }
 }
 
-fn hex_pair(high: u8, low: u8) -> Option<u8>
-    ensures { result ≡ hex_pair (hex_digit high) (hex_digit low) }
-{
-    match (hex_digit(high), hex_digit(low)) {
-        (Some(high), Some(low)) => Some(high * 16 + low),
-        _ => None,
-    }
-}
-
 fn first_byte(digits: &[u8]) -> Option<u8>
     ensures { result ≡ first_byte digits.now }
 {
-    match digits {
-        [high, low, ..] => hex_pair(*high, *low),
+    let [high, low, ..] = digits else {
+        return None;
+    };
+    match (hex_digit(*high), hex_digit(*low)) {
+        (Some(high), Some(low)) => Some(high * 16 + low),
         _ => None,
     }
 }
