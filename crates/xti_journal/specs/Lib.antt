@@ -1,1 +1,2 @@
 pub mod JournalText
+pub mod Writing

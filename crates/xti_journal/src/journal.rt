@@ -40,7 +40,7 @@ fn put_first_line(out: &mut Vec<u8>) -> Result<(), AllocError>
 }
 
 #[tactic(auto, unfolding(crate::specs::JournalText::head_text))]
-fn put_head(out: &mut Vec<u8>, p: &Providers) -> Result<(), AllocError>
+pub(crate) fn put_head(out: &mut Vec<u8>, p: &Providers) -> Result<(), AllocError>
     ensures { OnOk result (out.new.items ≡ out.old.items ++ head_text p.now) }
 {
     put_first_line(out)?;
@@ -58,7 +58,7 @@ fn put_answer(out: &mut Vec<u8>, e: &Entry) -> Result<(), AllocError>
 }
 
 #[tactic(auto, unfolding(crate::specs::JournalText::entry_text))]
-fn put_entry(out: &mut Vec<u8>, n: u64, e: &Entry) -> Result<(), AllocError>
+pub(crate) fn put_entry(out: &mut Vec<u8>, n: u64, e: &Entry) -> Result<(), AllocError>
     ensures { OnOk result (out.new.items ≡ out.old.items ++ entry_text n e.now) }
 {
     put_number(out, "", n)?;
@@ -91,7 +91,7 @@ fn put_stall(out: &mut Vec<u8>, s: &StallLine) -> Result<(), AllocError>
     put_text(out, "\n")
 }
 
-fn put_stalls(out: &mut Vec<u8>, stalls: &[StallLine]) -> Result<(), AllocError>
+pub(crate) fn put_stalls(out: &mut Vec<u8>, stalls: &[StallLine]) -> Result<(), AllocError>
     ensures { OnOk result (out.new.items ≡ out.old.items ++ flat_map stall_text stalls.now) }
 {
     for s in stalls {
@@ -101,16 +101,15 @@ fn put_stalls(out: &mut Vec<u8>, stalls: &[StallLine]) -> Result<(), AllocError>
 }
 
 #[tactic(auto, unfolding(crate::specs::JournalText::end_text))]
-fn put_end(out: &mut Vec<u8>, count: u64) -> Result<(), AllocError>
+pub(crate) fn put_end(out: &mut Vec<u8>, count: u64) -> Result<(), AllocError>
     ensures { OnOk result (out.new.items ≡ out.old.items ++ end_text count) }
 {
     put_number(out, "end ", count)?;
     put_text(out, "\n")
 }
 
-/// Appends the text of a journal; `Err` is want of memory.
 #[tactic(auto, unfolding(crate::specs::JournalText::journal_text))]
-pub fn append_journal(out: &mut Vec<u8>, j: &Journal) -> Result<(), AllocError>
+fn put_journal(out: &mut Vec<u8>, j: &Journal) -> Result<(), AllocError>
     ensures { OnOk result (out.new.items ≡ out.old.items ++ journal_text j.now) }
 {
     put_head(out, &j.providers)?;
@@ -124,7 +123,7 @@ pub fn write_journal(alloc: Global, j: &Journal) -> Result<Octets, AllocError>
     ensures { IfOk result (λ text. text ≡ journal_text j.now) }
 {
     let mut out = Vec::new(alloc);
-    append_journal(&mut out, j)?;
+    put_journal(&mut out, j)?;
     Ok(Octets::from_vec(out))
 }
 
