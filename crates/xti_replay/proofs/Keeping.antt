@@ -14,7 +14,7 @@ use Rattle.xti_model.proofs.Phases.{through-same}
 use Rattle.xti_core.specs.Standing.{Standing}
 use Rattle.xti_replay.specs.declared.workers.Worker.{Worker}
 use Rattle.xti_replay.specs.declared.run.Run.{Run}
-use Rattle.xti_replay.specs.Progress.{Told, IsNext, IsReady, Of, AreKept, InStep, HasStepped, Makes, GoesOn, Resolves, SetsUp}
+use Rattle.xti_replay.specs.Progress.{Told, IsNext, IsReady, Of, AreKept, MayAsk, InStep, HasStepped, Taken, Makes, GoesOn, Resolves, SetsUp}
 use Rattle.xti_replay.proofs.Lines.{own-other, told-other, next-other}
 use Rattle.xti_replay.proofs.Fresh.{of-changed}
 use Rattle.xti_replay.proofs.Steps.{at-worker}
@@ -43,66 +43,63 @@ ready-other lines past e number w ne nz t r = record {
 
 -- What the making of a step tells.
 
-pub record IsMade (lines : List Line) (number : ℕ) (after : Standing) (past all : List Entry) (new : Worker) (o : Option Turn) : Type 0 where
+pub record IsMade (lines : List Line) (number : ℕ) (past : List Entry) (taken all : Taken) (after : Standing) (new : Worker) (o : Option Turn) : Type 0 where
   pub turn : Turn
   pub is : o ≡ Some turn
   pub world : after.cells ≡ turn.world
-  pub grown : all ≡ past ++ turn.entry ∷ []
   pub own : turn.entry.worker ≡ number
-  pub told : Told lines all number new
+  pub told : Told lines (past ++ turn.entry ∷ []) number new
+  pub takes : taken past → all (past ++ turn.entry ∷ [])
 
-pub makes-some : (lines : List Line) (number : ℕ) (before after : Standing) (past all : List Entry) (old new : Worker) (made : Bool) (o : Option Turn) → Makes lines number before after past all old new made o → made ≡ true → IsMade lines number after past all new o
-makes-some lines number before after past all old new made None m h = absurd (let no : true ≡ false = sym h ∙ m.0 in cc)
-makes-some lines number before after past all old new made (Some t) m h = record { turn = t; is = refl; world = m.1; grown = m.2; own = m.3; told = m.4 }
+pub makes-some : (lines : List Line) (number : ℕ) (past : List Entry) (taken all : Taken) (before after : Standing) (old new : Worker) (made : Bool) (o : Option Turn) → Makes lines number past taken all before after old new made o → made ≡ true → IsMade lines number past taken all after new o
+makes-some lines number past taken all before after old new made None m h = absurd (let no : true ≡ false = sym h ∙ m.0 in cc)
+makes-some lines number past taken all before after old new made (Some t) m h = record { turn = t; is = refl; world = m.1; own = m.2; told = m.3; takes = m.4 }
 
-pub record IsUnmade (before after : Standing) (past all : List Entry) (old new : Worker) (o : Option Turn) : Type 0 where
+pub record IsUnmade (past : List Entry) (taken all : Taken) (before after : Standing) (old new : Worker) (o : Option Turn) : Type 0 where
   pub is : o ≡ None
   pub world : after ≡ before
-  pub entries : all ≡ past
   pub worker : new ≡ old
+  pub takes : taken past → all past
 
-pub makes-none : (lines : List Line) (number : ℕ) (before after : Standing) (past all : List Entry) (old new : Worker) (made : Bool) (o : Option Turn) → Makes lines number before after past all old new made o → made ≡ false → IsUnmade before after past all old new o
-makes-none lines number before after past all old new made None m h = record { is = refl; world = m.1; entries = m.2; worker = m.3 }
-makes-none lines number before after past all old new made (Some t) m h = absurd (let no : true ≡ false = sym m.0 ∙ h in cc)
+pub makes-none : (lines : List Line) (number : ℕ) (past : List Entry) (taken all : Taken) (before after : Standing) (old new : Worker) (made : Bool) (o : Option Turn) → Makes lines number past taken all before after old new made o → made ≡ false → IsUnmade past taken all before after old new o
+makes-none lines number past taken all before after old new made None m h = record { is = refl; world = m.1; worker = m.2; takes = m.3 }
+makes-none lines number past taken all before after old new made (Some t) m h = absurd (let no : true ≡ false = sym m.0 ∙ h in cc)
 
 -- no step: all is as before
-pub ask-none : (lines : List Line) (r s : Run) (number : ℕ) (w new : Worker) (made : Bool) (o : Option Turn) → InStep lines r → w ≡ get_or r.workers.items number w → Makes lines number r.world s.world r.entries s.entries w new made o → made ≡ false
-    → s.workers.items ≡ set r.workers.items number new → s.last ≡ r.last → GoesOn lines r s false o
-ask-none lines r s number w new made o k at m unmade items last =
-    let u = makes-none lines number r.world s.world r.entries s.entries w new made o m unmade in
+pub ask-none : (lines : List Line) (past : List Entry) (taken all : Taken) (r s : Run) (number : ℕ) (w new : Worker) (made : Bool) (o : Option Turn) → InStep lines past r → w ≡ get_or r.workers.items number w → Makes lines number past taken all r.world s.world w new made o → made ≡ false
+    → s.workers.items ≡ set r.workers.items number new → s.last ≡ r.last → GoesOn lines past taken all r s false o
+ask-none lines past taken all r s number w new made o k at m unmade items last =
+    let u = makes-none lines number past taken all r.world s.world w new made o m unmade in
     let same : s.workers.items ≡ r.workers.items =
     items ∙ ap (set r.workers.items number) (u.worker ∙ at) ∙ set-get_or r.workers.items number w in
-    let kept : AreKept lines s.entries s.workers.items =
-    subst (λ (ws : List Worker). AreKept lines s.entries ws) (sym same) (subst (λ (es : List Entry). AreKept lines es r.workers.items) (sym u.entries) k.workers) in
-    subst (λ (v : Option Turn). GoesOn lines r s false v) (sym u.is)
-    (refl, u.world, u.entries, record { workers = kept; last = last ∙ k.last ∙ ap (last_worker 0) (sym u.entries); within = subst (λ (n : ℕ). n < 33) (sym last) k.within })
+    let kept : AreKept lines past s.workers.items = subst (λ (ws : List Worker). AreKept lines past ws) (sym same) k.workers in
+    subst (λ (v : Option Turn). GoesOn lines past taken all r s false v) (sym u.is)
+    (refl, u.world, record { workers = kept; last = last ∙ k.last; within = subst (λ (n : ℕ). n < 33) (sym last) k.within }, u.takes)
 
 not-through : (lines : List Line) (past : List Entry) (number : ℕ) (g : Option Going) (p : Providers) (w : World) (t : Turn) → option_and_then (turn_going p w number) g ≡ Some t → is_none g ≡ false
 not-through lines past number None p w t h = absurd cc
 not-through lines past number (Some g) p w t h = refl
 
 -- a step: the worker's next call is to be found
-pub has-stepped : (p : Providers) (lines : List Line) (r s : Run) (number : ℕ) (w new : Worker) (made : Bool) → InStep lines r → number < 33 → (number ≡ 0) ⊎ (is_through lines r.entries 0 ≡ true) → Makes lines number r.world s.world r.entries s.entries w new made (turn p lines r.world.cells r.entries number) → made ≡ true
-    → s.workers.items ≡ set r.workers.items number new → HasStepped lines number s
-has-stepped p lines r s number w new made k lt may m so items =
-    let i = makes-some lines number r.world s.world r.entries s.entries w new made (turn p lines r.world.cells r.entries number) m so in
+pub has-stepped : (p : Providers) (lines : List Line) (past : List Entry) (w : World) (r s : Run) (number : ℕ) (new : Worker) (t : Turn) → InStep lines past r → number < 33 → MayAsk lines past number → turn p lines w past number ≡ Some t → t.entry.worker ≡ number → Told lines (past ++ t.entry ∷ []) number new
+    → s.workers.items ≡ set r.workers.items number new → HasStepped lines number (past ++ t.entry ∷ []) s
+has-stepped p lines past w r s number new t k lt may is own told items =
     let ws : List Worker = r.workers.items in
-    let es : List Entry = r.entries ++ i.turn.entry ∷ [] in
-    let told : Of (Told lines es) (set ws number new) =
-    of-changed (Told lines r.entries) (Told lines es) ws number new k.workers.told
-    (λ j v ne l t. told-other lines r.entries i.turn.entry j v (λ e. ne (sym e ∙ i.own)) t) (λ l. subst (λ (all : List Entry). Told lines all number new) i.grown i.told) in
+    let es : List Entry = past ++ t.entry ∷ [] in
+    let all : Of (Told lines es) (set ws number new) =
+    of-changed (Told lines past) (Told lines es) ws number new k.workers.told
+    (λ j v ne l h. told-other lines past t.entry j v (λ e. ne (sym e ∙ own)) h) (λ l. told) in
     record {
       many = ap length items ∙ length-set ws number new ∙ k.workers.many;
-      told = subst (λ (all : List Entry). Of (Told lines all) s.workers.items) (sym i.grown) (subst (λ (vs : List Worker). Of (Told lines es) vs) (sym items) told);
-      through = λ nz. subst (λ (all : List Entry). is_through lines all 0 ≡ true) (sym i.grown) (through-other lines r.entries i.turn.entry (λ e. nz (sym i.own ∙ e)) ∙ was may nz);
+      told = subst (λ (vs : List Worker). Of (Told lines es) vs) (sym items) all;
+      through = λ nz. through-other lines past t.entry (λ e. nz (sym own ∙ e)) ∙ was may nz;
       others = λ j d l ne nz.
-          subst (λ (all : List Entry). IsReady lines all j (get_or s.workers.items j d)) (sym i.grown)
-          (subst (λ (vs : List Worker). IsReady lines es j (get_or vs j d)) (sym items)
+          subst (λ (vs : List Worker). IsReady lines es j (get_or vs j d)) (sym items)
           (subst (λ (v : Worker). IsReady lines es j v) (sym (get_or-set_other ws number j new d ne))
-          (ready-other lines r.entries i.turn.entry j (get_or ws j d) (λ e. ne (sym e ∙ i.own)) (λ e. nz (sym i.own ∙ e)) (k.workers.told j d (within j l)) (k.workers.ready j d (within j l)))));
+          (ready-other lines past t.entry j (get_or ws j d) (λ e. ne (sym e ∙ own)) (λ e. nz (sym own ∙ e)) (k.workers.told j d (within j l)) (k.workers.ready j d (within j l))));
       idle = λ z j d pos l.
           let ne : j ≢ number = λ e. zero-not-positive j pos (e ∙ z) in
-          let waits : is_through lines r.entries 0 ≡ false = not-through lines r.entries 0 (next_going lines r.entries 0) p r.world.cells i.turn (subst (λ (v : ℕ). turn p lines r.world.cells r.entries v ≡ Some i.turn) z i.is) in
+          let waits : is_through lines past 0 ≡ false = not-through lines past 0 (next_going lines past 0) p w t (subst (λ (v : ℕ). turn p lines w past v ≡ Some t) z is) in
           ap (λ (vs : List Worker). (get_or vs j d).next) items ∙ ap (λ (v : Worker). v.next) (get_or-set_other ws number j new d ne)
           ∙ (k.workers.ready j d (within j l)).idle waits (zero-not-positive j pos);
     }
@@ -113,28 +110,38 @@ has-stepped p lines r s number w new made k lt may m so items =
     zero-not-positive : (j : ℕ) → 0 < j → j ≡ 0 → ⊥
     zero-not-positive j pos e = omega arith
 
-    was : (number ≡ 0) ⊎ (is_through lines r.entries 0 ≡ true) → (number ≡ 0 → ⊥) → is_through lines r.entries 0 ≡ true
+    was : MayAsk lines past number → (number ≡ 0 → ⊥) → is_through lines past 0 ≡ true
     was (inl z) nz = absurd (nz z)
     was (inr h) nz = h
 
+pub record IsAsked (p : Providers) (lines : List Line) (number : ℕ) (past : List Entry) (taken all : Taken) (r s : Run) (new : Worker) : Type 0 where
+  pub made : IsMade lines number past taken all s.world new (turn p lines r.world.cells past number)
+  pub stepped : HasStepped lines number (past ++ made.turn.entry ∷ []) s
+
+pub ask-some : (lines : List Line) (past : List Entry) (taken all : Taken) (r s : Run) (number : ℕ) (w new : Worker) (made : Bool) → InStep lines past r → number < 33 → MayAsk lines past number → Makes lines number past taken all r.world s.world w new made (turn r.world.providers lines r.world.cells past number) → made ≡ true
+    → s.workers.items ≡ set r.workers.items number new → IsAsked r.world.providers lines number past taken all r s new
+ask-some lines past taken all r s number w new made k lt may m so items =
+    let o : Option Turn = turn r.world.providers lines r.world.cells past number in
+    let i = makes-some lines number past taken all r.world s.world w new made o m so in
+    record { made = i; stepped = has-stepped r.world.providers lines past r.world.cells r s number new i.turn k lt may i.is i.own i.told items }
+
 -- Next calls are found.
 
-pub kept-others : (lines : List Line) (r s : Run) (number : ℕ) → HasStepped lines number r → number < 33 → (number ≡ 0 → ⊥) → Resolves lines number (number + 1) r s → SetsUp lines r s
-kept-others lines r s number h lt nz v = record {
+pub kept-others : (lines : List Line) (past : List Entry) (r s : Run) (number : ℕ) → HasStepped lines number past r → number < 33 → (number ≡ 0 → ⊥) → Resolves lines past number (number + 1) r s → SetsUp lines past r s
+kept-others lines past r s number h lt nz v = record {
   world = v.world;
-  entries = v.entries;
   last = v.last;
   workers = record { many = v.many ∙ h.many; told = v.told; ready = λ k d l. by k d (omega (arith, v.many, h.many)) (eqb_tells k number) };
 }
   where
-    by : (k : ℕ) (d : Worker) → k < 33 → ((eqb k number ≡ true) × (k ≡ number)) ⊎ ((eqb k number ≡ false) × (k ≢ number)) → IsReady lines r.entries k (get_or s.workers.items k d)
+    by : (k : ℕ) (d : Worker) → k < 33 → ((eqb k number ≡ true) × (k ≡ number)) ⊎ ((eqb k number ≡ false) × (k ≢ number)) → IsReady lines past k (get_or s.workers.items k d)
     by k d l (inl e) = record {
       own = λ may. v.these k d (omega (arith, e.1)) (omega (arith, e.1));
       idle = λ f z. absurd (let no : true ≡ false = sym (h.through nz) ∙ f in cc);
     }
     by k d l (inr e) =
         let apart : (k < number) ⊎ (number + 1 ≤ k) = grind (arith, e.1) in
-        subst (λ (w : Worker). IsReady lines r.entries k w) (sym (v.others k d apart)) (h.others k d l e.1 nz)
+        subst (λ (w : Worker). IsReady lines past k w) (sym (v.others k d apart)) (h.others k d l e.1 nz)
 
 none-through : (lines : List Line) (past : List Entry) (number : ℕ) (next : Option Call) → IsNext lines past number next → is_some next ≡ false → is_through lines past number ≡ true
 none-through lines past number None n h = ap is_none (sym n.going)
@@ -157,68 +164,64 @@ abbrev Idle : List Worker → Type 0
 Idle ws = (number : ℕ) (d : Worker) → 0 < number → number < 33 → (get_or ws number d).next ≡ None
 
 -- worker 0 is not through
-pub set_up-waits : (lines : List Line) (r s : Run) (w : Worker) (b : Bool) → length r.workers.items ≡ 33 → Idle r.workers.items → Resolves lines 0 1 r s → w ≡ get_or s.workers.items 0 w → b ≡ is_some w.next → b ≡ true → SetsUp lines r s
-set_up-waits lines r s w b many idle v at e h = record {
+pub set_up-waits : (lines : List Line) (past : List Entry) (r s : Run) (w : Worker) (b : Bool) → length r.workers.items ≡ 33 → Idle r.workers.items → Resolves lines past 0 1 r s → w ≡ get_or s.workers.items 0 w → b ≡ is_some w.next → b ≡ true → SetsUp lines past r s
+set_up-waits lines past r s w b many idle v at e h = record {
   world = v.world;
-  entries = v.entries;
   last = v.last;
   workers = record { many = v.many ∙ many; told = v.told; ready = λ k d l. by k d (omega (arith, v.many, many)) };
 }
   where
-    next : IsNext lines r.entries 0 w.next
-    next = subst (λ (v : Worker). IsNext lines r.entries 0 v.next) (sym at) (v.these 0 w (omega arith) (omega arith))
+    next : IsNext lines past 0 w.next
+    next = subst (λ (v : Worker). IsNext lines past 0 v.next) (sym at) (v.these 0 w (omega arith) (omega arith))
 
-    by : (k : ℕ) (d : Worker) → k < 33 → IsReady lines r.entries k (get_or s.workers.items k d)
+    by : (k : ℕ) (d : Worker) → k < 33 → IsReady lines past k (get_or s.workers.items k d)
     by zero d l = record { own = λ may. v.these 0 d (omega arith) (omega arith); idle = λ f z. absurd (z refl) }
     by (suc k) d l = record {
       own = λ may. absurd (not-both may);
       idle = λ f z. ap (λ (w : Worker). w.next) (v.others (suc k) d (inr (omega arith))) ∙ idle (suc k) d (omega arith) l;
     }
       where
-        not-both : (suc k ≡ 0) ⊎ (is_through lines r.entries 0 ≡ true) → ⊥
+        not-both : (suc k ≡ 0) ⊎ (is_through lines past 0 ≡ true) → ⊥
         not-both (inl z) = omega arith
-        not-both (inr t) = let no : true ≡ false = sym t ∙ some-open lines r.entries 0 w.next next (sym e ∙ h) in cc
+        not-both (inr t) = let no : true ≡ false = sym t ∙ some-open lines past 0 w.next next (sym e ∙ h) in cc
 
 -- worker 0 is through
-pub set_up-through : (lines : List Line) (r s t : Run) (w : Worker) (b : Bool) → length r.workers.items ≡ 33 → Resolves lines 0 1 r s → w ≡ get_or s.workers.items 0 w → b ≡ is_some w.next → b ≡ false → Resolves lines 1 33 s t → SetsUp lines r t
-set_up-through lines r s t w b many v at e h u = record {
+pub set_up-through : (lines : List Line) (past : List Entry) (r s t : Run) (w : Worker) (b : Bool) → length r.workers.items ≡ 33 → Resolves lines past 0 1 r s → w ≡ get_or s.workers.items 0 w → b ≡ is_some w.next → b ≡ false → Resolves lines past 1 33 s t → SetsUp lines past r t
+set_up-through lines past r s t w b many v at e h u = record {
   world = u.world ∙ v.world;
-  entries = u.entries ∙ v.entries;
   last = u.last ∙ v.last;
   workers = record {
     many = u.many ∙ v.many ∙ many;
-    told = subst (λ (es : List Entry). Of (Told lines es) t.workers.items) v.entries u.told;
+    told = u.told;
     ready = λ k d l. by k d (omega (arith, u.many, v.many, many));
   };
 }
   where
-    through : is_through lines r.entries 0 ≡ true
-    through = none-through lines r.entries 0 w.next (subst (λ (v : Worker). IsNext lines r.entries 0 v.next) (sym at) (v.these 0 w (omega arith) (omega arith))) (sym e ∙ h)
+    through : is_through lines past 0 ≡ true
+    through = none-through lines past 0 w.next (subst (λ (v : Worker). IsNext lines past 0 v.next) (sym at) (v.these 0 w (omega arith) (omega arith))) (sym e ∙ h)
 
-    ready : (k : ℕ) (v : Worker) → IsNext lines r.entries k v.next → IsReady lines r.entries k v
+    ready : (k : ℕ) (v : Worker) → IsNext lines past k v.next → IsReady lines past k v
     ready k v n = record { own = λ may. n; idle = λ f z. absurd (let no : true ≡ false = sym through ∙ f in cc) }
 
-    by : (k : ℕ) (d : Worker) → k < 33 → IsReady lines r.entries k (get_or t.workers.items k d)
-    by zero d l = ready 0 _ (subst (λ (w : Worker). IsNext lines r.entries 0 w.next) (sym (u.others 0 d (inl (omega arith)))) (v.these 0 d (omega arith) (omega arith)))
-    by (suc k) d l = ready (suc k) _ (subst (λ (es : List Entry). IsNext lines es (suc k) (get_or t.workers.items (suc k) d).next) v.entries (u.these (suc k) d (omega arith) l))
+    by : (k : ℕ) (d : Worker) → k < 33 → IsReady lines past k (get_or t.workers.items k d)
+    by zero d l = ready 0 _ (subst (λ (w : Worker). IsNext lines past 0 w.next) (sym (u.others 0 d (inl (omega arith)))) (v.these 0 d (omega arith) (omega arith)))
+    by (suc k) d l = ready (suc k) _ (u.these (suc k) d (omega arith) l)
 
 -- a step was made, and next calls are found
-pub ask-made : (p : Providers) (lines : List Line) (r s t : Run) (number : ℕ) (w new : Worker) (made : Bool) → InStep lines r → number < 33 → Makes lines number r.world s.world r.entries s.entries w new made (turn p lines r.world.cells r.entries number) → made ≡ true
-    → s.last ≡ number → SetsUp lines s t → GoesOn lines r t true (turn p lines r.world.cells r.entries number)
-ask-made p lines r s t number w new made k lt m so last u =
-    let o : Option Turn = turn p lines r.world.cells r.entries number in
-    let i = makes-some lines number r.world s.world r.entries s.entries w new made o m so in
-    let grown : t.entries ≡ r.entries ++ i.turn.entry ∷ [] = u.entries ∙ i.grown in
+pub ask-made : (p : Providers) (lines : List Line) (past : List Entry) (taken all : Taken) (r s t : Run) (number : ℕ) (new : Worker) (a : IsAsked p lines number past taken all r s new) → number < 33
+    → s.last ≡ number → SetsUp lines (past ++ a.made.turn.entry ∷ []) s t → GoesOn lines past taken all r t true (turn p lines r.world.cells past number)
+ask-made p lines past taken all r s t number new a lt last u =
     let place : t.last ≡ number = u.last ∙ last in
-    subst (λ (v : Option Turn). GoesOn lines r t true v) (sym i.is) (
+    let i = a.made in
+    subst (λ (v : Option Turn). GoesOn lines past taken all r t true v) (sym i.is) (
       refl,
       ap (λ (x : Standing). x.cells) u.world ∙ i.world,
-      grown,
       record {
-        workers = subst (λ (es : List Entry). AreKept lines es t.workers.items) (sym u.entries) u.workers;
-        last = place ∙ sym i.own ∙ sym (last-push 0 r.entries i.turn.entry) ∙ ap (last_worker 0) (sym grown);
+        workers = u.workers;
+        last = place ∙ sym i.own ∙ sym (last-push 0 past i.turn.entry);
         within = subst (λ (n : ℕ). n < 33) (sym place) lt;
       },
+      i.takes,
     )
 
 -- One worker's next call is found.
@@ -226,10 +229,9 @@ ask-made p lines r s t number w new made k lt m so last u =
 told-set : (lines : List Line) (past : List Entry) (number : ℕ) (w : Worker) (next : Option Call) → Told lines past number w → Told lines past number (record w { next = next })
 told-set lines past number w next t = record { places = t.places; count = t.count; names = t.names; whole = t.whole }
 
-pub resolves-none : (lines : List Line) (r : Run) (from : ℕ) → Of (Told lines r.entries) r.workers.items → Resolves lines from from r r
-resolves-none lines r from told = record {
+pub resolves-none : (lines : List Line) (past : List Entry) (r : Run) (from : ℕ) → Of (Told lines past) r.workers.items → Resolves lines past from from r r
+resolves-none lines past r from told = record {
   world = refl;
-  entries = refl;
   last = refl;
   many = refl;
   told = told;
@@ -237,20 +239,16 @@ resolves-none lines r from told = record {
   others = λ k d h. refl;
 }
 
-pub resolved-told : (lines : List Line) (from i : ℕ) (base r : Run) → Resolves lines from i base r → Of (Told lines r.entries) r.workers.items
-resolved-told lines from i base r v = subst (λ (es : List Entry). Of (Told lines es) r.workers.items) (sym v.entries) v.told
-
-pub resolved-next : (lines : List Line) (from i : ℕ) (base r s : Run) (w : Worker) (next : Option Call) → Resolves lines from i base r → from ≤ i → i < 33 → length base.workers.items ≡ 33 → w ≡ get_or r.workers.items i w → IsNext lines r.entries i next
-    → s.workers.items ≡ set r.workers.items i (record w { next = next }) → s.world ≡ r.world → s.entries ≡ r.entries → s.last ≡ r.last → Resolves lines from (i + 1) base s
-resolved-next lines from i base r s w next v le lt many at n items world entries last = record {
+pub resolved-next : (lines : List Line) (past : List Entry) (from i : ℕ) (base r s : Run) (w : Worker) (next : Option Call) → Resolves lines past from i base r → from ≤ i → i < 33 → length base.workers.items ≡ 33 → w ≡ get_or r.workers.items i w → IsNext lines past i next
+    → s.workers.items ≡ set r.workers.items i (record w { next = next }) → s.world ≡ r.world → s.last ≡ r.last → Resolves lines past from (i + 1) base s
+resolved-next lines past from i base r s w next v le lt many at n items world last = record {
   world = world ∙ v.world;
-  entries = entries ∙ v.entries;
   last = last ∙ v.last;
   many = ap length items ∙ length-set r.workers.items i (record w { next = next }) ∙ v.many;
-  told = subst (λ (ws : List Worker). Of (Told lines base.entries) ws) (sym items)
-      (of-changed (Told lines base.entries) (Told lines base.entries) r.workers.items i (record w { next = next }) v.told (λ k x ne l t. t)
-      (λ l. told-set lines base.entries i w next (at-worker (Told lines base.entries) r.workers.items i w v.told l at)));
-  these = λ k d a b. subst (λ (ws : List Worker). IsNext lines base.entries k (get_or ws k d).next) (sym items) (here k d a b (eqb_tells k i));
+  told = subst (λ (ws : List Worker). Of (Told lines past) ws) (sym items)
+      (of-changed (Told lines past) (Told lines past) r.workers.items i (record w { next = next }) v.told (λ k x ne l t. t)
+      (λ l. told-set lines past i w next (at-worker (Told lines past) r.workers.items i w v.told l at)));
+  these = λ k d a b. subst (λ (ws : List Worker). IsNext lines past k (get_or ws k d).next) (sym items) (here k d a b (eqb_tells k i));
   others = λ k d h. ap (λ (ws : List Worker). get_or ws k d) items ∙ get_or-set_other r.workers.items i k (record w { next = next }) d (apart k h) ∙ v.others k d (wider k h);
 }
   where
@@ -265,10 +263,9 @@ resolved-next lines from i base r s w next v le lt many at n items world entries
     wider k (inl h) = inl h
     wider k (inr h) = inr (omega arith)
 
-    here : (k : ℕ) (d : Worker) → from ≤ k → k < i + 1 → ((eqb k i ≡ true) × (k ≡ i)) ⊎ ((eqb k i ≡ false) × (k ≢ i)) → IsNext lines base.entries k (get_or (set r.workers.items i (record w { next = next })) k d).next
+    here : (k : ℕ) (d : Worker) → from ≤ k → k < i + 1 → ((eqb k i ≡ true) × (k ≡ i)) ⊎ ((eqb k i ≡ false) × (k ≢ i)) → IsNext lines past k (get_or (set r.workers.items i (record w { next = next })) k d).next
     here k d a b (inl e) =
-        let same : IsNext lines base.entries i next = subst (λ (es : List Entry). IsNext lines es i next) v.entries n in
         let set-here : get_or (set r.workers.items i (record w { next = next })) i d ≡ record w { next = next } = get_or-set_same r.workers.items i (record w { next = next }) d within in
-        subst (λ (j : ℕ). IsNext lines base.entries j (get_or (set r.workers.items i (record w { next = next })) j d).next) (sym e.1) (subst (λ (x : Worker). IsNext lines base.entries i x.next) (sym set-here) same)
+        subst (λ (j : ℕ). IsNext lines past j (get_or (set r.workers.items i (record w { next = next })) j d).next) (sym e.1) (subst (λ (x : Worker). IsNext lines past i x.next) (sym set-here) n)
     here k d a b (inr e) =
-        subst (λ (x : Worker). IsNext lines base.entries k x.next) (sym (get_or-set_other r.workers.items i k (record w { next = next }) d e.1)) (v.these k d a (let l : k < i = grind (arith, e.1) in l))
+        subst (λ (x : Worker). IsNext lines past k x.next) (sym (get_or-set_other r.workers.items i k (record w { next = next }) d e.1)) (v.these k d a (let l : k < i = grind (arith, e.1) in l))

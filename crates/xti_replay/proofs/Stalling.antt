@@ -126,14 +126,15 @@ listed-all ws vs i stalls l le = l.so_far ∙ ap (stalls_from 0) (take_all i ws 
 pub record Ends (s : Script) (all : List Entry) (told : List StallLine) : Type 0 where
   pub entries : all ≡ robin s
   pub stalls : told ≡ stalls_of s
-  pub through : (told ≡ []) ↔ (are_through s.lines all ≡ true)
+  pub through : (told ≡ []) ↔ (are_through s.lines (robin s) ≡ true)
 
-pub ends : (s : Script) (lines : List Line) (all : List Entry) (ws : List Worker) (told : List StallLine) → lines ≡ s.lines → all ≡ robin_from s.providers lines most_steps (opening s.providers) [] → AreKept lines all ws → told ≡ stalls_from 0 ws → Ends s all told
-ends s lines all ws told e h k t =
-    let whole : all ≡ robin s = h ∙ ap (λ (ls : List Line). robin_from s.providers ls most_steps (opening s.providers) []) e in
-    let stalled : told ≡ stalls_after s.lines all = t ∙ kept-stalls lines all ws k ∙ ap (λ (ls : List Line). stalls_after ls all) e in
+pub ends : (s : Script) (lines : List Line) (ws : List Worker) (told : List StallLine) → lines ≡ s.lines → AreKept lines (robin_from s.providers lines most_steps (opening s.providers) []) ws → told ≡ stalls_from 0 ws → Ends s (robin_from s.providers lines most_steps (opening s.providers) []) told
+ends s lines ws told e k t =
+    let all : List Entry = robin_from s.providers lines most_steps (opening s.providers) [] in
+    let whole : all ≡ robin s = ap (λ (ls : List Line). robin_from s.providers ls most_steps (opening s.providers) []) e in
+    let stalled : told ≡ stalls_of s = t ∙ kept-stalls lines all ws k ∙ ap (λ (ls : List Line). stalls_after ls all) e ∙ ap (stalls_after s.lines) whole in
     record {
       entries = whole;
-      stalls = stalled ∙ ap (stalls_after s.lines) whole;
-      through = subst (λ (l : List StallLine). (l ≡ []) ↔ (are_through s.lines all ≡ true)) (sym stalled) (stalls-through s.lines all);
+      stalls = stalled;
+      through = subst (λ (l : List StallLine). (l ≡ []) ↔ (are_through s.lines (robin s) ≡ true)) (sym stalled) (stalls-through s.lines (robin s));
     }

@@ -1,5 +1,5 @@
 -- One worker's next call, and its step.
-use Rattle.std.proofs.Common.{◌≡◌, ℕ, ◌+◌, ◌<◌, true, cond, List, [], ◌∷◌, ◌++◌, length, get_or, Option, Some, None, refl, sym, ap, ◌∙◌, subst, arith}
+use Rattle.std.proofs.Common.{◌≡◌, ℕ, ◌+◌, ◌<◌, true, cond, false, List, [], ◌∷◌, ◌++◌, length, get_or, Option, Some, None, refl, sym, ap, ◌∙◌, subst, arith}
 use Rattle.std.specs.Prelude.{option_map, option_and_then, slice_get}
 use Rattle.std.proofs.lemmas.Option.{slice_get_read, slice_get_within, get_or_from_slice_get}
 use Rattle.xti_base.specs.declared.kinds.State.{State}
@@ -20,12 +20,18 @@ use Rattle.xti_core.specs.Standing.{Standing}
 use Rattle.xti_replay.specs.declared.workers.Worker.{Worker}
 use Rattle.xti_replay.specs.Playable.{are_playable}
 use Rattle.xti_replay.specs.Known.{known_in, number_of, or_known, call_before}
-use Rattle.xti_replay.specs.Progress.{Told, pending, is_built_or_none, IsNext, Of, Makes}
+use Rattle.xti_replay.specs.Progress.{Told, pending, is_built_or_none, IsNext, IsReady, Of, AreKept, MayAsk, Taken, Makes}
 use Rattle.xti_replay.proofs.Done.{is_done, step_done}
 use Rattle.xti_replay.proofs.Lines.{next-at, through-at, next-by, next-call, told-next, playable-line, line-built, line-worker}
 
 pub at-worker : (P : ℕ → Worker → Type 0) (ws : List Worker) (number : ℕ) (w : Worker) → Of P ws → number < length ws → w ≡ get_or ws number w → P number w
 at-worker P ws number w each lt is = subst (λ (v : Worker). P number v) (sym is) (each number w lt)
+
+pub at-told : (lines : List Line) (past : List Entry) (ws : List Worker) (number : ℕ) (w : Worker) → AreKept lines past ws → number < 33 → w ≡ get_or ws number w → Told lines past number w
+at-told lines past ws number w k lt is = at-worker (Told lines past) ws number w k.told (omega (arith, k.many)) is
+
+pub at-next : (lines : List Line) (past : List Entry) (ws : List Worker) (number : ℕ) (w : Worker) → AreKept lines past ws → number < 33 → MayAsk lines past number → w ≡ get_or ws number w → IsNext lines past number w.next
+at-next lines past ws number w k lt may is = (at-worker (IsReady lines past) ws number w k.ready (omega (arith, k.many)) is).own may
 
 -- The next call by the worker's next place.
 
@@ -90,12 +96,12 @@ held d (Some call) = call
 pub same-call : (one other : Call) → Some one ≡ Some other → one ≡ other
 same-call one other e = ap (held one) e
 
-pub makes-made : (p : Providers) (lines : List Line) (number : ℕ) (before after : Standing) (past all : List Entry) (old new : Worker) (call : Call) (outcome : Outcome) (state : State)
+pub makes-made : (p : Providers) (lines : List Line) (number : ℕ) (past : List Entry) (taken all : Taken) (before after : Standing) (old new : Worker) (call : Call) (outcome : Outcome) (state : State)
     → Told lines past number old → IsNext lines past number old.next → old.next ≡ Some call → Some (record { outcome = outcome; after = state; world = after.cells }) ≡ step p before.cells call go.Begin
-    → all ≡ past ++ record { worker = number; act = act.Begin call; outcome = outcome; after = state } ∷ [] → new.places ≡ old.places → new.begun ≡ old.begun + 1
+    → (taken past → all (past ++ record { worker = number; act = act.Begin call; outcome = outcome; after = state } ∷ [])) → new.places ≡ old.places → new.begun ≡ old.begun + 1
     → ((line : Line) (name : List ℕ) → slice_get lines (get_or old.places.items old.begun 0) ≡ Some line → known_in new.names name ≡ or_known (known_in old.names name) (cond (opens name line.call) (Some (record { place = get_or old.places.items old.begun 0; number = number_of outcome })) None))
-    → Makes lines number before after past all old new true (turn p lines before.cells past number)
-makes-made p lines number before after past all old new call outcome state t n e made grown places count names =
+    → Makes lines number past taken all before after old new true (turn p lines before.cells past number)
+makes-made p lines number past taken all before after old new call outcome state t n e made takes places count names =
     let entry : Entry = record { worker = number; act = act.Begin call; outcome = outcome; after = state } in
     let h = next-by lines past number old (beginning call) t (goes lines past number old.next call n e) in
     let place : get_or old.places.items old.begun 0 ≡ h.0.place = get_or_from_slice_get old.places.items old.begun h.0.place 0 h.1.place in
@@ -105,5 +111,19 @@ makes-made p lines number before after past all old new call outcome state t n e
     λ name. names h.0.line name (subst (λ (k : ℕ). slice_get lines k ≡ Some h.0.line) (sym place) h.1.line)
     ∙ ap (λ (k : ℕ). or_known (known_in old.names name) (cond (opens name h.0.line.call) (Some (record { place = k; number = number_of outcome })) None)) place in
     let told : Told lines (past ++ entry ∷ []) number new = told-next lines past entry number old new h.0 t h.1 refl refl done places count learnt in
-    subst (λ (o : Option Turn). Makes lines number before after past all old new true o) (sym (turn-by p lines before.cells past number old.next call _ n e (sym made)))
-    (refl, refl, grown, refl, subst (λ (es : List Entry). Told lines es number new) (sym grown) told)
+    subst (λ (o : Option Turn). Makes lines number past taken all before after old new true o) (sym (turn-by p lines before.cells past number old.next call _ n e (sym made)))
+    (refl, refl, refl, told, takes)
+
+-- no step: the worker has no next call, or the call is blocked
+pub makes-through : (p : Providers) (lines : List Line) (number : ℕ) (past : List Entry) (taken : Taken) (world : Standing) (w : Worker) → IsNext lines past number w.next → w.next ≡ None
+    → Makes lines number past taken taken world world w w false (turn p lines world.cells past number)
+makes-through p lines number past taken world w n e =
+    subst (λ (o : Option Turn). Makes lines number past taken taken world world w w false o) (sym none) (refl, refl, refl, λ h. h)
+  where
+    none : turn p lines world.cells past number ≡ None
+    none = ap (option_and_then (turn_going p world.cells number)) (sym n.going ∙ ap pending e)
+
+pub makes-blocked : (p : Providers) (lines : List Line) (number : ℕ) (past : List Entry) (taken : Taken) (before after : Standing) (w : Worker) (call : Call) → IsNext lines past number w.next → w.next ≡ Some call → after ≡ before → None ≡ step p before.cells call go.Begin
+    → Makes lines number past taken taken before after w w false (turn p lines before.cells past number)
+makes-blocked p lines number past taken before after w call n e still made =
+    subst (λ (o : Option Turn). Makes lines number past taken taken before after w w false o) (sym (turn-by p lines before.cells past number w.next call None n e (sym made))) (refl, still, refl, λ h. h)

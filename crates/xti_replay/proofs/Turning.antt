@@ -1,5 +1,5 @@
 -- Turns, one after the other, are the run of the definition.
-use Rattle.std.proofs.Common.{◌≡◌, ℕ, zero, suc, ◌+◌, ◌-◌, ◌<◌, ◌≤◌, Bool, true, false, List, [], ◌∷◌, ◌++◌, get_or, Option, Some, None, refl, sym, ap, ◌∙◌, subst, arith}
+use Rattle.std.proofs.Common.{◌≡◌, ℕ, zero, suc, ◌+◌, ◌-◌, ◌<◌, ◌≤◌, Bool, true, false, List, [], ◌∷◌, ◌++◌, Option, Some, None, refl, sym, ap, ◌∙◌, subst, arith}
 use Rattle.std.specs.Prelude.{if◌then◌else◌}
 use Rattle.xti_model.specs.declared.entry.Entry.{Entry}
 use Rattle.xti_model.specs.declared.script.Line.{Line}
@@ -9,7 +9,7 @@ use Rattle.xti_model.specs.Robin.{is_through, last_worker, numbers, order_after,
 use Rattle.xti_core.specs.Standing.{Standing}
 use Rattle.xti_replay.specs.declared.workers.Worker.{Worker}
 use Rattle.xti_replay.specs.declared.run.Run.{Run}
-use Rattle.xti_replay.specs.Progress.{Told, Of, IsFresh, AreKept, InStep, GoesOn, SetsUp}
+use Rattle.xti_replay.specs.Progress.{Told, Of, IsFresh, InStep, Taken, GoesOn, SetsUp}
 
 -- The first turn among several workers.
 
@@ -40,70 +40,65 @@ first-step f i to lt =
 
 -- What a turn tells.
 
-pub record IsStill (lines : List Line) (old new : Run) (o : Option Turn) : Type 0 where
+pub record IsStill (lines : List Line) (past : List Entry) (taken all : Taken) (old new : Run) (o : Option Turn) : Type 0 where
   pub is : o ≡ None
   pub world : new.world ≡ old.world
-  pub entries : new.entries ≡ old.entries
-  pub in_step : InStep lines new
+  pub in_step : InStep lines past new
+  pub takes : taken past → all past
 
-pub goes-none : (lines : List Line) (old new : Run) (made : Bool) (o : Option Turn) → GoesOn lines old new made o → made ≡ false → IsStill lines old new o
-goes-none lines old new made None m h = record { is = refl; world = m.1; entries = m.2; in_step = m.3 }
-goes-none lines old new made (Some t) m h = absurd (let no : true ≡ false = sym m.0 ∙ h in cc)
+pub goes-none : (lines : List Line) (past : List Entry) (taken all : Taken) (old new : Run) (made : Bool) (o : Option Turn) → GoesOn lines past taken all old new made o → made ≡ false → IsStill lines past taken all old new o
+goes-none lines past taken all old new made None m h = record { is = refl; world = m.1; in_step = m.2; takes = m.3 }
+goes-none lines past taken all old new made (Some t) m h = absurd (let no : true ≡ false = sym m.0 ∙ h in cc)
 
--- the same turn from a run with the same entries
-pub goes-some : (lines : List Line) (base old new : Run) (made : Bool) (o v : Option Turn) → GoesOn lines old new made o → made ≡ true → old.entries ≡ base.entries → o ≡ v → GoesOn lines base new true v
-goes-some lines base old new made None v m h es e = absurd (let no : true ≡ false = sym h ∙ m.0 in cc)
-goes-some lines base old new made (Some t) v m h es e =
-    subst (λ (o : Option Turn). GoesOn lines base new true o) e (refl, m.1, m.2 ∙ ap (λ (past : List Entry). past ++ t.entry ∷ []) es, m.3)
+-- the same turn from a run before it that has recorded the same
+pub goes-some : (lines : List Line) (past : List Entry) (first taken all : Taken) (base old new : Run) (made : Bool) (o v : Option Turn) → GoesOn lines past taken all old new made o → made ≡ true → (first past → taken past) → o ≡ v → GoesOn lines past first all base new true v
+goes-some lines past first taken all base old new made None v m h before e = absurd (let no : true ≡ false = sym h ∙ m.0 in cc)
+goes-some lines past first taken all base old new made (Some t) v m h before e =
+    subst (λ (o : Option Turn). GoesOn lines past first all base new true o) e (refl, m.1, m.2, λ held. m.3 (before held))
 
-goes-still : (lines : List Line) (base new : Run) (v : Option Turn) → v ≡ None → new.world ≡ base.world → new.entries ≡ base.entries → InStep lines new → GoesOn lines base new false v
-goes-still lines base new v e w es k = subst (λ (o : Option Turn). GoesOn lines base new false o) (sym e) (refl, w, es, k)
-
-in-step : (lines : List Line) (old new : Run) (made : Bool) (o : Option Turn) → GoesOn lines old new made o → InStep lines new
-in-step lines old new made None m = m.3
-in-step lines old new made (Some t) m = m.3
+goes-still : (lines : List Line) (past : List Entry) (taken all : Taken) (base new : Run) (v : Option Turn) → v ≡ None → new.world ≡ base.world → InStep lines past new → (taken past → all past) → GoesOn lines past taken all base new false v
+goes-still lines past taken all base new v e w k takes = subst (λ (o : Option Turn). GoesOn lines past taken all base new false o) (sym e) (refl, w, k, takes)
 
 -- Workers are asked one after the other.
 
-abbrev pub turn_in : List Line → Run → ℕ → Option Turn
-turn_in lines r worker = turn r.world.providers lines r.world.cells r.entries worker
+abbrev pub turn_in : List Line → List Entry → Run → ℕ → Option Turn
+turn_in lines past r worker = turn r.world.providers lines r.world.cells past worker
 
-turn-same : (lines : List Line) (r base : Run) (worker : ℕ) → r.world ≡ base.world → r.entries ≡ base.entries → turn_in lines r worker ≡ turn_in lines base worker
-turn-same lines r base worker w es =
-    ap (λ (x : Standing). turn x.providers lines x.cells r.entries worker) w ∙ ap (λ (past : List Entry). turn base.world.providers lines base.world.cells past worker) es
+turn-same : (lines : List Line) (past : List Entry) (r base : Run) (worker : ℕ) → r.world ≡ base.world → turn_in lines past r worker ≡ turn_in lines past base worker
+turn-same lines past r base worker w = ap (λ (x : Standing). turn x.providers lines x.cells past worker) w
 
 -- the workers before this one have no step
-pub record AreAsked (lines : List Line) (base r : Run) (from to i : ℕ) : Type 0 where
+pub record AreAsked (lines : List Line) (past : List Entry) (first taken : Taken) (base r : Run) (from to i : ℕ) : Type 0 where
   pub world : r.world ≡ base.world
-  pub entries : r.entries ≡ base.entries
-  pub in_step : InStep lines r
-  pub left : first_turn (turn_in lines base) (numbers i (to - i)) ≡ first_turn (turn_in lines base) (numbers from (to - from))
+  pub in_step : InStep lines past r
+  pub takes : first past → taken past
+  pub left : first_turn (turn_in lines past base) (numbers i (to - i)) ≡ first_turn (turn_in lines past base) (numbers from (to - from))
 
-pub asked-next : (lines : List Line) (base r s : Run) (from to i : ℕ) (made : Bool) → AreAsked lines base r from to i → i < to → GoesOn lines r s made (turn_in lines r i) → made ≡ false → AreAsked lines base s from to (i + 1)
-asked-next lines base r s from to i made k lt m unmade =
-    let n = goes-none lines r s made (turn_in lines r i) m unmade in
-    let none : turn_in lines base i ≡ None = sym (turn-same lines r base i k.world k.entries) ∙ n.is in
+pub asked-next : (lines : List Line) (past : List Entry) (first taken all : Taken) (base r s : Run) (from to i : ℕ) (made : Bool) → AreAsked lines past first taken base r from to i → i < to → GoesOn lines past taken all r s made (turn_in lines past r i) → made ≡ false → AreAsked lines past first all base s from to (i + 1)
+asked-next lines past first taken all base r s from to i made k lt m unmade =
+    let n = goes-none lines past taken all r s made (turn_in lines past r i) m unmade in
+    let none : turn_in lines past base i ≡ None = sym (turn-same lines past r base i k.world) ∙ n.is in
     record {
       world = n.world ∙ k.world;
-      entries = n.entries ∙ k.entries;
       in_step = n.in_step;
-      left = sym (first-step (turn_in lines base) i to lt ∙ ap (λ (o : Option Turn). first_or o (first_turn (turn_in lines base) (numbers (i + 1) (to - (i + 1))))) none) ∙ k.left;
+      takes = λ held. n.takes (k.takes held);
+      left = sym (first-step (turn_in lines past base) i to lt ∙ ap (λ (o : Option Turn). first_or o (first_turn (turn_in lines past base) (numbers (i + 1) (to - (i + 1))))) none) ∙ k.left;
     }
 
-pub asked-turn : (lines : List Line) (base r s : Run) (from to i : ℕ) (made : Bool) → AreAsked lines base r from to i → i < to → GoesOn lines r s made (turn_in lines r i) → made ≡ true
-    → GoesOn lines base s true (first_turn (turn_in lines base) (numbers from (to - from)))
-asked-turn lines base r s from to i made k lt m so = by (turn_in lines r i) m (turn-same lines r base i k.world k.entries)
+pub asked-turn : (lines : List Line) (past : List Entry) (first taken all : Taken) (base r s : Run) (from to i : ℕ) (made : Bool) → AreAsked lines past first taken base r from to i → i < to → GoesOn lines past taken all r s made (turn_in lines past r i) → made ≡ true
+    → GoesOn lines past first all base s true (first_turn (turn_in lines past base) (numbers from (to - from)))
+asked-turn lines past first taken all base r s from to i made k lt m so = by (turn_in lines past r i) m (turn-same lines past r base i k.world)
   where
-    by : (o : Option Turn) → GoesOn lines r s made o → o ≡ turn_in lines base i → GoesOn lines base s true (first_turn (turn_in lines base) (numbers from (to - from)))
+    by : (o : Option Turn) → GoesOn lines past taken all r s made o → o ≡ turn_in lines past base i → GoesOn lines past first all base s true (first_turn (turn_in lines past base) (numbers from (to - from)))
     by None m e = absurd (let no : true ≡ false = sym so ∙ m.0 in cc)
     by (Some t) m e =
-        goes-some lines base r s made (Some t) (first_turn (turn_in lines base) (numbers from (to - from))) m so k.entries
-        (ap (λ (o : Option Turn). first_or o (first_turn (turn_in lines base) (numbers (i + 1) (to - (i + 1))))) e ∙ sym (first-step (turn_in lines base) i to lt) ∙ k.left)
+        goes-some lines past first taken all base r s made (Some t) (first_turn (turn_in lines past base) (numbers from (to - from))) m so k.takes
+        (ap (λ (o : Option Turn). first_or o (first_turn (turn_in lines past base) (numbers (i + 1) (to - (i + 1))))) e ∙ sym (first-step (turn_in lines past base) i to lt) ∙ k.left)
 
-pub asked-end : (lines : List Line) (base r : Run) (from to i : ℕ) → AreAsked lines base r from to i → to ≤ i → GoesOn lines base r false (first_turn (turn_in lines base) (numbers from (to - from)))
-asked-end lines base r from to i k le =
+pub asked-end : (lines : List Line) (past : List Entry) (first taken : Taken) (base r : Run) (from to i : ℕ) → AreAsked lines past first taken base r from to i → to ≤ i → GoesOn lines past first taken base r false (first_turn (turn_in lines past base) (numbers from (to - from)))
+asked-end lines past first taken base r from to i k le =
     let none : to - i ≡ 0 = omega arith in
-    goes-still lines base r (first_turn (turn_in lines base) (numbers from (to - from))) (sym k.left ∙ ap (λ (n : ℕ). first_turn (turn_in lines base) (numbers i n)) none) k.world k.entries k.in_step
+    goes-still lines past first taken base r (first_turn (turn_in lines past base) (numbers from (to - from))) (sym k.left ∙ ap (λ (n : ℕ). first_turn (turn_in lines past base) (numbers i n)) none) k.world k.in_step k.takes
 
 -- The turn of the run.
 
@@ -127,59 +122,62 @@ next-order p lines w past last h e =
     ∙ ap (λ (n : ℕ). first_or (first_turn (turn p lines w past) (numbers (last + 1) n)) (first_turn (turn p lines w past) (numbers 1 last))) a
     ∙ ap (λ (n : ℕ). first_or (first_turn (turn p lines w past) (numbers (last + 1) (33 - (last + 1)))) (first_turn (turn p lines w past) (numbers 1 n))) b
 
-abbrev pub next_in : List Line → Run → Option Turn
-next_in lines r = next_turn r.world.providers lines r.world.cells r.entries
+abbrev pub next_in : List Line → List Entry → Run → Option Turn
+next_in lines past r = next_turn r.world.providers lines r.world.cells past
 
-pub turn-setup : (lines : List Line) (r s : Run) (made : Bool) → is_through lines r.entries 0 ≡ false → GoesOn lines r s made (turn_in lines r 0) → GoesOn lines r s made (next_in lines r)
-turn-setup lines r s made h m = subst (λ (o : Option Turn). GoesOn lines r s made o) (sym (next-setup r.world.providers lines r.world.cells r.entries h)) m
+pub turn-setup : (lines : List Line) (past : List Entry) (taken all : Taken) (r s : Run) (made : Bool) → is_through lines past 0 ≡ false → GoesOn lines past taken all r s made (turn_in lines past r 0) → GoesOn lines past taken all r s made (next_in lines past r)
+turn-setup lines past taken all r s made h m = subst (λ (o : Option Turn). GoesOn lines past taken all r s made o) (sym (next-setup r.world.providers lines r.world.cells past h)) m
 
-pub turn-first : (lines : List Line) (r s : Run) (made : Bool) → InStep lines r → is_through lines r.entries 0 ≡ true → GoesOn lines r s made (first_turn (turn_in lines r) (numbers (r.last + 1) (33 - (r.last + 1)))) → made ≡ true → GoesOn lines r s true (next_in lines r)
-turn-first lines r s made k h m so = by (first_turn (turn_in lines r) (numbers (r.last + 1) (33 - (r.last + 1)))) m refl
+pub turn-first : (lines : List Line) (past : List Entry) (taken all : Taken) (r s : Run) (made : Bool) → InStep lines past r → is_through lines past 0 ≡ true → GoesOn lines past taken all r s made (first_turn (turn_in lines past r) (numbers (r.last + 1) (33 - (r.last + 1)))) → made ≡ true
+    → GoesOn lines past taken all r s true (next_in lines past r)
+turn-first lines past taken all r s made k h m so = by (first_turn (turn_in lines past r) (numbers (r.last + 1) (33 - (r.last + 1)))) m refl
   where
-    by : (o : Option Turn) → GoesOn lines r s made o → first_turn (turn_in lines r) (numbers (r.last + 1) (33 - (r.last + 1))) ≡ o → GoesOn lines r s true (next_in lines r)
+    by : (o : Option Turn) → GoesOn lines past taken all r s made o → first_turn (turn_in lines past r) (numbers (r.last + 1) (33 - (r.last + 1))) ≡ o → GoesOn lines past taken all r s true (next_in lines past r)
     by None m e = absurd (let no : true ≡ false = sym so ∙ m.0 in cc)
     by (Some t) m e =
-        goes-some lines r r s made (Some t) (next_in lines r) m so refl
-        (sym (next-order r.world.providers lines r.world.cells r.entries r.last h k.last ∙ ap (λ (o : Option Turn). first_or o (first_turn (turn_in lines r) (numbers 1 (r.last + 1 - 1)))) e))
+        goes-some lines past taken taken all r r s made (Some t) (next_in lines past r) m so (λ held. held)
+        (sym (next-order r.world.providers lines r.world.cells past r.last h k.last ∙ ap (λ (o : Option Turn). first_or o (first_turn (turn_in lines past r) (numbers 1 (r.last + 1 - 1)))) e))
 
-pub turn-second : (lines : List Line) (r s t : Run) (first made : Bool) → InStep lines r → is_through lines r.entries 0 ≡ true → GoesOn lines r s first (first_turn (turn_in lines r) (numbers (r.last + 1) (33 - (r.last + 1)))) → first ≡ false
-    → GoesOn lines s t made (first_turn (turn_in lines s) (numbers 1 (r.last + 1 - 1))) → GoesOn lines r t made (next_in lines r)
-turn-second lines r s t first made k h m unmade n = by (first_turn (turn_in lines s) (numbers 1 (r.last + 1 - 1))) n same
+pub turn-second : (lines : List Line) (past : List Entry) (taken some all : Taken) (r s t : Run) (first made : Bool) → InStep lines past r → is_through lines past 0 ≡ true → GoesOn lines past taken some r s first (first_turn (turn_in lines past r) (numbers (r.last + 1) (33 - (r.last + 1)))) → first ≡ false
+    → GoesOn lines past some all s t made (first_turn (turn_in lines past s) (numbers 1 (r.last + 1 - 1))) → GoesOn lines past taken all r t made (next_in lines past r)
+turn-second lines past taken some all r s t first made k h m unmade n = by (first_turn (turn_in lines past s) (numbers 1 (r.last + 1 - 1))) n same
   where
-    still : IsStill lines r s (first_turn (turn_in lines r) (numbers (r.last + 1) (33 - (r.last + 1))))
-    still = goes-none lines r s first (first_turn (turn_in lines r) (numbers (r.last + 1) (33 - (r.last + 1)))) m unmade
+    still : IsStill lines past taken some r s (first_turn (turn_in lines past r) (numbers (r.last + 1) (33 - (r.last + 1))))
+    still = goes-none lines past taken some r s first (first_turn (turn_in lines past r) (numbers (r.last + 1) (33 - (r.last + 1)))) m unmade
 
-    rest : first_turn (turn_in lines s) (numbers 1 (r.last + 1 - 1)) ≡ first_turn (turn_in lines r) (numbers 1 (r.last + 1 - 1))
-    rest =
-        ap (λ (x : Standing). first_turn (turn x.providers lines x.cells s.entries) (numbers 1 (r.last + 1 - 1))) still.world
-        ∙ ap (λ (past : List Entry). first_turn (turn r.world.providers lines r.world.cells past) (numbers 1 (r.last + 1 - 1))) still.entries
+    rest : first_turn (turn_in lines past s) (numbers 1 (r.last + 1 - 1)) ≡ first_turn (turn_in lines past r) (numbers 1 (r.last + 1 - 1))
+    rest = ap (λ (x : Standing). first_turn (turn x.providers lines x.cells past) (numbers 1 (r.last + 1 - 1))) still.world
 
-    same : first_turn (turn_in lines s) (numbers 1 (r.last + 1 - 1)) ≡ next_in lines r
-    same = rest ∙ sym (next-order r.world.providers lines r.world.cells r.entries r.last h k.last ∙ ap (λ (o : Option Turn). first_or o (first_turn (turn_in lines r) (numbers 1 (r.last + 1 - 1)))) still.is)
+    same : first_turn (turn_in lines past s) (numbers 1 (r.last + 1 - 1)) ≡ next_in lines past r
+    same = rest ∙ sym (next-order r.world.providers lines r.world.cells past r.last h k.last ∙ ap (λ (o : Option Turn). first_or o (first_turn (turn_in lines past r) (numbers 1 (r.last + 1 - 1)))) still.is)
 
-    by : (o : Option Turn) → GoesOn lines s t made o → o ≡ next_in lines r → GoesOn lines r t made (next_in lines r)
-    by None n e = subst (λ (b : Bool). GoesOn lines r t b (next_in lines r)) (sym n.0) (goes-still lines r t (next_in lines r) (sym e) (n.1 ∙ still.world) (n.2 ∙ still.entries) n.3)
-    by (Some u) n e = subst (λ (b : Bool). GoesOn lines r t b (next_in lines r)) (sym n.0) (goes-some lines r s t made (Some u) (next_in lines r) n n.0 still.entries e)
+    by : (o : Option Turn) → GoesOn lines past some all s t made o → o ≡ next_in lines past r → GoesOn lines past taken all r t made (next_in lines past r)
+    by None n e = subst (λ (b : Bool). GoesOn lines past taken all r t b (next_in lines past r)) (sym n.0) (goes-still lines past taken all r t (next_in lines past r) (sym e) (n.1 ∙ still.world) n.2 (λ held. n.3 (still.takes held)))
+    by (Some u) n e = subst (λ (b : Bool). GoesOn lines past taken all r t b (next_in lines past r)) (sym n.0) (goes-some lines past taken some all r s t made (Some u) (next_in lines past r) n n.0 still.takes e)
 
 -- The whole run.
 
-pub record IsRun (p : Providers) (lines : List Line) (n : ℕ) (all : List Entry) (r : Run) : Type 0 where
-  pub in_step : InStep lines r
+-- a run under way: its recorder has taken some entries, and what is left makes them all
+pub record IsRun (p : Providers) (lines : List Line) (n : ℕ) (all : List Entry) (taken now : Taken) (r : Run) : Type 0 where
+  pub past : List Entry
+  pub in_step : InStep lines past r
   pub providers : r.world.providers ≡ p
-  pub left : robin_from p lines n r.world.cells r.entries ≡ all
+  pub takes : taken [] → now past
+  pub left : robin_from p lines n r.world.cells past ≡ all
 
-pub run-begins : (p : Providers) (lines : List Line) (n : ℕ) (r s : Run) → r.world ≡ record { providers = p; cells = opening p } → r.entries ≡ [] → r.last ≡ 0 → SetsUp lines r s → IsRun p lines n (robin_from p lines n (opening p) []) s
-run-begins p lines n r s w es last u =
-    let now : s.entries ≡ [] = u.entries ∙ es in
+pub run-begins : (p : Providers) (lines : List Line) (n : ℕ) (taken : Taken) (r s : Run) → r.world ≡ record { providers = p; cells = opening p } → r.last ≡ 0 → SetsUp lines [] r s → IsRun p lines n (robin_from p lines n (opening p) []) taken taken s
+run-begins p lines n taken r s w last u =
     let world : s.world ≡ record { providers = p; cells = opening p } = u.world ∙ w in
     record {
+      past = [];
       in_step = record {
-        workers = subst (λ (past : List Entry). AreKept lines past s.workers.items) (sym u.entries) u.workers;
-        last = u.last ∙ last ∙ ap (last_worker 0) (sym now);
+        workers = u.workers;
+        last = u.last ∙ last;
         within = subst (λ (k : ℕ). k < 33) (sym (u.last ∙ last)) (omega arith);
       };
       providers = ap (λ (x : Standing). x.providers) world;
-      left = ap (λ (x : Standing). robin_from p lines n x.cells s.entries) world ∙ ap (robin_from p lines n (opening p)) now;
+      takes = λ held. held;
+      left = ap (λ (x : Standing). robin_from p lines n x.cells []) world;
     }
 
 abbrev runs_on : Providers → List Line → ℕ → List Entry → Option Turn → List Entry
@@ -193,36 +191,46 @@ turned p lines m w past = by (next_turn p lines w past)
     by None = refl
     by (Some t) = refl
 
-next-same : (p : Providers) (lines : List Line) (r : Run) → r.world.providers ≡ p → next_in lines r ≡ next_turn p lines r.world.cells r.entries
-next-same p lines r e = ap (λ (q : Providers). next_turn q lines r.world.cells r.entries) e
+next-same : (p : Providers) (lines : List Line) (past : List Entry) (r : Run) → r.world.providers ≡ p → next_in lines past r ≡ next_turn p lines r.world.cells past
+next-same p lines past r e = ap (λ (q : Providers). next_turn q lines r.world.cells past) e
 
-pub run-step : (p : Providers) (lines : List Line) (n : ℕ) (all : List Entry) (r s : Run) (made : Bool) → 0 < n → (m : ℕ) → m ≡ n - 1 → IsRun p lines n all r → GoesOn lines r s made (next_in lines r) → s.world.providers ≡ r.world.providers → made ≡ true → IsRun p lines m all s
-run-step p lines zero all r s made pos l e k m same so = absurd (omega arith)
-run-step p lines (suc n) all r s made pos l e k m same so =
+pub run-step : (p : Providers) (lines : List Line) (n : ℕ) (all : List Entry) (taken now new : Taken) (r s : Run) (made : Bool) → 0 < n → (m : ℕ) → m ≡ n - 1 → (k : IsRun p lines n all taken now r) → GoesOn lines k.past now new r s made (next_in lines k.past r) → s.world.providers ≡ r.world.providers → made ≡ true
+    → IsRun p lines m all taken new s
+run-step p lines zero all taken now new r s made pos l e k m same so = absurd (omega arith)
+run-step p lines (suc n) all taken now new r s made pos l e k m same so =
     let one : n ≡ l = omega arith in
-    subst (λ (n : ℕ). IsRun p lines n all s) one (record {
-      in_step = in-step lines r s made (next_in lines r) m;
-      providers = same ∙ k.providers;
-      left = by (next_in lines r) m (next-same p lines r k.providers) ∙ k.left;
-    })
+    subst (λ (n : ℕ). IsRun p lines n all taken new s) one (by (next_in lines k.past r) m (next-same p lines k.past r k.providers))
   where
-    by : (o : Option Turn) → GoesOn lines r s made o → o ≡ next_turn p lines r.world.cells r.entries → robin_from p lines n s.world.cells s.entries ≡ robin_from p lines (suc n) r.world.cells r.entries
+    by : (o : Option Turn) → GoesOn lines k.past now new r s made o → o ≡ next_turn p lines r.world.cells k.past → IsRun p lines n all taken new s
     by None m e = absurd (let no : true ≡ false = sym so ∙ m.0 in cc)
-    by (Some t) m e =
-        ap (λ (w : World). robin_from p lines n w s.entries) m.1 ∙ ap (robin_from p lines n t.world) m.2
-        ∙ ap (runs_on p lines n r.entries) e ∙ sym (turned p lines n r.world.cells r.entries)
+    by (Some t) m e = record {
+      past = k.past ++ t.entry ∷ [];
+      in_step = m.2;
+      providers = same ∙ k.providers;
+      takes = λ held. m.3 (k.takes held);
+      left = ap (λ (w : World). robin_from p lines n w (k.past ++ t.entry ∷ [])) m.1 ∙ ap (runs_on p lines n k.past) e ∙ sym (turned p lines n r.world.cells k.past) ∙ k.left;
+    }
 
-pub run-stops : (p : Providers) (lines : List Line) (n : ℕ) (all : List Entry) (r s : Run) (made : Bool) → 0 < n → IsRun p lines n all r → GoesOn lines r s made (next_in lines r) → made ≡ false → InStep lines s × (s.entries ≡ all)
-run-stops p lines zero all r s made pos k m unmade = absurd (omega arith)
-run-stops p lines (suc n) all r s made pos k m unmade =
-    let still = goes-none lines r s made (next_in lines r) m unmade in (
-      still.in_step,
-      still.entries ∙ ap (runs_on p lines n r.entries) (sym still.is ∙ next-same p lines r k.providers) ∙ sym (turned p lines n r.world.cells r.entries) ∙ k.left,
-    )
+-- what a run is at its end
+pub record HasRun (lines : List Line) (all : List Entry) (taken now : Taken) (r : Run) : Type 0 where
+  pub in_step : InStep lines all r
+  pub takes : taken [] → now all
 
-pub run-ends : (p : Providers) (lines : List Line) (all : List Entry) (n : ℕ) (r : Run) → n ≡ 0 → IsRun p lines n all r → r.entries ≡ all
-run-ends p lines all zero r e k = k.left
-run-ends p lines all (suc n) r e k = absurd (omega arith)
+has-run : (lines : List Line) (past all : List Entry) (taken now : Taken) (r : Run) → past ≡ all → InStep lines past r → (taken [] → now past) → HasRun lines all taken now r
+has-run lines past all taken now r e k takes =
+    subst (λ (es : List Entry). HasRun lines es taken now r) e (record { in_step = k; takes = takes })
 
-pub fresh-told : (lines : List Line) (past : List Entry) (ws : List Worker) → past ≡ [] → Of (IsFresh lines) ws → Of (Told lines past) ws
-fresh-told lines past ws e each = λ k d lt. subst (λ (es : List Entry). Told lines es k (get_or ws k d)) (sym e) (each k d lt).told
+pub run-stops : (p : Providers) (lines : List Line) (n : ℕ) (all : List Entry) (taken now new : Taken) (r s : Run) (made : Bool) → 0 < n → (k : IsRun p lines n all taken now r) → GoesOn lines k.past now new r s made (next_in lines k.past r) → made ≡ false → HasRun lines all taken new s
+run-stops p lines zero all taken now new r s made pos k m unmade = absurd (omega arith)
+run-stops p lines (suc n) all taken now new r s made pos k m unmade =
+    let still = goes-none lines k.past now new r s made (next_in lines k.past r) m unmade in
+    has-run lines k.past all taken new s
+    (ap (runs_on p lines n k.past) (sym still.is ∙ next-same p lines k.past r k.providers) ∙ sym (turned p lines n r.world.cells k.past) ∙ k.left)
+    still.in_step (λ held. still.takes (k.takes held))
+
+pub run-ends : (p : Providers) (lines : List Line) (all : List Entry) (n : ℕ) (taken now : Taken) (r : Run) → n ≡ 0 → IsRun p lines n all taken now r → HasRun lines all taken now r
+run-ends p lines all zero taken now r e k = has-run lines k.past all taken now r k.left k.in_step k.takes
+run-ends p lines all (suc n) taken now r e k = absurd (omega arith)
+
+pub fresh-told : (lines : List Line) (ws : List Worker) → Of (IsFresh lines) ws → Of (Told lines []) ws
+fresh-told lines ws each = λ k d lt. (each k d lt).told

@@ -58,45 +58,52 @@ pub record AreKept (lines : List Line) (past : List Entry) (ws : List Worker) : 
   pub ready : Of (IsReady lines past) ws
 
 -- and so does the run
-pub record InStep (lines : List Line) (r : Run) : Type 0 where
-  pub workers : AreKept lines r.entries r.workers.items
-  pub last : r.last ≡ last_worker 0 r.entries
+pub record InStep (lines : List Line) (past : List Entry) (r : Run) : Type 0 where
+  pub workers : AreKept lines past r.workers.items
+  pub last : r.last ≡ last_worker 0 past
   pub within : r.last < 33
 
+-- worker 0 may be asked always, another one once worker 0 is through
+abbrev pub MayAsk : List Line → List Entry → ℕ → Type 0
+MayAsk lines past number = (number ≡ 0) ⊎ (is_through lines past 0 ≡ true)
+
 -- the worker has made a step, and the calls that are next are still to be found
-pub record HasStepped (lines : List Line) (number : ℕ) (r : Run) : Type 0 where
+pub record HasStepped (lines : List Line) (number : ℕ) (past : List Entry) (r : Run) : Type 0 where
   pub many : length r.workers.items ≡ 33
-  pub told : Of (Told lines r.entries) r.workers.items
-  pub through : (number ≡ 0 → ⊥) → is_through lines r.entries 0 ≡ true
-  pub others : (other : ℕ) (d : Worker) → other < 33 → (other ≡ number → ⊥) → (number ≡ 0 → ⊥) → IsReady lines r.entries other (slice_index_or r.workers.items other d)
+  pub told : Of (Told lines past) r.workers.items
+  pub through : (number ≡ 0 → ⊥) → is_through lines past 0 ≡ true
+  pub others : (other : ℕ) (d : Worker) → other < 33 → (other ≡ number → ⊥) → (number ≡ 0 → ⊥) → IsReady lines past other (slice_index_or r.workers.items other d)
   pub idle : number ≡ 0 → (other : ℕ) (d : Worker) → 0 < other → other < 33 → (slice_index_or r.workers.items other d).next ≡ None
 
--- one worker's step was made, or there was none
-abbrev pub Makes : List Line → ℕ → Standing → Standing → List Entry → List Entry → Worker → Worker → Bool → Option Turn → Type 0
-Makes lines number before after past all old new made None = (made ≡ false) × (after ≡ before) × (all ≡ past) × (new ≡ old)
-Makes lines number before after past all old new made (Some t) = (made ≡ true) × (after.cells ≡ t.world) × (all ≡ past ++ t.entry ∷ []) × (t.entry.worker ≡ number) × Told lines all number new
+-- what a recorder has taken
+abbrev pub Taken : Type 1
+Taken = List Entry → Type 0
 
--- the run has gone on by a turn, or there was none
-abbrev pub GoesOn : List Line → Run → Run → Bool → Option Turn → Type 0
-GoesOn lines old new made None = (made ≡ false) × (new.world ≡ old.world) × (new.entries ≡ old.entries) × InStep lines new
-GoesOn lines old new made (Some t) = (made ≡ true) × (new.world.cells ≡ t.world) × (new.entries ≡ old.entries ++ t.entry ∷ []) × InStep lines new
+-- one worker's step was made, and its entry recorded, or there was none
+abbrev pub Makes : List Line → ℕ → List Entry → Taken → Taken → Standing → Standing → Worker → Worker → Bool → Option Turn → Type 0
+Makes lines number past taken all before after old new made None = (made ≡ false) × (after ≡ before) × (new ≡ old) × (taken past → all past)
+Makes lines number past taken all before after old new made (Some t) =
+    (made ≡ true) × (after.cells ≡ t.world) × (t.entry.worker ≡ number) × Told lines (past ++ t.entry ∷ []) number new × (taken past → all (past ++ t.entry ∷ []))
+
+-- the run has gone on by a turn, and its entry was recorded, or there was none
+abbrev pub GoesOn : List Line → List Entry → Taken → Taken → Run → Run → Bool → Option Turn → Type 0
+GoesOn lines past taken all old new made None = (made ≡ false) × (new.world ≡ old.world) × InStep lines past new × (taken past → all past)
+GoesOn lines past taken all old new made (Some t) = (made ≡ true) × (new.world.cells ≡ t.world) × InStep lines (past ++ t.entry ∷ []) new × (taken past → all (past ++ t.entry ∷ []))
 
 -- the workers from one on, up to another, have their next calls, and all else is as before
-pub record Resolves (lines : List Line) (from to : ℕ) (old new : Run) : Type 0 where
+pub record Resolves (lines : List Line) (past : List Entry) (from to : ℕ) (old new : Run) : Type 0 where
   pub world : new.world ≡ old.world
-  pub entries : new.entries ≡ old.entries
   pub last : new.last ≡ old.last
   pub many : length new.workers.items ≡ length old.workers.items
-  pub told : Of (Told lines old.entries) new.workers.items
-  pub these : (number : ℕ) (d : Worker) → from ≤ number → number < to → IsNext lines old.entries number (slice_index_or new.workers.items number d).next
+  pub told : Of (Told lines past) new.workers.items
+  pub these : (number : ℕ) (d : Worker) → from ≤ number → number < to → IsNext lines past number (slice_index_or new.workers.items number d).next
   pub others : (number : ℕ) (d : Worker) → (number < from) ⊎ (to ≤ number) → slice_index_or new.workers.items number d ≡ slice_index_or old.workers.items number d
 
 -- worker 0 has its next call, and where it is through, so have the others
-pub record SetsUp (lines : List Line) (old new : Run) : Type 0 where
+pub record SetsUp (lines : List Line) (past : List Entry) (old new : Run) : Type 0 where
   pub world : new.world ≡ old.world
-  pub entries : new.entries ≡ old.entries
   pub last : new.last ≡ old.last
-  pub workers : AreKept lines old.entries new.workers.items
+  pub workers : AreKept lines past new.workers.items
 
 -- the stall lines of workers from this one on
 abbrev pub stalls_from : ℕ → List Worker → List StallLine

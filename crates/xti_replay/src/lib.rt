@@ -6,4 +6,4 @@ mod round_robin;
 mod run;
 mod workers;
 
-pub use round_robin::replay;
+pub use round_robin::{replay, replay_into};
