@@ -3,14 +3,13 @@
 ghost use Rattle.std.specs.Prelude.{◌≡◌, ◌≢◌, ◌<◌, ◌≤◌, ◌+◌, ◌⊎◌, ℕ, List, Some, None, IfOk, IfErr, OnErr, length, ◌==◌};
 ghost use Rattle.xti_io.specs.Faults.{Rose};
 ghost use Rattle.xti_io.specs.Source.{GivesUpTo};
-ghost use Rattle.xti_journal.specs.JournalText.{journal_text};
 ghost use Rattle.xti_model.specs.declared.script.Script.{Script};
 ghost use Rattle.xti_script.specs.Grammar.{IsScript};
 ghost use Rattle.xti_run.specs.declared.words.Command.{Command};
 ghost use Rattle.xti_run.specs.Program.{IsReplayed, IsRefusedInput, IsListed, IsRefusedByte, IsAnswered, IsRun, IsOutput, IsRefusedWords, IsWritten, IsCutOff, HasInput, IsDone, NoFault, limit, refused_line, refused_byte, refused_words, refused_size, command_of, status_with};
 
 use crate::gate::Gate;
-use crate::round_robin::replay;
+use crate::round_robin::replay_into;
 use crate::words::{Command, Words};
 use std::alloc::{AllocError, Global};
 use std::sync::Wait;
@@ -19,8 +18,8 @@ use tpi_grammar::frames_law;
 use xti_base::Octets;
 use xti_frames::{FramesFail, show_frames};
 use xti_io::{ReadEnd, Sink, Source, read_all, write_all};
-use xti_journal::append_journal;
-use xti_model::{Journal, Stalls};
+use xti_journal::JournalWriter;
+use xti_model::{Script, Stalls};
 use xti_script::{ScriptFail, never_both, read_script};
 
 /// The most bytes of an input.
@@ -63,14 +62,16 @@ fn journal_status(stalls: &Stalls) -> u8
     if stalls.is_empty() { 0 } else { 3 }
 }
 
-/// The text of the journal, in the room of bytes that are done with.
-fn text_of(journal: &Journal, room: Octets) -> Result<Octets, AllocError>
-    ensures { IfOk result (λ text. text ≡ journal_text journal.now) }
+/// What `replay` answers to the text of a script: its journal, written while it runs, in the room of the input.
+fn journal_answer(alloc: Global, script: &Script, input: Octets) -> Result<Answer, AllocError>
+    requires { IsScript script.now input }
+    ensures { IfOk result (λ a. IsReplayed input a.status a.text) }
 {
-    let mut text = room.into_vec()?;
-    text.clear();
-    append_journal(&mut text, journal)?;
-    Ok(Octets::from_vec(text))
+    let mut writer = JournalWriter::begin(input.into_vec()?, &script.providers)?;
+    let stalls = replay_into(alloc, script, &mut writer)?;
+    let status = journal_status(&stalls);
+    let text = writer.end(&stalls)?;
+    Ok(Answer { status, text })
 }
 
 /// What `replay` answers to an input within the limit.
@@ -78,12 +79,7 @@ fn replay_answer(alloc: Global, input: Octets) -> Result<Answer, AllocError>
     ensures { IfOk result (λ a. IsReplayed input a.status a.text ⊎ IsRefusedInput input a.status a.text) }
 {
     match read_script(alloc, input.as_slice()) {
-        Ok(script) => {
-            let journal = replay(alloc, &script)?;
-            let text = text_of(&journal, input)?;
-            let status = journal_status(&journal.stalls);
-            Ok(Answer { status, text })
-        }
+        Ok(script) => journal_answer(alloc, &script, input),
         Err(ScriptFail::Bad { line }) => {
             let text = line_text(alloc, line)?;
             Ok(Answer { status: 2, text })
