@@ -1,8 +1,8 @@
 -- Workers that have begun no line, and facts on each of several workers.
-use Rattle.std.proofs.Common.{◌≡◌, ◌≢◌, ℕ, zero, suc, ◌+◌, ◌<◌, Bool, true, false, cond, eqb, List, [], ◌∷◌, ◌++◌, length, get_or, set, map, take, None, refl, sym, ap, ◌∙◌, subst, arith, ◌⊎◌, inl, inr}
+use Rattle.std.proofs.Common.{◌≡◌, ◌≢◌, ℕ, zero, suc, ◌+◌, ◌<◌, Bool, true, false, cond, eqb, List, [], ◌∷◌, ◌++◌, length, get_or, set, map, None, refl, sym, ap, ◌∙◌, subst, arith, ◌⊎◌, inl, inr}
 use Rattle.std.proofs.lemmas.Bool.{eq-eqb, ne_eqb}
 use Rattle.std.proofs.lemmas.Bool.Decides.{eqb_tells}
-use Rattle.std.proofs.lemmas.List.{append-nil, length-set, length-take, get_or-set_same, get_or-set_other, take_more, map-append}
+use Rattle.std.proofs.lemmas.List.{append-nil, length-set, get_or-set_same, get_or-set_other, map-append}
 use Rattle.xti_model.specs.declared.script.Line.{Line}
 use Rattle.xti_model.specs.Resolve.{is_of}
 use Rattle.xti_replay.specs.declared.workers.Worker.{Worker}
@@ -37,7 +37,7 @@ fresh-of lines number w places count names idle = record {
   idle = idle;
 }
 
-spots-more : (from : ℕ) (lines : List Line) (line : Line) (worker : ℕ) → spots_from from (lines ++ line ∷ []) worker ≡ spots_from from lines worker ++ cond {A = List Spot} (is_of worker line) (record { place = from + length lines; line = line } ∷ []) []
+pub spots-more : (from : ℕ) (lines : List Line) (line : Line) (worker : ℕ) → spots_from from (lines ++ line ∷ []) worker ≡ spots_from from lines worker ++ cond {A = List Spot} (is_of worker line) (record { place = from + length lines; line = line } ∷ []) []
 spots-more from [] line worker = by (is_of worker line)
   where
     by : (b : Bool) → cond {A = List Spot} b (record { place = from; line = line } ∷ []) [] ≡ [] ++ cond {A = List Spot} b (record { place = from + 0; line = line } ∷ []) []
@@ -54,34 +54,14 @@ spots-more from (x ∷ lines) line worker = by (is_of worker x) (spots-more (fro
     by true h = ap (λ (l : List Spot). let s : Spot = record { place = from; line = x } in s ∷ l) h
     by false h = h
 
-places-own : (lines : List Line) (line : Line) (worker i : ℕ) → length lines ≡ i → line.worker ≡ worker → places_of (lines ++ line ∷ []) worker ≡ places_of lines worker ++ i ∷ []
+pub places-own : (lines : List Line) (line : Line) (worker i : ℕ) → length lines ≡ i → line.worker ≡ worker → places_of (lines ++ line ∷ []) worker ≡ places_of lines worker ++ i ∷ []
 places-own lines line worker i long own =
     let yes : eqb line.worker worker ≡ true = eq-eqb line.worker worker own in
     ap (map (λ (s : Spot). s.place)) (spots-more 0 lines line worker)
     ∙ map-append (λ (s : Spot). s.place) (spots_of lines worker) _
     ∙ rw yes (ap (λ (n : ℕ). places_of lines worker ++ n ∷ []) (omega (arith, long)))
 
-places-other : (lines : List Line) (line : Line) (worker : ℕ) → line.worker ≢ worker → places_of (lines ++ line ∷ []) worker ≡ places_of lines worker
+pub places-other : (lines : List Line) (line : Line) (worker : ℕ) → line.worker ≢ worker → places_of (lines ++ line ∷ []) worker ≡ places_of lines worker
 places-other lines line worker other =
     let no : eqb line.worker worker ≡ false = ne_eqb line.worker worker other in
     ap (map (λ (s : Spot). s.place)) (spots-more 0 lines line worker) ∙ rw no (ap (map (λ (s : Spot). s.place)) (append-nil (spots_of lines worker)))
-
-fresh-none : (lines : List Line) (number : ℕ) (w : Worker) → IsFresh lines number w → (name : List ℕ) → known_in w.names name ≡ None
-fresh-none lines number w h name = h.told.names name ∙ known-nothing name (spots_of lines number)
-
--- one line more is handed out
-pub fresh-more : (lines : List Line) (i : ℕ) (line : Line) (ws : List Worker) (old new : Worker) → i < length lines → line ≡ get_or lines i line → Of (IsFresh (take i lines)) ws → old ≡ get_or ws line.worker old → line.worker < length ws
-    → new.places.items ≡ old.places.items ++ i ∷ [] → new.begun ≡ old.begun → new.names ≡ old.names → new.next ≡ old.next → Of (IsFresh (take (i + 1) lines)) (set ws line.worker new)
-fresh-more lines i line ws old new lt at each is within places count names idle =
-    let front : take (i + 1) lines ≡ take i lines ++ line ∷ [] = take_more lines i line lt ∙ ap (λ (l : Line). take i lines ++ l ∷ []) (sym at) in
-    let long : length (take i lines) ≡ i = omega (arith, length-take i lines) in
-    let was : IsFresh (take i lines) line.worker old = subst (λ (w : Worker). IsFresh (take i lines) line.worker w) (sym is) (each line.worker old within) in
-    of-changed (IsFresh (take i lines)) (IsFresh (take (i + 1) lines)) ws line.worker new each
-    (λ k v ne l h. fresh-of (take (i + 1) lines) k v
-    (h.told.places ∙ sym (places-other (take i lines) line k (λ e. ne (sym e))) ∙ ap (λ (ls : List Line). places_of ls k) (sym front))
-    h.told.count (fresh-none (take i lines) k v h) h.idle)
-    (λ l. fresh-of (take (i + 1) lines) line.worker new
-    (places ∙ ap (λ (ps : List ℕ). ps ++ i ∷ []) was.told.places ∙ sym (places-own (take i lines) line line.worker i long refl) ∙ ap (λ (ls : List Line). places_of ls line.worker) (sym front))
-    (count ∙ was.told.count)
-    (λ name. ap (λ t. known_in t name) names ∙ fresh-none (take i lines) line.worker old was name)
-    (idle ∙ was.idle))

@@ -1,20 +1,17 @@
 -- A run stays in step with its entries where a step is made and next calls are found.
-use Rattle.std.proofs.Common.{◌≡◌, ◌≢◌, ℕ, zero, suc, ◌+◌, ◌<◌, ◌≤◌, ◌⊎◌, inl, inr, Bool, true, false, eqb, List, [], ◌∷◌, ◌++◌, length, get_or, set, Option, Some, None, refl, sym, ap, ◌∙◌, subst, arith}
-use Rattle.std.specs.Prelude.{option_and_then, is_some, is_none}
+use Rattle.std.proofs.Common.{◌≡◌, ◌≢◌, ℕ, ◌+◌, ◌<◌, ◌≤◌, ◌⊎◌, inl, inr, Bool, true, false, eqb, List, [], ◌∷◌, ◌++◌, length, get_or, set, Option, Some, None, refl, sym, ap, ◌∙◌, subst, arith}
 use Rattle.std.proofs.lemmas.Bool.Decides.{eqb_tells}
 use Rattle.std.proofs.lemmas.List.{length-set, get_or-set_same, get_or-set_other, set-get_or}
 use Rattle.xti_model.specs.declared.call.Call.{Call}
 use Rattle.xti_model.specs.declared.entry.Entry.{Entry}
 use Rattle.xti_model.specs.declared.script.Line.{Line}
 use Rattle.xti_model.specs.declared.profile.Providers.{Providers}
-use Rattle.xti_model.specs.World.{World}
-use Rattle.xti_model.specs.History.{Going}
-use Rattle.xti_model.specs.Robin.{next_going, is_through, last_worker, Turn, turn_going, turn}
+use Rattle.xti_model.specs.Robin.{is_through, last_worker, Turn, turn}
 use Rattle.xti_model.proofs.Phases.{through-same}
 use Rattle.xti_core.specs.Standing.{Standing}
 use Rattle.xti_replay.specs.declared.workers.Worker.{Worker}
 use Rattle.xti_replay.specs.declared.run.Run.{Run}
-use Rattle.xti_replay.specs.Progress.{Told, IsNext, IsReady, Of, AreKept, MayAsk, InStep, HasStepped, Taken, Makes, GoesOn, Resolves, SetsUp}
+use Rattle.xti_replay.specs.Progress.{Told, IsNext, IsReady, Of, AreKept, InStep, HasStepped, Taken, Makes, GoesOn, Resolves}
 use Rattle.xti_replay.proofs.Lines.{own-other, told-other, next-other}
 use Rattle.xti_replay.proofs.Fresh.{of-changed}
 use Rattle.xti_replay.proofs.Steps.{at-worker}
@@ -74,142 +71,60 @@ ask-none lines past taken all r s number w new made o k at m unmade items last =
     items ∙ ap (set r.workers.items number) (u.worker ∙ at) ∙ set-get_or r.workers.items number w in
     let kept : AreKept lines past s.workers.items = subst (λ (ws : List Worker). AreKept lines past ws) (sym same) k.workers in
     subst (λ (v : Option Turn). GoesOn lines past taken all r s false v) (sym u.is)
-    (refl, u.world, record { workers = kept; last = last ∙ k.last; within = subst (λ (n : ℕ). n < 33) (sym last) k.within }, u.takes)
-
-not-through : (lines : List Line) (past : List Entry) (number : ℕ) (g : Option Going) (p : Providers) (w : World) (t : Turn) → option_and_then (turn_going p w number) g ≡ Some t → is_none g ≡ false
-not-through lines past number None p w t h = absurd cc
-not-through lines past number (Some g) p w t h = refl
+    (refl, u.world, record { workers = kept; through = k.through; last = last ∙ k.last; within = subst (λ (n : ℕ). n < 33) (sym last) k.within }, u.takes)
 
 -- a step: the worker's next call is to be found
-pub has-stepped : (p : Providers) (lines : List Line) (past : List Entry) (w : World) (r s : Run) (number : ℕ) (new : Worker) (t : Turn) → InStep lines past r → number < 33 → MayAsk lines past number → turn p lines w past number ≡ Some t → t.entry.worker ≡ number → Told lines (past ++ t.entry ∷ []) number new
-    → s.workers.items ≡ set r.workers.items number new → HasStepped lines number (past ++ t.entry ∷ []) s
-has-stepped p lines past w r s number new t k lt may is own told items =
+has-stepped : (lines : List Line) (past : List Entry) (r s : Run) (number : ℕ) (new : Worker) (e : Entry) → InStep lines past r → 0 < number → e.worker ≡ number → Told lines (past ++ e ∷ []) number new
+    → s.workers.items ≡ set r.workers.items number new → HasStepped lines number (past ++ e ∷ []) s
+has-stepped lines past r s number new e k pos own told items =
     let ws : List Worker = r.workers.items in
-    let es : List Entry = past ++ t.entry ∷ [] in
+    let es : List Entry = past ++ e ∷ [] in
     let all : Of (Told lines es) (set ws number new) =
     of-changed (Told lines past) (Told lines es) ws number new k.workers.told
-    (λ j v ne l h. told-other lines past t.entry j v (λ e. ne (sym e ∙ own)) h) (λ l. told) in
+    (λ j v ne l h. told-other lines past e j v (λ same. ne (sym same ∙ own)) h) (λ l. told) in
     record {
       many = ap length items ∙ length-set ws number new ∙ k.workers.many;
       told = subst (λ (vs : List Worker). Of (Told lines es) vs) (sym items) all;
-      through = λ nz. through-other lines past t.entry (λ e. nz (sym own ∙ e)) ∙ was may nz;
-      others = λ j d l ne nz.
+      through = through-other lines past e not-setup ∙ k.through;
+      others = λ j d l ne.
           subst (λ (vs : List Worker). IsReady lines es j (get_or vs j d)) (sym items)
           (subst (λ (v : Worker). IsReady lines es j v) (sym (get_or-set_other ws number j new d ne))
-          (ready-other lines past t.entry j (get_or ws j d) (λ e. ne (sym e ∙ own)) (λ e. nz (sym own ∙ e)) (k.workers.told j d (within j l)) (k.workers.ready j d (within j l))));
-      idle = λ z j d pos l.
-          let ne : j ≢ number = λ e. zero-not-positive j pos (e ∙ z) in
-          let waits : is_through lines past 0 ≡ false = not-through lines past 0 (next_going lines past 0) p w t (subst (λ (v : ℕ). turn p lines w past v ≡ Some t) z is) in
-          ap (λ (vs : List Worker). (get_or vs j d).next) items ∙ ap (λ (v : Worker). v.next) (get_or-set_other ws number j new d ne)
-          ∙ (k.workers.ready j d (within j l)).idle waits (zero-not-positive j pos);
+          (ready-other lines past e j (get_or ws j d) (λ same. ne (sym same ∙ own)) not-setup (k.workers.told j d (within j l)) (k.workers.ready j d (within j l))));
     }
   where
     within : (j : ℕ) → j < 33 → j < length r.workers.items
     within j l = omega (arith, k.workers.many)
 
-    zero-not-positive : (j : ℕ) → 0 < j → j ≡ 0 → ⊥
-    zero-not-positive j pos e = omega arith
-
-    was : MayAsk lines past number → (number ≡ 0 → ⊥) → is_through lines past 0 ≡ true
-    was (inl z) nz = absurd (nz z)
-    was (inr h) nz = h
+    not-setup : e.worker ≡ 0 → ⊥
+    not-setup z = omega (arith, own, z)
 
 pub record IsAsked (p : Providers) (lines : List Line) (number : ℕ) (past : List Entry) (taken all : Taken) (r s : Run) (new : Worker) : Type 0 where
   pub made : IsMade lines number past taken all s.world new (turn p lines r.world.cells past number)
   pub stepped : HasStepped lines number (past ++ made.turn.entry ∷ []) s
 
-pub ask-some : (lines : List Line) (past : List Entry) (taken all : Taken) (r s : Run) (number : ℕ) (w new : Worker) (made : Bool) → InStep lines past r → number < 33 → MayAsk lines past number → Makes lines number past taken all r.world s.world w new made (turn r.world.providers lines r.world.cells past number) → made ≡ true
+pub ask-some : (lines : List Line) (past : List Entry) (taken all : Taken) (r s : Run) (number : ℕ) (w new : Worker) (made : Bool) → InStep lines past r → 0 < number → Makes lines number past taken all r.world s.world w new made (turn r.world.providers lines r.world.cells past number) → made ≡ true
     → s.workers.items ≡ set r.workers.items number new → IsAsked r.world.providers lines number past taken all r s new
-ask-some lines past taken all r s number w new made k lt may m so items =
-    let o : Option Turn = turn r.world.providers lines r.world.cells past number in
-    let i = makes-some lines number past taken all r.world s.world w new made o m so in
-    record { made = i; stepped = has-stepped r.world.providers lines past r.world.cells r s number new i.turn k lt may i.is i.own i.told items }
+ask-some lines past taken all r s number w new made k pos m so items =
+    let i = makes-some lines number past taken all r.world s.world w new made (turn r.world.providers lines r.world.cells past number) m so in
+    record { made = i; stepped = has-stepped lines past r s number new i.turn.entry k pos i.own i.told items }
 
 -- Next calls are found.
 
-pub kept-others : (lines : List Line) (past : List Entry) (r s : Run) (number : ℕ) → HasStepped lines number past r → number < 33 → (number ≡ 0 → ⊥) → Resolves lines past number (number + 1) r s → SetsUp lines past r s
-kept-others lines past r s number h lt nz v = record {
-  world = v.world;
-  last = v.last;
-  workers = record { many = v.many ∙ h.many; told = v.told; ready = λ k d l. by k d (omega (arith, v.many, h.many)) (eqb_tells k number) };
-}
+kept-others : (lines : List Line) (past : List Entry) (r s : Run) (number : ℕ) → HasStepped lines number past r → number < 33 → Resolves lines past number (number + 1) r s → AreKept lines past s.workers.items
+kept-others lines past r s number h lt v = record { many = v.many ∙ h.many; told = v.told; ready = λ k d l. by k d (omega (arith, v.many, h.many)) (eqb_tells k number) }
   where
     by : (k : ℕ) (d : Worker) → k < 33 → ((eqb k number ≡ true) × (k ≡ number)) ⊎ ((eqb k number ≡ false) × (k ≢ number)) → IsReady lines past k (get_or s.workers.items k d)
     by k d l (inl e) = record {
       own = λ may. v.these k d (omega (arith, e.1)) (omega (arith, e.1));
-      idle = λ f z. absurd (let no : true ≡ false = sym (h.through nz) ∙ f in cc);
+      idle = λ f z. absurd (let no : true ≡ false = sym h.through ∙ f in cc);
     }
     by k d l (inr e) =
         let apart : (k < number) ⊎ (number + 1 ≤ k) = grind (arith, e.1) in
-        subst (λ (w : Worker). IsReady lines past k w) (sym (v.others k d apart)) (h.others k d l e.1 nz)
+        subst (λ (w : Worker). IsReady lines past k w) (sym (v.others k d apart)) (h.others k d l e.1)
 
-none-through : (lines : List Line) (past : List Entry) (number : ℕ) (next : Option Call) → IsNext lines past number next → is_some next ≡ false → is_through lines past number ≡ true
-none-through lines past number None n h = ap is_none (sym n.going)
-none-through lines past number (Some c) n h = absurd cc
-
-some-open : (lines : List Line) (past : List Entry) (number : ℕ) (next : Option Call) → IsNext lines past number next → is_some next ≡ true → is_through lines past number ≡ false
-some-open lines past number None n h = absurd cc
-some-open lines past number (Some c) n h = ap is_none (sym n.going)
-
--- whether worker 0 is through is whether it has a next call
-pub setup-through : (lines : List Line) (past : List Entry) (ws : List Worker) (w : Worker) (b : Bool) → AreKept lines past ws → w ≡ get_or ws 0 w → b ≡ is_some w.next → b ≡ false → is_through lines past 0 ≡ true
-setup-through lines past ws w b k at e h =
-    none-through lines past 0 w.next ((at-worker (IsReady lines past) ws 0 w k.ready (omega (arith, k.many)) at).own (inl refl)) (sym e ∙ h)
-
-pub setup-open : (lines : List Line) (past : List Entry) (ws : List Worker) (w : Worker) (b : Bool) → AreKept lines past ws → w ≡ get_or ws 0 w → b ≡ is_some w.next → b ≡ true → is_through lines past 0 ≡ false
-setup-open lines past ws w b k at e h =
-    some-open lines past 0 w.next ((at-worker (IsReady lines past) ws 0 w k.ready (omega (arith, k.many)) at).own (inl refl)) (sym e ∙ h)
-
-abbrev Idle : List Worker → Type 0
-Idle ws = (number : ℕ) (d : Worker) → 0 < number → number < 33 → (get_or ws number d).next ≡ None
-
--- worker 0 is not through
-pub set_up-waits : (lines : List Line) (past : List Entry) (r s : Run) (w : Worker) (b : Bool) → length r.workers.items ≡ 33 → Idle r.workers.items → Resolves lines past 0 1 r s → w ≡ get_or s.workers.items 0 w → b ≡ is_some w.next → b ≡ true → SetsUp lines past r s
-set_up-waits lines past r s w b many idle v at e h = record {
-  world = v.world;
-  last = v.last;
-  workers = record { many = v.many ∙ many; told = v.told; ready = λ k d l. by k d (omega (arith, v.many, many)) };
-}
-  where
-    next : IsNext lines past 0 w.next
-    next = subst (λ (v : Worker). IsNext lines past 0 v.next) (sym at) (v.these 0 w (omega arith) (omega arith))
-
-    by : (k : ℕ) (d : Worker) → k < 33 → IsReady lines past k (get_or s.workers.items k d)
-    by zero d l = record { own = λ may. v.these 0 d (omega arith) (omega arith); idle = λ f z. absurd (z refl) }
-    by (suc k) d l = record {
-      own = λ may. absurd (not-both may);
-      idle = λ f z. ap (λ (w : Worker). w.next) (v.others (suc k) d (inr (omega arith))) ∙ idle (suc k) d (omega arith) l;
-    }
-      where
-        not-both : (suc k ≡ 0) ⊎ (is_through lines past 0 ≡ true) → ⊥
-        not-both (inl z) = omega arith
-        not-both (inr t) = let no : true ≡ false = sym t ∙ some-open lines past 0 w.next next (sym e ∙ h) in cc
-
--- worker 0 is through
-pub set_up-through : (lines : List Line) (past : List Entry) (r s t : Run) (w : Worker) (b : Bool) → length r.workers.items ≡ 33 → Resolves lines past 0 1 r s → w ≡ get_or s.workers.items 0 w → b ≡ is_some w.next → b ≡ false → Resolves lines past 1 33 s t → SetsUp lines past r t
-set_up-through lines past r s t w b many v at e h u = record {
-  world = u.world ∙ v.world;
-  last = u.last ∙ v.last;
-  workers = record {
-    many = u.many ∙ v.many ∙ many;
-    told = u.told;
-    ready = λ k d l. by k d (omega (arith, u.many, v.many, many));
-  };
-}
-  where
-    through : is_through lines past 0 ≡ true
-    through = none-through lines past 0 w.next (subst (λ (v : Worker). IsNext lines past 0 v.next) (sym at) (v.these 0 w (omega arith) (omega arith))) (sym e ∙ h)
-
-    ready : (k : ℕ) (v : Worker) → IsNext lines past k v.next → IsReady lines past k v
-    ready k v n = record { own = λ may. n; idle = λ f z. absurd (let no : true ≡ false = sym through ∙ f in cc) }
-
-    by : (k : ℕ) (d : Worker) → k < 33 → IsReady lines past k (get_or t.workers.items k d)
-    by zero d l = ready 0 _ (subst (λ (w : Worker). IsNext lines past 0 w.next) (sym (u.others 0 d (inl (omega arith)))) (v.these 0 d (omega arith) (omega arith)))
-    by (suc k) d l = ready (suc k) _ (u.these (suc k) d (omega arith) l)
-
--- a step was made, and next calls are found
+-- a step was made, and the worker's next call is found
 pub ask-made : (p : Providers) (lines : List Line) (past : List Entry) (taken all : Taken) (r s t : Run) (number : ℕ) (new : Worker) (a : IsAsked p lines number past taken all r s new) → number < 33
-    → s.last ≡ number → SetsUp lines (past ++ a.made.turn.entry ∷ []) s t → GoesOn lines past taken all r t true (turn p lines r.world.cells past number)
+    → s.last ≡ number → Resolves lines (past ++ a.made.turn.entry ∷ []) number (number + 1) s t → GoesOn lines past taken all r t true (turn p lines r.world.cells past number)
 ask-made p lines past taken all r s t number new a lt last u =
     let place : t.last ≡ number = u.last ∙ last in
     let i = a.made in
@@ -217,7 +132,8 @@ ask-made p lines past taken all r s t number new a lt last u =
       refl,
       ap (λ (x : Standing). x.cells) u.world ∙ i.world,
       record {
-        workers = u.workers;
+        workers = kept-others lines (past ++ i.turn.entry ∷ []) s t number a.stepped lt u;
+        through = a.stepped.through;
         last = place ∙ sym i.own ∙ sym (last-push 0 past i.turn.entry);
         within = subst (λ (n : ℕ). n < 33) (sym place) lt;
       },

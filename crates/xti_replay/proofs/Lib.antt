@@ -6,5 +6,6 @@ pub mod Fresh
 pub mod Steps
 pub mod Keeping
 pub mod Turning
+pub mod Starting
 pub mod Stalling
 mod Few

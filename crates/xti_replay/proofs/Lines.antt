@@ -84,20 +84,20 @@ spot-line (line ∷ lines) from worker k s h = by (is_of worker line) refl k h (
 
 -- The next call of a worker.
 
-abbrev beginning : Call → Going
+abbrev pub beginning : Call → Going
 beginning c = record { call = c; so_far = go.Begin }
 
 -- the call of the worker's line at this place, behind the entries
 abbrev pub call_at : List Line → List Entry → ℕ → Spot → Call
 call_at lines past worker s = with_numbers (meanings (take s.place lines) worker past) s.line.call
 
-abbrev next_spot : List Line → List Entry → ℕ → Option Spot
+abbrev pub next_spot : List Line → List Entry → ℕ → Option Spot
 next_spot lines past worker = slice_get (spots_of lines worker) (length (begun past worker))
 
-abbrev going_at : List Line → List Entry → ℕ → Spot → Going
+abbrev pub going_at : List Line → List Entry → ℕ → Spot → Going
 going_at lines past worker s = beginning (call_at lines past worker s)
 
-next-spots : (lines : List Line) (past : List Entry) (worker : ℕ) → unfinished past worker ≡ None → next_going lines past worker ≡ option_map (going_at lines past worker) (next_spot lines past worker)
+pub next-spots : (lines : List Line) (past : List Entry) (worker : ℕ) → unfinished past worker ≡ None → next_going lines past worker ≡ option_map (going_at lines past worker) (next_spot lines past worker)
 next-spots lines past worker whole =
     ap (next_or lines past worker) whole
     ∙ ap (option_map (begin_line past)) (placed-spots [] lines 0 worker (length (begun past worker)) refl)

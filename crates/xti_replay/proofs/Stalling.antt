@@ -15,7 +15,7 @@ use Rattle.xti_model.specs.Robin.{next_going, is_through, numbers, robin_from, r
 use Rattle.xti_model.specs.Complete.{workers}
 use Rattle.xti_replay.specs.declared.workers.Worker.{Worker}
 use Rattle.xti_replay.specs.Stalls.{stall_of, stall_at, stalls_after, stalls_of, are_through}
-use Rattle.xti_replay.specs.Progress.{pending, AreKept, stalls_from}
+use Rattle.xti_replay.specs.Progress.{pending, AreReady, stalls_from}
 
 -- a stall line for each worker that is not through
 each-stall : (lines : List Line) (past : List Entry) (from n : ℕ) (ws : List Worker) → length ws ≡ n → ((k : ℕ) (d : Worker) (v : ℕ) → k < length ws → v ≡ from + k → pending (get_or ws k d).next ≡ next_going lines past v)
@@ -40,7 +40,7 @@ setup-alone lines past (w ∷ ws) pos first others =
     ∙ ap (λ (rest : List StallLine). stall_at lines past 0 ++ rest) (no-stalls 1 ws (λ k d l. others (suc k) d (omega arith) (omega arith)))
     ∙ append-nil (stall_at lines past 0)
 
-pub kept-stalls : (lines : List Line) (past : List Entry) (ws : List Worker) → AreKept lines past ws → stalls_from 0 ws ≡ stalls_after lines past
+pub kept-stalls : (lines : List Line) (past : List Entry) (ws : List Worker) → AreReady lines past ws → stalls_from 0 ws ≡ stalls_after lines past
 unfolding stalls_after
 kept-stalls lines past ws k = by (is_through lines past 0) refl
   where
@@ -128,7 +128,7 @@ pub record Ends (s : Script) (all : List Entry) (told : List StallLine) : Type 0
   pub stalls : told ≡ stalls_of s
   pub through : (told ≡ []) ↔ (are_through s.lines (robin s) ≡ true)
 
-pub ends : (s : Script) (lines : List Line) (ws : List Worker) (told : List StallLine) → lines ≡ s.lines → AreKept lines (robin_from s.providers lines most_steps (opening s.providers) []) ws → told ≡ stalls_from 0 ws → Ends s (robin_from s.providers lines most_steps (opening s.providers) []) told
+pub ends : (s : Script) (lines : List Line) (ws : List Worker) (told : List StallLine) → lines ≡ s.lines → AreReady lines (robin_from s.providers lines most_steps (opening s.providers) []) ws → told ≡ stalls_from 0 ws → Ends s (robin_from s.providers lines most_steps (opening s.providers) []) told
 ends s lines ws told e k t =
     let all : List Entry = robin_from s.providers lines most_steps (opening s.providers) [] in
     let whole : all ≡ robin s = ap (λ (ls : List Line). robin_from s.providers ls most_steps (opening s.providers) []) e in

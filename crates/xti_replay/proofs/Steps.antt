@@ -1,5 +1,5 @@
 -- One worker's next call, and its step.
-use Rattle.std.proofs.Common.{◌≡◌, ℕ, ◌+◌, ◌<◌, true, cond, false, List, [], ◌∷◌, ◌++◌, length, get_or, Option, Some, None, refl, sym, ap, ◌∙◌, subst, arith}
+use Rattle.std.proofs.Common.{◌≡◌, ℕ, ◌+◌, ◌<◌, true, cond, false, List, [], ◌∷◌, ◌++◌, length, get_or, Option, Some, None, refl, sym, ap, ◌∙◌, subst, arith, inr}
 use Rattle.std.specs.Prelude.{option_map, option_and_then, slice_get}
 use Rattle.std.proofs.lemmas.Option.{slice_get_read, slice_get_within, get_or_from_slice_get}
 use Rattle.xti_base.specs.declared.kinds.State.{State}
@@ -13,25 +13,25 @@ use Rattle.xti_model.specs.declared.profile.Providers.{Providers}
 use Rattle.xti_model.specs.Built.{is_built, is_built_named}
 use Rattle.xti_model.specs.World.{World}
 use Rattle.xti_model.specs.Step.{Step, step}
-use Rattle.xti_model.specs.History.{Going}
 use Rattle.xti_model.specs.Resolve.{opens}
 use Rattle.xti_model.specs.Robin.{next_going, Turn, turn_of, turn_going, turn}
 use Rattle.xti_core.specs.Standing.{Standing}
 use Rattle.xti_replay.specs.declared.workers.Worker.{Worker}
+use Rattle.xti_replay.specs.declared.run.Run.{Run}
 use Rattle.xti_replay.specs.Playable.{are_playable}
 use Rattle.xti_replay.specs.Known.{known_in, number_of, or_known, call_before}
-use Rattle.xti_replay.specs.Progress.{Told, pending, is_built_or_none, IsNext, IsReady, Of, AreKept, MayAsk, Taken, Makes}
+use Rattle.xti_replay.specs.Progress.{Told, pending, is_built_or_none, IsNext, IsReady, Of, InStep, Taken, Makes}
 use Rattle.xti_replay.proofs.Done.{is_done, step_done}
-use Rattle.xti_replay.proofs.Lines.{next-at, through-at, next-by, next-call, told-next, playable-line, line-built, line-worker}
+use Rattle.xti_replay.proofs.Lines.{beginning, next-at, through-at, next-by, next-call, told-next, playable-line, line-built, line-worker}
 
 pub at-worker : (P : ℕ → Worker → Type 0) (ws : List Worker) (number : ℕ) (w : Worker) → Of P ws → number < length ws → w ≡ get_or ws number w → P number w
 at-worker P ws number w each lt is = subst (λ (v : Worker). P number v) (sym is) (each number w lt)
 
-pub at-told : (lines : List Line) (past : List Entry) (ws : List Worker) (number : ℕ) (w : Worker) → AreKept lines past ws → number < 33 → w ≡ get_or ws number w → Told lines past number w
-at-told lines past ws number w k lt is = at-worker (Told lines past) ws number w k.told (omega (arith, k.many)) is
+pub at-told : (lines : List Line) (past : List Entry) (r : Run) (number : ℕ) (w : Worker) → InStep lines past r → number < 33 → w ≡ get_or r.workers.items number w → Told lines past number w
+at-told lines past r number w k lt is = at-worker (Told lines past) r.workers.items number w k.workers.told (omega (arith, k.workers.many)) is
 
-pub at-next : (lines : List Line) (past : List Entry) (ws : List Worker) (number : ℕ) (w : Worker) → AreKept lines past ws → number < 33 → MayAsk lines past number → w ≡ get_or ws number w → IsNext lines past number w.next
-at-next lines past ws number w k lt may is = (at-worker (IsReady lines past) ws number w k.ready (omega (arith, k.many)) is).own may
+pub at-next : (lines : List Line) (past : List Entry) (r : Run) (number : ℕ) (w : Worker) → InStep lines past r → number < 33 → w ≡ get_or r.workers.items number w → IsNext lines past number w.next
+at-next lines past r number w k lt is = (at-worker (IsReady lines past) r.workers.items number w k.workers.ready (omega (arith, k.workers.many)) is).own (inr k.through)
 
 -- The next call by the worker's next place.
 
@@ -71,9 +71,6 @@ pub playable-worker : (lines : List Line) (i : ℕ) (line : Line) → are_playab
 playable-worker lines i line playable lt at = line-worker line (playable-line lines i line playable (slice_get_read lines (length lines) i line refl lt at))
 
 -- The step.
-
-abbrev beginning : Call → Going
-beginning c = record { call = c; so_far = go.Begin }
 
 goes : (lines : List Line) (past : List Entry) (number : ℕ) (next : Option Call) (call : Call) → IsNext lines past number next → next ≡ Some call → next_going lines past number ≡ Some (beginning call)
 goes lines past number next call n e = sym n.going ∙ ap pending e

@@ -1,15 +1,14 @@
 -- Turns, one after the other, are the run of the definition.
-use Rattle.std.proofs.Common.{◌≡◌, ℕ, zero, suc, ◌+◌, ◌-◌, ◌<◌, ◌≤◌, Bool, true, false, List, [], ◌∷◌, ◌++◌, Option, Some, None, refl, sym, ap, ◌∙◌, subst, arith}
+use Rattle.std.proofs.Common.{◌≡◌, ℕ, zero, suc, ◌+◌, ◌-◌, ◌<◌, ◌≤◌, Bool, true, false, List, [], ◌∷◌, ◌++◌, Option, Some, None, refl, sym, ap, ◌∙◌, subst, arith, length}
 use Rattle.std.specs.Prelude.{if◌then◌else◌}
 use Rattle.xti_model.specs.declared.entry.Entry.{Entry}
 use Rattle.xti_model.specs.declared.script.Line.{Line}
 use Rattle.xti_model.specs.declared.profile.Providers.{Providers}
-use Rattle.xti_model.specs.World.{World, opening}
-use Rattle.xti_model.specs.Robin.{is_through, last_worker, numbers, order_after, Turn, turn, first_turn, next_turn, robin_from}
+use Rattle.xti_model.specs.World.{World}
+use Rattle.xti_model.specs.Robin.{is_through, last_worker, numbers, order_after, Turn, turn, first_turn, next_turn, robin_from, most_steps}
 use Rattle.xti_core.specs.Standing.{Standing}
-use Rattle.xti_replay.specs.declared.workers.Worker.{Worker}
 use Rattle.xti_replay.specs.declared.run.Run.{Run}
-use Rattle.xti_replay.specs.Progress.{Told, Of, IsFresh, InStep, Taken, GoesOn, SetsUp}
+use Rattle.xti_replay.specs.Progress.{AreReady, InStep, IsSetUp, Taken, GoesOn}
 
 -- The first turn among several workers.
 
@@ -102,7 +101,7 @@ asked-end lines past first taken base r from to i k le =
 
 -- The turn of the run.
 
-next-setup : (p : Providers) (lines : List Line) (w : World) (past : List Entry) → is_through lines past 0 ≡ false → next_turn p lines w past ≡ turn p lines w past 0
+pub next-setup : (p : Providers) (lines : List Line) (w : World) (past : List Entry) → is_through lines past 0 ≡ false → next_turn p lines w past ≡ turn p lines w past 0
 next-setup p lines w past h =
     ap (λ (b : Bool). first_turn (turn p lines w past) (if b then order_after (last_worker 0 past) else 0 ∷ [])) h ∙ first-cons (turn p lines w past) 0 [] ∙ last (turn p lines w past 0)
   where
@@ -125,22 +124,19 @@ next-order p lines w past last h e =
 abbrev pub next_in : List Line → List Entry → Run → Option Turn
 next_in lines past r = next_turn r.world.providers lines r.world.cells past
 
-pub turn-setup : (lines : List Line) (past : List Entry) (taken all : Taken) (r s : Run) (made : Bool) → is_through lines past 0 ≡ false → GoesOn lines past taken all r s made (turn_in lines past r 0) → GoesOn lines past taken all r s made (next_in lines past r)
-turn-setup lines past taken all r s made h m = subst (λ (o : Option Turn). GoesOn lines past taken all r s made o) (sym (next-setup r.world.providers lines r.world.cells past h)) m
-
-pub turn-first : (lines : List Line) (past : List Entry) (taken all : Taken) (r s : Run) (made : Bool) → InStep lines past r → is_through lines past 0 ≡ true → GoesOn lines past taken all r s made (first_turn (turn_in lines past r) (numbers (r.last + 1) (33 - (r.last + 1)))) → made ≡ true
+pub turn-first : (lines : List Line) (past : List Entry) (taken all : Taken) (r s : Run) (made : Bool) → InStep lines past r → GoesOn lines past taken all r s made (first_turn (turn_in lines past r) (numbers (r.last + 1) (33 - (r.last + 1)))) → made ≡ true
     → GoesOn lines past taken all r s true (next_in lines past r)
-turn-first lines past taken all r s made k h m so = by (first_turn (turn_in lines past r) (numbers (r.last + 1) (33 - (r.last + 1)))) m refl
+turn-first lines past taken all r s made k m so = by (first_turn (turn_in lines past r) (numbers (r.last + 1) (33 - (r.last + 1)))) m refl
   where
     by : (o : Option Turn) → GoesOn lines past taken all r s made o → first_turn (turn_in lines past r) (numbers (r.last + 1) (33 - (r.last + 1))) ≡ o → GoesOn lines past taken all r s true (next_in lines past r)
     by None m e = absurd (let no : true ≡ false = sym so ∙ m.0 in cc)
     by (Some t) m e =
         goes-some lines past taken taken all r r s made (Some t) (next_in lines past r) m so (λ held. held)
-        (sym (next-order r.world.providers lines r.world.cells past r.last h k.last ∙ ap (λ (o : Option Turn). first_or o (first_turn (turn_in lines past r) (numbers 1 (r.last + 1 - 1)))) e))
+        (sym (next-order r.world.providers lines r.world.cells past r.last k.through k.last ∙ ap (λ (o : Option Turn). first_or o (first_turn (turn_in lines past r) (numbers 1 (r.last + 1 - 1)))) e))
 
-pub turn-second : (lines : List Line) (past : List Entry) (taken some all : Taken) (r s t : Run) (first made : Bool) → InStep lines past r → is_through lines past 0 ≡ true → GoesOn lines past taken some r s first (first_turn (turn_in lines past r) (numbers (r.last + 1) (33 - (r.last + 1)))) → first ≡ false
+pub turn-second : (lines : List Line) (past : List Entry) (taken some all : Taken) (r s t : Run) (first made : Bool) → InStep lines past r → GoesOn lines past taken some r s first (first_turn (turn_in lines past r) (numbers (r.last + 1) (33 - (r.last + 1)))) → first ≡ false
     → GoesOn lines past some all s t made (first_turn (turn_in lines past s) (numbers 1 (r.last + 1 - 1))) → GoesOn lines past taken all r t made (next_in lines past r)
-turn-second lines past taken some all r s t first made k h m unmade n = by (first_turn (turn_in lines past s) (numbers 1 (r.last + 1 - 1))) n same
+turn-second lines past taken some all r s t first made k m unmade n = by (first_turn (turn_in lines past s) (numbers 1 (r.last + 1 - 1))) n same
   where
     still : IsStill lines past taken some r s (first_turn (turn_in lines past r) (numbers (r.last + 1) (33 - (r.last + 1))))
     still = goes-none lines past taken some r s first (first_turn (turn_in lines past r) (numbers (r.last + 1) (33 - (r.last + 1)))) m unmade
@@ -149,7 +145,7 @@ turn-second lines past taken some all r s t first made k h m unmade n = by (firs
     rest = ap (λ (x : Standing). first_turn (turn x.providers lines x.cells past) (numbers 1 (r.last + 1 - 1))) still.world
 
     same : first_turn (turn_in lines past s) (numbers 1 (r.last + 1 - 1)) ≡ next_in lines past r
-    same = rest ∙ sym (next-order r.world.providers lines r.world.cells past r.last h k.last ∙ ap (λ (o : Option Turn). first_or o (first_turn (turn_in lines past r) (numbers 1 (r.last + 1 - 1)))) still.is)
+    same = rest ∙ sym (next-order r.world.providers lines r.world.cells past r.last k.through k.last ∙ ap (λ (o : Option Turn). first_or o (first_turn (turn_in lines past r) (numbers 1 (r.last + 1 - 1)))) still.is)
 
     by : (o : Option Turn) → GoesOn lines past some all s t made o → o ≡ next_in lines past r → GoesOn lines past taken all r t made (next_in lines past r)
     by None n e = subst (λ (b : Bool). GoesOn lines past taken all r t b (next_in lines past r)) (sym n.0) (goes-still lines past taken all r t (next_in lines past r) (sym e) (n.1 ∙ still.world) n.2 (λ held. n.3 (still.takes held)))
@@ -165,26 +161,15 @@ pub record IsRun (p : Providers) (lines : List Line) (n : ℕ) (all : List Entry
   pub takes : taken [] → now past
   pub left : robin_from p lines n r.world.cells past ≡ all
 
-pub run-begins : (p : Providers) (lines : List Line) (n : ℕ) (taken : Taken) (r s : Run) → r.world ≡ record { providers = p; cells = opening p } → r.last ≡ 0 → SetsUp lines [] r s → IsRun p lines n (robin_from p lines n (opening p) []) taken taken s
-run-begins p lines n taken r s w last u =
-    let world : s.world ≡ record { providers = p; cells = opening p } = u.world ∙ w in
-    record {
-      past = [];
-      in_step = record {
-        workers = u.workers;
-        last = u.last ∙ last;
-        within = subst (λ (k : ℕ). k < 33) (sym (u.last ∙ last)) (omega arith);
-      };
-      providers = ap (λ (x : Standing). x.providers) world;
-      takes = λ held. held;
-      left = ap (λ (x : Standing). robin_from p lines n x.cells []) world;
-    }
+pub run-begins : (p : Providers) (lines : List Line) (n : ℕ) (all : List Entry) (taken now : Taken) (r : Run) (u : IsSetUp p lines all taken now r true) → n ≡ most_steps - length u.past → IsRun p lines n all taken now r
+run-begins p lines n all taken now r u e =
+    record { past = u.past; in_step = (u.on refl).0; providers = u.providers; takes = u.takes; left = ap (λ (k : ℕ). robin_from p lines k r.world.cells u.past) e ∙ u.left }
 
-abbrev runs_on : Providers → List Line → ℕ → List Entry → Option Turn → List Entry
+abbrev pub runs_on : Providers → List Line → ℕ → List Entry → Option Turn → List Entry
 runs_on p lines m past None = past
 runs_on p lines m past (Some t) = robin_from p lines m t.world (past ++ t.entry ∷ [])
 
-turned : (p : Providers) (lines : List Line) (m : ℕ) (w : World) (past : List Entry) → robin_from p lines (suc m) w past ≡ runs_on p lines m past (next_turn p lines w past)
+pub turned : (p : Providers) (lines : List Line) (m : ℕ) (w : World) (past : List Entry) → robin_from p lines (suc m) w past ≡ runs_on p lines m past (next_turn p lines w past)
 turned p lines m w past = by (next_turn p lines w past)
   where
     by : (o : Option Turn) → ◌≡◌ {A = List Entry} (elim o [ None ↦ past | Some t ↦ robin_from p lines m t.world (past ++ t.entry ∷ []) ]) (runs_on p lines m past o)
@@ -213,12 +198,12 @@ run-step p lines (suc n) all taken now new r s made pos l e k m same so =
 
 -- what a run is at its end
 pub record HasRun (lines : List Line) (all : List Entry) (taken now : Taken) (r : Run) : Type 0 where
-  pub in_step : InStep lines all r
+  pub ready : AreReady lines all r.workers.items
   pub takes : taken [] → now all
 
 has-run : (lines : List Line) (past all : List Entry) (taken now : Taken) (r : Run) → past ≡ all → InStep lines past r → (taken [] → now past) → HasRun lines all taken now r
 has-run lines past all taken now r e k takes =
-    subst (λ (es : List Entry). HasRun lines es taken now r) e (record { in_step = k; takes = takes })
+    subst (λ (es : List Entry). HasRun lines es taken now r) e (record { ready = record { many = k.workers.many; ready = k.workers.ready }; takes = takes })
 
 pub run-stops : (p : Providers) (lines : List Line) (n : ℕ) (all : List Entry) (taken now new : Taken) (r s : Run) (made : Bool) → 0 < n → (k : IsRun p lines n all taken now r) → GoesOn lines k.past now new r s made (next_in lines k.past r) → made ≡ false → HasRun lines all taken new s
 run-stops p lines zero all taken now new r s made pos k m unmade = absurd (omega arith)
@@ -232,5 +217,7 @@ pub run-ends : (p : Providers) (lines : List Line) (all : List Entry) (n : ℕ) 
 run-ends p lines all zero taken now r e k = has-run lines k.past all taken now r k.left k.in_step k.takes
 run-ends p lines all (suc n) taken now r e k = absurd (omega arith)
 
-pub fresh-told : (lines : List Line) (ws : List Worker) → Of (IsFresh lines) ws → Of (Told lines []) ws
-fresh-told lines ws each = λ k d lt. (each k d lt).told
+pub run-stuck : (p : Providers) (lines : List Line) (all : List Entry) (taken now : Taken) (r : Run) (up : Bool) → IsSetUp p lines all taken now r up → up ≡ false → HasRun lines all taken now r
+run-stuck p lines all taken now r up u e =
+    let o = u.off e in
+    subst (λ (es : List Entry). HasRun lines es taken now r) o.1 (record { ready = o.0; takes = u.takes })

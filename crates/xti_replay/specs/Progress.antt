@@ -1,14 +1,15 @@
 -- What is kept of a run, beside its script and the entries so far.
-use Rattle.std.specs.Prelude.{ℕ, ◌+◌, ◌≡◌, ◌<◌, ◌≤◌, ◌⊎◌, Bool, true, false, List, [], ◌∷◌, ◌++◌, length, slice_index_or, Option, Some, None}
+use Rattle.std.specs.Prelude.{ℕ, ◌+◌, ◌-◌, ◌≡◌, ◌<◌, ◌≤◌, ◌⊎◌, Bool, true, false, List, [], ◌∷◌, ◌++◌, length, slice_index_or, take, Option, Some, None}
 use Rattle.xti_model.specs.declared.call.Call.{Call}
 use Rattle.xti_model.specs.declared.entry.Go.TheVariants as go
 use Rattle.xti_model.specs.declared.entry.Entry.{Entry}
 use Rattle.xti_model.specs.declared.script.Line.{Line}
 use Rattle.xti_model.specs.declared.script.StallLine.{StallLine}
 use Rattle.xti_model.specs.Built.{is_built}
-use Rattle.xti_model.specs.History.{Going, unfinished}
+use Rattle.xti_model.specs.declared.profile.Providers.{Providers}
+use Rattle.xti_model.specs.History.{Going, own, unfinished}
 use Rattle.xti_model.specs.Resolve.{begun}
-use Rattle.xti_model.specs.Robin.{next_going, is_through, last_worker, Turn}
+use Rattle.xti_model.specs.Robin.{next_going, is_through, last_worker, Turn, robin_from, most_steps}
 use Rattle.xti_core.specs.Standing.{Standing}
 use Rattle.xti_replay.specs.declared.workers.Worker.{Worker}
 use Rattle.xti_replay.specs.declared.run.Run.{Run}
@@ -57,23 +58,34 @@ pub record AreKept (lines : List Line) (past : List Entry) (ws : List Worker) : 
   pub told : Of (Told lines past) ws
   pub ready : Of (IsReady lines past) ws
 
--- and so does the run
+-- each of them has its next call, where it may make it
+pub record AreReady (lines : List Line) (past : List Entry) (ws : List Worker) : Type 0 where
+  pub many : length ws ≡ 33
+  pub ready : Of (IsReady lines past) ws
+
+-- worker 0 makes its calls while the lines are handed out: so many were, and it is through with its own among them
+pub record IsStarting (lines : List Line) (place : ℕ) (past : List Entry) (r : Run) : Type 0 where
+  pub many : length r.workers.items ≡ 33
+  pub told : Of (Told (take place lines) past) r.workers.items
+  pub level : (d : Worker) → (slice_index_or r.workers.items 0 d).begun ≡ length (slice_index_or r.workers.items 0 d).places.items
+  pub steps : (d : Worker) → (slice_index_or r.workers.items 0 d).begun ≡ length past
+  pub alone : (number : ℕ) → (number ≡ 0 → ⊥) → own past number ≡ []
+  pub idle : (number : ℕ) (d : Worker) → number < 33 → (slice_index_or r.workers.items number d).next ≡ None
+  pub last : (r.last ≡ 0) × (last_worker 0 past ≡ 0)
+
+-- worker 0 is through, and each worker stands as the entries so far have it
 pub record InStep (lines : List Line) (past : List Entry) (r : Run) : Type 0 where
   pub workers : AreKept lines past r.workers.items
+  pub through : is_through lines past 0 ≡ true
   pub last : r.last ≡ last_worker 0 past
   pub within : r.last < 33
 
--- worker 0 may be asked always, another one once worker 0 is through
-abbrev pub MayAsk : List Line → List Entry → ℕ → Type 0
-MayAsk lines past number = (number ≡ 0) ⊎ (is_through lines past 0 ≡ true)
-
--- the worker has made a step, and the calls that are next are still to be found
+-- a worker other than 0 has made a step, and its next call is still to be found
 pub record HasStepped (lines : List Line) (number : ℕ) (past : List Entry) (r : Run) : Type 0 where
   pub many : length r.workers.items ≡ 33
   pub told : Of (Told lines past) r.workers.items
-  pub through : (number ≡ 0 → ⊥) → is_through lines past 0 ≡ true
-  pub others : (other : ℕ) (d : Worker) → other < 33 → (other ≡ number → ⊥) → (number ≡ 0 → ⊥) → IsReady lines past other (slice_index_or r.workers.items other d)
-  pub idle : number ≡ 0 → (other : ℕ) (d : Worker) → 0 < other → other < 33 → (slice_index_or r.workers.items other d).next ≡ None
+  pub through : is_through lines past 0 ≡ true
+  pub others : (other : ℕ) (d : Worker) → other < 33 → (other ≡ number → ⊥) → IsReady lines past other (slice_index_or r.workers.items other d)
 
 -- what a recorder has taken
 abbrev pub Taken : Type 1
@@ -90,6 +102,22 @@ abbrev pub GoesOn : List Line → List Entry → Taken → Taken → Run → Run
 GoesOn lines past taken all old new made None = (made ≡ false) × (new.world ≡ old.world) × InStep lines past new × (taken past → all past)
 GoesOn lines past taken all old new made (Some t) = (made ≡ true) × (new.world.cells ≡ t.world) × InStep lines (past ++ t.entry ∷ []) new × (taken past → all (past ++ t.entry ∷ []))
 
+-- a line was handed out: worker 0's call is made at once, and its entry recorded, where it isn't blocked
+abbrev pub HandsOut : List Line → ℕ → List Entry → Taken → Taken → Run → Run → Bool → Bool → Option Turn → Type 0
+HandsOut lines place past taken all old new handed false o = (handed ≡ true) × (new.world ≡ old.world) × IsStarting lines (place + 1) past new × (taken past → all past)
+HandsOut lines place past taken all old new handed true None = (handed ≡ false) × (new.world ≡ old.world) × AreReady lines past new.workers.items × (taken past → all past)
+HandsOut lines place past taken all old new handed true (Some t) =
+    (handed ≡ true) × (new.world.cells ≡ t.world) × IsStarting lines (place + 1) (past ++ t.entry ∷ []) new × (taken past → all (past ++ t.entry ∷ []))
+
+-- all lines are handed out and worker 0 is through, or it is blocked and all entries are made
+pub record IsSetUp (p : Providers) (lines : List Line) (all : List Entry) (taken now : Taken) (r : Run) (up : Bool) : Type 0 where
+  pub past : List Entry
+  pub takes : taken [] → now past
+  pub providers : r.world.providers ≡ p
+  pub left : robin_from p lines (most_steps - length past) r.world.cells past ≡ all
+  pub on : up ≡ true → InStep lines past r × ((d : Worker) → (slice_index_or r.workers.items 0 d).begun ≡ length past)
+  pub off : up ≡ false → AreReady lines past r.workers.items × (past ≡ all)
+
 -- the workers from one on, up to another, have their next calls, and all else is as before
 pub record Resolves (lines : List Line) (past : List Entry) (from to : ℕ) (old new : Run) : Type 0 where
   pub world : new.world ≡ old.world
@@ -98,12 +126,6 @@ pub record Resolves (lines : List Line) (past : List Entry) (from to : ℕ) (old
   pub told : Of (Told lines past) new.workers.items
   pub these : (number : ℕ) (d : Worker) → from ≤ number → number < to → IsNext lines past number (slice_index_or new.workers.items number d).next
   pub others : (number : ℕ) (d : Worker) → (number < from) ⊎ (to ≤ number) → slice_index_or new.workers.items number d ≡ slice_index_or old.workers.items number d
-
--- worker 0 has its next call, and where it is through, so have the others
-pub record SetsUp (lines : List Line) (past : List Entry) (old new : Run) : Type 0 where
-  pub world : new.world ≡ old.world
-  pub last : new.last ≡ old.last
-  pub workers : AreKept lines past new.workers.items
 
 -- the stall lines of workers from this one on
 abbrev pub stalls_from : ℕ → List Worker → List StallLine

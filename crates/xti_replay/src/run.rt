@@ -1,23 +1,24 @@
 //! A run of a script in which the workers take turns.
 
-ghost use Rattle.std.specs.Prelude.{◌≡◌, ◌+◌, ◌-◌, ◌<◌, ◌≤◌, ℕ, List, [], length, slice_index_or, None, true, IsTrue, IfOk, OnOk};
+ghost use Rattle.std.specs.Prelude.{◌≡◌, ◌+◌, ◌-◌, ◌<◌, ◌≤◌, ℕ, List, [], length, slice_get, Some, IsTrue, IfOk, OnOk, true};
 ghost use Rattle.xti_model.specs.declared.entry.Entry.{Entry};
 ghost use Rattle.xti_model.specs.Profile.{valid};
 ghost use Rattle.xti_model.specs.World.{opening};
-ghost use Rattle.xti_model.specs.Robin.{is_through, turn, first_turn, numbers, next_turn, robin_from, most_steps};
-ghost use Rattle.xti_replay.specs.declared.workers.Worker.{Worker};
+ghost use Rattle.xti_model.specs.declared.script.Line.{Line};
+ghost use Rattle.xti_model.specs.Resolve.{is_of};
+ghost use Rattle.xti_model.specs.Robin.{turn, first_turn, numbers, next_turn, robin_from, most_steps};
 ghost use Rattle.xti_replay.specs.Playable.{are_playable};
-ghost use Rattle.xti_replay.specs.Progress.{Told, IsNext, Of, MayAsk, InStep, HasStepped, Makes, GoesOn, Resolves, SetsUp};
+ghost use Rattle.xti_replay.specs.Progress.{Told, IsNext, Of, AreReady, IsStarting, InStep, Makes, GoesOn, HandsOut, IsSetUp, Resolves};
 
 use crate::names::call_before;
-use crate::workers::{WORKERS, Worker, workers_of};
+use crate::workers::{WORKERS, Worker, idle_workers};
 use std::alloc::{AllocError, Global};
 use xti_core::World;
 use xti_journal::Recorder;
 use xti_model::{Act, Applied, Call, Entry, Go, Line, Providers};
 
 /// A bound on the steps of a script.
-const MOST_STEPS: u32 = 4_294_304;
+const MOST_STEPS: usize = 4_294_304;
 
 /// A run so far, beside its entries.
 #[derive(Drop)]
@@ -63,6 +64,67 @@ fn make<H: Recorder>(
 }
 
 impl Run {
+    /// Hands the line at this place to its worker. Worker 0 makes its call at once; false where that is blocked.
+    fn hand_out<H: Recorder>(
+        &mut self,
+        alloc: Global,
+        lines: &[Line],
+        recorder: &mut H,
+        place: usize,
+    ) -> Result<bool, AllocError>
+        requires lines { IsTrue (are_playable lines.now) }
+        requires place { place < length lines.now }
+        requires starting { (past : List Entry) × IsStarting lines.now place past self.old }
+        ensures hands_out { IfOk result (λ handed. (first : H) (past : List Entry) (line : Line) → IsStarting lines.now place past self.old → slice_get lines.now place ≡ Some line → HandsOut lines.now place past (λ es. H.took first es recorder.old) (λ es. H.took first es recorder.new) self.old self.new handed (is_of 0 line) (next_turn self.old.world.providers lines.now self.old.world.cells past)) }
+        ensures providers { OnOk result (self.new.world.providers ≡ self.old.world.providers) }
+    {
+        let line = &lines[place];
+        let worker = &mut self.workers[line.worker as usize];
+        worker.hand(place)?;
+        if line.worker != 0 {
+            return Ok(true);
+        }
+        let call = call_before(place, &worker.names, &worker.names, &line.call)?;
+        match self.world.step(&call, Go::Begin)? {
+            Applied::Blocked => {
+                worker.set_next(Some(call));
+                Ok(false)
+            }
+            Applied::Step { outcome, after } => {
+                worker.advance(alloc, lines, &outcome)?;
+                recorder.add(Entry {
+                    worker: 0,
+                    act: Act::Begin(call),
+                    outcome,
+                    after,
+                })?;
+                Ok(true)
+            }
+        }
+    }
+
+    /// Worker 0 makes its calls while the lines are handed out, and the others find their first calls; false where worker 0 is
+    /// blocked, and nothing is left to do.
+    fn set_up<H: Recorder>(
+        &mut self,
+        alloc: Global,
+        lines: &[Line],
+        recorder: &mut H,
+    ) -> Result<bool, AllocError>
+        requires lines { IsTrue (are_playable lines.now) }
+        requires bound { length lines.now ≤ most_steps }
+        requires starting { IsStarting lines.now 0 [] self.old }
+        ensures { IfOk result (λ up. (first : H) → IsSetUp self.old.world.providers lines.now (robin_from self.old.world.providers lines.now most_steps self.old.world.cells []) (λ es. H.took first es recorder.old) (λ es. H.took first es recorder.new) self.new up) }
+    {
+        for place in 0..lines.len() {
+            if !self.hand_out(alloc, lines, recorder, place)? {
+                return Ok(false);
+            }
+        }
+        self.resolve(lines, 0, WORKERS)?;
+        Ok(true)
+    }
+
     /// The call of the worker's next line; `None` where it is through.
     fn next_call(&self, lines: &[Line], number: usize) -> Result<Option<Call>, AllocError>
         requires lines { IsTrue (are_playable lines.now) }
@@ -99,35 +161,6 @@ impl Run {
         Ok(())
     }
 
-    /// Finds worker 0's next call, and where it is through, those of all the others.
-    fn set_up(&mut self, lines: &[Line]) -> Result<(), AllocError>
-        requires lines { IsTrue (are_playable lines.now) }
-        requires many { length self.old.workers.items ≡ 33 }
-        requires told { (past : List Entry) × Of (Told lines.now past) self.old.workers.items }
-        requires idle { (number : ℕ) (d : Worker) → 0 < number → number < 33 → (slice_index_or self.old.workers.items number d).next ≡ None }
-        ensures { OnOk result ((past : List Entry) → Of (Told lines.now past) self.old.workers.items → SetsUp lines.now past self.old self.new) }
-    {
-        self.resolve(lines, 0, 1)?;
-        if self.workers[0].next.is_some() {
-            return Ok(());
-        }
-        self.resolve(lines, 1, WORKERS)
-    }
-
-    /// Finds the calls that are next after a step of the worker.
-    fn proceed(&mut self, lines: &[Line], number: usize) -> Result<(), AllocError>
-        requires lines { IsTrue (are_playable lines.now) }
-        requires stepped { (past : List Entry) × HasStepped lines.now number past self.old }
-        requires number { number < 33 }
-        ensures { OnOk result ((past : List Entry) → HasStepped lines.now number past self.old → SetsUp lines.now past self.old self.new) }
-    {
-        if number == 0 {
-            self.set_up(lines)
-        } else {
-            self.resolve(lines, number, number + 1)
-        }
-    }
-
     /// Makes the worker's next step; false where it is through or blocked.
     fn ask<H: Recorder>(
         &mut self,
@@ -137,9 +170,9 @@ impl Run {
         number: usize,
     ) -> Result<bool, AllocError>
         requires lines { IsTrue (are_playable lines.now) }
-        requires may { (past : List Entry) × InStep lines.now past self.old × MayAsk lines.now past number }
-        requires number { number < 33 }
-        ensures goes_on { IfOk result (λ made. (first : H) (past : List Entry) → InStep lines.now past self.old → MayAsk lines.now past number → GoesOn lines.now past (λ es. H.took first es recorder.old) (λ es. H.took first es recorder.new) self.old self.new made (turn self.old.world.providers lines.now self.old.world.cells past number)) }
+        requires in_step { (past : List Entry) × InStep lines.now past self.old }
+        requires number { (0 < number) × (number < 33) }
+        ensures goes_on { IfOk result (λ made. (first : H) (past : List Entry) → InStep lines.now past self.old → GoesOn lines.now past (λ es. H.took first es recorder.old) (λ es. H.took first es recorder.new) self.old self.new made (turn self.old.world.providers lines.now self.old.world.cells past number)) }
         ensures providers { OnOk result (self.new.world.providers ≡ self.old.world.providers) }
     {
         let worker = &mut self.workers[number];
@@ -154,7 +187,7 @@ impl Run {
             return Ok(false);
         }
         self.last = number;
-        self.proceed(lines, number)?;
+        self.resolve(lines, number, number + 1)?;
         Ok(true)
     }
 
@@ -168,10 +201,10 @@ impl Run {
         to: usize,
     ) -> Result<bool, AllocError>
         requires lines { IsTrue (are_playable lines.now) }
-        requires through { (past : List Entry) × InStep lines.now past self.old × (is_through lines.now past 0 ≡ true) }
-        requires from { from ≤ to }
+        requires in_step { (past : List Entry) × InStep lines.now past self.old }
+        requires from { (0 < from) × (from ≤ to) }
         requires to { to ≤ 33 }
-        ensures goes_on { IfOk result (λ made. (first : H) (past : List Entry) → InStep lines.now past self.old → is_through lines.now past 0 ≡ true → GoesOn lines.now past (λ es. H.took first es recorder.old) (λ es. H.took first es recorder.new) self.old self.new made (first_turn (turn self.old.world.providers lines.now self.old.world.cells past) (numbers from (to - from)))) }
+        ensures goes_on { IfOk result (λ made. (first : H) (past : List Entry) → InStep lines.now past self.old → GoesOn lines.now past (λ es. H.took first es recorder.old) (λ es. H.took first es recorder.new) self.old self.new made (first_turn (turn self.old.world.providers lines.now self.old.world.cells past) (numbers from (to - from)))) }
         ensures providers { OnOk result (self.new.world.providers ≡ self.old.world.providers) }
     {
         for number in from..to {
@@ -194,9 +227,6 @@ impl Run {
         ensures goes_on { IfOk result (λ made. (first : H) (past : List Entry) → InStep lines.now past self.old → GoesOn lines.now past (λ es. H.took first es recorder.old) (λ es. H.took first es recorder.new) self.old self.new made (next_turn self.old.world.providers lines.now self.old.world.cells past)) }
         ensures providers { OnOk result (self.new.world.providers ≡ self.old.world.providers) }
     {
-        if self.workers[0].next.is_some() {
-            return self.ask(alloc, lines, recorder, 0);
-        }
         let after = self.last + 1;
         if self.ask_each(alloc, lines, recorder, after, WORKERS)? {
             return Ok(true);
@@ -214,16 +244,19 @@ pub(crate) fn run_of<H: Recorder>(
 ) -> Result<Run, AllocError>
     requires valid { valid p.now ≡ true }
     requires lines { IsTrue (are_playable lines.now) }
-    ensures in_step { IfOk result (InStep lines.now (robin_from p.now lines.now most_steps (opening p.now) [])) }
+    requires bound { length lines.now ≤ most_steps }
+    ensures ready { IfOk result (λ r. AreReady lines.now (robin_from p.now lines.now most_steps (opening p.now) []) r.workers.items) }
     ensures taken { OnOk result ((first : H) → H.took first [] recorder.old → H.took first (robin_from p.now lines.now most_steps (opening p.now) []) recorder.new) }
 {
     let mut run = Run {
         world: World::fresh(alloc, p)?,
-        workers: workers_of(alloc, lines)?,
+        workers: idle_workers(alloc)?,
         last: 0,
     };
-    run.set_up(lines)?;
-    for _step in 0..MOST_STEPS {
+    if !run.set_up(alloc, lines, recorder)? {
+        return Ok(run);
+    }
+    for _step in run.workers[0].begun()..MOST_STEPS {
         if !run.turn(alloc, lines, recorder)? {
             return Ok(run);
         }

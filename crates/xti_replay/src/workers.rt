@@ -1,9 +1,8 @@
 //! What is kept of each worker.
 
-ghost use Rattle.std.specs.Prelude.{◌≡◌, ◌+◌, ◌<◌, ℕ, List, [], length, slice_index, slice_get, Some, None, IsTrue, IfOk, OnOk, if◌then◌else◌};
+ghost use Rattle.std.specs.Prelude.{◌≡◌, ◌+◌, ◌<◌, ℕ, List, [], length, ◌++◌, ◌∷◌, slice_index, slice_get, Some, None, IfOk, OnOk, if◌then◌else◌};
 ghost use Rattle.xti_model.specs.declared.script.Line.{Line};
 ghost use Rattle.xti_model.specs.Resolve.{opens};
-ghost use Rattle.xti_replay.specs.Playable.{are_playable};
 ghost use Rattle.xti_replay.specs.Known.{known_in, or_known, number_of};
 ghost use Rattle.xti_replay.specs.Progress.{IsFresh, Of};
 
@@ -33,6 +32,22 @@ impl Worker {
         ensures { result ≡ slice_get self.now.places.items self.now.begun }
     {
         self.places.get(self.begun).copied()
+    }
+
+    /// How many of its lines it has begun.
+    pub(crate) fn begun(&self) -> usize
+        ensures { result ≡ self.now.begun }
+    {
+        self.begun
+    }
+
+    /// The line at this place is the worker's too.
+    pub(crate) fn hand(&mut self, place: usize) -> Result<(), AllocError>
+        ensures places { OnOk result (self.new.places.items ≡ self.old.places.items ++ place ∷ []) }
+        ensures others { (self.new.begun ≡ self.old.begun) × (self.new.names ≡ self.old.names) × (self.new.next ≡ self.old.next) }
+    {
+        self.places.push(place)?;
+        Ok(())
     }
 
     /// Sets the worker's next call.
@@ -65,7 +80,7 @@ impl Worker {
 }
 
 /// Workers without lines.
-fn idle_workers(alloc: Global) -> Result<Vec<Worker>, AllocError>
+pub(crate) fn idle_workers(alloc: Global) -> Result<Vec<Worker>, AllocError>
     ensures many { IfOk result (λ ws. length ws.items ≡ 33) }
     ensures fresh { IfOk result (λ ws. Of (IsFresh []) ws.items) }
 {
@@ -77,20 +92,6 @@ fn idle_workers(alloc: Global) -> Result<Vec<Worker>, AllocError>
             names: Table::new(alloc),
             next: None,
         })?;
-    }
-    Ok(workers)
-}
-
-/// Each worker with its lines, before it begins one.
-pub(crate) fn workers_of(alloc: Global, lines: &[Line]) -> Result<Vec<Worker>, AllocError>
-    requires { IsTrue (are_playable lines.now) }
-    ensures many { IfOk result (λ ws. length ws.items ≡ 33) }
-    ensures fresh { IfOk result (λ ws. Of (IsFresh lines.now) ws.items) }
-{
-    let mut workers = idle_workers(alloc)?;
-    for (place, line) in lines.iter().enumerate() {
-        let worker = &mut workers[line.worker as usize];
-        worker.places.push(place)?;
     }
     Ok(workers)
 }
