@@ -1,12 +1,12 @@
 //! The lines of a journal.
 
-ghost use Rattle.std.specs.Prelude.{◌≡◌, ◌++◌, OnOk, IfOk};
+ghost use Rattle.std.specs.Prelude.{◌≡◌, ◌++◌, OnOk, IfOk, codes};
 ghost use Rattle.std.specs.List.{flat_map};
 ghost use Rattle.xti_journal.specs.JournalText.{profile_text, provider_text, first_line, head_text, answer_text, entry_text, entries_text, stall_text, end_text, journal_text};
 
 use crate::calls::put_act;
 use crate::replies::put_outcome;
-use crate::words::{put_bit, put_limit};
+use crate::words::{put_bit, put_limit, put_state};
 use std::alloc::{AllocError, Global};
 use xti_base::Octets;
 use xti_model::{Entry, Journal, Profile, Providers, StallLine};
@@ -49,12 +49,12 @@ pub(crate) fn put_head(out: &mut Vec<u8>, p: &Providers) -> Result<(), AllocErro
     put_provider(out, "ticlts", &p.ticlts)
 }
 
+// What the call answered, behind an arrow, to the end of the line.
 fn put_answer(out: &mut Vec<u8>, e: &Entry) -> Result<(), AllocError>
-    ensures { OnOk result (out.new.items ≡ out.old.items ++ answer_text e.now) }
+    ensures { OnOk result (out.new.items ≡ out.old.items ++ codes " => " ++ answer_text e.now ++ codes "\n") }
 {
     put_outcome(out, &e.outcome)?;
-    put_text(out, " ")?;
-    put_text(out, e.after.name())
+    put_state(out, e.after)
 }
 
 #[tactic(auto, unfolding(crate::specs::JournalText::entry_text))]
@@ -63,11 +63,8 @@ pub(crate) fn put_entry(out: &mut Vec<u8>, n: u64, e: &Entry) -> Result<(), Allo
 {
     put_number(out, "", n)?;
     put_number(out, " ", e.worker as u64)?;
-    put_text(out, " ")?;
     put_act(out, &e.act)?;
-    put_text(out, " => ")?;
-    put_answer(out, e)?;
-    put_text(out, "\n")
+    put_answer(out, e)
 }
 
 fn put_entries(out: &mut Vec<u8>, entries: &[Entry]) -> Result<(), AllocError>
@@ -86,7 +83,6 @@ fn put_stall(out: &mut Vec<u8>, s: &StallLine) -> Result<(), AllocError>
     ensures { OnOk result (out.new.items ≡ out.old.items ++ stall_text s.now) }
 {
     put_number(out, "stall ", s.worker as u64)?;
-    put_text(out, " ")?;
     put_act(out, &s.act)?;
     put_text(out, "\n")
 }

@@ -1,10 +1,10 @@
-//! What calls answered.
+//! What calls answered, each behind an arrow.
 
-ghost use Rattle.std.specs.Prelude.{◌≡◌, ◌++◌, OnOk, IsTrue};
+ghost use Rattle.std.specs.Prelude.{◌≡◌, ◌++◌, OnOk, IsTrue, codes};
 ghost use Rattle.xti_journal.specs.JournalText.{event_text, sizes_text, info_text, reply_text, outcome_text};
 ghost use Rattle.xti_model.specs.Families.{is_connection_news, is_received, is_error};
 
-use crate::words::{put_limit, put_octets};
+use crate::words::{put_limit, put_pairs};
 use std::alloc::AllocError;
 use xti_base::{Event, Info};
 use xti_model::{Outcome, Reply};
@@ -41,13 +41,13 @@ fn put_info(out: &mut Vec<u8>, info: &Info) -> Result<(), AllocError>
 // What the other side asked or answered about a connection.
 fn put_connection_news(out: &mut Vec<u8>, reply: &Reply) -> Result<(), AllocError>
     requires { IsTrue (is_connection_news reply.now) }
-    ensures { OnOk result (out.new.items ≡ out.old.items ++ reply_text reply.now) }
+    ensures { OnOk result (out.new.items ≡ out.old.items ++ codes " => " ++ reply_text reply.now) }
 {
     match reply {
         Reply::Connected { addr, opt, udata } => {
-            put_octets(out, "ok ", addr)?;
-            put_octets(out, " ", opt)?;
-            put_octets(out, " ", udata)
+            put_pairs(out, " => ok x:", addr)?;
+            put_pairs(out, " x:", opt)?;
+            put_pairs(out, " x:", udata)
         }
         Reply::Listened {
             seq,
@@ -55,15 +55,15 @@ fn put_connection_news(out: &mut Vec<u8>, reply: &Reply) -> Result<(), AllocErro
             opt,
             udata,
         } => {
-            put_number(out, "ok ", seq.0 as u64)?;
-            put_octets(out, " ", addr)?;
-            put_octets(out, " ", opt)?;
-            put_octets(out, " ", udata)
+            put_number(out, " => ok ", seq.0 as u64)?;
+            put_pairs(out, " x:", addr)?;
+            put_pairs(out, " x:", opt)?;
+            put_pairs(out, " x:", udata)
         }
         Reply::Discon { reason, seq, udata } => {
-            put_number(out, "ok ", *reason as u64)?;
+            put_number(out, " => ok ", *reason as u64)?;
             put_number(out, " ", seq.0 as u64)?;
-            put_octets(out, " ", udata)
+            put_pairs(out, " x:", udata)
         }
         _ => unreachable!(),
     }
@@ -72,11 +72,11 @@ fn put_connection_news(out: &mut Vec<u8>, reply: &Reply) -> Result<(), AllocErro
 // Data, a datagram or the error of a datagram.
 fn put_received(out: &mut Vec<u8>, reply: &Reply) -> Result<(), AllocError>
     requires { IsTrue (is_received reply.now) }
-    ensures { OnOk result (out.new.items ≡ out.old.items ++ reply_text reply.now) }
+    ensures { OnOk result (out.new.items ≡ out.old.items ++ codes " => " ++ reply_text reply.now) }
 {
     match reply {
         Reply::Got { bytes, flags } => {
-            put_octets(out, "ok ", bytes)?;
+            put_pairs(out, " => ok x:", bytes)?;
             put_number(out, " ", *flags as u64)
         }
         Reply::UData {
@@ -85,14 +85,14 @@ fn put_received(out: &mut Vec<u8>, reply: &Reply) -> Result<(), AllocError>
             bytes,
             flags,
         } => {
-            put_octets(out, "ok ", addr)?;
-            put_octets(out, " ", opt)?;
-            put_octets(out, " ", bytes)?;
+            put_pairs(out, " => ok x:", addr)?;
+            put_pairs(out, " x:", opt)?;
+            put_pairs(out, " x:", bytes)?;
             put_number(out, " ", *flags as u64)
         }
         Reply::UDErr { addr, opt, code } => {
-            put_octets(out, "ok ", addr)?;
-            put_octets(out, " ", opt)?;
+            put_pairs(out, " => ok x:", addr)?;
+            put_pairs(out, " x:", opt)?;
             put_number(out, " ", *code as u64)
         }
         _ => unreachable!(),
@@ -102,52 +102,52 @@ fn put_received(out: &mut Vec<u8>, reply: &Reply) -> Result<(), AllocError>
 // The error of a call that failed.
 fn put_error(out: &mut Vec<u8>, reply: &Reply) -> Result<(), AllocError>
     requires { IsTrue (is_error reply.now) }
-    ensures { OnOk result (out.new.items ≡ out.old.items ++ reply_text reply.now) }
+    ensures { OnOk result (out.new.items ≡ out.old.items ++ codes " => " ++ reply_text reply.now) }
 {
     match reply {
         Reply::Refused { errno } => {
-            put_text(out, "err ")?;
+            put_text(out, " => err ")?;
             put_text(out, errno.name())
         }
         Reply::Look { event } => {
-            put_text(out, "err TLOOK ")?;
+            put_text(out, " => err TLOOK ")?;
             put_text(out, event.name())
         }
-        Reply::Overflow { seq } => put_number(out, "err TBUFOVFLW ", seq.0 as u64),
+        Reply::Overflow { seq } => put_number(out, " => err TBUFOVFLW ", seq.0 as u64),
         _ => unreachable!(),
     }
 }
 
 fn put_reply(out: &mut Vec<u8>, reply: &Reply) -> Result<(), AllocError>
-    ensures { OnOk result (out.new.items ≡ out.old.items ++ reply_text reply.now) }
+    ensures { OnOk result (out.new.items ≡ out.old.items ++ codes " => " ++ reply_text reply.now) }
 {
     match reply {
-        Reply::Plain => put_text(out, "ok"),
-        Reply::Opened { fd } => put_number(out, "ok ", fd.0 as u64),
+        Reply::Plain => put_text(out, " => ok"),
+        Reply::Opened { fd } => put_number(out, " => ok ", fd.0 as u64),
         Reply::Bound { addr, qlen } => {
-            put_octets(out, "ok ", addr)?;
+            put_pairs(out, " => ok x:", addr)?;
             put_number(out, " ", *qlen as u64)
         }
-        Reply::Sent { n } => put_number(out, "ok ", *n as u64),
+        Reply::Sent { n } => put_number(out, " => ok ", *n as u64),
         Reply::Seen { event } => {
-            put_text(out, "ok ")?;
+            put_text(out, " => ok ")?;
             put_text(out, event_name(event))
         }
         Reply::Stands { state } => {
-            put_text(out, "ok ")?;
+            put_text(out, " => ok ")?;
             put_text(out, state.name())
         }
         Reply::Limits { info } => {
-            put_text(out, "ok")?;
+            put_text(out, " => ok")?;
             put_info(out, info)
         }
         Reply::Addresses { local, peer } => {
-            put_octets(out, "ok ", local)?;
-            put_octets(out, " ", peer)
+            put_pairs(out, " => ok x:", local)?;
+            put_pairs(out, " x:", peer)
         }
         Reply::Options { result, opt } => {
-            put_number(out, "ok ", *result as u64)?;
-            put_octets(out, " ", opt)
+            put_number(out, " => ok ", *result as u64)?;
+            put_pairs(out, " x:", opt)
         }
         Reply::Connected { .. } | Reply::Listened { .. } | Reply::Discon { .. } => {
             put_connection_news(out, reply)
@@ -160,10 +160,10 @@ fn put_reply(out: &mut Vec<u8>, reply: &Reply) -> Result<(), AllocError>
 }
 
 pub(crate) fn put_outcome(out: &mut Vec<u8>, outcome: &Outcome) -> Result<(), AllocError>
-    ensures { OnOk result (out.new.items ≡ out.old.items ++ outcome_text outcome.now) }
+    ensures { OnOk result (out.new.items ≡ out.old.items ++ codes " => " ++ outcome_text outcome.now) }
 {
     match outcome {
         Outcome::Done(reply) => put_reply(out, reply),
-        Outcome::Part { taken } => put_number(out, "part ", *taken as u64),
+        Outcome::Part { taken } => put_number(out, " => part ", *taken as u64),
     }
 }

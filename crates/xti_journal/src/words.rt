@@ -1,11 +1,13 @@
 //! The words of a journal's lines, each written behind the text that parts it from the word before.
 
 ghost use Rattle.std.specs.Prelude.{◌≡◌, ◌++◌, OnOk, codes};
-ghost use Rattle.xti_text.specs.Words.{number_word, octets_word};
+ghost use Rattle.std.specs.List.{flat_map};
+ghost use Rattle.xti_base.specs.Kinds.{state_name};
+ghost use Rattle.xti_text.specs.Words.{number_word, hex_pair, octets_word};
 ghost use Rattle.xti_journal.specs.JournalText.{bit_word, mode_word, limit_word, parts_word, sizes_word, most_words};
 
 use std::alloc::AllocError;
-use xti_base::{Limit, Octets};
+use xti_base::{Limit, Octets, State};
 use xti_text::{put_number, put_signed, put_text};
 
 pub(crate) fn put_limit(out: &mut Vec<u8>, key: &str, l: Limit) -> Result<(), AllocError>
@@ -14,11 +16,12 @@ pub(crate) fn put_limit(out: &mut Vec<u8>, key: &str, l: Limit) -> Result<(), Al
     put_signed(out, key, l.number())
 }
 
+// Two hexadecimal digits for each byte, behind a text that ends in `x:`.
 #[inline(always)]
-pub(crate) fn put_octets(out: &mut Vec<u8>, key: &str, o: &Octets) -> Result<(), AllocError>
-    ensures { OnOk result (out.new.items ≡ out.old.items ++ octets_word key.now o.now) }
+pub(crate) fn put_pairs(out: &mut Vec<u8>, key: &str, o: &Octets) -> Result<(), AllocError>
+    ensures { OnOk result (out.new.items ≡ out.old.items ++ key.now ++ flat_map hex_pair o.now) }
 {
-    xti_text::put_octets(out, key, o.as_slice())
+    xti_text::put_pairs(out, key, o.as_slice())
 }
 
 pub(crate) fn put_bit(out: &mut Vec<u8>, key: &str, b: bool) -> Result<(), AllocError>
@@ -35,34 +38,28 @@ pub(crate) fn put_mode(out: &mut Vec<u8>, key: &str, nonblock: bool) -> Result<(
     put_text(out, if nonblock { "nonblock" } else { "block" })
 }
 
-pub(crate) fn put_parts(out: &mut Vec<u8>, key: &str, parts: &[Octets]) -> Result<(), AllocError>
-    ensures { OnOk result (out.new.items ≡ out.old.items ++ parts_word key.now parts.now) }
+pub(crate) fn put_parts(out: &mut Vec<u8>, parts: &[Octets]) -> Result<(), AllocError>
+    ensures { OnOk result (out.new.items ≡ out.old.items ++ parts_word (codes " parts=") parts.now) }
 {
     match parts.split_first() {
-        None => {
-            put_text(out, key)?;
-            put_text(out, "none")
-        }
+        None => put_text(out, " parts=none"),
         Some((first, others)) => {
-            put_octets(out, key, first)?;
+            put_pairs(out, " parts=x:", first)?;
             for part in others {
-                put_octets(out, ",", part)?;
+                put_pairs(out, ",x:", part)?;
             }
             Ok(())
         }
     }
 }
 
-pub(crate) fn put_sizes(out: &mut Vec<u8>, key: &str, sizes: &[u32]) -> Result<(), AllocError>
-    ensures { OnOk result (out.new.items ≡ out.old.items ++ sizes_word key.now sizes.now) }
+pub(crate) fn put_sizes(out: &mut Vec<u8>, sizes: &[u32]) -> Result<(), AllocError>
+    ensures { OnOk result (out.new.items ≡ out.old.items ++ sizes_word (codes " sizes=") sizes.now) }
 {
     match sizes.split_first() {
-        None => {
-            put_text(out, key)?;
-            put_text(out, "none")
-        }
+        None => put_text(out, " sizes=none"),
         Some((first, others)) => {
-            put_number(out, key, *first as u64)?;
+            put_number(out, " sizes=", *first as u64)?;
             for size in others {
                 put_number(out, ",", *size as u64)?;
             }
@@ -72,6 +69,7 @@ pub(crate) fn put_sizes(out: &mut Vec<u8>, key: &str, sizes: &[u32]) -> Result<(
 }
 
 // The most bytes that the caller takes of address and options.
+#[inline(always)]
 pub(crate) fn put_address_limits(out: &mut Vec<u8>, amax: u32, omax: u32) -> Result<(), AllocError>
     ensures { OnOk result (out.new.items ≡ out.old.items ++ number_word (codes " amax=") amax ++ number_word (codes " omax=") omax) }
 {
@@ -80,6 +78,7 @@ pub(crate) fn put_address_limits(out: &mut Vec<u8>, amax: u32, omax: u32) -> Res
 }
 
 // The address and the options of a call.
+#[inline(always)]
 pub(crate) fn put_address_and_options(
     out: &mut Vec<u8>,
     addr: &Octets,
@@ -87,8 +86,8 @@ pub(crate) fn put_address_and_options(
 ) -> Result<(), AllocError>
     ensures { OnOk result (out.new.items ≡ out.old.items ++ octets_word (codes " addr=") addr.now ++ octets_word (codes " opt=") opt.now) }
 {
-    put_octets(out, " addr=", addr)?;
-    put_octets(out, " opt=", opt)
+    put_pairs(out, " addr=x:", addr)?;
+    put_pairs(out, " opt=x:", opt)
 }
 
 pub(crate) fn put_most(out: &mut Vec<u8>, amax: u32, omax: u32, umax: u32) -> Result<(), AllocError>
@@ -96,4 +95,20 @@ pub(crate) fn put_most(out: &mut Vec<u8>, amax: u32, omax: u32, umax: u32) -> Re
 {
     put_address_limits(out, amax, omax)?;
     put_number(out, " umax=", umax as u64)
+}
+
+// The state behind a call's answer, which ends the line. Each text's length is known here.
+pub(crate) fn put_state(out: &mut Vec<u8>, state: State) -> Result<(), AllocError>
+    ensures { OnOk result (out.new.items ≡ out.old.items ++ codes " " ++ state_name state ++ codes "\n") }
+{
+    match state {
+        State::T_UNINIT => put_text(out, " T_UNINIT\n"),
+        State::T_UNBND => put_text(out, " T_UNBND\n"),
+        State::T_IDLE => put_text(out, " T_IDLE\n"),
+        State::T_OUTCON => put_text(out, " T_OUTCON\n"),
+        State::T_INCON => put_text(out, " T_INCON\n"),
+        State::T_DATAXFER => put_text(out, " T_DATAXFER\n"),
+        State::T_OUTREL => put_text(out, " T_OUTREL\n"),
+        State::T_INREL => put_text(out, " T_INREL\n"),
+    }
 }

@@ -8,8 +8,11 @@ ghost use Rattle.xti_text.specs.Words.{number_word, signed_word, hex_digit, hex_
 use itoa::Buffer;
 use std::alloc::AllocError;
 
-/// Fewer bytes are written one by one.
-const FEW: usize = 8;
+/// So many bytes are written with their room made at once.
+const MANY: usize = 32;
+
+/// The room that a number of two to five digits needs.
+const FIVE: usize = 5;
 
 /// Appends a text.
 #[inline(always)]
@@ -75,6 +78,9 @@ fn put_digits(out: &mut Vec<u8>, n: u64) -> Result<(), AllocError>
     requires { (10 ≤ n) × (n < 100000) }
     ensures { OnOk result (out.new.items ≡ out.old.items ++ decimal n) }
 {
+    if out.capacity() - out.len() < FIVE {
+        return put_long(out, n);
+    }
     let tens = n / 10;
     let hundreds = tens / 10;
     let thousands = hundreds / 10;
@@ -105,25 +111,56 @@ pub fn put_octets(out: &mut Vec<u8>, key: &str, bytes: &[u8]) -> Result<(), Allo
     ensures { OnOk result (out.new.items ≡ out.old.items ++ octets_word key.now bytes.now) }
 {
     put_text(out, key)?;
-    put_hex(out, bytes)
+    put_pairs(out, "x:", bytes)
 }
 
-#[inline(never)]
-fn put_hex(out: &mut Vec<u8>, bytes: &[u8]) -> Result<(), AllocError>
-    ensures { OnOk result (out.new.items ≡ out.old.items ++ codes "x:" ++ flat_map hex_pair bytes.now) }
+/// Appends two hexadecimal digits for each byte, behind a text that ends in `x:`, as " addr=x:".
+#[inline(always)]
+pub fn put_pairs(out: &mut Vec<u8>, key: &str, bytes: &[u8]) -> Result<(), AllocError>
+    ensures { OnOk result (out.new.items ≡ out.old.items ++ key.now ++ flat_map hex_pair bytes.now) }
 {
-    put_text(out, "x:")?;
+    put_text(out, key)?;
     if bytes.is_empty() {
         Ok(())
-    } else if bytes.len() < FEW {
-        put_few_pairs(out, bytes)
     } else {
-        put_pairs(out, bytes)
+        put_hex(out, bytes)
     }
 }
 
 #[inline(never)]
-fn put_few_pairs(out: &mut Vec<u8>, bytes: &[u8]) -> Result<(), AllocError>
+fn put_hex(out: &mut Vec<u8>, bytes: &[u8]) -> Result<(), AllocError>
+    ensures { OnOk result (out.new.items ≡ out.old.items ++ flat_map hex_pair bytes.now) }
+{
+    if bytes.len() < MANY {
+        put_groups(out, bytes)
+    } else {
+        put_many(out, bytes)
+    }
+}
+
+// Eight bytes at once while there are so many, and the others one by one.
+fn put_groups(out: &mut Vec<u8>, bytes: &[u8]) -> Result<(), AllocError>
+    ensures { OnOk result (out.new.items ≡ out.old.items ++ flat_map hex_pair bytes.now) }
+{
+    let mut rest = bytes;
+    while let Some((eight, others)) = rest.split_first_chunk::<8>() {
+        out.extend_from_slice(&pairs_of(eight))?;
+        rest = others;
+    }
+    put_few(out, rest)
+}
+
+#[inline(always)]
+fn pairs_of(eight: &[u8; 8]) -> [u8; 16]
+    ensures { result ≡ flat_map hex_pair eight.now }
+{
+    let mut pairs = [0; 16];
+    fill_pairs(&mut pairs, eight);
+    pairs
+}
+
+#[inline(always)]
+fn put_few(out: &mut Vec<u8>, bytes: &[u8]) -> Result<(), AllocError>
     ensures { OnOk result (out.new.items ≡ out.old.items ++ flat_map hex_pair bytes.now) }
 {
     for b in bytes {
@@ -132,8 +169,9 @@ fn put_few_pairs(out: &mut Vec<u8>, bytes: &[u8]) -> Result<(), AllocError>
     Ok(())
 }
 
+// Room for all the digits at once.
 #[inline(never)]
-fn put_pairs(out: &mut Vec<u8>, bytes: &[u8]) -> Result<(), AllocError>
+fn put_many(out: &mut Vec<u8>, bytes: &[u8]) -> Result<(), AllocError>
     ensures { OnOk result (out.new.items ≡ out.old.items ++ flat_map hex_pair bytes.now) }
 {
     let start = out.len();
@@ -147,6 +185,7 @@ fn put_pairs(out: &mut Vec<u8>, bytes: &[u8]) -> Result<(), AllocError>
 }
 
 // Two digits for each byte. Without a table, so that several bytes are turned at once.
+#[inline(always)]
 fn fill_pairs(out: &mut [u8], bytes: &[u8])
     requires { length out.old ≡ 2 * length bytes.now }
     ensures { out.new ≡ flat_map hex_pair bytes.now }
