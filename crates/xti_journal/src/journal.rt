@@ -57,6 +57,7 @@ fn put_answer(out: &mut Vec<u8>, e: &Entry) -> Result<(), AllocError>
     put_state(out, e.after)
 }
 
+#[inline(never)]
 #[tactic(auto, unfolding(crate::specs::JournalText::entry_text))]
 pub(crate) fn put_entry(out: &mut Vec<u8>, n: u64, e: &Entry) -> Result<(), AllocError>
     ensures { OnOk result (out.new.items ≡ out.old.items ++ entry_text n e.now) }

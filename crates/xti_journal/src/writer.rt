@@ -56,6 +56,8 @@ impl JournalWriter {
 impl Recorder for JournalWriter {
     ghost took = { Took };
 
+    // Where it is called for, an entry is not copied before its line is written.
+    #[inline(always)]
     fn add(&mut self, entry: Entry) -> Result<(), AllocError> {
         // So many entries would find no memory for their lines.
         let Some(count) = self.count.checked_add(1) else {

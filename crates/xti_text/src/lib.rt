@@ -28,8 +28,24 @@ pub fn put_text(out: &mut Vec<u8>, text: &str) -> Result<(), AllocError>
 pub fn put_number(out: &mut Vec<u8>, key: &str, n: u64) -> Result<(), AllocError>
     ensures { OnOk result (out.new.items ≡ out.old.items ++ number_word key.now n) }
 {
+    if n < 10 {
+        return put_digit(out, key, n);
+    }
     put_text(out, key)?;
-    put_decimal(out, n)
+    put_digits(out, n)
+}
+
+// The room for the key and the digit is asked once.
+#[inline(always)]
+#[tactic(auto, using(std::proofs::lemmas::Fmt::decimal_digit))]
+fn put_digit(out: &mut Vec<u8>, key: &str, n: u64) -> Result<(), AllocError>
+    requires { n < 10 }
+    ensures { OnOk result (out.new.items ≡ out.old.items ++ key.now ++ decimal n) }
+{
+    out.reserve(key.len() + 1)?;
+    out.extend_from_slice(key.as_bytes())?;
+    out.push_reserved(digit(n));
+    Ok(())
 }
 
 /// Appends a number in decimal digits, with `-` before it where it is below 0.
@@ -39,21 +55,6 @@ pub fn put_signed(out: &mut Vec<u8>, key: &str, n: i64) -> Result<(), AllocError
     let mut buffer = Buffer::new();
     put_text(out, key)?;
     put_text(out, buffer.format(n))
-}
-
-// A number of one digit is written where it is called for, and the others in functions of their own, which keeps this one short.
-#[inline]
-#[tactic(auto, using(std::proofs::lemmas::Fmt::decimal_digit))]
-fn put_decimal(out: &mut Vec<u8>, n: u64) -> Result<(), AllocError>
-    ensures { OnOk result (out.new.items ≡ out.old.items ++ decimal n) }
-{
-    if n < 10 {
-        return out.extend_from_slice(&[digit(n)]);
-    }
-    if n < 100_000 {
-        return put_digits(out, n);
-    }
-    put_long(out, n)
 }
 
 #[inline(never)]
@@ -71,14 +72,14 @@ fn digit(n: u64) -> u8
     b'0' + n as u8
 }
 
-// Two to five digits, each count of them copied as a whole.
+// Two to five digits are copied as a whole, where there is room for them.
 #[inline(never)]
 #[tactic(auto, using(crate::proofs::Digits::two, crate::proofs::Digits::three, crate::proofs::Digits::four, crate::proofs::Digits::five))]
 fn put_digits(out: &mut Vec<u8>, n: u64) -> Result<(), AllocError>
-    requires { (10 ≤ n) × (n < 100000) }
+    requires { 10 ≤ n }
     ensures { OnOk result (out.new.items ≡ out.old.items ++ decimal n) }
 {
-    if out.capacity() - out.len() < FIVE {
+    if n >= 100_000 || out.capacity() - out.len() < FIVE {
         return put_long(out, n);
     }
     let tens = n / 10;
@@ -127,25 +128,24 @@ pub fn put_pairs(out: &mut Vec<u8>, key: &str, bytes: &[u8]) -> Result<(), Alloc
     }
 }
 
+// Eight bytes at once while there are so many, and the others one by one. Nothing is called here but at the end.
 #[inline(never)]
 fn put_hex(out: &mut Vec<u8>, bytes: &[u8]) -> Result<(), AllocError>
     ensures { OnOk result (out.new.items ≡ out.old.items ++ flat_map hex_pair bytes.now) }
 {
-    if bytes.len() < MANY {
-        put_groups(out, bytes)
-    } else {
-        put_many(out, bytes)
+    if bytes.len() >= MANY {
+        return put_many(out, bytes);
     }
-}
-
-// Eight bytes at once while there are so many, and the others one by one.
-fn put_groups(out: &mut Vec<u8>, bytes: &[u8]) -> Result<(), AllocError>
-    ensures { OnOk result (out.new.items ≡ out.old.items ++ flat_map hex_pair bytes.now) }
-{
     let mut rest = bytes;
     while let Some((eight, others)) = rest.split_first_chunk::<8>() {
+        if out.capacity() - out.len() < 16 {
+            return put_many(out, rest);
+        }
         out.extend_from_slice(&pairs_of(eight))?;
         rest = others;
+    }
+    if rest.is_empty() {
+        return Ok(());
     }
     put_few(out, rest)
 }
@@ -159,7 +159,7 @@ fn pairs_of(eight: &[u8; 8]) -> [u8; 16]
     pairs
 }
 
-#[inline(always)]
+#[inline(never)]
 fn put_few(out: &mut Vec<u8>, bytes: &[u8]) -> Result<(), AllocError>
     ensures { OnOk result (out.new.items ≡ out.old.items ++ flat_map hex_pair bytes.now) }
 {
