@@ -125,6 +125,7 @@ fn put_connection_receipt(out: &mut Vec<u8>, call: &Call) -> Result<(), AllocErr
 }
 
 // A call that sends data or a datagram.
+#[inline(never)]
 fn put_send(out: &mut Vec<u8>, call: &Call) -> Result<(), AllocError>
     requires { IsTrue (is_send call.now) }
     ensures { OnOk result (out.new.items ≡ out.old.items ++ codes " " ++ call_text call.now) }
@@ -165,6 +166,7 @@ fn put_send(out: &mut Vec<u8>, call: &Call) -> Result<(), AllocError>
 }
 
 // A call that takes data, a datagram or the error of a datagram.
+#[inline(never)]
 fn put_receive(out: &mut Vec<u8>, call: &Call) -> Result<(), AllocError>
     requires { IsTrue (is_receive call.now) }
     ensures { OnOk result (out.new.items ≡ out.old.items ++ codes " " ++ call_text call.now) }

@@ -70,6 +70,7 @@ fn put_connection_news(out: &mut Vec<u8>, reply: &Reply) -> Result<(), AllocErro
 }
 
 // Data, a datagram or the error of a datagram.
+#[inline(never)]
 fn put_received(out: &mut Vec<u8>, reply: &Reply) -> Result<(), AllocError>
     requires { IsTrue (is_received reply.now) }
     ensures { OnOk result (out.new.items ≡ out.old.items ++ codes " => " ++ reply_text reply.now) }

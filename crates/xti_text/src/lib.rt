@@ -1,7 +1,7 @@
 //! The words of printed lines, each written behind the text that parts it from the word before.
 #![tactic(auto)]
 
-ghost use Rattle.std.specs.Prelude.{◌≡◌, ◌*◌, ◌+◌, ◌++◌, ◌<◌, ◌≤◌, OnOk, length, codes, decimal};
+ghost use Rattle.std.specs.Prelude.{◌≡◌, ◌*◌, ◌+◌, ◌/◌, ◌%◌, ◌∷◌, [], ◌++◌, ◌<◌, ◌≤◌, OnOk, length, codes, decimal};
 ghost use Rattle.std.specs.List.{flat_map};
 ghost use Rattle.xti_text.specs.Words.{number_word, signed_word, hex_digit, hex_pair, octets_word};
 
@@ -13,6 +13,10 @@ const MANY: usize = 32;
 
 /// The room that a number of two to five digits needs.
 const FIVE: usize = 5;
+
+/// The two digits of each number below 100.
+static PAIRS: [u8; 200] =
+    *b"00010203040506070809101112131415161718192021222324252627282930313233343536373839404142434445464748495051525354555657585960616263646566676869707172737475767778798081828384858687888990919293949596979899";
 
 /// Appends a text.
 #[inline(always)]
@@ -82,21 +86,30 @@ fn put_digits(out: &mut Vec<u8>, n: u64) -> Result<(), AllocError>
     if n >= 100_000 || out.capacity() - out.len() < FIVE {
         return put_long(out, n);
     }
-    let tens = n / 10;
-    let hundreds = tens / 10;
-    let thousands = hundreds / 10;
-    let [hundred, ten, one] = [digit(hundreds % 10), digit(tens % 10), digit(n % 10)];
     if n < 100 {
-        return out.extend_from_slice(&[ten, one]);
+        return out.extend_from_slice(&pair(n));
     }
+    let hundreds = n / 100;
+    let [ten, one] = pair(n % 100);
     if n < 1_000 {
-        return out.extend_from_slice(&[hundred, ten, one]);
+        return out.extend_from_slice(&[digit(hundreds), ten, one]);
     }
-    let thousand = digit(thousands % 10);
+    let [thousand, hundred] = pair(hundreds % 100);
     if n < 10_000 {
         return out.extend_from_slice(&[thousand, hundred, ten, one]);
     }
-    out.extend_from_slice(&[digit(thousands / 10), thousand, hundred, ten, one])
+    out.extend_from_slice(&[digit(hundreds / 100), thousand, hundred, ten, one])
+}
+
+// The two digits of a number below 100.
+#[inline(always)]
+#[tactic(auto, using(crate::proofs::Pairs::pairs_at))]
+fn pair(n: u64) -> [u8; 2]
+    requires { n < 100 }
+    ensures { result ≡ (48 + n / 10) ∷ (48 + n % 10) ∷ [] }
+{
+    let from = n as usize * 2;
+    [PAIRS[from], PAIRS[from + 1]]
 }
 
 fn hex_digit(d: u8) -> u8
