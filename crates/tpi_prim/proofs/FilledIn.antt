@@ -38,11 +38,11 @@ pub AreBytes-append : (a b : List ℕ) → AreBytes a → AreBytes b → AreByte
 AreBytes-append [] b ha hb = hb
 AreBytes-append (x ∷ a) b ha hb = (ha.0, AreBytes-append a b ha.1 hb)
 
-front_bytes : (a b : List ℕ) → AreBytes (a ++ b) → AreBytes a
+pub front_bytes : (a b : List ℕ) → AreBytes (a ++ b) → AreBytes a
 front_bytes [] b h = tt
 front_bytes (x ∷ a) b h = (h.0, front_bytes a b h.1)
 
-back_bytes : (a b : List ℕ) → AreBytes (a ++ b) → AreBytes b
+pub back_bytes : (a b : List ℕ) → AreBytes (a ++ b) → AreBytes b
 back_bytes [] b h = h
 back_bytes (x ∷ a) b h = back_bytes a b h.1
 

@@ -3,3 +3,4 @@ pub mod FieldReads
 pub mod FilledIn
 pub mod Decodes
 pub mod FeedReads
+pub mod Words

@@ -10,7 +10,7 @@ ghost use Rattle.tpi_prim.specs.Fields.{primitive_in};
 ghost use Rattle.tpi_prim.specs.declared.primitive.Prim.TheVariants.{T_UNITDATA_IND, T_UDERROR_IND};
 ghost use Rattle.tpi_prim.specs.Lent.{value_of, values_of, filled_by, HasShape, IsTooBig};
 
-use crate::frames::{Frame, FrameBytes};
+use crate::frames::{Frame, FrameBytes, INLINE};
 use crate::primitive::Prim;
 use arrayvec::ArrayVec;
 use bytes::Bytes;
@@ -110,11 +110,8 @@ enum Field<'a> {
     Nothing,
 }
 
-/// The most bytes that stand before the parts: three words, and two of each field.
-const MOST_HEAD: usize = 36;
-
-/// What stands before the parts.
-type Head = ArrayVec<u8, MOST_HEAD>;
+/// The front of a frame: at least what stands before the parts, and all of a frame that takes no memory.
+type Front = ArrayVec<u8, INLINE>;
 
 /// A primitive whose fields are lent.
 #[derive(Clone, Copy)]
@@ -138,7 +135,9 @@ impl Lent<'_> {
         }
     }
 
-    /// The frame of the primitive. The limits are looked at before memory is taken.
+    /// The frame of the primitive. The limits are looked at before memory is taken. It is a part of each caller, so that a caller
+    /// with fields of known kinds does without the choices among these.
+    #[inline(always)]
     fn frame(&self, alloc: Global) -> Result<Frame, EncodeFail>
         requires shape { HasShape (row_of self.now.kind).slots (values_of self.now.fields) }
         requires room { length self.now.user.now ≤ 65536 → length self.now.user.now ≤ (row_of self.now.kind).most_data }
@@ -162,6 +161,7 @@ impl Lent<'_> {
         Some(1024 - left as u32)
     }
 
+    #[inline(always)]
     fn encode(&self, alloc: Global, control: u32) -> Result<Frame, EncodeFail>
         requires shape { HasShape (row_of self.now.kind).slots (values_of self.now.fields) }
         requires data { length self.now.user.now ≤ (row_of self.now.kind).most_data }
@@ -171,22 +171,53 @@ impl Lent<'_> {
         ensures filled { OnOk result (IsFilled (filled_by self.now)) }
         ensures memory { IfErr result (λ e. e ≡ EncodeFail.OutOfMemory) }
     {
-        let user = self.user;
-        let len = 8 + control as usize + user.len();
+        self.are_bytes();
+        let len = 8 + control as usize + self.user.len();
         let mut out = FrameBytes::with_capacity(alloc, len)?;
-        out.extend_from_slice(self.head(control).as_slice())?;
-        put_parts(&mut out, &self.fields)?;
-        put_bytes(&mut out, user)?;
+        self.write(&mut out, control)?;
         Ok(Frame::of(out))
     }
 
+    /// The parts and the user data are numbers under 256.
+    fn are_bytes(&self)
+        ensures parts { AreBytes (parts (values_of self.now.fields)) }
+        ensures user { AreBytes self.now.user.now }
+    {
+        are_bytes_in(&self.fields);
+        let _user = bytes(self.user);
+    }
+
+    /// Writes the frame: a short one in one go.
+    #[inline(always)]
+    #[tactic(auto, using(crate::proofs::Words::head_length))]
+    fn write(&self, out: &mut FrameBytes, control: u32) -> Result<(), AllocError>
+        requires shape { HasShape (row_of self.now.kind).slots (values_of self.now.fields) }
+        requires data { length self.now.user.now ≤ 65536 }
+        requires control { control ≡ control_size (filled_by self.now) }
+        requires small { control ≤ 1024 }
+        ensures { OnOk result (out.new.items ≡ out.old.items ++ spelling (filled_by self.now)) }
+    {
+        let mut front = self.head(control);
+        if 8 + control as usize + self.user.len() <= INLINE {
+            put_parts(&mut front, &self.fields);
+            put_bytes(&mut front, self.user);
+            out.extend_from_slice(front.as_slice())?;
+        } else {
+            out.extend_from_slice(front.as_slice())?;
+            put_long_parts(out, &self.fields)?;
+            put_long(out, self.user)?;
+        }
+        Ok(())
+    }
+
     /// The two lengths, PRIM_type and the words, which stand before the parts.
-    fn head(&self, control: u32) -> Head
+    #[inline(always)]
+    fn head(&self, control: u32) -> Front
         requires small { control_size (filled_by self.now) ≤ 1024 }
         requires data { length self.now.user.now ≤ 65536 }
         ensures { result.items ≡ be control ++ be (length self.now.user.now) ++ be (row_of self.now.kind).number ++ words (head (row_of self.now.kind).slots) (values_of self.now.fields) }
     {
-        let mut out = Head::new();
+        let mut out = Front::new();
         put_word(&mut out, control);
         put_word(&mut out, self.user.len() as u32);
         put_word(&mut out, self.kind.number());
@@ -195,24 +226,33 @@ impl Lent<'_> {
     }
 }
 
+/// The same bytes, which are numbers under 256.
+fn bytes(bytes: &[u8]) -> &[u8]
+    ensures same { result.now ≡ bytes.now }
+    ensures bytes { AreBytes bytes.now }
+{
+    bytes
+}
+
 fn part_of<'a>(field: &Field<'a>) -> &'a [u8]
-    ensures { result.now ≡ parts (value_of field.now) }
+    ensures part { result.now ≡ parts (value_of field.now) }
+    ensures bytes { AreBytes result.now }
 {
     match field {
-        Field::Bytes(bytes) => bytes,
+        Field::Bytes(part) => bytes(part),
         _ => &[],
     }
 }
 
 /// What is left of a room when the parts are in it; `None` where they don't fit.
-fn room_left(room: usize, fields: &[Field<'_>]) -> Option<usize>
+#[inline(always)]
+fn room_left(room: usize, fields: &[Field<'_>; 3]) -> Option<usize>
     ensures { SomeIff result (length (parts (values_of fields.now)) ≤ room) (room - length (parts (values_of fields.now))) }
 {
-    let [first, others @ ..] = fields else {
-        return Some(room);
-    };
+    let [first, second, third] = fields;
     let room = room.checked_sub(part_of(first).len())?;
-    room_left(room, others)
+    let room = room.checked_sub(part_of(second).len())?;
+    room.checked_sub(part_of(third).len())
 }
 
 fn offset_of(len: u32, place: u32) -> u32
@@ -222,59 +262,107 @@ fn offset_of(len: u32, place: u32) -> u32
 }
 
 /// Writes a word, high byte first.
-fn put_word(out: &mut Head, word: u32)
-    requires { array_vec_len out.old + 4 ≤ 36 }
+#[inline(always)]
+fn put_word(out: &mut Front, word: u32)
+    requires { array_vec_len out.old + 4 ≤ 64 }
     ensures items { out.new.items ≡ out.old.items ++ be word }
     ensures len { array_vec_len out.new ≡ array_vec_len out.old + 4 }
 {
     out.try_extend_from_slice(&word.to_be_bytes()).unwrap();
 }
 
-/// Writes the words of the fields, whose parts lie from this place of the control part on.
-fn put_words(out: &mut Head, place: u32, fields: &[Field<'_>])
-    requires room { array_vec_len out.old + 8 * length fields.now ≤ 36 }
-    requires parts { place + length (parts (values_of fields.now)) < 2 ^ 32 }
-    ensures { out.new.items ≡ out.old.items ++ words place (values_of fields.now) }
+/// Writes the words of a field, whose part lies at this place of the control part; gives the place behind that part.
+#[inline(always)]
+fn put_field(out: &mut Front, place: u32, field: &Field<'_>) -> u32
+    requires room { array_vec_len out.old + 8 ≤ 64 }
+    requires part { place + length (parts (value_of field.now)) < 2 ^ 32 }
+    ensures items { out.new.items ≡ out.old.items ++ words place (value_of field.now) }
+    ensures len { array_vec_len out.new ≤ array_vec_len out.old + 8 }
+    ensures place { result ≡ place + length (parts (value_of field.now)) }
 {
-    let [first, others @ ..] = fields else {
-        return;
-    };
-    match first {
+    match field {
         Field::Number(n) => {
             put_word(out, *n);
-            put_words(out, place, others);
+            place
         }
         Field::Bytes(bytes) => {
             let len = bytes.len() as u32;
             put_word(out, len);
             put_word(out, offset_of(len, place));
-            put_words(out, place + len, others);
+            place + len
         }
-        Field::Nothing => put_words(out, place, others),
+        Field::Nothing => place,
     }
 }
 
-fn put_bytes(out: &mut FrameBytes, bytes: &[u8]) -> Result<(), AllocError>
-    ensures written { OnOk result (out.new.items ≡ out.old.items ++ bytes.now) }
-    ensures bytes { AreBytes bytes.now }
+/// Writes the words of the fields, whose parts lie from this place of the control part on.
+#[inline(always)]
+fn put_words(out: &mut Front, place: u32, fields: &[Field<'_>; 3])
+    requires room { array_vec_len out.old + 24 ≤ 64 }
+    requires parts { place + length (parts (values_of fields.now)) < 2 ^ 32 }
+    ensures { out.new.items ≡ out.old.items ++ words place (values_of fields.now) }
 {
+    let [first, second, third] = fields;
+    let place = put_field(out, place, first);
+    let place = put_field(out, place, second);
+    put_field(out, place, third);
+}
+
+/// Writes bytes for which there is room.
+#[inline(always)]
+fn put_bytes(out: &mut Front, bytes: &[u8])
+    requires { array_vec_len out.old + length bytes.now ≤ 64 }
+    ensures items { out.new.items ≡ out.old.items ++ bytes.now }
+    ensures len { array_vec_len out.new ≡ array_vec_len out.old + length bytes.now }
+{
+    if !bytes.is_empty() {
+        out.try_extend_from_slice(bytes).unwrap();
+    }
+}
+
+/// Writes the parts of the fields, for which there is room.
+#[inline(always)]
+fn put_parts(out: &mut Front, fields: &[Field<'_>; 3])
+    requires { array_vec_len out.old + length (parts (values_of fields.now)) ≤ 64 }
+    ensures items { out.new.items ≡ out.old.items ++ parts (values_of fields.now) }
+{
+    let [first, second, third] = fields;
+    put_bytes(out, part_of(first));
+    put_bytes(out, part_of(second));
+    put_bytes(out, part_of(third));
+}
+
+/// The parts of the fields are numbers under 256.
+#[tactic(auto, using(crate::proofs::Words::bytes_three))]
+fn are_bytes_in(fields: &[Field<'_>; 3])
+    ensures { AreBytes (parts (values_of fields.now)) }
+{
+    let [first, second, third] = fields;
+    let _first = part_of(first);
+    let _second = part_of(second);
+    let _third = part_of(third);
+}
+
+/// Writes bytes into a frame that may be long.
+fn put_long(out: &mut FrameBytes, bytes: &[u8]) -> Result<(), AllocError>
+    ensures { OnOk result (out.new.items ≡ out.old.items ++ bytes.now) }
+{
+    if bytes.is_empty() {
+        return Ok(());
+    }
     out.extend_from_slice(bytes)
 }
 
-/// Writes the parts of the fields.
-fn put_parts(out: &mut FrameBytes, fields: &[Field<'_>]) -> Result<(), AllocError>
-    ensures written { OnOk result (out.new.items ≡ out.old.items ++ parts (values_of fields.now)) }
-    ensures bytes { OnOk result (AreBytes (parts (values_of fields.now))) }
+/// Writes the parts of the fields into a frame that may be long.
+#[tactic(auto, using(crate::proofs::Words::parts_three))]
+fn put_long_parts(out: &mut FrameBytes, fields: &[Field<'_>; 3]) -> Result<(), AllocError>
+    ensures { OnOk result (out.new.items ≡ out.old.items ++ parts (values_of fields.now)) }
 {
-    let [first, others @ ..] = fields else {
-        return Ok(());
-    };
-    if let Field::Bytes(bytes) = first
-        && !bytes.is_empty()
-    {
-        put_bytes(out, bytes)?;
-    }
-    put_parts(out, others)
+    let [first, second, third] = fields;
+    put_long(out, part_of(first))?;
+    put_long(out, part_of(second))?;
+    put_long(out, part_of(third))?;
+    Ok(())
 }
 
 fn fields_of(prim: &Prim) -> [Field<'_>; 3]

@@ -9,13 +9,12 @@ ghost use Rattle.tpi_prim.specs.Primitive.{more_of, seq_of, reason_of, part_of, 
 ghost use Rattle.tpi_prim.specs.Fields.{word_in, part_in, user_in, kind_in, primitive_in, LiesIn, seq_place, reason_place, part_place};
 
 use crate::primitive::Part;
-use bytes::Buf;
 use smallvec::SmallVec;
 use std::marker::Model;
 use tpi_grammar::Kind;
 
 /// How many bytes a frame holds in the value itself.
-const INLINE: usize = 64;
+pub(crate) const INLINE: usize = 64;
 
 /// The bytes of a frame, or of its front while it is written. Up to 64 bytes stand in the value itself and take no memory.
 pub(crate) type FrameBytes = SmallVec<u8, INLINE>;
@@ -101,13 +100,17 @@ impl Frame {
 }
 
 /// The word at a place.
-#[tactic(auto, unfolding(crate::specs::Fields::word_in))]
+#[tactic(auto, using(crate::proofs::Words::four_at), unfolding(crate::specs::Fields::word_in))]
 pub(crate) fn word_at(bytes: &[u8], place: usize) -> u32
     requires { place + 4 ≤ length bytes.now }
     ensures { result ≡ word_in bytes.now place }
 {
-    let mut rest = &bytes[place..];
-    rest.get_u32()
+    u32::from_be_bytes([
+        bytes[place],
+        bytes[place + 1],
+        bytes[place + 2],
+        bytes[place + 3],
+    ])
 }
 
 /// The part whose length stands at a place, and its offset behind it.
