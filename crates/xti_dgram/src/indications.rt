@@ -63,19 +63,20 @@ fn address_of(e: &Endpoint) -> &[u8]
     }
 }
 
-/// The T_UNITDATA_IND of a datagram that the open endpoint sends. A datagram of one part is copied once.
+/// The T_UNITDATA_IND of a datagram that the open endpoint sends, which isn't too big. A datagram of one part is copied once.
 pub(crate) fn datagram(
     alloc: Global,
     e: &Endpoint,
     options: &[u8],
     parts: &[Octets],
-) -> Result<Frame, AllocError>
+) -> Result<Frame, EncodeFail>
     requires open { Held.is_open e.now ≡ true }
     requires source { length (address_of (Held.parts e.now)) ≤ 64 }
     requires options { length options.now ≤ 256 }
     requires data { length (concat parts.now) ≤ 65536 }
     ensures kind { IfOk result (λ frame. kind_in frame ≡ T_UNITDATA_IND) }
     ensures datagram { IfOk result (λ frame. datagram_in frame ≡ datagram_from (Held.parts e.now) options.now (concat parts.now)) }
+    ensures fits { IsErrOf result EncodeFail.TooBig → ⊥ }
 {
     match parts {
         [only] => datagram_of(alloc, address_of(e), options, only.as_slice()),
@@ -94,14 +95,15 @@ fn datagram_of(
     source: &[u8],
     options: &[u8],
     bytes: &[u8],
-) -> Result<Frame, AllocError>
+) -> Result<Frame, EncodeFail>
     requires source { length source.now ≤ 64 }
     requires options { length options.now ≤ 256 }
     requires data { length bytes.now ≤ 65536 }
     ensures kind { IfOk result (λ frame. kind_in frame ≡ T_UNITDATA_IND) }
     ensures datagram { IfOk result (λ frame. datagram_in frame ≡ record { source = source.now; options = options.now; bytes = bytes.now }) }
+    ensures fits { IsErrOf result EncodeFail.TooBig → ⊥ }
 {
-    unless_too_big(encode_unitdata_ind(alloc, source, options, bytes))
+    encode_unitdata_ind(alloc, source, options, bytes)
 }
 
 /// The T_UDERROR_IND of a datagram that nobody was there to take.

@@ -1,6 +1,6 @@
 //! Sending a datagram, whole or in parts.
 
-ghost use Rattle.std.specs.Prelude.{◌≡◌, ◌≤◌, ◌%◌, true, None, IfOk, IfSome, OnOk, OnErr, is_some, length, option_map, option_and_then};
+ghost use Rattle.std.specs.Prelude.{◌≡◌, ◌≤◌, ◌%◌, true, None, IfOk, IfSome, IsErrOf, OnOk, OnErr, is_some, length, option_map, option_and_then};
 ghost use Rattle.std.specs.List.{concat};
 ghost use Rattle.tpi_grammar.specs.declared.kind.Kind.TheVariants.{T_UNITDATA_IND};
 ghost use Rattle.tpi_prim.specs.Fields.{kind_in};
@@ -19,7 +19,7 @@ use crate::indications::{datagram, datagram_error};
 use crate::refusals::refusal;
 use crate::writes::{give, mark_flow, push_error};
 use std::alloc::AllocError;
-use tpi_prim::Frame;
+use tpi_prim::{EncodeFail, Frame};
 use xti_base::{Errno, Fd, Octets, Prov};
 use xti_lent::{Lent, done, refused};
 use xti_model::{Applied, Reply, Spot};
@@ -47,13 +47,14 @@ fn takes_datagram(lent: &Lent, to: Option<Fd>) -> bool
 }
 
 /// The T_UNITDATA_IND of a datagram that the open endpoint sends.
-fn indication(lent: &Lent, fd: Fd, options: &[u8], parts: &[Octets]) -> Result<Frame, AllocError>
+fn indication(lent: &Lent, fd: Fd, options: &[u8], parts: &[Octets]) -> Result<Frame, EncodeFail>
     requires fit { IsFit lent.now }
     requires open { is_some (endpoint lent.now.providers (cells lent.now) fd.0) ≡ true }
     requires options { length options.now ≤ 256 }
     requires data { length (concat parts.now) ≤ 65536 }
     ensures kind { IfOk result (λ frame. kind_in frame ≡ T_UNITDATA_IND) }
     ensures datagram { IfOk result (λ frame. IfSome (endpoint lent.now.providers (cells lent.now) fd.0) (λ e. datagram_in frame ≡ datagram_from e options.now (concat parts.now))) }
+    ensures fits { IsErrOf result EncodeFail.TooBig → ⊥ }
 {
     match lent.open_endpoint(fd) {
         Some(e) => datagram(lent.alloc(), e, options, parts),
@@ -82,10 +83,11 @@ fn deliver(
     ensures err { OnErr result (lent.new ≡ lent.old) }
 {
     match to {
-        Some(to) => {
-            let frame = indication(lent, fd, options, parts)?;
-            give(lent, fd, to, frame)
-        }
+        Some(to) => match indication(lent, fd, options, parts) {
+            Ok(frame) => give(lent, fd, to, frame),
+            Err(EncodeFail::OutOfMemory) => Err(AllocError),
+            Err(EncodeFail::TooBig) => unreachable!(),
+        },
         None => {
             let frame = datagram_error(lent.alloc(), address, options)?;
             push_error(lent, fd, frame)
