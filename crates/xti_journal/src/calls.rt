@@ -208,7 +208,7 @@ fn put_receive(out: &mut Vec<u8>, call: &Call) -> Result<(), AllocError>
     }
 }
 
-fn put_call(out: &mut Vec<u8>, call: &Call) -> Result<(), AllocError>
+pub(crate) fn put_call(out: &mut Vec<u8>, call: &Call) -> Result<(), AllocError>
     ensures { OnOk result (out.new.items ≡ out.old.items ++ codes " " ++ call_text call.now) }
 {
     match call {

@@ -2,14 +2,16 @@
 
 ghost use Rattle.std.specs.Prelude.{◌≡◌, ◌++◌, OnOk, IfOk, codes};
 ghost use Rattle.std.specs.List.{flat_map};
-ghost use Rattle.xti_journal.specs.JournalText.{profile_text, provider_text, first_line, head_text, answer_text, entry_text, entries_text, stall_text, end_text, journal_text};
+ghost use Rattle.xti_base.specs.Kinds.{state_name};
+ghost use Rattle.xti_model.specs.declared.entry.Act.TheVariants as act;
+ghost use Rattle.xti_journal.specs.JournalText.{profile_text, provider_text, first_line, head_text, outcome_text, entry_text, entries_text, stall_text, end_text, journal_text};
 
-use crate::calls::put_act;
+use crate::calls::{put_act, put_call};
 use crate::replies::put_outcome;
 use crate::words::{put_bit, put_limit, put_state};
 use std::alloc::{AllocError, Global};
-use xti_base::Octets;
-use xti_model::{Entry, Journal, Profile, Providers, StallLine};
+use xti_base::{Octets, State};
+use xti_model::{Call, Entry, Journal, Outcome, Profile, Providers, StallLine};
 use xti_text::{put_number, put_text};
 
 fn put_profile(out: &mut Vec<u8>, p: &Profile) -> Result<(), AllocError>
@@ -49,23 +51,41 @@ pub(crate) fn put_head(out: &mut Vec<u8>, p: &Providers) -> Result<(), AllocErro
     put_provider(out, "ticlts", &p.ticlts)
 }
 
-// What the call answered, behind an arrow, to the end of the line.
-fn put_answer(out: &mut Vec<u8>, e: &Entry) -> Result<(), AllocError>
-    ensures { OnOk result (out.new.items ≡ out.old.items ++ codes " => " ++ answer_text e.now ++ codes "\n") }
+// What a call answered and the state of its endpoint, behind an arrow, to the end of the line.
+fn put_answer(out: &mut Vec<u8>, outcome: &Outcome, after: State) -> Result<(), AllocError>
+    ensures { OnOk result (out.new.items ≡ out.old.items ++ codes " => " ++ (outcome_text outcome.now ++ codes " " ++ state_name after) ++ codes "\n") }
 {
-    put_outcome(out, &e.outcome)?;
-    put_state(out, e.after)
+    put_outcome(out, outcome)?;
+    put_state(out, after)
 }
 
-#[inline(never)]
 #[tactic(auto, unfolding(crate::specs::JournalText::entry_text))]
-pub(crate) fn put_entry(out: &mut Vec<u8>, n: u64, e: &Entry) -> Result<(), AllocError>
+fn put_entry(out: &mut Vec<u8>, n: u64, e: &Entry) -> Result<(), AllocError>
     ensures { OnOk result (out.new.items ≡ out.old.items ++ entry_text n e.now) }
 {
     put_number(out, "", n)?;
     put_number(out, " ", e.worker as u64)?;
     put_act(out, &e.act)?;
-    put_answer(out, e)
+    put_answer(out, &e.outcome, e.after)
+}
+
+// The line of a call that a worker has begun.
+#[inline(never)]
+#[tactic(auto, unfolding(crate::specs::JournalText::entry_text))]
+pub(crate) fn put_begun(
+    out: &mut Vec<u8>,
+    n: u64,
+    worker: u32,
+    call: &Call,
+    outcome: &Outcome,
+    after: State,
+) -> Result<(), AllocError>
+    ensures { OnOk result (out.new.items ≡ out.old.items ++ entry_text n (record { worker = worker; act = act.Begin call.now; outcome = outcome.now; after = after })) }
+{
+    put_number(out, "", n)?;
+    put_number(out, " ", worker as u64)?;
+    put_call(out, call)?;
+    put_answer(out, outcome, after)
 }
 
 fn put_entries(out: &mut Vec<u8>, entries: &[Entry]) -> Result<(), AllocError>

@@ -6,12 +6,12 @@ ghost use Rattle.xti_model.specs.declared.script.Journal.{Journal};
 ghost use Rattle.xti_journal.specs.JournalText.{head_text, journal_text};
 ghost use Rattle.xti_journal.specs.Writing.{Took};
 
-use crate::journal::{put_end, put_entry, put_head, put_stalls};
+use crate::journal::{put_begun, put_end, put_head, put_stalls};
 use crate::recorder::Recorder;
 use std::alloc::AllocError;
 use std::marker::Model;
-use xti_base::Octets;
-use xti_model::{Entry, Providers, Stalls};
+use xti_base::{Octets, State};
+use xti_model::{Call, Outcome, Providers, Stalls};
 
 /// A journal's text up to its last entry so far. Contracts see the text, and how many entries it has.
 #[derive(Drop)]
@@ -56,14 +56,20 @@ impl JournalWriter {
 impl Recorder for JournalWriter {
     ghost took = { Took };
 
-    // Where it is called for, an entry is not copied before its line is written.
+    // Where it is called for, a call and its answer aren't copied before their line is written.
     #[inline(always)]
-    fn add(&mut self, entry: Entry) -> Result<(), AllocError> {
+    fn begun(
+        &mut self,
+        worker: u32,
+        call: Call,
+        outcome: Outcome,
+        after: State,
+    ) -> Result<(), AllocError> {
         // So many entries would find no memory for their lines.
         let Some(count) = self.count.checked_add(1) else {
             return Err(AllocError);
         };
-        put_entry(&mut self.text, count, &entry)?;
+        put_begun(&mut self.text, count, worker, &call, &outcome, after)?;
         self.count = count;
         Ok(())
     }

@@ -15,7 +15,7 @@ use crate::workers::{WORKERS, Worker, idle_workers};
 use std::alloc::{AllocError, Global};
 use xti_core::World;
 use xti_journal::Recorder;
-use xti_model::{Act, Applied, Call, Entry, Go, Line, Providers};
+use xti_model::{Applied, Call, Go, Line, Providers};
 
 /// A bound on the steps of a script.
 const MOST_STEPS: usize = 4_294_304;
@@ -52,12 +52,7 @@ fn make<H: Recorder>(
             let Some(call) = worker.next.take() else {
                 unreachable!();
             };
-            recorder.add(Entry {
-                worker: number,
-                act: Act::Begin(call),
-                outcome,
-                after,
-            })?;
+            recorder.begun(number, call, outcome, after)?;
             Ok(true)
         }
     }
@@ -92,12 +87,7 @@ impl Run {
             }
             Applied::Step { outcome, after } => {
                 worker.advance(alloc, lines, &outcome)?;
-                recorder.add(Entry {
-                    worker: 0,
-                    act: Act::Begin(call),
-                    outcome,
-                    after,
-                })?;
+                recorder.begun(0, call, outcome, after)?;
                 Ok(true)
             }
         }

@@ -42,11 +42,11 @@ returns-in-Blocked-clause-hands_out g c = λ first past line k there.
     hands-blocked c.args.self.now.world.providers c.args.lines.now c.args.place past (λ es. g.H.Recorder.took first es c.args.recorder.now) c.args.self.now (record { world = c.step.new.self; workers = with_item c.args.self.now.workers c.index-lines-place.result.worker c.set_next.new.self; last = c.args.self.now.last }) c.index-lines-place.result line c.index_mut-worker.result.now c.hand.new.self c.in_ok-call.call there c.index-lines-place.is k nought is b
     (rw c.in-Blocked.is at c.in_ok-step.ensures.step) (ap (λ (n : ℕ). set c.args.self.now.workers.items n c.set_next.new.self) nought ∙ ap (set c.args.self.now.workers.items 0) c.set_next.ensures) (c.in_ok-step.ensures.still (rw c.in-Blocked.is refl))
 
-pub returns-in_ok-add-in-Step-clause-hands_out : goal.returns-in_ok-add-in-Step-clause-hands_out
-returns-in_ok-add-in-Step-clause-hands_out g c = λ first past line k there.
+pub returns-in_ok-begun-in-Step-clause-hands_out : goal.returns-in_ok-begun-in-Step-clause-hands_out
+returns-in_ok-begun-in-Step-clause-hands_out g c = λ first past line k there.
     let nought : c.index-lines-place.result.worker ≡ 0 = c.if-line-ne0.false in
     let is : c.index_mut-worker.result.now ≡ get_or c.args.self.now.workers.items 0 c.index_mut-worker.result.now = subst (λ (n : ℕ). c.index_mut-worker.result.now ≡ get_or c.args.self.now.workers.items n c.index_mut-worker.result.now) nought c.index_mut-worker.ensures.value in
     let b = begins c.args.lines.now c.args.place past c.args.self.now c.index-lines-place.result c.index_mut-worker.result.now c.hand.new.self c.in_ok-call.call c.requires.lines k c.requires.place c.index-lines-place.is nought is c.in_ok-hand.ensures.places c.hand.ensures.others.0 c.hand.ensures.others.1 c.in_ok-call.ensures in
-    hands-made c.args.self.now.world.providers c.args.lines.now c.args.place past (λ es. g.H.Recorder.took first es c.args.recorder.now) (λ es. g.H.Recorder.took first es c.add.new.self) c.args.self.now (record { world = c.step.new.self; workers = with_item c.args.self.now.workers c.index-lines-place.result.worker c.advance.new.self; last = c.args.self.now.last }) c.index-lines-place.result line c.index_mut-worker.result.now c.hand.new.self c.advance.new.self c.in_ok-call.call c.in-Step.outcome c.in-Step.after there k c.requires.place c.index-lines-place.is nought is
-    c.in_ok-hand.ensures.places c.hand.ensures.others.0 c.hand.ensures.others.2 b (rw c.in-Step.is at c.in_ok-step.ensures.step) (c.in_ok-add-in-Step.ensures first past)
+    hands-made c.args.self.now.world.providers c.args.lines.now c.args.place past (λ es. g.H.Recorder.took first es c.args.recorder.now) (λ es. g.H.Recorder.took first es c.begun.new.self) c.args.self.now (record { world = c.step.new.self; workers = with_item c.args.self.now.workers c.index-lines-place.result.worker c.advance.new.self; last = c.args.self.now.last }) c.index-lines-place.result line c.index_mut-worker.result.now c.hand.new.self c.advance.new.self c.in_ok-call.call c.in-Step.outcome c.in-Step.after there k c.requires.place c.index-lines-place.is nought is
+    c.in_ok-hand.ensures.places c.hand.ensures.others.0 c.hand.ensures.others.2 b (rw c.in-Step.is at c.in_ok-step.ensures.step) (c.in_ok-begun-in-Step.ensures first past)
     c.advance.ensures.places c.in_ok-advance-in-Step.ensures.count c.advance.ensures.next c.in_ok-advance-in-Step.ensures.names (ap (λ (n : ℕ). set c.args.self.now.workers.items n c.advance.new.self) nought) refl
