@@ -1,12 +1,13 @@
 //! What calls answered, each behind an arrow.
 
 ghost use Rattle.std.specs.Prelude.{◌≡◌, ◌++◌, OnOk, IsTrue, codes};
+ghost use Rattle.xti_text.specs.Words.{number_word, octets_word};
 ghost use Rattle.xti_journal.specs.JournalText.{event_text, sizes_text, info_text, reply_text, outcome_text};
 ghost use Rattle.xti_model.specs.Families.{is_connection_news, is_received, is_error};
 
 use crate::words::{put_limit, put_pairs};
 use std::alloc::AllocError;
-use xti_base::{Event, Info};
+use xti_base::{Event, Info, Octets};
 use xti_model::{Outcome, Reply};
 use xti_text::{put_number, put_text};
 
@@ -69,6 +70,15 @@ fn put_connection_news(out: &mut Vec<u8>, reply: &Reply) -> Result<(), AllocErro
     }
 }
 
+// The data of a datagram, and its flags.
+#[inline(never)]
+fn put_data(out: &mut Vec<u8>, bytes: &Octets, flags: u32) -> Result<(), AllocError>
+    ensures { OnOk result (out.new.items ≡ out.old.items ++ octets_word (codes " ") bytes.now ++ number_word (codes " ") flags) }
+{
+    put_pairs(out, " x:", bytes)?;
+    put_number(out, " ", flags as u64)
+}
+
 // Data, a datagram or the error of a datagram.
 #[inline(never)]
 fn put_received(out: &mut Vec<u8>, reply: &Reply) -> Result<(), AllocError>
@@ -88,8 +98,7 @@ fn put_received(out: &mut Vec<u8>, reply: &Reply) -> Result<(), AllocError>
         } => {
             put_pairs(out, " => ok x:", addr)?;
             put_pairs(out, " x:", opt)?;
-            put_pairs(out, " x:", bytes)?;
-            put_number(out, " ", *flags as u64)
+            put_data(out, bytes, *flags)
         }
         Reply::UDErr { addr, opt, code } => {
             put_pairs(out, " => ok x:", addr)?;

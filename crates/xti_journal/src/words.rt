@@ -69,7 +69,7 @@ pub(crate) fn put_sizes(out: &mut Vec<u8>, sizes: &[u32]) -> Result<(), AllocErr
 }
 
 // The most bytes that the caller takes of address and options.
-#[inline(always)]
+#[inline(never)]
 pub(crate) fn put_address_limits(out: &mut Vec<u8>, amax: u32, omax: u32) -> Result<(), AllocError>
     ensures { OnOk result (out.new.items ≡ out.old.items ++ number_word (codes " amax=") amax ++ number_word (codes " omax=") omax) }
 {
