@@ -25,3 +25,4 @@ pub mod Sound
 pub mod Wants
 pub mod Spot
 pub mod Cells
+pub mod Names

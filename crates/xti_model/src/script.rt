@@ -1,11 +1,9 @@
 //! Scripts and journals.
 
 use crate::entry::{Act, Entries};
+use crate::name::Name;
 use crate::profile::Providers;
 use xti_base::{Items, Octets, Parts, Prov, Sizes};
-
-/// A short text that stands for a descriptor or a sequence number.
-pub type Name = Octets;
 
 /// A call as a script has it, with names in place of numbers.
 #[derive(Drop)]

@@ -12,8 +12,8 @@ use crate::texts::is_name;
 use crate::values::number_in;
 use crate::verbs::{Verb, verb_of};
 use crate::words::Words;
-use xti_base::{Octets, Prov};
-use xti_model::{Line, NamedCall};
+use xti_base::Prov;
+use xti_model::{Line, Name, NamedCall};
 
 /// The greatest number of a worker.
 const LAST_WORKER: u32 = 32;
@@ -71,7 +71,7 @@ fn read_open(draft: &mut Draft, worker: u32, words: &mut Words) -> Added
     let Some(nonblock) = open_mode(words) else {
         return Ok(false);
     };
-    let name = Octets::copy_of(draft.alloc(), name)?;
+    let name = Name::copy_of(draft.alloc(), name)?;
     let call = NamedCall::TOpen {
         name,
         prov,
@@ -94,7 +94,7 @@ fn read_set_mode(draft: &mut Draft, worker: u32, words: &mut Words) -> Added
     let Some(nonblock) = mode_of(mode) else {
         return Ok(false);
     };
-    let fd = Octets::copy_of(draft.alloc(), fd)?;
+    let fd = Name::copy_of(draft.alloc(), fd)?;
     let call = NamedCall::SetMode { fd, nonblock };
     draft.add(Line { worker, call })
 }
@@ -110,7 +110,7 @@ fn read_with_fields(draft: &mut Draft, worker: u32, verb: Option<Verb>, words: &
     if !draft.defines(worker, name) {
         return Ok(false);
     }
-    let fd = Octets::copy_of(draft.alloc(), name)?;
+    let fd = Name::copy_of(draft.alloc(), name)?;
     read_fields(draft, worker, verb, fd, words)
 }
 
