@@ -1,16 +1,55 @@
 //! Taking the words of a line one after the other.
 
-ghost use Rattle.std.specs.Prelude.{◌≡◌, ◌∷◌, ◌==◌, [], position, length, slice_get, IfSome, IfNone};
+ghost use Rattle.std.specs.Prelude.{◌≡◌, ◌∷◌, ◌==◌, ◌+◌, ◌≤◌, [], position, length, slice_get, IfSome, IfNone};
+ghost use Rattle.std.specs.List.{position_or_len};
 ghost use Rattle.std.specs.Option.{option_copied};
+ghost use Rattle.std.specs.Simd.Lanes.{chunk};
 ghost use Rattle.xti_script.specs.Texts.{words_of};
 ghost use Rattle.xti_script.specs.Words.{words_behind};
 
 use std::marker::Model;
+use std::simd::prelude::*;
 
+/// So many bytes are looked at at once.
+const LANES: usize = 8;
+
+// How many bytes are before the first space, of those that are looked at from here on.
+#[inline(always)]
+fn lanes_before(text: &[u8], at: usize) -> usize
+    requires { at + LANES ≤ length text.now }
+    ensures { result ≡ position_or_len (λ c. c == 32) (chunk at LANES text.now) }
+{
+    let lanes = u8x8::from_slice(&text[at..]);
+    let spaces = lanes.simd_eq(u8x8::splat(b' ')).to_bitmask();
+    if spaces == 0 {
+        LANES
+    } else {
+        spaces.trailing_zeros() as usize
+    }
+}
+
+// The last bytes are looked at at once too, with some of those before them.
 fn word_end(text: &[u8]) -> Option<usize>
     ensures { result ≡ position (λ c. c == 32) text.now }
 {
-    text.iter().position(|c| *c == b' ')
+    if text.len() < LANES {
+        return text.iter().position(|c| *c == b' ');
+    }
+    let last = text.len() - LANES;
+    let mut at = 0;
+    while at < last {
+        let before = lanes_before(text, at);
+        if before < LANES {
+            return Some(at + before);
+        }
+        at += LANES;
+    }
+    let before = lanes_before(text, last);
+    if before < LANES {
+        Some(last + before)
+    } else {
+        None
+    }
 }
 
 /// The first word of a line, and what is behind its space; `None` where it is the last word.
