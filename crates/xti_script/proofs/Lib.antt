@@ -7,6 +7,7 @@ pub mod CallLaws
 pub mod Least
 pub mod Scripts
 pub mod Loop
+pub mod TextBytes
 pub mod TextSets
 pub mod Workers
 pub mod ScriptLaws

@@ -28,28 +28,23 @@ fn lanes_before(text: &[u8], at: usize) -> usize
     }
 }
 
-// The last bytes are looked at at once too, with some of those before them.
 fn word_end(text: &[u8]) -> Option<usize>
     ensures { result ≡ position (λ c. c == 32) text.now }
 {
     if text.len() < LANES {
         return text.iter().position(|c| *c == b' ');
     }
-    let last = text.len() - LANES;
     let mut at = 0;
-    while at < last {
-        let before = lanes_before(text, at);
+    while at < text.len() {
+        // At the end some that were looked at are looked at again.
+        let from = at.min(text.len() - LANES);
+        let before = lanes_before(text, from);
         if before < LANES {
-            return Some(at + before);
+            return Some(from + before);
         }
-        at += LANES;
+        at = from + LANES;
     }
-    let before = lanes_before(text, last);
-    if before < LANES {
-        Some(last + before)
-    } else {
-        None
-    }
+    None
 }
 
 /// The first word of a line, and what is behind its space; `None` where it is the last word.

@@ -4,20 +4,13 @@ use Rattle.xti_script.proofs.words.word_end.Goals as goal
 
 pub returns-then-before-lt-LANES : goal.returns-then-before-lt-LANES
 returns-then-before-lt-LANES c =
-    let b = before_is (λ x. x == 32) c.args.text.now c.loop-at.at 8 c.lanes_before-before.result c.loop-at.invariant c.lanes_before-before.ensures in
+    let b = before_is (λ x. x == 32) c.args.text.now _ 8 c.lanes_before-before.result (omega arith) c.lanes_before-before.ensures in
     found_at (λ x. x == 32) c.args.text.now _ (omega arith) (omega arith)
 
 pub loop-at-preserved : goal.loop-at-preserved
 loop-at-preserved c =
-    let b = before_is (λ x. x == 32) c.args.text.now c.loop-at.at 8 c.lanes_before-before.result c.loop-at.invariant c.lanes_before-before.ensures in
+    let b = before_is (λ x. x == 32) c.args.text.now _ 8 c.lanes_before-before.result (omega arith) c.lanes_before-before.ensures in
     omega arith
 
-pub returns-then-before-lt-LANES-2 : goal.returns-then-before-lt-LANES-2
-returns-then-before-lt-LANES-2 c =
-    let b = before_is (λ x. x == 32) c.args.text.now (length c.args.text.now - 8) 8 c.lanes_before-before-2.result (omega arith) c.lanes_before-before-2.ensures in
-    found_at (λ x. x == 32) c.args.text.now _ (omega arith) (omega arith)
-
-pub returns-else-before-lt-LANES-2 : goal.returns-else-before-lt-LANES-2
-returns-else-before-lt-LANES-2 c =
-    let b = before_is (λ x. x == 32) c.args.text.now (length c.args.text.now - 8) 8 c.lanes_before-before-2.result (omega arith) c.lanes_before-before-2.ensures in
-    found_none (λ x. x == 32) c.args.text.now (omega arith)
+pub returns : goal.returns
+returns c = found_none (λ x. x == 32) c.args.text.now (omega arith)
