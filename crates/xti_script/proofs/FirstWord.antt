@@ -2,6 +2,7 @@
 use Rattle.std.proofs.Common.{◌≡◌, ℕ, zero, suc, ◌+◌, ◌-◌, min, ◌<◌, ◌≤◌, Bool, true, false, cond, not, eqb, List, [], ◌∷◌, length, get_or, take, drop, Some, None, ltb, refl, sym, ap, ◌∙◌, arith}
 use lib.Lanes.{chunk}
 use Rattle.std.specs.List.{onto_first, position, position_or_len}
+use Rattle.std.proofs.lemmas.Grind.{common_steps}
 use Rattle.std.proofs.lemmas.List.Quantifiers.{position-Some}
 use Rattle.std.proofs.lemmas.List.Sums.{fails_before_first}
 use Rattle.std.proofs.lemmas.Bool.{ltb-false, lt-ltb, le-ltb}
@@ -62,10 +63,11 @@ never : (b : Bool) (i : ℕ) → cond b (Some i) None ≡ None → b ≡ false
 never true i e = absurd cc
 never false i e = refl
 
-pub word_found : (line : List ℕ) (i : ℕ) → Some i ≡ position (λ c. eqb c 32) line → words_of line ≡ take i line ∷ words_of (drop 1 (drop i line))
-word_found line i e =
+pub word_found : (line : List ℕ) (i n : ℕ) → length line ≤ n + (i + 1) → Some i ≡ position (λ c. eqb c 32) line → words_of line ≡ take i line ∷ words_of (take n (drop (i + 1) line))
+word_found line i n h e =
     let p = position-Some (λ c. eqb c 32) line i 0 (sym e) in
-    words_at line i p.0 p.1 p.2
+    let whole : take n (drop (i + 1) line) ≡ drop 1 (drop i line) = grind (arith, common_steps) in
+    rw whole (words_at line i p.0 p.1 p.2)
 
 pub last_word : (line : List ℕ) → None ≡ position (λ c. eqb c 32) line → words_of line ≡ line ∷ []
 last_word line e =

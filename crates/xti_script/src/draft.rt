@@ -34,19 +34,13 @@ fn less_one(left: usize, bytes: &Octets) -> Option<usize>
 fn less_two(left: usize, first: &Octets, second: &Octets) -> Option<usize>
     ensures { result ≡ less left (length first.now + length second.now) }
 {
-    match less_one(left, first) {
-        Some(left) => less_one(left, second),
-        None => None,
-    }
+    less_one(less_one(left, first)?, second)
 }
 
 fn less_three(left: usize, first: &Octets, second: &Octets, third: &Octets) -> Option<usize>
     ensures { result ≡ less left (length first.now + length second.now + length third.now) }
 {
-    match less_two(left, first, second) {
-        Some(left) => less_one(left, third),
-        None => None,
-    }
+    less_one(less_two(left, first, second)?, third)
 }
 
 fn less_parts(left: usize, parts: &[Octets]) -> Option<usize>
@@ -54,10 +48,7 @@ fn less_parts(left: usize, parts: &[Octets]) -> Option<usize>
 {
     match parts {
         [] => less(left, 0),
-        [part, parts @ ..] => match less_one(left, part) {
-            Some(left) => less_parts(left, parts),
-            None => None,
-        },
+        [part, parts @ ..] => less_parts(less_one(left, part)?, parts),
     }
 }
 
@@ -69,10 +60,7 @@ fn less_two_and_parts(
 ) -> Option<usize>
     ensures { result ≡ less left (length first.now + length second.now + length (concat parts.now)) }
 {
-    match less_two(left, first, second) {
-        Some(left) => less_parts(left, parts),
-        None => None,
-    }
+    less_parts(less_two(left, first, second)?, parts)
 }
 
 /// What is left of so many bytes behind those of the call; `None` where the call has more.
@@ -137,13 +125,11 @@ fn admit(
     ensures none { IfOk result (λ room. IfNone room (names.new ≡ names.old)) }
     ensures err { OnErr result (names.new ≡ names.old) }
 {
-    match room_after(count, left, &line.call) {
-        Some(left) => {
-            add_name(alloc, names, line)?;
-            Ok(Some(left))
-        }
-        None => Ok(None),
-    }
+    let Some(left) = room_after(count, left, &line.call) else {
+        return Ok(None);
+    };
+    add_name(alloc, names, line)?;
+    Ok(Some(left))
 }
 
 /// Adds the line, which is moved but once; what is left of so many bytes behind it. `None` where a limit is in the way:

@@ -126,8 +126,5 @@ fn are_text_bytes(text: &[u8]) -> bool
 pub(crate) fn is_plain_text(text: &[u8]) -> bool
     ensures { result ≡ is_plain_text text.now }
 {
-    match text {
-        [] => false,
-        _ => are_text_bytes(text),
-    }
+    !text.is_empty() && are_text_bytes(text)
 }

@@ -32,10 +32,7 @@ fn digits_behind(number: u32, digits: &[u8]) -> Option<u32>
 {
     match digits {
         [] => Some(number),
-        [c, rest @ ..] => match with_digit(number, *c) {
-            Some(longer) => digits_behind(longer, rest),
-            None => None,
-        },
+        [c, rest @ ..] => digits_behind(with_digit(number, *c)?, rest),
     }
 }
 

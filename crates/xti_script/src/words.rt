@@ -52,11 +52,7 @@ fn first_word(line: &[u8]) -> (&[u8], Option<&[u8]>)
     ensures { words_of line.now ≡ result.0.now ∷ words_behind (option_copied result.1) }
 {
     match word_end(line) {
-        Some(end) => {
-            let (word, behind) = line.split_at(end);
-            let (_, rest) = behind.split_at(1);
-            (word, Some(rest))
-        }
+        Some(end) => (&line[..end], Some(&line[end + 1..])),
         None => (line, None),
     }
 }
