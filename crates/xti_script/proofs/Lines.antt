@@ -1,6 +1,7 @@
 -- The first line of a text, and the lines behind it.
-use Rattle.std.proofs.Common.{◌≡◌, ℕ, zero, suc, ◌<◌, ◌≤◌, Bool, true, false, cond, eqb, List, [], ◌∷◌, length, get_or, take, drop, Some, None, ltb, refl, sym, ap, arith}
+use Rattle.std.proofs.Common.{◌≡◌, ℕ, zero, suc, ◌+◌, ◌<◌, ◌≤◌, Bool, true, false, cond, eqb, List, [], ◌∷◌, length, get_or, take, drop, Some, None, ltb, refl, sym, ap, arith}
 use Rattle.std.specs.List.{onto_first, position, position_or_len}
+use Rattle.std.proofs.lemmas.Grind.{common_steps}
 use Rattle.std.proofs.lemmas.List.Quantifiers.{position-Some}
 use Rattle.std.proofs.lemmas.List.Sums.{fails_before_first}
 use Rattle.std.proofs.lemmas.Bool.{ltb-false}
@@ -28,10 +29,11 @@ never : (b : Bool) (i : ℕ) → cond b (Some i) None ≡ None → b ≡ false
 never true i e = absurd cc
 never false i e = refl
 
-pub lines_found : (text : List ℕ) (i : ℕ) → Some i ≡ position (λ c. eqb c 10) text → lines_of text ≡ take i text ∷ lines_of (drop 1 (drop i text))
-lines_found text i e =
+pub lines_found : (text : List ℕ) (i n : ℕ) → length text ≤ n + (i + 1) → Some i ≡ position (λ c. eqb c 10) text → lines_of text ≡ take i text ∷ lines_of (take n (drop (i + 1) text))
+lines_found text i n h e =
     let p = position-Some (λ c. eqb c 10) text i 0 (sym e) in
-    lines_at text i p.0 p.1 p.2
+    let whole : take n (drop (i + 1) text) ≡ drop 1 (drop i text) = grind (arith, common_steps) in
+    rw whole (lines_at text i p.0 p.1 p.2)
 
 pub lines_none : (text : List ℕ) → 0 < length text → None ≡ position (λ c. eqb c 10) text → lines_of text ≡ text ∷ []
 lines_none text lt e =

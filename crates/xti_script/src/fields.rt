@@ -90,8 +90,7 @@ fn behind_key<'a>(key: &[u8], word: &'a [u8]) -> Option<&'a [u8]>
     ensures { option_copied result ≡ behind_key key.now word.now }
 {
     if word.starts_with(key) {
-        let (_, text) = word.split_at(key.len());
-        Some(text)
+        Some(&word[key.len()..])
     } else {
         None
     }

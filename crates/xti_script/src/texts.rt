@@ -28,11 +28,7 @@ pub(crate) fn first_line(text: &[u8]) -> (&[u8], &[u8])
     ensures shorter { length result.1.now < length text.now }
 {
     match memchr(b'\n', text) {
-        Some(end) => {
-            let (line, behind) = text.split_at(end);
-            let (_, rest) = behind.split_at(1);
-            (line, rest)
-        }
+        Some(end) => (&text[..end], &text[end + 1..]),
         None => (text, &[]),
     }
 }

@@ -115,11 +115,9 @@ pub(crate) fn bytes_in(alloc: Global, word: &[u8]) -> Result<Option<Octets>, All
     ensures { IfOk result (λ bytes. bytes ≡ bytes_in word.now) }
 {
     if word.starts_with(b"t:".as_slice()) {
-        let (_, text) = word.split_at(2);
-        plain_bytes(alloc, text)
+        plain_bytes(alloc, &word[2..])
     } else if word.starts_with(b"x:".as_slice()) {
-        let (_, digits) = word.split_at(2);
-        hex_bytes(alloc, digits)
+        hex_bytes(alloc, &word[2..])
     } else {
         Ok(None)
     }
