@@ -89,11 +89,10 @@ fn usual_value(key: Key) -> Option<Usual>
 fn behind_key<'a>(key: &[u8], word: &'a [u8]) -> Option<&'a [u8]>
     ensures { option_copied result ≡ behind_key key.now word.now }
 {
-    if word.starts_with(key) {
-        Some(&word[key.len()..])
-    } else {
-        None
+    if !word.starts_with(key) {
+        return None;
     }
+    Some(&word[key.len()..])
 }
 
 /// What is behind the key of the next word, where this is a field with the key; the word is taken then.

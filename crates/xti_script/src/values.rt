@@ -20,11 +20,10 @@ fn with_digit(number: u32, c: u8) -> Option<u32>
         return None;
     }
     let longer = number as u64 * 10 + (c - b'0') as u64;
-    if longer < 1 << 32 {
-        Some(longer as u32)
-    } else {
-        None
+    if longer >= 1 << 32 {
+        return None;
     }
+    Some(longer as u32)
 }
 
 fn digits_behind(number: u32, digits: &[u8]) -> Option<u32>
@@ -73,10 +72,7 @@ fn first_byte(digits: &[u8]) -> Option<u8>
     let [high, low, ..] = digits else {
         return None;
     };
-    match (hex_digit(*high), hex_digit(*low)) {
-        (Some(high), Some(low)) => Some(high * 16 + low),
-        _ => None,
-    }
+    Some(hex_digit(*high)? * 16 + hex_digit(*low)?)
 }
 
 fn hex_bytes(alloc: Global, digits: &[u8]) -> Result<Option<Octets>, AllocError>
@@ -89,8 +85,7 @@ fn hex_bytes(alloc: Global, digits: &[u8]) -> Result<Option<Octets>, AllocError>
             Some(byte) => bytes.push(byte)?,
             None => return Ok(None),
         }
-        let (_, behind) = rest.split_at(2);
-        rest = behind;
+        rest = &rest[2..];
     }
     if rest.is_empty() {
         Ok(Some(bytes))
@@ -102,11 +97,10 @@ fn hex_bytes(alloc: Global, digits: &[u8]) -> Result<Option<Octets>, AllocError>
 fn plain_bytes(alloc: Global, text: &[u8]) -> Result<Option<Octets>, AllocError>
     ensures { IfOk result (λ bytes. bytes ≡ plain_bytes text.now) }
 {
-    if is_plain_text(text) {
-        Ok(Some(Octets::copy_of(alloc, text)?))
-    } else {
-        Ok(None)
+    if !is_plain_text(text) {
+        return Ok(None);
     }
+    Ok(Some(Octets::copy_of(alloc, text)?))
 }
 
 /// The bytes that a word spells: `t:` and plain text, or `x:` and pairs of hexadecimal digits.
