@@ -1,4 +1,4 @@
-use Rattle.std.proofs.Common.{◌≡◌, ◌++◌, true, false, rules, sym, ◌∙◌, ap}
+use Rattle.std.proofs.Common.{◌≡◌, ◌++◌, true, false, rules}
 use Rattle.std.specs.List.{list_all}
 use Rattle.xti_script.specs.Texts.{is_text_byte}
 use Rattle.xti_script.proofs.TextBytes.{behind_pass, front_fails}

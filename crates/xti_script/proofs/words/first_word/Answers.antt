@@ -1,4 +1,4 @@
-use Rattle.std.proofs.Common.{length, arith}
+use Rattle.std.proofs.Common.{arith}
 use Rattle.xti_script.proofs.FirstWord.{word_found, last_word}
 use Rattle.xti_script.proofs.words.first_word.Goals as goal
 

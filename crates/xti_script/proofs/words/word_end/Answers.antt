@@ -1,4 +1,4 @@
-use Rattle.std.proofs.Common.{◌==◌, ◌-◌, length, arith}
+use Rattle.std.proofs.Common.{◌==◌, arith}
 use Rattle.xti_script.proofs.FirstWord.{before_is, found_at, found_none}
 use Rattle.xti_script.proofs.words.word_end.Goals as goal
 
