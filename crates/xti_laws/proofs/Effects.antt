@@ -78,7 +78,7 @@ sets p w fd g f h = ap (option_map (λ e. e.state)) (endpoint-same p fd f w) ∙
 pub puts-first : (p : Providers) (w : World) (fd : ℕ) (e : Endpoint) (f : Endpoint → Endpoint) (cs : List Change) → endpoint p w fd ≡ Some e → AllLeave fd cs → state_in p (changed p w (at_endpoint fd f ∷ cs)) fd ≡ Some (f e).state
 puts-first p w fd e f cs o h = leaves p fd cs h (changed p w (at_endpoint fd f ∷ [])) ∙ puts p w fd e f o
 
--- the endpoint's own change comes behind others
+-- the endpoint's own change comes after others
 pub sets-after : (p : Providers) (w : World) (fd : ℕ) (g : State → State) (f : Endpoint → Endpoint) (s : State) (cs ds : List Change) → Sets g f → state_in p (changed p w cs) fd ≡ Some s → AllLeave fd ds
     → state_in p (changed p w (cs ++ at_endpoint fd f ∷ ds)) fd ≡ Some (g s)
 sets-after p w fd g f s cs ds h o k =

@@ -8,6 +8,7 @@ pub mod View
 mod Steady
 pub mod Effects
 mod TableRows
+pub mod Rows
 mod Taken
 pub mod Opening
 mod StatesOfConnections

@@ -19,7 +19,8 @@ use Rattle.xti_laws.specs.States.{state_at, ocnt_of}
 use Rattle.xti_laws.proofs.Steady.{bound_like-steady, after_sndrel, after_rcvrel, after_last, send_release-sets, receive_release-sets, disconnect-state}
 use Rattle.xti_laws.proofs.Effects.{state_in, told-state, AllLeave, elsewhere, steady, in_switch, append-leave, leaves, puts, puts-first, sets-after, linked-leave, break-leave}
 use Rattle.xti_laws.proofs.TableRows.{connect-row, confirm-row, listen-row, passed-row, snddis-row, rcvdis-row, sndrel-row, rcvrel-row, reject-row, accept_there-row, accept_here-row}
-use Rattle.xti_laws.proofs.Taken.{Taken, Cleared, un-not, own, leads_to}
+use Rattle.xti_laws.proofs.Taken.{Taken, own, leads_to}
+use Rattle.xti_laws.proofs.Rows.{Cleared, un-not}
 
 here : (p : Providers) (w : World) (fd : ℕ) (e : Endpoint) → endpoint p w fd ≡ Some e → state_in p w fd ≡ Some e.state
 here p w fd e o = ap (option_map (λ x. x.state)) o

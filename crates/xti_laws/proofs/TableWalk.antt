@@ -31,7 +31,8 @@ use Rattle.xti_laws.specs.States.{state_at, ocnt_of, has_effect, is_initialised,
 use Rattle.xti_laws.proofs.Steady.{received-steady, datagram-steady, shown-steady}
 use Rattle.xti_laws.proofs.Effects.{AllLeave, steady, in_switch, closed-state, open-effect}
 use Rattle.xti_laws.proofs.TableRows.{bind-row, unbind-row, snd-row, rcv-row, datagram-row, show-row, close-row}
-use Rattle.xti_laws.proofs.Taken.{Taken, Cleared, cleared, un-not, take, take-later, own, stay, leads_to}
+use Rattle.xti_laws.proofs.Taken.{Taken, take, take-later, own, stay, leads_to}
+use Rattle.xti_laws.proofs.Rows.{Cleared, cleared, un-not}
 use Rattle.xti_laws.proofs.StatesOfConnections.{confirm-taken, listen-taken, request-taken, send_release-taken, receive_release-taken, receive_disconnect-taken, send_disconnect-taken, accept-taken, passed-taken}
 use Rattle.xti_laws.proofs.Leaving.{send_to-leave, datagram-leave}
 use Rattle.xti_laws.proofs.Opening.{open-takes}

@@ -1,5 +1,5 @@
 -- From the rows that don't refuse a call to the row of the state table.
-use Rattle.std.proofs.Common.{ℕ, Bool, true, false, List, [], ◌∷◌, ◌≡◌, refl, sym, ap, ◌∙◌, cond, not, subst, map, Option, Some, None}
+use Rattle.std.proofs.Common.{ℕ, Bool, true, false, List, [], ◌∷◌, ◌≡◌, refl, ap, ◌∙◌, cond, subst, map, Option, Some, None}
 use Rattle.std.proofs.lemmas.Bool.{false≢true}
 use Rattle.std.specs.Prelude.{unwrap_or, option_map}
 use Rattle.xti_base.specs.declared.kinds.State.{State}
@@ -12,27 +12,8 @@ use Rattle.xti_model.specs.Step.{step_of}
 use Rattle.xti_model.specs.History.{left_by}
 use Rattle.xti_model.specs.StateTable.{Move, is_in_table}
 use Rattle.xti_laws.specs.States.{state_at, ocnt_of, has_effect, is_initialised}
+use Rattle.xti_laws.proofs.Rows.{Cleared, cleared}
 use Rattle.xti_laws.proofs.Effects.{state_in, told-state, open-effect, step-effect, AllLeave, puts-first, leaves}
-
--- each row that answers or waits does not hold, in the rows' order
-abbrev pub Cleared : List Row → Type 0
-Cleared [] = Unit
-Cleared (row ∷ rows) = elim row.refusal [ answers r ↦ (row.holds ≡ false) × Cleared rows | waits r ↦ (row.holds ≡ false) × Cleared rows | loses ↦ Unit ]
-
-pub cleared : (rows : List Row) → has_effect (first rows) ≡ true → Cleared rows
-cleared [] g = tt
-cleared (row ∷ rows) g = go row.holds row.refusal g (cleared rows)
-  where
-    go : (b : Bool) (r : Refusal) → has_effect (cond b (Some r) (first rows)) ≡ true → (has_effect (first rows) ≡ true → Cleared rows) → elim r as (λ x. Type 0) [ answers y ↦ (b ≡ false) × Cleared rows | waits y ↦ (b ≡ false) × Cleared rows | loses ↦ Unit ]
-    go b loses g k = tt
-    go false (answers y) g k = (refl, k g)
-    go false (waits y) g k = (refl, k g)
-    go true (answers y) g k = absurd (false≢true g)
-    go true (waits y) g k = absurd (false≢true g)
-
-pub un-not : (b : Bool) → not b ≡ false → b ≡ true
-un-not true h = refl
-un-not false h = absurd (false≢true (sym h))
 
 -- the state that an effect leads to, with its row of the table
 pub record Taken (p : Providers) (w : World) (fd : ℕ) (m : Move) (e : Endpoint) (effect lost_effect : List Change) : Type 0 where

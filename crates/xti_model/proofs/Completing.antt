@@ -1,4 +1,4 @@
--- Round robin goes on until each worker is through or blocked.
+-- Round robin goes on until each worker is finished or blocked.
 use Rattle.std.specs.Prelude.{ℕ, ◌+◌, ◌-◌, ◌<◌, ◌≤◌, ◌==◌, ◌&&◌, ◌||◌, nat_lt, Bool, true, false, List, [], ◌∷◌, ◌++◌, length, drop, filter, Option, Some, None, IfSome, is_none, option_map, option_and_then, ◌≡◌, if◌then◌else◌, IsTrue}
 use Rattle.std.specs.List.{AllByRecursion, list_all, sum_by}
 use Rattle.std.proofs.Common.{refl, sym, ap, subst, ◌∙◌, arith, inl, inr}
@@ -97,7 +97,7 @@ first-work lines = omega (arith, sum-at_most (worker_work lines []) (λ worker. 
     of_worker : (worker : ℕ) → worker_work lines [] worker ≤ sum_by line_work (lines_of lines worker)
     of_worker worker = omega (arith, placed-work [] lines worker)
 
--- a worker without a turn is through or stuck
+-- a worker without a turn is finished or stuck
 pub through_or_stuck : (p : Providers) (lines : List Line) (w : World) (past : List Entry) (worker : ℕ) → after p past ≡ w → turn p lines w past worker ≡ None →
     (is_through lines past worker || is_stuck p past lines worker) ≡ true
 through_or_stuck p lines w past worker e n = subst (λ v. (is_through lines past worker || is_stuck_by p v (next_going lines past worker)) ≡ true) (sym e) (by (next_going lines past worker) n)

@@ -104,7 +104,7 @@ placed-within earlier (line ∷ lines) worker other n =
     by true (suc n) ih = ih n
     by false n ih = ih n
 
--- a worker that is through has begun all its lines
+-- a worker that is finished has begun all its lines
 pub through-begun : (lines : List Line) (past : List Entry) (worker : ℕ) → is_through lines past worker ≡ true → length (placed lines worker) ≤ length (begun past worker)
 through-begun lines past worker h = by (unfinished past worker) h
   where

@@ -35,7 +35,7 @@ legal-snoc p w past (x ∷ es) e l f = (
       (subst (λ q. Fits (step_at p (after_from p (left_by w (step_at p w past x)) (past ++ x ∷ []) es) q e) e) (sym (append_assoc past (x ∷ []) es)) f),
 )
 
--- a call that is not through goes on with the act More
+-- a call that is not finished goes on with the act More
 abbrev pub GoesOn : Option Going → Type 0
 GoesOn None = Unit
 GoesOn (Some g) = act_of g.so_far g.call ≡ act.More

@@ -1,4 +1,4 @@
--- The setup comes first: worker 0 alone has entries until it is through, and then the others.
+-- The setup comes first: worker 0 alone has entries until it is finished, and then the others.
 use Rattle.std.specs.Prelude.{ℕ, ◌==◌, ◌&&◌, not, Bool, true, false, List, [], ◌∷◌, ◌++◌, length, filter, slice_get, Option, Some, None, IfSome, is_none, option_map, option_and_then, ◌≡◌, ◌⊎◌, if◌then◌else◌}
 use Rattle.std.specs.List.{list_any, list_all}
 use Rattle.std.proofs.Common.{refl, sym, ap, subst, ◌∙◌, inl, inr}
@@ -29,7 +29,7 @@ turn-each p lines w past worker P h = next (next_going lines past worker)
     next None = tt
     next (Some g) = stepped g (step_going p w g)
 
--- a worker that is through has no turn
+-- a worker that is finished has no turn
 pub through-turn : (p : Providers) (lines : List Line) (w : World) (past : List Entry) (worker : ℕ) (P : Turn → Type 0) → is_through lines past worker ≡ true → IfSome (turn p lines w past worker) P
 through-turn p lines w past worker P h = next (next_going lines past worker) h
   where
@@ -37,7 +37,7 @@ through-turn p lines w past worker P h = next (next_going lines past worker) h
     next None h = tt
     next (Some g) h = absurd (false≢true h)
 
--- whether a worker is through rests on its own entries
+-- whether a worker is finished rests on its own entries
 abbrev pub is_through_by : List Placed → List Entry → Option Going → Bool
 is_through_by lines entries (Some g) = false
 is_through_by lines entries None = is_none (slice_get lines (length (filter (λ e. is_begin e.act) entries)))
@@ -78,7 +78,7 @@ setup_first-more (x ∷ past) e h f = by (is_setup x) f (setup_first-more past e
     by true f ih = ih f
     by false f ih = rw (any_setup-more past e h) f
 
--- worker 0 alone has entries; or it is through, and its entries come first
+-- worker 0 alone has entries; or it is finished, and its entries come first
 abbrev pub IsInPhase : List Line → List Entry → Type 0
 IsInPhase lines past = (list_all is_setup past ≡ true) ⊎ ((setup_first past ≡ true) × (is_through lines past 0 ≡ true))
 

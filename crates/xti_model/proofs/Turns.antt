@@ -42,7 +42,7 @@ at-numbers P from (suc n) h k a b = by (eqb_tells from k) (at-numbers P (from + 
     by (inl e) later = subst P e.1 h.0
     by (inr e) later = later (omega (arith, e.1)) (omega (arith, e.1))
 
--- another worker than 0 has a turn only where worker 0 is through, and no worker over 32 has one
+-- another worker than 0 has a turn only where worker 0 is finished, and no worker over 32 has one
 pub record MayGo (lines : List Line) (past : List Entry) (worker : ℕ) : Type 0 where
   pub setup : (worker ≡ 0) ⊎ (is_through lines past 0 ≡ true)
   pub within : last_worker 0 past < 33 → worker < 33

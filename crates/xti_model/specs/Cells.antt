@@ -12,7 +12,7 @@ IsRising from end (n ∷ ns) = (from ≤ n) × (n < end) × IsRising (n + 1) end
 unfoldable pub listed : List ℕ → List ℕ
 listed ns = filter (is_among ns) (numbers 0 65)
 
--- the number belongs at this place: behind those below it, and before a greater one
+-- the number belongs at this place: after those below it, and before a greater one
 pub record IsPlaceFor (n : ℕ) (ns : List ℕ) (place : ℕ) : Type 0 where
   pub within : place ≤ length ns
   pub below : (k : ℕ) → k < place → slice_index ns k < n

@@ -33,7 +33,7 @@ going_after None outcome = None
 going_after (Some c) (Done reply) = None
 going_after (Some c) (Part n) = Some (record { call = c; so_far = go.More n })
 
--- the call of a worker that is not through, by its own entries
+-- the call of a worker that is not finished, by its own entries
 abbrev pub unfinished_from : Option Call → Option Going → List Entry → Option Going
 unfinished_from c going [] = going
 unfinished_from c going (e ∷ es) = unfinished_from (call_after c e.act) (going_after (call_after c e.act) e.outcome) es

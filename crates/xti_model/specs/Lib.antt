@@ -6,6 +6,7 @@ pub mod World
 pub mod Switch
 pub mod Links
 pub mod Sending
+pub mod SentBytes
 pub mod Events
 pub mod Plan
 pub mod Arguments

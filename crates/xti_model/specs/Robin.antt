@@ -20,7 +20,7 @@ next_line lines past worker = slice_get (placed lines worker) (length (begun pas
 abbrev pub begin_line : List Entry → Placed → Going
 begin_line past l = record { call = resolved l.earlier l.line past; so_far = go.Begin }
 
--- the next step of a worker: its unfinished call goes on, or its next line begins; none where it is through
+-- the next step of a worker: its unfinished call goes on, or its next line begins; none where it is finished
 abbrev pub next_or : List Line → List Entry → ℕ → Option Going → Option Going
 next_or lines past worker None = option_map (begin_line past) (next_line lines past worker)
 next_or lines past worker (Some g) = Some g
@@ -46,7 +46,7 @@ turn_of worker g s = record { entry = record { worker = worker; act = act_of g.s
 abbrev pub turn_going : Providers → World → ℕ → Going → Option Turn
 turn_going p w worker g = option_map (turn_of worker g) (step_going p w g)
 
--- none where the worker is through or blocked
+-- none where the worker is finished or blocked
 abbrev pub turn : Providers → List Line → World → List Entry → ℕ → Option Turn
 turn p lines w past worker = option_and_then (turn_going p w worker) (next_going lines past worker)
 
@@ -68,7 +68,7 @@ abbrev pub last_worker : ℕ → List Entry → ℕ
 last_worker w [] = w
 last_worker w (e ∷ es) = last_worker e.worker es
 
--- worker 0 alone until it is through, then the others in turn
+-- worker 0 alone until it is finished, then the others in turn
 abbrev pub whose_turn : List Line → List Entry → List ℕ
 whose_turn lines past = if is_through lines past 0 then order_after (last_worker 0 past) else 0 ∷ []
 

@@ -36,7 +36,7 @@ abbrev pub add : Option Made → List Made → List Made
 add None later = later
 add (Some m) later = m ∷ later
 
--- the entries behind a past, with their calls
+-- the entries after a past, with their calls
 abbrev pub made_from : List Entry → List Entry → List Made
 made_from past [] = []
 made_from past (e ∷ es) = add (option_map (made_of e) (doing past e)) (made_from (past ++ e ∷ []) es)
@@ -77,7 +77,7 @@ abbrev pub until_over : List Made → List Made
 until_over [] = []
 until_over (m ∷ ms) = m ∷ (if is_over m.after then [] else until_over ms)
 
--- the life of an end: the steps of its calls behind the accept
+-- the life of an end: the steps of its calls after the accept
 abbrev pub life : List Entry → ℕ → ℕ → List Made
 life entries place fd = until_over (filter (is_made_by fd) (made_from (take (place + 1) entries) (drop (place + 1) entries)))
 

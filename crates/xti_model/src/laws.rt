@@ -1,6 +1,7 @@
 //! Laws of the starting values, and of histories over all scripts.
 
 ghost use Rattle.std.specs.Prelude.{ℕ, ◌+◌, ◌≡◌, ◌≤◌, List, length, true};
+ghost use Rattle.std.specs.List.{concat};
 ghost use Rattle.xti_model.specs.declared.entry.Entry.{Entry};
 ghost use Rattle.xti_model.specs.declared.profile.Providers.{Providers};
 ghost use Rattle.xti_model.specs.declared.script.Line.{Line};
@@ -8,8 +9,12 @@ ghost use Rattle.xti_model.specs.declared.script.Script.{Script};
 ghost use Rattle.xti_model.specs.History.{after, Legal};
 ghost use Rattle.xti_model.specs.Profile.{usual, valid};
 ghost use Rattle.xti_model.specs.Robin.{robin_from, robin, most_steps};
+ghost use Rattle.xti_model.specs.SentBytes.{AreBytes, SendsBytes};
 ghost use Rattle.xti_model.specs.Work.{script_bytes};
 ghost use Rattle.xti_model.specs.Complete.{Follows, Each, workers, Complete};
+
+use crate::call::Call;
+use xti_base::Octets;
 
 /// The starting values are values that a script may set.
 pub fn usual_is_valid()
@@ -27,7 +32,32 @@ pub fn robin_follows()
     ensures { (s : Script) → Each (Follows (robin s) s.lines) workers }
 {}
 
-/// Where the lines and the bytes of their arguments are no more than the bound on steps, the round-robin run of a script goes on until each worker is through or blocked.
+/// Where the lines and the bytes of their arguments are no more than the bound on steps, the round-robin run of a script goes on until each worker is finished or blocked.
 pub fn robin_is_complete()
     ensures { (s : Script) → length s.lines + script_bytes s.lines ≤ most_steps → Complete s.providers (robin s) s.lines }
 {}
+
+// The bytes of a slice are numbers below 256.
+fn slices_are_bytes(bytes: &[u8])
+    ensures { AreBytes bytes.now }
+{}
+
+// So are those of all parts together.
+fn parts_are_bytes(parts: &[Octets])
+    ensures { AreBytes (concat parts.now) }
+{
+    for part in parts {
+        slices_are_bytes(part.as_slice());
+    }
+}
+
+/// What a call of code sends on a connection is bytes: each number is below 256.
+pub fn calls_send_bytes(call: &Call)
+    ensures { SendsBytes call.now }
+{
+    match call {
+        Call::TSnd { bytes, .. } => slices_are_bytes(bytes.as_slice()),
+        Call::TSndV { parts, .. } => parts_are_bytes(parts.as_slice()),
+        _ => {}
+    }
+}

@@ -15,7 +15,9 @@ mod tests;
 pub use call::Call;
 pub use cells::Cells;
 pub use entry::{Act, Applied, Entries, Entry, Go, Outcome, Reply};
-pub use laws::{robin_follows, robin_is_complete, robin_is_legal, usual_is_valid};
+pub use laws::{
+    calls_send_bytes, robin_follows, robin_is_complete, robin_is_legal, usual_is_valid,
+};
 pub use name::Name;
 pub use profile::{Profile, Providers};
 pub use script::{Journal, Line, Lines, NamedCall, Script, StallLine, Stalls};

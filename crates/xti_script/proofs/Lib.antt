@@ -11,3 +11,4 @@ pub mod TextBytes
 pub mod TextSets
 pub mod Workers
 pub mod ScriptLaws
+pub mod ByteFields

@@ -5,6 +5,7 @@ ghost use Rattle.std.specs.List.{list_all};
 ghost use Rattle.xti_model.specs.Built.{is_built_named};
 ghost use Rattle.xti_model.specs.Profile.{usual};
 ghost use Rattle.xti_model.specs.Robin.{most_steps};
+ghost use Rattle.xti_model.specs.SentBytes.{AllHaveByteArguments, LinesSendBytes};
 ghost use Rattle.xti_model.specs.Work.{script_bytes};
 ghost use Rattle.xti_model.specs.declared.script.Script.{Script};
 ghost use Rattle.xti_script.specs.Grammar.{last_worker, IsScript, HasText};
@@ -29,4 +30,12 @@ pub fn scripts_have_workers()
 /// A script that has a text has no more lines and bytes of arguments than the bound on steps.
 pub fn scripts_are_small()
     ensures { (s : Script) → HasText s → length s.lines + script_bytes s.lines ≤ most_steps }
+{}
+
+/// Each address, option list and piece of data of a script that has a text is bytes, and so is what its calls send.
+///
+/// `arguments` speaks of every call and every argument; `sends` of what is sent on connections.
+pub fn scripts_send_bytes()
+    ensures arguments { (s : Script) → HasText s → AllHaveByteArguments s.lines }
+    ensures sends { (s : Script) → HasText s → LinesSendBytes s.lines }
 {}

@@ -25,7 +25,7 @@ rows sizes e =
     looks looks_data e ∷
     not_ready (has_nothing e) TNODATA ∷ []
 
--- whether the message goes on behind what is received
+-- whether the message goes on after what is received
 abbrev pub goes_on : Providers → Bool → ℕ → Endpoint → Bool
 goes_on p expedited max e = not (ended max (waiting_of expedited e)) && has_ends p e expedited
 
