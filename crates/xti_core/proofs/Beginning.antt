@@ -12,12 +12,14 @@ use Rattle.xti_model.specs.World.{World, Cell, endpoint_cell, switch_cell, close
 use Rattle.xti_registry.specs.Known.{Known}
 use Rattle.xti_end.specs.Held.{Held, cell}
 use Rattle.xti_sound.specs.Invariant.{SoundWorld}
+use Rattle.xti_sound.specs.Laws.{OpenProvidersPass}
 use Rattle.xti_sound.proofs.Beginning.{opening-sound}
+use Rattle.xti_sound.proofs.ProvidersStay.{opening-providers}
 use Rattle.xti_lent.specs.Kept.{Distinct, IsPlace}
 use Rattle.xti_lent.specs.Lending.{Lending, held_in, held_at, cell_lent, cells, cells_by, numbered_cell}
 use Rattle.xti_lent.specs.Fit.{place_of_held}
 use Rattle.xti_lent.proofs.Worlds.{from_number}
-use Rattle.xti_core.specs.Standing.{Standing, IsStanding}
+use Rattle.xti_core.specs.Standing.{Standing, IsStanding, is_served}
 
 -- the numbers of places
 pub numbers-push : (from k n : ℕ) → n ≡ from + k → numbers from k ++ n ∷ [] ≡ numbers from (k + 1)
@@ -56,7 +58,7 @@ not-held-in (m ∷ ms) (h ∷ hs) n e = go (eqb m n) e (not-held-in ms hs n)
     go true i j = cc
     go false i j = j i
 
--- the place behind those that are lent is not lent yet
+-- the place after those that are lent is not lent yet
 pub next-apart : (l : Lending) (n : ℕ) → l.numbers ≡ numbers 0 n → held_at l n ≡ None
 next-apart l n e = not-held-in l.numbers l.held n (ap (λ ns. is_among ns n) e ∙ not-among 0 n n (omega arith))
 
@@ -111,6 +113,7 @@ pub stands-first : (p : Providers) (k : Known) (l : Lending) → valid p ≡ tru
 stands-first p k l v a = record {
   valid_providers = valid_l;
   sound = subst (λ (q : Providers). SoundWorld q (cells l)) (sym a.providers) (subst (SoundWorld p) (sym (opens p k l a)) (opening-sound p));
+  served = subst (λ (q : Providers). OpenProvidersPass is_served q (cells l)) (sym a.providers) (subst (OpenProvidersPass is_served p) (sym (opens p k l a)) (opening-providers is_served p));
   loan = record {
     kept = record {
       valid_providers = valid_l;

@@ -1,23 +1,25 @@
 -- Which lent cells are fit for a step.
-use Rattle.std.proofs.Common.{◌≡◌, ℕ, ◌<◌, Bool, true, false, ◌||◌, cond, eqb, List, [], ◌∷◌, map, Option, Some, None, refl, sym, ap, ◌∙◌, subst, arith}
+use Rattle.std.proofs.Common.{◌≡◌, ℕ, ◌+◌, ◌*◌, ◌<◌, Bool, true, false, ◌||◌, cond, eqb, List, [], ◌∷◌, map, Option, Some, None, refl, sym, ap, ◌∙◌, subst, arith}
 use Rattle.std.specs.Prelude.{option_map, is_some, IfSome}
 use Rattle.std.specs.List.{AllByRecursion}
-use Rattle.std.proofs.lemmas.Bool.{eq-eqb, eqb-true}
+use Rattle.std.proofs.lemmas.Bool.{eq-eqb, eqb-true, false≢true}
+use Rattle.xti_base.specs.declared.kinds.Prov.{Prov}
+use Rattle.xti_base.specs.declared.kinds.Prov.TheVariants.{Ticots, Ticotsord, Ticlts, Other}
 use Rattle.xti_model.specs.declared.profile.Providers.{Providers}
 use Rattle.xti_model.specs.Endpoint.{Endpoint}
 use Rattle.xti_model.specs.Sound.{is_sound_body, Agrees}
-use Rattle.xti_model.specs.World.{Cell, is_among, the_switch}
+use Rattle.xti_model.specs.World.{Cell, cell_at, endpoint_cell, is_among, the_switch}
 use Rattle.xti_registry.specs.Known.{Known}
 use Rattle.xti_end.specs.Held.{Held, cell}
 use Rattle.xti_sound.specs.Invariant.{SoundWorld}
-use Rattle.xti_sound.specs.Laws.{SoundWhenLent, SoundBody}
-use Rattle.xti_sound.proofs.Lent.{lent-cell}
+use Rattle.xti_sound.specs.Laws.{SoundWhenLent, OpenProvidersPass}
+use Rattle.xti_sound.proofs.Lent.{lent-cell, cell-endpoint}
 use Rattle.xti_lent.specs.Kept.{Distinct, IsPlace}
 use Rattle.xti_lent.specs.Lending.{Lending, held_in, held_at, cell_lent, cells_by}
 use Rattle.xti_lent.specs.Fit.{IsSound, KnownTo, Agree, IsBuilt, IsOfTiclts, IsFit, place_of_held}
 use Rattle.xti_lent.proofs.Worlds.{at_number, cell_at-is}
 use Rattle.xti_lent.proofs.Lendings.{cell-is}
-use Rattle.xti_core.specs.Standing.{IsLoan}
+use Rattle.xti_core.specs.Standing.{IsLoan, is_served}
 use Rattle.xti_core.proofs.Switches.{switch-known}
 use Rattle.xti_core.proofs.Naming.{Sub, switch-sub}
 
@@ -73,28 +75,47 @@ among-place (m ∷ ms) n a e = go (eqb m n) refl e (among-place ms n a.1)
     go true i j k = subst (λ z. z < 64) (eqb-true m n i) a.0
     go false i j k = k j
 
+-- a lent endpoint is in the cell of its place
+lent-at : (at : ℕ → Option Cell) (l : Lending) (h : Held) → Sub (cell_lent l) at → IsLoan l → held_at l h.place ≡ Some h → cell_at (cells_by at) h.place ≡ Some (at_number h.place (cell h))
+lent-at at l h u loan e =
+    let lt : h.place < 64 = among-place l.numbers h.place loan.kept.places (held-among l.numbers l.held h.place h e) in
+    let i : cell_lent l h.place ≡ Some (cell h) = cell-is l h.place h lt e in
+    let j : at h.place ≡ Some (cell h) = sym (u h.place (ap is_some i)) ∙ i in
+    cell_at-is at h.place (omega (arith, lt)) ∙ ap (option_map (at_number h.place)) j
+
 -- a lent endpoint of a sound world
 held-fits : (p : Providers) (at : ℕ → Option Cell) (l : Lending) (h : Held) → SoundWorld p (cells_by at) → Sub (cell_lent l) at → IsLoan l → held_at l h.place ≡ Some h → SoundWhenLent p (the_switch p (cells_by at)) h.place (cell h)
 held-fits p at l h s u loan e =
     let lt : h.place < 64 = among-place l.numbers h.place loan.kept.places (held-among l.numbers l.held h.place h e) in
-    let i : cell_lent l h.place ≡ Some (cell h) = cell-is l h.place h lt e in
-    let j : at h.place ≡ Some (cell h) = sym (u h.place (ap is_some i)) ∙ i in
-    lent-cell p (cells_by at) h.place (at_number h.place (cell h)) s lt (cell_at-is at h.place (omega (arith, lt)) ∙ ap (option_map (at_number h.place)) j)
+    lent-cell p (cells_by at) h.place (at_number h.place (cell h)) s lt (lent-at at l h u loan e)
 
-body-built : (o : Option Endpoint) → SoundBody o → IfSome o IsOfTiclts
-body-built None s = tt
-body-built (Some e) s = s.serves_datagrams
+-- an open endpoint of a provider that has code is of the provider of datagrams
+of-ticlts : (prov : Prov) → is_served prov ≡ true → prov ≡ Ticlts
+of-ticlts Ticots h = absurd (false≢true h)
+of-ticlts Ticotsord h = absurd (false≢true h)
+of-ticlts Ticlts h = refl
+of-ticlts Other h = absurd (false≢true h)
+
+held-built : (p : Providers) (at : ℕ → Option Cell) (l : Lending) (h : Held) → OpenProvidersPass is_served p (cells_by at) → Sub (cell_lent l) at → IsLoan l → held_at l h.place ≡ Some h → IsBuilt h
+held-built p at l h s u loan e = go h.body refl
+  where
+    lt : h.place < 64
+    lt = among-place l.numbers h.place loan.kept.places (held-among l.numbers l.held h.place h e)
+
+    go : (o : Option Endpoint) → h.body ≡ o → IfSome o IsOfTiclts
+    go None i = tt
+    go (Some b) i = of-ticlts b.prov (s (64 * h.generation + h.place) b (cell-endpoint p (cells_by at) h.place h.generation b (at_number h.place (cell h)) lt (lent-at at l h u loan e) (ap (endpoint_cell h.generation) i)))
 
 pub sounds : (p : Providers) (at : ℕ → Option Cell) (l : Lending) → SoundWorld p (cells_by at) → Sub (cell_lent l) at → IsLoan l → AllByRecursion IsSound l.held
 sounds p at l s u loan = each-held IsSound l.numbers l.held loan.kept.distinct loan.own (λ h e. (held-fits p at l h s u loan e).is_sound_alone)
 
 -- lent cells of a sound world are fit
-pub fits : (at : ℕ → Option Cell) (l : Lending) → SoundWorld l.providers (cells_by at) → Sub (cell_lent l) at → IsLoan l → IsFit l
-fits at l s u loan = record {
+pub fits : (at : ℕ → Option Cell) (l : Lending) → SoundWorld l.providers (cells_by at) → OpenProvidersPass is_served l.providers (cells_by at) → Sub (cell_lent l) at → IsLoan l → IsFit l
+fits at l s q u loan = record {
   places = loan.own;
   sound = sounds l.providers at l s u loan;
   agree = agree l.registry refl;
-  built = each-held IsBuilt l.numbers l.held loan.kept.distinct loan.own (λ h e. body-built h.body (held-fits l.providers at l h s u loan e).is_sound.0);
+  built = each-held IsBuilt l.numbers l.held loan.kept.distinct loan.own (λ h e. held-built l.providers at l h q u loan e);
 }
   where
     agree : (o : Option Known) → l.registry ≡ o → Agree l.providers o l.held

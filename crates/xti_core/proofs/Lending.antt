@@ -16,7 +16,8 @@ use Rattle.xti_sound.proofs.Lent.{switch-there}
 use Rattle.xti_lent.specs.Lending.{Lending, cell_lent, cells, cells_by, is_lent}
 use Rattle.xti_lent.specs.Fit.{AllLent}
 use Rattle.xti_lent.proofs.Worlds.{at_number, cell_at-is}
-use Rattle.xti_core.proofs.Naming.{Sub, few-named, three-rounds, own-first}
+use Rattle.xti_sound.proofs.SoundGives.{few-named}
+use Rattle.xti_core.proofs.Naming.{Sub, three-rounds, own-first}
 use Rattle.xti_core.proofs.Stepping.{touched-listed, sub-open, has-named, among-all, all-among}
 
 -- each cell of a sound world is there
@@ -28,7 +29,7 @@ there-is p at n s lt = go (ltb n 64) refl (at n) refl
     go true i None e =
         let l : n < 64 = grind (arith, nat_tests) in
         let h : cell_at (cells_by at) n ≡ None = cell_at-is at n lt ∙ ap (option_map (at_number n)) e in
-        absurd (subst (ThereAgrees p (the_switch p (cells_by at)) n) h (s.agreement.each_agrees n l))
+        absurd (subst (ThereAgrees p (the_switch p (cells_by at)) n) h (s.registered.agreement.each_agrees n l))
     go false i None e =
         let l : n ≡ 64 = grind (arith, nat_tests) in
         let q : at 64 ≡ None = subst (λ z. at z ≡ None) l e in
@@ -43,10 +44,10 @@ below-filter q from (suc k) h = go (q from) (below-filter q (from + 1) k (omega 
     go true a = (omega arith, a)
     go false a = a
 
--- at most three are touched
-pub few-touched : (p : Providers) (lt at : ℕ → Option Cell) (c : Call) → is_built c ≡ true → SoundWorld p (cells_by at) → Sub lt at → length (touched p (cells_by lt) c) ≤ 3
-few-touched p lt at c b s u =
-    let f = few-named p (cells_by lt) c b (λ fd e h. s.endpoints fd e (sub-open p lt at fd e u h)) in
+-- at most ten are touched
+pub few-touched : (p : Providers) (lt at : ℕ → Option Cell) (c : Call) → SoundWorld p (cells_by at) → Sub lt at → length (touched p (cells_by lt) c) ≤ 10
+few-touched p lt at c s u =
+    let f = few-named p (cells_by lt) c (λ fd e h. (s.endpoints fd e (sub-open p lt at fd e u h), s.links.good fd e (sub-open p lt at fd e u h))) in
     let l = length-listed (named p (cells_by lt) c) in
     let m = ap length (touched-listed p (cells_by lt) c) in
     omega (arith, f, l, m)

@@ -10,7 +10,6 @@ use Rattle.xti_model.specs.Endpoint.{Endpoint}
 use Rattle.xti_model.specs.World.{World, Cell, Switch, cell_at, endpoint, endpoint_in, the_switch, switch_or_empty, is_among}
 use Rattle.xti_model.specs.Switch.{bound, opening_place}
 use Rattle.xti_model.specs.Touched.{named, others, fd_of, cell_of, of_some, peer_cell, target_cell, caller_cells, bound_cell, marked_cells, cells_to}
-use Rattle.xti_sound.specs.Invariant.{SoundEndpoint}
 use Rattle.xti_lent.specs.Lending.{cells_by}
 use Rattle.xti_lent.proofs.Worlds.{at_number, cell_at-is}
 
@@ -146,45 +145,3 @@ three-rounds p l0 l1 l2 l3 at c b s1 s2 s3 m12 m23 h1 h2 h3 n lt i =
 -- where all that is named is there, it is what is named on all cells
 pub named-all : (p : Providers) (lt at : ℕ → Option Cell) (c : Call) → is_built c ≡ true → Sub lt at → HasNamed p lt lt c → named p (cells_by lt) c ≡ named p (cells_by at) c
 named-all p lt at c b s h = named-same p lt at c b s (own-named p (cells_by lt) lt c (fd_of c) refl h) (λ t. h 64 (omega arith) t)
-
-few-more : (o : Option ℕ) → length (option_to_list o) ≤ 1
-few-more None = omega arith
-few-more (Some n) = omega arith
-
-few-cells : (p : Providers) (o : Option ℕ) → length (cell_of p o) ≤ 1
-few-cells p None = omega arith
-few-cells p (Some n) = omega arith
-
-few-bound : (p : Providers) (s : Switch) (addr : List ℕ) (o : Option Endpoint) → length (of_some o (λ e. cell_of p (bound s e.prov addr))) ≤ 1
-few-bound p s addr None = omega arith
-few-bound p s addr (Some e) = few-cells p (bound s e.prov addr)
-
-few-marked : (p : Providers) (w : World) (e : Endpoint) (o : Option (List ℕ)) → length (cells_to p w e o) ≤ 2
-few-marked p w e None = omega arith
-few-marked p w e (Some a) = omega (arith, few-cells p (bound (the_switch p w) e.prov a))
-
--- a sound endpoint knows no others
-none-known : (p : Providers) (o : Option Endpoint) → ((e : Endpoint) → o ≡ Some e → SoundEndpoint e) → length (of_some o (λ e. peer_cell p e ++ target_cell p e ++ caller_cells p e)) ≡ 0
-none-known p None h = refl
-none-known p (Some e) h = let s = h e refl in rw (s.no_peer.0, s.no_requests.3, s.no_requests.1, s.no_requests.2) refl
-
-few-looked : (p : Providers) (w : World) (o : Option Endpoint) → ((e : Endpoint) → o ≡ Some e → SoundEndpoint e) → length (of_some o (looked p w)) ≤ 2
-few-looked p w None h = omega arith
-few-looked p w (Some e) h = let s = h e refl in rw s.no_peer.0 (few-marked p w e e.flow_datagram)
-
--- a built call names at most three cells
-pub few-named : (p : Providers) (w : World) (c : Call) → is_built c ≡ true → ((fd : ℕ) (e : Endpoint) → endpoint p w fd ≡ Some e → SoundEndpoint e) → length (named p w c) ≤ 3
-few-named p w (call.TOpen prov nonblock) b h = omega (arith, few-more (opening_place p (the_switch p w) prov))
-few-named p w (call.TClose fd) b h = omega (arith, none-known p (endpoint p w fd.0) (h fd.0))
-few-named p w (call.TBind fd addr qlen amax) b h = omega arith
-few-named p w (call.TUnbind fd) b h = omega arith
-few-named p w (call.TSndUData fd addr opt bytes) b h = omega (arith, few-bound p (the_switch p w) addr (endpoint p w fd.0))
-few-named p w (call.TSndVUData fd addr opt parts) b h = omega (arith, few-bound p (the_switch p w) addr (endpoint p w fd.0))
-few-named p w (call.TRcvUData fd max amax omax) b h = omega arith
-few-named p w (call.TRcvVUData fd sizes amax omax) b h = omega arith
-few-named p w (call.TRcvUDErr fd amax omax) b h = omega arith
-few-named p w (call.TLookAt fd) b h = omega (arith, few-looked p w (endpoint p w fd.0) (h fd.0))
-few-named p w (call.TGetState fd) b h = omega arith
-few-named p w (call.TSync fd) b h = omega arith
-few-named p w (call.SetMode fd nonblock) b h = omega arith
-few-named p w other b h = cc

@@ -42,7 +42,7 @@ sub-knows p lt at s u = go (lt 64) refl
   where
     go : (o : Option Cell) → lt 64 ≡ o → KnowsNoMore p (cells_by lt)
     go None i = rw (cell_at-is lt 64 (omega arith), i) (omega arith)
-    go (Some c) i = rw (switch-sub p lt at u (ap is_some i)) (omega (arith, s.agreement.places_known))
+    go (Some c) i = rw (switch-sub p lt at u (ap is_some i)) (omega (arith, s.registered.agreement.places_known))
 
 sub-none : (p : Providers) (lt at : ℕ → Option Cell) → SoundWorld p (cells_by at) → Sub lt at → endpoint p (cells_by lt) no_fd ≡ None
 sub-none p lt at s u = go (lt 63) refl
@@ -100,7 +100,7 @@ whole : (p : Providers) (lt at : ℕ → Option Cell) (c : Call) (g : Go) → is
 whole p lt at c g b s u h =
     let e : touched p (cells_by lt) c ≡ touched p (cells_by at) c = ap (λ ns. filter (is_among ns) (numbers 0 65)) (named-all p lt at c b u h) in
     let kl = sub-knows p lt at s u in
-    let ka : KnowsNoMore p (cells_by at) = omega (arith, s.agreement.places_known) in
+    let ka : KnowsNoMore p (cells_by at) = omega (arith, s.registered.agreement.places_known) in
     record {
       reads = touched-reads p (cells_by at) c g ka (tells p (cells_by at) c (no-open p (cells_by at) s));
       changes = touched-changes p (cells_by at) c g ka;

@@ -33,7 +33,7 @@ pub(crate) fn local(lent: &mut Lent, call: &Call, fd: Fd, _go: Go) -> Result<App
 }
 
 /// One step of a built call over the lent cells, which are to be those that it touches: what it answers, and the state of its
-/// endpoint afterwards. Where it is blocked, and after want of memory, all is as before.
+/// endpoint afterwards. Where it is blocked, and where it runs out of memory, all is as before.
 pub fn apply(lent: &mut Lent, call: &Call, _go: Go) -> Result<Applied, AllocError>
     requires built { is_built call.now ≡ true }
     requires fit { IsFit lent.old }

@@ -19,7 +19,7 @@ use xti_end::Endpoint;
 use xti_lent::{Lent, place_of};
 use xti_model::{Call, Cells};
 
-/// The number of the switch's cell, behind those of the places.
+/// The number of the switch's cell, which comes after those of the places.
 pub(crate) const SWITCH: u32 = 64;
 
 /// The descriptor that is bound to the address, as far as the switch is lent. Takes no memory.

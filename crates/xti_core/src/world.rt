@@ -51,8 +51,8 @@ impl World {
         Ok(World { lent })
     }
 
-    /// One step of a built call: what it answers, and the state of its endpoint afterwards. Where it is blocked, and after want
-    /// of memory, all is as before. The cost is in proportion to the touched cells and to the bytes that move.
+    /// One step of a built call: what it answers, and the state of its endpoint afterwards. Where it is blocked, and where it
+    /// runs out of memory, all is as before. The cost is in proportion to the touched cells and to the bytes that move.
     ///
     /// The cells are fit for the step, as those of every world that `worlds_stay_sound` speaks of; the world stays one of these.
     pub fn step(&mut self, call: &Call, go: Go) -> Result<Applied, AllocError>

@@ -1,16 +1,35 @@
 mod View
-mod Updates
-mod Rows
-mod Quiet
+pub mod Rows
 mod Filters
-mod Registry
-pub mod Counting
-mod Datagrams
-mod Both
-mod Binding
-mod Closing
-mod Opening
+mod PlaceAndSwitch
+pub mod CountingBindings
+mod SwitchUpdates
+pub mod States
+pub mod Lists
+pub mod Updates
+pub mod MoreUpdates
+pub mod QuietChanges
+mod Registering
+mod OwnCalls
+mod ShowCalls
+mod AcrossCalls
+mod SendCalls
+mod AcceptCall
+pub mod Turning
+pub mod Matching
+pub mod Answering
+pub mod AnsweringCalls
 pub mod Beginning
-pub mod Walk
+pub mod Steps
 pub mod Lent
-pub mod Bound
+pub mod BoundAddresses
+pub mod Ends
+pub mod EndsHistories
+mod Counterexamples
+pub mod SoundGives
+pub mod Ended
+pub mod Pairs
+pub mod ProvidersStay
+pub mod Telling
+pub mod Progressing
+pub mod Short

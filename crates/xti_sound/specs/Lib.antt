@@ -1,2 +1,7 @@
+pub mod Endpoints
+pub mod Connections
 pub mod Invariant
 pub mod Laws
+pub mod Progress
+pub mod Replies
+pub mod Symbols

@@ -1,5 +1,5 @@
 use Rattle.xti_sound.proofs.Beginning.{opening-sound}
-use Rattle.xti_sound.proofs.Walk.{step-sound, after-sound}
+use Rattle.xti_sound.proofs.Steps.{step-sound, after-sound}
 use Rattle.xti_sound.proofs.worlds_stay_sound.Goals as goal
 
 pub returns-clause-start : goal.returns-clause-start

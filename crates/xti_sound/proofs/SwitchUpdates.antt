@@ -5,17 +5,15 @@ use Rattle.std.proofs.lemmas.Bool.{eqb-true, eqb-false, eq-eqb, ne_eqb}
 use Rattle.std.proofs.lemmas.List.{get_or-set_same, get_or-set_other}
 use Rattle.std.proofs.lemmas.List.Elements.{filter-append}
 use Rattle.std.proofs.lemmas.List.Sums.{length-filter, count_by-le-length}
-use Rattle.std.proofs.lemmas.Slice.Eq.{bytes_eq-Decides}
-use Rattle.std.specs.Str.{bytes_eq}
 use Rattle.xti_base.specs.declared.kinds.Prov.{Prov}
 use Rattle.xti_base.specs.declared.kinds.Prov.TheVariants.{Ticlts}
 use Rattle.xti_model.specs.declared.profile.Providers.{Providers}
 use Rattle.xti_model.specs.Endpoint.{Endpoint}
 use Rattle.xti_model.specs.World.{Switch, Binding, Place, place_of, closed_place}
-use Rattle.xti_model.specs.Switch.{bound, is_bound, give_address, give_up_address, place_at, set_place}
+use Rattle.xti_model.specs.Switch.{is_bound, is_listening, give_address, give_up_address, place_at, set_place}
 use Rattle.xti_model.specs.Sound.{Agrees, bindings_at, binding_to}
 use Rattle.xti_sound.specs.Invariant.{BoundOnce, SoundPlace, SoundPlaces}
-use Rattle.xti_sound.proofs.Filters.{filter-within, filter-swap, unbound-none}
+use Rattle.xti_sound.proofs.Filters.{filter-within, filter-swap}
 
 flip : (m n : ℕ) → eqb m n ≡ false → eqb n m ≡ false
 flip m n h = ne_eqb n m (λ e. eqb-false m n h (sym e))
@@ -42,15 +40,15 @@ given-here p s prov address fd listening h =
     (ap (λ z. z ++ cond (eqb (place_of p fd) (place_of p fd)) (given prov address fd listening ∷ []) []) h ∙ ap (λ b. cond b (given prov address fd listening ∷ []) []) (eq-eqb (place_of p fd) (place_of p fd) refl))
 
 -- a free address is then bound once
-pub given-once : (s : Switch) (address : List ℕ) (fd : ℕ) (listening : Bool) → bound s Ticlts address ≡ None → BoundOnce s → BoundOnce (give_address Ticlts address fd listening s)
-given-once s address fd listening n h other = subst (λ bs. length bs ≤ 1) (sym (filter-append (is_bound Ticlts other) s.bindings (given Ticlts address fd listening ∷ []))) (go (bytes_eq address other) refl)
+pub given-once : (s : Switch) (prov : Prov) (address : List ℕ) (fd : ℕ) (listening : Bool) (test : Prov → List ℕ → Binding → Bool) (q : Prov) (other : List ℕ)
+    → ((b : Binding) → test q other b ≡ true → is_bound q other b ≡ true)
+    → (test q other (given prov address fd listening) ≡ true → filter (test q other) s.bindings ≡ [])
+    → length (filter (test q other) s.bindings) ≤ 1 → length (filter (test q other) (give_address prov address fd listening s).bindings) ≤ 1
+given-once s prov address fd listening test q other k n h = subst (λ bs. length bs ≤ 1) (sym (filter-append (test q other) s.bindings (given prov address fd listening ∷ []))) (go (test q other (given prov address fd listening)) refl)
   where
-    free : address ≡ other → filter (is_bound Ticlts other) s.bindings ≡ []
-    free i = subst (λ z. filter (is_bound Ticlts z) s.bindings ≡ []) i (unbound-none s Ticlts address n)
-
-    go : (b : Bool) → bytes_eq address other ≡ b → length (filter (is_bound Ticlts other) s.bindings ++ cond b (given Ticlts address fd listening ∷ []) []) ≤ 1
-    go true i = subst (λ bs. length (bs ++ given Ticlts address fd listening ∷ []) ≤ 1) (sym (free ((bytes_eq-Decides address other).0 i))) (omega arith)
-    go false i = subst (λ bs. length bs ≤ 1) (sym (append-nil (filter (is_bound Ticlts other) s.bindings))) (h other)
+    go : (b : Bool) → test q other (given prov address fd listening) ≡ b → length (filter (test q other) s.bindings ++ cond b (given prov address fd listening ∷ []) []) ≤ 1
+    go true i = subst (λ bs. length (bs ++ given prov address fd listening ∷ []) ≤ 1) (sym (n i)) (omega arith)
+    go false i = subst (λ bs. length bs ≤ 1) (sym (append-nil (filter (test q other) s.bindings))) h
 
 -- An address is given up.
 pub given_up-other : (p : Providers) (s : Switch) (fd m g : ℕ) (body : Option Endpoint) → eqb m (place_of p fd) ≡ false → Agrees p s m g body → Agrees p (give_up_address fd s) m g body
@@ -73,10 +71,13 @@ given_up-here p s fd e h =
     filter-swap (λ b. eqb (place_of p b.fd) (place_of p fd)) (λ b. not (eqb b.fd fd)) s.bindings ∙
     (ap (filter (λ b. not (eqb b.fd fd))) h ∙ none-left fd e e.address)
 
+given_up-few : (s : Switch) (fd : ℕ) (test : Binding → Bool) → length (filter test s.bindings) ≤ 1 → length (filter test (give_up_address fd s).bindings) ≤ 1
+given_up-few s fd test h =
+    subst (λ bs. length bs ≤ 1) (sym (filter-swap test (λ b. not (eqb b.fd fd)) s.bindings))
+    (omega (arith, h, length-filter (λ b. not (eqb b.fd fd)) (filter test s.bindings), count_by-le-length (λ b. not (eqb b.fd fd)) (filter test s.bindings)))
+
 pub given_up-once : (s : Switch) (fd : ℕ) → BoundOnce s → BoundOnce (give_up_address fd s)
-given_up-once s fd h address =
-    subst (λ bs. length bs ≤ 1) (sym (filter-swap (is_bound Ticlts address) (λ b. not (eqb b.fd fd)) s.bindings))
-    (omega (arith, h address, length-filter (λ b. not (eqb b.fd fd)) (filter (is_bound Ticlts address) s.bindings), count_by-le-length (λ b. not (eqb b.fd fd)) (filter (is_bound Ticlts address) s.bindings)))
+given_up-once s fd h = record { datagrams = λ address. given_up-few s fd (is_bound Ticlts address) (h.datagrams address); listeners = λ prov address. given_up-few s fd (is_listening prov address) (h.listeners prov address) }
 
 -- A place is set.
 pub set-other : (p : Providers) (s : Switch) (n : ℕ) (place : Place) (m g : ℕ) (body : Option Endpoint) → eqb m n ≡ false → Agrees p s m g body → Agrees p (set_place n place s) m g body

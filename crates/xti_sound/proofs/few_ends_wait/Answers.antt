@@ -1,0 +1,12 @@
+use Rattle.xti_sound.proofs.Ends.{step-symbols}
+use Rattle.xti_sound.proofs.EndsHistories.{opening-symbols, after-symbols}
+use Rattle.xti_sound.proofs.few_ends_wait.Goals as goal
+
+pub returns-clause-start : goal.returns-clause-start
+returns-clause-start c = opening-symbols
+
+pub returns-clause-step : goal.returns-clause-step
+returns-clause-step c = step-symbols
+
+pub returns-clause-history : goal.returns-clause-history
+returns-clause-history c = after-symbols
