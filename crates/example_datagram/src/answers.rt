@@ -1,8 +1,7 @@
 //! What a step answered, as a result with an error of the example's own.
 
 use std::alloc::AllocError;
-use std::io;
-use std::str;
+use std::{io, str};
 use thiserror::Error;
 use xti_base::{Errno, Event, Fd};
 use xti_model::{Applied, Outcome, Reply};

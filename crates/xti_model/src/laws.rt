@@ -27,7 +27,7 @@ pub fn robin_follows()
     ensures { (s : Script) → Each (Follows (robin s) s.lines) workers }
 {}
 
-/// Where the lines and the bytes of their arguments are no more than the bound on steps, the round-robin run of a script goes on until each worker is through or blocked.
+/// Where the lines and the bytes of their arguments are no more than the bound on steps, the round-robin run of a script goes on until each worker is finished or blocked.
 pub fn robin_is_complete()
     ensures { (s : Script) → length s.lines + script_bytes s.lines ≤ most_steps → Complete s.providers (robin s) s.lines }
 {}
