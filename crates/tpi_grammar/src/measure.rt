@@ -31,7 +31,7 @@ pub fn measure_frame(input: &[u8]) -> Measure
     scan_frame(input)
 }
 
-/// A primitive, and the two lengths at the start of it.
+/// A primitive, and the two lengths before it.
 #[derive(Clone, Copy)]
 struct Head {
     size: u32,
