@@ -55,7 +55,7 @@ command_of (word ∷ []) = named word
 command_of other = None
 
 -- The input is a valid script: the journal of its run, with a stall line for each worker that is not finished. The run is legal, has each worker's calls in script order, each once,
--- and ends early only where each worker that is not finished is blocked; it has no more steps than the script has calls and bytes of arguments.
+-- and ends early only where worker 0 is blocked in its setup, or each worker that is not finished is blocked; it has no more steps than the script has calls and bytes of arguments.
 -- Status 0 where every worker is finished, else 3.
 pub record IsReplayed (input : List ℕ) (status : ℕ) (text : List ℕ) : Type 0 where
   pub script : Script
@@ -79,7 +79,7 @@ pub record IsListed (input : List ℕ) (status : ℕ) (text : List ℕ) : Type 0
   pub done : status ≡ 0
   pub shown : IsShown input text
 
--- the input is no frames: status 2, and the first byte by which it is not
+-- the input isn't frames: status 2, and the first byte by which it isn't
 pub record IsRefusedByte (input : List ℕ) (status : ℕ) (text : List ℕ) : Type 0 where
   pub at : ℕ
   pub wrong : IsFirstWrong input at

@@ -68,8 +68,8 @@ fn read_all_lines(alloc: Global, text: &[u8]) -> Result<Lines, ScriptFail>
     }
 }
 
-/// The script whose text this is. Errors: `Bad` where there is none, with the first line by which it
-/// doesn't; `OutOfMemory` where memory runs out.
+/// The script whose text this is. Errors: `Bad` where there is none, with the first line by which the text is no script;
+/// `OutOfMemory` where memory runs out.
 pub fn read_script(alloc: Global, text: &[u8]) -> Result<Script, ScriptFail>
     // What is read is a script with this text.
     ensures found { IfOk result (λ s. IsScript s text.now) }
