@@ -42,7 +42,7 @@ from_place n bs = take (length bs - n) (drop n bs)
 from_place-all : (n : ℕ) (bs : List ℕ) → from_place n bs ≡ drop n bs
 from_place-all n bs = take_all (length bs - n) (drop n bs) (omega (arith, length-drop n bs))
 
--- each word stands at the front of what is behind the one before
+-- each word stands at the start of what is after the one before
 pub head_text : (bs : List ℕ) (size count number : ℕ) (r : Row) → bs ≡ be size ++ drop 4 bs → from_place 4 bs ≡ be count ++ drop 4 (from_place 4 bs)
     → from_place 8 bs ≡ be number ++ drop 4 (from_place 8 bs) → r.number ≡ number → bs ≡ be size ++ (be count ++ (be r.number ++ drop 12 bs))
 head_text bs size count number r first second third same =

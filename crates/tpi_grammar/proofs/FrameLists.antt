@@ -34,7 +34,7 @@ one_frame a i = (i.0 ∷ [], (i.1, tt), i.2 ∙ sym (append-nil (spelling i.0)))
 pub one_more : (front last : List ℕ) → IsFrames front → IsFrame last → IsFrames (front ++ last)
 one_more front last hf i = both_frames front last hf (one_frame last i)
 
--- what stands behind frames, where the whole is frames
+-- what stands after frames, where the whole is frames
 rest_is : (fs gs : List Filled) (xs : List ℕ) → AreFilled fs → AreFilled gs → spellings fs ++ xs ≡ spellings gs → IsFrames xs
 rest_is [] gs xs hf hg e = (gs, hg, e)
 rest_is (f ∷ fs) [] xs hf hg e =
@@ -57,7 +57,7 @@ one_reading (f ∷ fs) (g ∷ gs) hf hg e =
     let rest : fs ≡ gs = one_reading fs gs hf.1 hg.1 (split_same (spelling f) (spelling g) (spellings fs) (spellings gs) (ap length one) e).1 in
     cc
 
--- a frame, and what stands behind it
+-- a frame, and what stands after it
 record Splits (bs : List ℕ) : Type 0 where
   first : Filled
   rest : List ℕ
@@ -72,7 +72,7 @@ splits bs some i = go i.0 i.1 i.2
     go [] h e = absurd (some e)
     go (f ∷ fs) h e = record { first = f; rest = spellings fs; good = h.0; text = e }
 
--- where no frame stands at the front, and none begins with these first bytes, frames don't begin with them
+-- where no frame stands at the start, and none begins with these first bytes, frames don't begin with them
 none_begin : (bs more : List ℕ) (k : ℕ) → 0 < k → k ≤ length bs → (BeginsFrame (take k bs) → ⊥) → HasNoFrame bs → IsFrames (take k bs ++ more) → ⊥
 none_begin bs more k pos le wrong none i =
     let s = splits (take k bs ++ more) (λ e. omega (arith, pos, le, ap length e, length-append (take k bs) more, length-take-le k bs le)) i in

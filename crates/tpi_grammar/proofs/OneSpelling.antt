@@ -1,4 +1,4 @@
--- A primitive has one spelling, no spelling begins another, and a spelling is that of one primitive.
+-- A primitive has one encoding, no encoding is a prefix of another, and an encoding is that of one primitive.
 use Rattle.std.proofs.Common.{◌≡◌, ◌<◌, ◌+◌, ℕ, List, [], ◌∷◌, ◌++◌, length, length-append, append_assoc, refl, sym, ◌∙◌, ap, arith, subst}
 use Rattle.std.specs.Int.{w32, from_be_bytes}
 use Rattle.std.specs.List.{AllByRecursion}
@@ -105,7 +105,7 @@ prim r v u = record { row = r; values = v; user = u }
 made : (r r' : Row) (v v' : List Value) (u u' : List ℕ) → r ≡ r' → v ≡ v' → u ≡ u' → prim r v u ≡ prim r' v' u'
 made r r' v v' u u' a b c = rw (a, b, c) refl
 
--- a spelling is that of one primitive
+-- an encoding is that of one primitive
 pub one_filled : (p q : Filled) → IsFilled p → IsFilled q → spelling p ≡ spelling q → p ≡ q
 one_filled p q hp hq e =
     let gp = row_is p.row table table_is hp.row in

@@ -1,4 +1,4 @@
--- A word in a form is the spelling of its value.
+-- A word in a form is the encoding of its value.
 use Rattle.std.proofs.Common.{◌≡◌, ◌≤◌, ◌<◌, ◌+◌, ◌*◌, ◌/◌, ◌%◌, ℕ, suc, zero, Bool, true, false, nat_lt, nat_le, List, [], ◌∷◌, ◌++◌, get_or, refl, sym, ◌∙◌, ap, arith, subst, zero-add}
 use Rattle.std.specs.Int.{w32, to_be_bytes, from_be_bytes}
 use Rattle.std.proofs.lemmas.Bool.{lt-ltb, ltb-true, leb-true, le-leb}
@@ -94,7 +94,7 @@ word_of_bytes rs next a b c d rest ha hb hc hd met inner =
       (may_step rs 65536 a b hb m2, (may_step rs 256 (256 * a + b) c hc m3, (may_step rs 1 (256 * (256 * a + b) + c) d hd met, inner))),
     )
 
--- the spelling of a value in the ranges, and what follows it, is of the form
+-- the encoding of a value in the ranges, and what follows it, is of the form
 pub word_has : (rs : List Range) (next : ℕ → Form) (v : ℕ) (rest : List ℕ) → v < 4294967296 → viable rs 1 v ≡ true → In (next v) rest
     → In (word rs next) (to_be_bytes w32 v ++ rest)
 word_has rs next v rest small met inner =

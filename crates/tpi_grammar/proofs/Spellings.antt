@@ -1,4 +1,4 @@
--- The form of a frame has the spellings of primitives, and nothing else.
+-- The form of a frame has the encodings of primitives, and nothing else.
 use Rattle.std.proofs.Common.{◌≡◌, ◌≤◌, ◌<◌, ◌+◌, ◌*◌, ℕ, suc, zero, Bool, true, false, ◌&&◌, nat_lt, nat_le, List, [], ◌∷◌, ◌++◌, length, take, drop, length-drop, take-append-drop, length-append, map, nat_eq, ◌-◌, cond, refl, sym, ◌∙◌, ap, arith, inl, inr, subst, append_assoc}
 use Rattle.std.specs.List.{list_all, AllByRecursion}
 use Rattle.std.proofs.lemmas.Bool.{lt-ltb, ltb-true, leb-true, le-leb}
@@ -239,7 +239,7 @@ slots_has (part ∷ ss) (text bs ∷ vs) place left next rest small fit e lt inn
 
 -- ---- the grammar
 
--- the text is the spelling of a row filled in
+-- the text is the encoding of a row filled in
 pub record IsSpelled (ws : List ℕ) : Type 0 where
   pub filled : Filled
   pub good : IsFilled filled

@@ -1,4 +1,4 @@
--- Frames of TPI: the table of the primitives, how a frame is spelled, and the form in which it is read.
+-- Frames of TPI: the table of the primitives, how a frame is encoded, and the form in which it is read.
 use Rattle.std.specs.Prelude.{◌≡◌, ◌≤◌, ◌<◌, ◌+◌, ◌⊎◌, ℕ, suc, zero, Bool, true, false, List, [], ◌∷◌, ◌++◌, length, map, filter, Option, Some, None, flat_map, nat_lt, nat_eq, ◌-◌, if◌then◌else◌}
 use Rattle.std.specs.Int.{w32, to_be_bytes}
 use Rattle.std.specs.List.{AllByRecursion, list_any}
@@ -57,7 +57,7 @@ pub data Value : Type 0 where
   num : ℕ → Value
   text : List ℕ → Value
 
--- a row filled in: with its values, and the user data behind them
+-- a row filled in: with its values, and the user data after them
 pub record Filled : Type 0 where
   pub row : Row
   pub values : List Value
@@ -85,7 +85,7 @@ slots_size (s ∷ ss) = slot_size s + slots_size ss
 abbrev pub head : List Slot → ℕ
 head ss = 4 + slots_size ss
 
--- what lies behind the words, part after part
+-- what lies after the words, part after part
 abbrev pub part_of : Value → List ℕ
 part_of (num n) = []
 part_of (text bs) = bs
@@ -159,7 +159,7 @@ slots_form (upto m ∷ ss) place left next = word (at_most m ∷ []) (λ _. slot
 slots_form (part ∷ ss) place left next = word (part_range ss left ∷ [])
     (λ n. word (exactly (offset n place) ∷ []) (λ _. slots_form ss (place + n) (left - n) next))
 
--- what stands behind PRIM_type of this row, in a frame with these lengths of control part and user data
+-- what stands after PRIM_type of this row, in a frame with these lengths of control part and user data
 abbrev pub row_form : ℕ → ℕ → Row → Form
 row_form size count r = slots_form r.slots (head r.slots) (size - head r.slots) (tail (size - head r.slots + count))
 

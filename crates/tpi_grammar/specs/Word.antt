@@ -14,7 +14,7 @@ meets unit x r = nat_lt r.low ((x + 1) * unit) && nat_le (x * unit) r.high
 abbrev pub viable : List Range → ℕ → ℕ → Bool
 viable rs unit x = list_any (meets unit x) rs
 
--- the byte may follow bytes that spell x, where `unit` numbers begin with these bytes and the new one
+-- the byte may follow bytes that encode x, where `unit` numbers begin with these bytes and the new one
 abbrev pub may_follow : List Range → ℕ → ℕ → ℕ → Bool
 may_follow rs unit x b = nat_lt b 256 && viable rs unit (256 * x + b)
 

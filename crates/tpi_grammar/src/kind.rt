@@ -1,10 +1,10 @@
-//! The primitives that may be sent as frames: their numbers, the words behind these, and their user data.
+//! The primitives that may be sent as frames: their numbers, the words after these, and their user data.
 
 ghost use Rattle.std.specs.Prelude.{◌≡◌, map, IfSome, IfNone};
 ghost use Rattle.tpi_grammar.specs.Frame.{table, head};
 ghost use Rattle.tpi_grammar.specs.Kinds.{row_of, slots_view};
 
-/// What stands behind PRIM_type.
+/// What stands after PRIM_type.
 #[derive(Debug, Clone, Copy, PartialEq, Eq)]
 pub enum Slot {
     /// A word up to this value.
@@ -14,7 +14,7 @@ pub enum Slot {
     Part,
 }
 
-/// The primitives of TPI that may be sent as frames, spelled as in TPI, with what stands behind PRIM_type. DEST, OPT, SRC,
+/// The primitives of TPI that may be sent as frames, named as in TPI, with what stands after PRIM_type. DEST, OPT, SRC,
 /// RES and ADDR are parts: each is a length and an offset there.
 #[derive(Debug, Clone, Copy, PartialEq, Eq)]
 #[allow(non_camel_case_types)]
@@ -173,7 +173,7 @@ impl Kind {
         }
     }
 
-    /// What stands behind PRIM_type, in order.
+    /// What stands after PRIM_type, in order.
     pub fn slots(self) -> &'static [Slot]
         ensures { slots_view result.now ≡ (row_of self).slots }
     {
@@ -229,7 +229,7 @@ impl Kind {
         }
     }
 
-    /// How many bytes PRIM_type and the words behind it are.
+    /// How many bytes PRIM_type and the words after it are.
     pub fn head(self) -> u32
         ensures { result ≡ head (row_of self).slots }
     {

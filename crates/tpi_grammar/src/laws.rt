@@ -21,7 +21,7 @@ pub fn kinds_law()
     ensures one { (a b : Kind) → (row_of a).number ≡ (row_of b).number → a ≡ b }
 {}
 
-/// Each frame is spelled by one row and its values only, and no frame begins another.
+/// Each frame is the encoding of one row and its values only, and no frame is a prefix of another.
 pub fn one_spelling()
     ensures one { (f g : Filled) → IsFilled f → IsFilled g → spelling f ≡ spelling g → f ≡ g }
     ensures apart { (a b x y : List ℕ) → IsFrame a → IsFrame b → a ++ x ≡ b ++ y → a ≡ b }

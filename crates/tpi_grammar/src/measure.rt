@@ -11,12 +11,12 @@ use crate::kind::{Kind, Slot};
 use crate::sizes::{Counts, PrimTypes, Sizes, kind_of, may_count, part_length};
 use crate::word::{WordRead, between, front_word, read_word};
 
-/// What is at the front of an input.
+/// What is at the start of an input.
 #[derive(Debug, Clone, Copy, PartialEq, Eq)]
 pub enum Measure {
     /// A frame of so many bytes.
     Whole(usize),
-    /// The start of a frame, which goes on behind the input.
+    /// The start of a frame, which goes on after the input.
     Short,
     /// Neither. No frame begins with the bytes up to this place and with the byte there, and some frame begins with
     /// the bytes before it.
@@ -31,7 +31,7 @@ pub fn measure_frame(input: &[u8]) -> Measure
     scan_frame(input)
 }
 
-/// A primitive, and the two lengths in front of it.
+/// A primitive, and the two lengths before it.
 #[derive(Clone, Copy)]
 struct Head {
     size: u32,
@@ -65,7 +65,7 @@ fn scan_frame(input: &[u8]) -> Measure
     }
 }
 
-/// Reads what stands behind the first three words.
+/// Reads what stands after the first three words.
 fn measure_behind(head: Head, input: &[u8]) -> Measure
     requires { 12 ≤ length input.now }
     ensures { outcome_of result ≡ after_head (scan (row_form head.size head.count (row_of head.kind)) (drop 12 input.now)) }
@@ -141,7 +141,7 @@ fn after_number(size: u32, count: u32, number: u32, bytes: &[u8]) -> Measure
     measure_body(kind_of(size, count, number), size, count, bytes)
 }
 
-/// What stands behind PRIM_type: the words of the slots, the parts, and the user data.
+/// What stands after PRIM_type: the words of the slots, the parts, and the user data.
 fn measure_body(kind: Option<Kind>, size: u32, count: u32, bytes: &[u8]) -> Measure
     ensures scans { outcome_of result ≡ scan (form_of size count (option_map row_of kind)) bytes.now }
     ensures within { (n : ℕ) → result ≡ Measure.Whole n → n ≤ length bytes.now }
@@ -196,7 +196,7 @@ fn measure_slots(slots: &[Slot], place: u32, left: u32, total: u64, bytes: &[u8]
     }
 }
 
-/// Reads the length of a part, where so many bytes are left for it and the parts behind it.
+/// Reads the length of a part, where so many bytes are left for it and the parts after it.
 fn read_length(bytes: &[u8], others: &[Slot], left: u32) -> WordRead
     ensures scans { (next : ℕ → Form) → scan (word (part_range (slots_view others.now) left ∷ []) next) bytes.now ≡ goes result next (drop 4 bytes.now) }
     ensures long { (v : ℕ) → result ≡ WordRead.Value v → 4 ≤ length bytes.now }

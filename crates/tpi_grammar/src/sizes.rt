@@ -1,4 +1,4 @@
-//! The two lengths at the front of a frame, and which primitives may have them.
+//! The two lengths at the start of a frame, and which primitives may have them.
 
 ghost use Rattle.std.specs.Prelude.{◌≡◌, ◌≤◌, ◌&&◌, List, [], ◌∷◌, find, map, option_map};
 ghost use Rattle.std.specs.List.{list_any};
@@ -121,7 +121,7 @@ fn some_size(kinds: &[Kind], unit: u64, x: u32) -> bool
         .any(|kind| meets_range(unit, x, size_range(*kind)))
 }
 
-/// The lengths of user data, behind a control part of this length.
+/// The lengths of user data, after a control part of this length.
 #[derive(Clone, Copy)]
 pub(crate) struct Counts {
     pub(crate) size: u32,
@@ -160,7 +160,7 @@ pub(crate) fn may_count(kind: Kind, size: u32, unit: u64, x: u32) -> bool
     fits_size(kind, size) && meets_range(unit, x, data_range(kind))
 }
 
-/// The values of PRIM_type, behind these two lengths.
+/// The values of PRIM_type, after these two lengths.
 #[derive(Clone, Copy)]
 pub(crate) struct PrimTypes {
     pub(crate) size: u32,

@@ -12,7 +12,7 @@ pub(crate) struct Range {
     pub(crate) high: u32,
 }
 
-/// What the front of an input has of a word.
+/// What the start of an input has of a word.
 #[derive(Debug, Clone, Copy, PartialEq, Eq)]
 pub(crate) enum WordRead {
     /// A word with this value.
@@ -61,7 +61,7 @@ pub(crate) fn between(low: u32, high: u32) -> Within
     Within(Range { low, high })
 }
 
-/// The word at the front of the bytes, if four bytes are there.
+/// The word at the start of the bytes, if four bytes are there.
 pub(crate) fn front_word(bytes: &[u8]) -> Option<u32>
     ensures long { IfSome result (λ v. 4 ≤ length bytes.now) }
     ensures word { IfSome result (λ v. bytes.now ≡ be v ++ drop 4 bytes.now) }
@@ -72,7 +72,7 @@ pub(crate) fn front_word(bytes: &[u8]) -> Option<u32>
     Some(u32::from_be_bytes([*a, *b, *c, *d]))
 }
 
-/// Reads a word in the ranges at the front of the bytes: at once if its value is in them, and else byte by byte.
+/// Reads a word in the ranges at the start of the bytes: at once if its value is in them, and else byte by byte.
 pub(crate) fn read_word<C: Choice>(bytes: &[u8], choice: &C) -> WordRead
     ensures scans { (next : ℕ → Form) → scan (word (C.ranges choice.now) next) bytes.now ≡ goes result next (drop 4 bytes.now) }
     ensures long { (v : ℕ) → result ≡ WordRead.Value v → 4 ≤ length bytes.now }

@@ -16,7 +16,7 @@ pub value_means : (bs : List ℕ) (used : ℕ) (prim : Prim) → used ≤ length
     → MeansDecoded bs (Value prim used)
 value_means bs used prim within frame is = (within, rw is (spelled_by (take used bs) frame))
 
--- the frame that stands in front
+-- the frame that stands at the start
 pub same_front : (bs : List ℕ) (used : ℕ) (p : Prim) (rest : List ℕ) → IsFrame (take used bs) → IsFilled (filled p) → bs ≡ spelling (filled p) ++ rest
     → take used bs ≡ spelling (filled p)
 same_front bs used p rest framed good is =

@@ -34,7 +34,7 @@ append_nil : (xs : List ℕ) → xs ++ [] ≡ xs
 append_nil [] = refl
 append_nil (x ∷ xs) = ap (λ ys. x ∷ ys) (append_nil xs)
 
--- what is left behind `used` bytes, as a slice has it
+-- what is left after `used` bytes, as a slice has it
 abbrev pub rest_of : ℕ → List ℕ → List ℕ
 rest_of used bs = take (length bs - used) (drop used bs)
 
@@ -112,7 +112,7 @@ has_given _ _ _ (one_more {fed} {ps} {old} h new piece qs f) =
       wrong = f.1.wrong;
     }
 
--- what goes wrong behind frames goes wrong as a whole
+-- what goes wrong after frames goes wrong as a whole
 wrong_behind : (front xs : List ℕ) (n : ℕ) → IsFrames front → GoesWrong xs n → GoesWrong (front ++ xs) (length front + n)
 wrong_behind front xs n hf g = record {
   within = omega (arith, g.within, length-append front xs);

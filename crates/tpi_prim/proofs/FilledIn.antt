@@ -1,4 +1,4 @@
--- What is encoded has a spelling.
+-- The row that a primitive fills in is filled in as the table asks.
 use Rattle.std.proofs.Common.{◌≤◌, ◌<◌, ℕ, suc, List, [], ◌∷◌, ◌++◌, length, get_or, refl, inl, inr}
 use Rattle.tpi_grammar.specs.Frame.{Slot, upto, part, Value, num, text, IsFilled, IsIn, Fit, AreBytes, table, parts, control_size}
 use Rattle.tpi_grammar.specs.Kinds.{row_of}

@@ -1,4 +1,4 @@
--- What is read from a frame is what it spells.
+-- What is read from a frame is what it encodes.
 use Rattle.std.proofs.Common.{◌≡◌, ◌≤◌, ◌<◌, ◌+◌, ℕ, suc, zero, Bool, true, false, List, [], ◌∷◌, ◌++◌, length, take, drop, map, length-append, append_assoc, nat_eq, not, cond, refl, sym, ◌∙◌, ap, arith, subst, inl, inr}
 use Rattle.std.proofs.Math.Seq.{drop-append_seam, take-append_seam}
 use Rattle.std.specs.Int.{w32, from_be_bytes}
@@ -379,7 +379,7 @@ pub of_its_kind : (p : Prim) → filled p ≡ of_kind (kind_of p) (filled p).val
 of_its_kind prim.T_UNBIND_REQ = refl
 of_its_kind _ = refl
 
--- what spells the row that a primitive fills in spells the primitive
+-- what encodes the row that a primitive fills in encodes the primitive
 pub by_row : (p : Prim) (f : Filled) (bs : List ℕ) → f ≡ filled p → IsFilled f → bs ≡ spelling f → Spells p bs
 by_row p f bs same good spelled = record { good = subst IsFilled same good; text = spelled ∙ ap spelling same }
 

@@ -23,7 +23,7 @@ four_at bs place long =
     four (drop place bs) (omega (arith, length-drop place bs, long))
     ∙ rw (get_or-drop place bs 0 0, get_or-drop place bs 1 0, get_or-drop place bs 2 0, get_or-drop place bs 3 0, here) refl
 
--- the parts of the later values lie behind those of the former
+-- the parts of the later values lie after those of the former
 words_append : (a b : List Value) (place : ℕ) → words place (a ++ b) ≡ words place a ++ words (place + length (parts a)) b
 words_append [] b place = ap (λ (at : ℕ). words at b) (omega arith)
 words_append (num n ∷ a) b place =

@@ -14,11 +14,11 @@ use Rattle.tpi_prim.specs.Primitive.{numbered}
 unfoldable pub word_in : List ℕ → ℕ → ℕ
 word_in bs place = from_be_bytes w32 (take 4 (drop place bs))
 
--- the part whose length stands at a place, and its offset behind it
+-- the part whose length stands at a place, and its offset after it
 unfoldable pub part_in : List ℕ → ℕ → List ℕ
 part_in bs place = take (word_in bs place) (drop (8 + word_in bs (place + 4)) bs)
 
--- what stands behind the control part
+-- what stands after the control part
 unfoldable pub user_in : List ℕ → List ℕ
 user_in bs = drop (8 + word_in bs 0) bs
 

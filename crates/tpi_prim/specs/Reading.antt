@@ -46,7 +46,7 @@ pub record Fails (old new : Fed) (piece : List ℕ) (at : ℕ) : Type 0 where
   pub place : (n : ℕ) × GoesWrong (old.rest ++ piece) n × (at ≡ capped (old.passed + n))
   pub wrong : new.wrong ≡ Some at
 
--- one feed: primitives; or the first wrong place, which stays; or want of memory, with all as before
+-- one feed: primitives; or the first wrong place, which stays; or out of memory, with all as before
 abbrev pub Feeds : Fed → Fed → List ℕ → Result (List Prim) FeedFail → Type 0
 Feeds old new piece (Ok ps) = (old.wrong ≡ None) × Takes old new piece ps
 Feeds old new piece (Err (fail.Bad at)) = MatchOption old.wrong (Fails old new piece at) (λ place. (at ≡ place) × (new ≡ old))

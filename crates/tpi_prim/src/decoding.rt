@@ -1,4 +1,4 @@
-//! Reading a primitive from the front of an input.
+//! Reading a primitive from the start of an input.
 
 ghost use Rattle.std.specs.Prelude.{◌≡◌, ◌≤◌, ◌+◌, ◌++◌, List, ℕ, length, IfOk};
 ghost use Rattle.tpi_grammar.specs.Frame.{IsFilled, spelling};
@@ -15,7 +15,7 @@ use bytes::Bytes;
 use std::alloc::{AllocError, Global};
 use tpi_grammar::{Kind, Measure, measure_frame};
 
-/// What stands at the front of an input.
+/// What stands at the start of an input.
 #[derive(Debug, Drop)]
 pub enum Decoded {
     /// The first `used` bytes are the frame of `prim`.
@@ -24,11 +24,11 @@ pub enum Decoded {
     Short,
     /// Neither: `at` is the least place such that the bytes up to and with it begin no frame.
     Bad { at: usize },
-    /// A frame stands in front, and memory for its primitive ran out.
+    /// A frame stands at the start, and memory for its primitive ran out.
     OutOfMemory,
 }
 
-/// Reads a primitive from the front of the input. Memory is taken only for the fields of a whole frame.
+/// Reads a primitive from the start of the input. Memory is taken only for the fields of a whole frame.
 pub fn decode(alloc: Global, input: &[u8]) -> Decoded
     ensures means { MeansDecoded input.now result }
     ensures back { (p : Prim) (rest : List ℕ) → IsFilled (filled p) → input.now ≡ spelling (filled p) ++ rest → GivesBack p result }

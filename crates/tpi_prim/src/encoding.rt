@@ -110,7 +110,7 @@ enum Field<'a> {
     Nothing,
 }
 
-/// The front of a frame: at least what stands before the parts, and all of a frame that takes no memory.
+/// The start of a frame: at least what stands before the parts, and all of a frame that takes no memory.
 type Front = ArrayVec<u8, INLINE>;
 
 /// A primitive whose fields are lent.
@@ -271,7 +271,7 @@ fn put_word(out: &mut Front, word: u32)
     out.try_extend_from_slice(&word.to_be_bytes()).unwrap();
 }
 
-/// Writes the words of a field, whose part lies at this place of the control part; gives the place behind that part.
+/// Writes the words of a field, whose part lies at this place of the control part; gives the place after that part.
 #[inline(always)]
 fn put_field(out: &mut Front, place: u32, field: &Field<'_>) -> u32
     requires room { array_vec_len out.old + 8 ≤ 64 }

@@ -16,7 +16,7 @@ use tpi_grammar::Kind;
 /// How many bytes a frame holds in the value itself.
 pub(crate) const INLINE: usize = 64;
 
-/// The bytes of a frame, or of its front while it is written. Up to 64 bytes stand in the value itself and take no memory.
+/// The bytes of a frame, or of its beginning while it is written. Up to 64 bytes stand in the value itself and take no memory.
 pub(crate) type FrameBytes = SmallVec<u8, INLINE>;
 
 /// The bytes of one encoded primitive.
@@ -113,7 +113,7 @@ pub(crate) fn word_at(bytes: &[u8], place: usize) -> u32
     ])
 }
 
-/// The part whose length stands at a place, and its offset behind it.
+/// The part whose length stands at a place, and its offset after it.
 #[tactic(auto, unfolding(crate::specs::Fields::part_in))]
 pub(crate) fn part_at(bytes: &[u8], place: usize) -> &[u8]
     requires words { place + 8 ≤ length bytes.now }
@@ -125,7 +125,7 @@ pub(crate) fn part_at(bytes: &[u8], place: usize) -> &[u8]
     &bytes[start..][..len]
 }
 
-/// What stands behind the control part.
+/// What stands after the control part.
 #[tactic(auto, unfolding(crate::specs::Fields::user_in))]
 pub(crate) fn user_at(bytes: &[u8]) -> &[u8]
     requires { IsFrame bytes.now }

@@ -32,7 +32,7 @@ impl Prims {
         }
     }
 
-    /// Adds a primitive at the end; after want of memory the list is as before.
+    /// Adds a primitive at the end; where memory runs out the list is as before.
     pub fn push(&mut self, prim: Prim) -> Result<(), AllocError>
         ensures ok { OnOk result (self.new ≡ self.old ++ prim ∷ []) }
         ensures err { OnErr result (self.new ≡ self.old) }

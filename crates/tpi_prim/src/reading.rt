@@ -69,7 +69,7 @@ impl FrameReader {
         }
     }
 
-    /// Feeds a piece, and gives the primitives that it completes. After `Bad` each feed answers the same; after want of memory
+    /// Feeds a piece, and gives the primitives that it completes. After `Bad` each feed answers the same; where memory runs out
     /// the reader is as before.
     pub fn feed(&mut self, piece: &[u8]) -> Result<Prims, FeedFail>
         ensures { Feeds self.old self.new piece.now result }
@@ -98,7 +98,7 @@ impl FrameReader {
         }
     }
 
-    /// How many bytes behind the frames that were given are kept: a proper prefix of a frame.
+    /// How many bytes after the frames that were given are kept: a proper prefix of a frame.
     pub fn rest(&self) -> usize
         ensures len { result ≡ length self.now.rest }
         ensures short { MeansFrame self.now.rest short }
@@ -107,14 +107,14 @@ impl FrameReader {
     }
 }
 
-/// The primitives at the front of bytes, and how long their frames are.
+/// The primitives at the start of bytes, and how long their frames are.
 #[derive(Drop)]
 struct Front {
     prims: Prims,
     used: usize,
 }
 
-/// Why the front isn't read.
+/// Why the rest isn't read.
 #[derive(Clone, Copy)]
 enum Stop {
     Bad(usize),

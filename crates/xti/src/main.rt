@@ -24,12 +24,12 @@ frames  reads TPI frames one after the other from standard input, and prints a
         line for each on standard output
 
 status: 0 done, 1 the words are no command, 2 the input is refused,
-        3 a worker is blocked at the end, 4 want of memory,
+        3 a worker is blocked at the end, 4 out of memory,
         5 reading failed, 6 writing failed
 ";
 
 /// The text that the words ask for where they are no command: the usage or the version.
-fn told(words: &[String]) -> Option<&'static str> {
+fn help_or_version(words: &[String]) -> Option<&'static str> {
     match words {
         [word] => match word.as_str() {
             "--help" | "-h" => Some(USAGE),
@@ -41,7 +41,7 @@ fn told(words: &[String]) -> Option<&'static str> {
 }
 
 /// Runs the words over standard input and output; the usage goes to standard error where they are no command.
-fn run<R: Threads + Wait + Sync + Input + Print + Eprint + AllocGlobal>(
+fn run_command<R: Threads + Wait + Sync + Input + Print + Eprint + AllocGlobal>(
     rt: &R,
     words: &Words,
 ) -> u8 {
@@ -55,8 +55,8 @@ fn run<R: Threads + Wait + Sync + Input + Print + Eprint + AllocGlobal>(
     status
 }
 
-/// The words behind the program's own name; none where they are no text.
-fn given<R: Env + AllocGlobal>(rt: &R) -> Result<Vec<String>, AllocError> {
+/// The words after the program's own name; none where they are not UTF-8.
+fn command_words<R: Env + AllocGlobal>(rt: &R) -> Result<Vec<String>, AllocError> {
     let mut words = Vec::new(rt.alloc());
     match env::args(rt) {
         Ok(all) => {
@@ -70,12 +70,12 @@ fn given<R: Env + AllocGlobal>(rt: &R) -> Result<Vec<String>, AllocError> {
     }
 }
 
-/// Answers the words behind the program's own name; the status, or want of memory.
+/// Answers the words after the program's own name; the status, or out of memory.
 fn answer<R: Threads + Wait + Sync + Input + Print + Eprint + Env + AllocGlobal>(
     rt: &R,
 ) -> Result<u8, AllocError> {
-    let given = given(rt)?;
-    if let Some(text) = told(given.as_slice()) {
+    let given = command_words(rt)?;
+    if let Some(text) = help_or_version(given.as_slice()) {
         return Ok(match print!(rt; "{text}") {
             Ok(()) => 0,
             Err(_) => 6,
@@ -85,7 +85,7 @@ fn answer<R: Threads + Wait + Sync + Input + Print + Eprint + Env + AllocGlobal>
     for word in &given {
         words.push(word.as_str())?;
     }
-    Ok(run(rt, &words))
+    Ok(run_command(rt, &words))
 }
 
 fn main(rt: HostRuntime) -> ExitCode {

@@ -33,7 +33,7 @@ pub zeros_decide : (bytes : List ℕ) (n : ℕ) → n ≡ front_length bytes →
 unfolding begins_option
 zeros_decide bytes n e h i j = rw (e) (sizes_met (length bytes) (front_length bytes) (front_size bytes) (length bytes) _ h (rw (← e) i) (rw (← e) j))
 
--- what is left behind an option is shorter
+-- what is left after an option is shorter
 pub behind_shorter : (bytes : List ℕ) → begins_option bytes ≡ true → length (behind_option bytes) < length bytes
 behind_shorter bytes h = let sizes = front_within bytes h in omega (arith, sizes.0, sizes.1, length-drop (front_size bytes) bytes)
 
@@ -74,7 +74,7 @@ read_behind : (m : ℕ) (b : ℕ) (bytes : List ℕ) → begins_option (b ∷ by
 unfolding options_within
 read_behind m b bytes begins = rw (begins, options_within) (joined (options_within m (behind_option (b ∷ bytes))) (front_option (b ∷ bytes)))
 
--- behind an option the rest decides
+-- after an option the rest decides
 pub rest_decides : (bytes : List ℕ) → (length bytes == 0) ≡ false → begins_option bytes ≡ true → is_option_list (behind_option bytes) ≡ is_option_list bytes
 unfolding is_option_list
 rest_decides [] filled begins = cc

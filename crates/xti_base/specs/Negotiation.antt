@@ -155,7 +155,7 @@ pub record Negotiated : Type 0 where
 abbrev pub negotiate_one : Negotiated → Opt → Answer → Negotiated
 negotiate_one n o a = record { settings = set_meant n.settings (meaning o) a.sets; options = n.options ++ answered o a ∷ []; result = worse n.result a.result }
 
--- from the front to the back
+-- in order
 abbrev pub negotiate_from : Negotiated → ℕ → List Opt → Negotiated
 negotiate_from n action [] = n
 negotiate_from n action (o ∷ os) = negotiate_from (negotiate_one n o (answer_meant n.settings action o.value (meaning o))) action os

@@ -44,7 +44,7 @@ impl<T: Drop> Items<T> {
         members
     }
 
-    /// Adds a member at the end; after want of memory the list is as before.
+    /// Adds a member at the end; where memory runs out the list is as before.
     pub fn push(&mut self, member: T) -> Result<(), AllocError>
         ensures ok { OnOk result (self.new ≡ self.old ++ member ∷ []) }
         ensures err { OnErr result (self.new ≡ self.old) }
@@ -119,7 +119,7 @@ impl<T: Copy> Numbers<T> {
         members
     }
 
-    /// Adds a member at the end; after want of memory the list is as before.
+    /// Adds a member at the end; where memory runs out the list is as before.
     pub fn push(&mut self, member: T) -> Result<(), AllocError>
         ensures ok { OnOk result (self.new ≡ self.old ++ member ∷ []) }
         ensures err { OnErr result (self.new ≡ self.old) }

@@ -68,7 +68,7 @@ impl Octets {
         Octets::copy_of(*self.bytes.allocator(), self.bytes.as_slice())
     }
 
-    /// Adds a byte at the end; after want of memory the bytes are as before.
+    /// Adds a byte at the end; where memory runs out the bytes are as before.
     pub fn push(&mut self, b: u8) -> Result<(), AllocError>
         ensures ok { OnOk result (self.new ≡ self.old ++ b ∷ []) }
         ensures err { OnErr result (self.new ≡ self.old) }

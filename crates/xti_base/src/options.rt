@@ -5,7 +5,7 @@ ghost use Rattle.xti_base.specs.Options.{are_zero, front_length, front_size, beg
 
 use crate::octets::Octets;
 
-/// An option (XNS, t_opthdr and the value behind it).
+/// An option (XNS, t_opthdr and the value after it).
 #[derive(Drop)]
 pub struct Opt {
     /// The level, as XTI_GENERIC.
@@ -34,7 +34,7 @@ pub fn is_option_list(bytes: &[u8]) -> bool
     true
 }
 
-/// How many bytes the option at the front takes, with those that fill it up; `None` exactly if no option stands there.
+/// How many bytes the option at the start takes, with those that fill it up; `None` exactly if no option stands there.
 /// Takes no memory.
 #[tactic(auto, using(crate::proofs::OptionLists::zeros_decide), unfolding(crate::specs::Options::begins_option))]
 pub fn size_of_front(bytes: &[u8]) -> Option<usize>
@@ -61,7 +61,7 @@ fn are_zero(bytes: &[u8]) -> bool
     bytes.iter().all(|byte| *byte == 0)
 }
 
-/// The length that the option at the front gives, which doesn't count what fills it up.
+/// The length that the option at the start gives, which doesn't count what fills it up.
 fn length_of_front(bytes: &[u8]) -> usize
     requires { 4 ≤ length bytes.now }
     ensures { result ≡ front_length bytes.now }

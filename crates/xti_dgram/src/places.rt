@@ -26,7 +26,7 @@ pub(crate) fn mark_flow(at: &mut Endpoint, fd: Fd, to: Option<Spot>)
     }
 }
 
-/// A datagram waits at the endpoint with this descriptor, where it is open; after want of memory all is as before.
+/// A datagram waits at the endpoint with this descriptor, where it is open; where memory runs out all is as before.
 pub(crate) fn push_datagram(at: &mut Endpoint, fd: Fd, frame: Frame) -> Result<(), AllocError>
     requires place { at.old.place ≡ fd.0 % 64 }
     requires kind { kind_in frame ≡ T_UNITDATA_IND }
@@ -41,8 +41,8 @@ pub(crate) fn push_datagram(at: &mut Endpoint, fd: Fd, frame: Frame) -> Result<(
     Ok(())
 }
 
-/// A datagram error waits at the endpoint with this descriptor, where it is open, and its flow mark is cleared; after want of
-/// memory all is as before.
+/// A datagram error waits at the endpoint with this descriptor, where it is open, and its flow mark is cleared; where
+/// memory runs out all is as before.
 pub(crate) fn push_error(at: &mut Endpoint, fd: Fd, frame: Frame) -> Result<(), AllocError>
     requires place { at.old.place ≡ fd.0 % 64 }
     requires kind { kind_in frame ≡ T_UDERROR_IND }

@@ -62,7 +62,7 @@ fn indication(lent: &Lent, fd: Fd, options: &[u8], parts: &[Octets]) -> Result<F
     }
 }
 
-/// The datagram waits at the receiver, and else an error at the sender; after want of memory all is as before.
+/// The datagram waits at the receiver, and else an error at the sender; where memory runs out all is as before.
 fn deliver(
     lent: &mut Lent,
     fd: Fd,

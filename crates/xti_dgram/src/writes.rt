@@ -28,7 +28,7 @@ pub(crate) fn mark_flow(lent: &mut Lent, fd: Fd, to: Option<Spot>)
     places::mark_flow(lent.endpoint(place_of(fd)), fd, to);
 }
 
-/// A datagram waits at an endpoint, where that is open; after want of memory all is as before.
+/// A datagram waits at an endpoint, where that is open; where memory runs out all is as before.
 fn push_datagram(lent: &mut Lent, fd: Fd, frame: Frame) -> Result<(), AllocError>
     requires own { AtOwnPlaces lent.old }
     requires there { IsHeld lent.old fd.0 }
@@ -40,7 +40,7 @@ fn push_datagram(lent: &mut Lent, fd: Fd, frame: Frame) -> Result<(), AllocError
     places::push_datagram(lent.endpoint(place_of(fd)), fd, frame)
 }
 
-/// A datagram error waits at the sender, where that is open, and its flow mark is cleared; after want of memory all is as before.
+/// A datagram error waits at the sender, where that is open, and its flow mark is cleared; where memory runs out all is as before.
 pub(crate) fn push_error(lent: &mut Lent, fd: Fd, frame: Frame) -> Result<(), AllocError>
     requires own { AtOwnPlaces lent.old }
     requires there { IsHeld lent.old fd.0 }
@@ -52,7 +52,7 @@ pub(crate) fn push_error(lent: &mut Lent, fd: Fd, frame: Frame) -> Result<(), Al
     places::push_error(lent.endpoint(place_of(fd)), fd, frame)
 }
 
-/// A datagram waits at an endpoint, and the sender's flow mark is cleared; after want of memory all is as before.
+/// A datagram waits at an endpoint, and the sender's flow mark is cleared; where memory runs out all is as before.
 pub(crate) fn give(lent: &mut Lent, fd: Fd, to: Fd, frame: Frame) -> Result<(), AllocError>
     requires own { AtOwnPlaces lent.old }
     requires sender { IsHeld lent.old fd.0 }

@@ -47,7 +47,7 @@ impl Endpoint {
         !self.datagram_errors.is_empty()
     }
 
-    /// Makes room for one more datagram error; after want of memory all is as before.
+    /// Makes room for one more datagram error; where memory runs out all is as before.
     pub fn reserve_datagram_errors(&mut self) -> Result<(), AllocError>
         ensures same { self.new ≡ record self.old { spare_datagram_errors = self.new.spare_datagram_errors } }
         ensures kept { self.old.spare_datagram_errors ≤ self.new.spare_datagram_errors }

@@ -48,7 +48,7 @@ impl Endpoint {
         self.datagrams.discard_stream();
     }
 
-    /// Makes room for one more datagram; after want of memory all is as before.
+    /// Makes room for one more datagram; where memory runs out all is as before.
     pub fn reserve_datagrams(&mut self) -> Result<(), AllocError>
         ensures same { self.new ≡ record self.old { spare_datagrams = self.new.spare_datagrams } }
         ensures kept { self.old.spare_datagrams ≤ self.new.spare_datagrams }

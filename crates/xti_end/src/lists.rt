@@ -37,7 +37,7 @@ impl FrameList {
         }
     }
 
-    /// Makes room for one more frame; after want of memory the list is as before.
+    /// Makes room for one more frame; where memory runs out the list is as before.
     pub(crate) fn reserve(&mut self) -> Result<(), AllocError>
         ensures frames { self.new.frames ≡ self.old.frames }
         ensures kept { self.old.spare ≤ self.new.spare }

@@ -15,7 +15,7 @@ use xti_model::{Applied, Call, Go, Providers, Reply};
 
 impl Endpoint {
     /// One step of a call that touches this cell alone: what it answers, and the state of its endpoint afterwards. Where it is
-    /// blocked, and after want of memory, all is as before.
+    /// blocked, and where memory runs out, all is as before.
     #[tactic(auto, unfolding(xti_model::specs::Step::step, xti_model::specs::Step::plan))]
     pub fn local(&mut self, call: &Call, _go: Go, p: &Providers) -> Result<Applied, AllocError>
         requires { IsAt p.now self.old.place call.now }

@@ -86,7 +86,7 @@ impl Endpoint {
         }
     }
 
-    /// The next `max` bytes of the first datagram, which is gone where none are left; after want of memory all is as before.
+    /// The next `max` bytes of the first datagram, which is gone where none are left; where memory runs out all is as before.
     fn take_bytes(&mut self, max: usize) -> Result<Received, AllocError>
         requires open { is_open self.old ≡ true }
         requires waits { some_wait (parts self.old).datagrams ≡ true }

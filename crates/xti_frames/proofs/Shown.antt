@@ -1,4 +1,4 @@
--- What is shown so far, and what is wrong behind it.
+-- What is shown so far, and what is wrong after it.
 use Rattle.std.proofs.lemmas.Bool.{false≢true}
 use Rattle.std.proofs.Common.{◌==◌, false, ◌≡◌, ◌≢◌, ◌+◌, ◌-◌, ◌∙◌, ℕ, List, [], ◌∷◌, ◌++◌, map, length, take, drop, refl, sym, ap, subst, arith, append_assoc, append-nil, take-append-drop, length-append}
 use Rattle.tpi_grammar.specs.Frame.{IsFilled, spelling}
@@ -7,7 +7,7 @@ use Rattle.tpi_prim.specs.declared.primitive.Prim.{Prim}
 use Rattle.tpi_prim.specs.Primitive.{filled, Spells}
 use Rattle.xti_frames.specs.FrameText.{IsShown, frame_line, frames_text}
 
--- the input spells primitives up to the rest, and the text shows them
+-- the input is the encodings of primitives up to the rest, and the text shows them
 pub record ShownTo (input rest text : List ℕ) : Type 0 where
   pub prims : List Prim
   pub are_frames : AreFilled (map filled prims)

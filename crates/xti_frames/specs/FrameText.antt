@@ -8,7 +8,7 @@ use Rattle.tpi_prim.specs.Primitive.{filled}
 use Rattle.tpi_prim.specs.declared.primitive.Prim.{Prim}
 use Rattle.tpi_prim.specs.declared.primitive.Prim.TheVariants.{T_CONN_REQ, T_CONN_RES, T_DISCON_REQ, T_DATA_REQ, T_EXDATA_REQ, T_BIND_REQ, T_UNBIND_REQ, T_UNITDATA_REQ, T_ORDREL_REQ, T_CONN_IND, T_CONN_CON, T_DISCON_IND, T_DATA_IND, T_EXDATA_IND, T_BIND_ACK, T_ERROR_ACK, T_OK_ACK, T_UNITDATA_IND, T_UDERROR_IND, T_ORDREL_IND}
 
--- the words of a line, each behind the text that parts it from the word before
+-- the words of a line, each after the text that separates it from the word before
 
 unfoldable pub name_word : List ℕ → List ℕ
 name_word name = name
@@ -23,7 +23,7 @@ flag_field key more = key ++ (if more then codes "1" else codes "0")
 unfoldable pub part_field : List ℕ → List ℕ → List ℕ
 part_field key part = octets_word key part
 
--- the user data, behind the words
+-- the user data, after the words
 abbrev pub user_field : List ℕ → List ℕ
 user_field user = part_field (codes " data=") user
 
@@ -55,7 +55,7 @@ frame_line p = frame_text p ++ codes "\n"
 abbrev pub frames_text : List Prim → List ℕ
 frames_text prims = flat_map frame_line prims
 
--- the input spells primitives one after the other, and the text shows them in their order
+-- the input is the encodings of primitives, one after the other, and the text shows them in their order
 pub record IsShown (input text : List ℕ) : Type 0 where
   pub prims : List Prim
   pub are_frames : AreFilled (map filled prims)

@@ -4,7 +4,7 @@ use Rattle.tpi_grammar.specs.Frames.{IsFirstWrong}
 use Rattle.xti_frames.specs.declared.show.FramesFail.{FramesFail}
 use Rattle.xti_frames.specs.declared.show.FramesFail.TheVariants.{WrongByte, OutOfMemory}
 
--- the place is the first by which the input is no list of frames; want of memory has no cause
+-- the place is the first by which the input is no list of frames; out of memory has no cause
 abbrev pub HasCause : List ℕ → FramesFail → Type 0
 HasCause input (WrongByte at) = IsFirstWrong input at
 HasCause input OutOfMemory = Unit {0}

@@ -8,11 +8,11 @@ abbrev pub Takes : Option (List ℕ) → Option (List ℕ) → List ℕ → Type
 Takes before None more = Unit {0}
 Takes before (Some now) more = (old : List ℕ) × (before ≡ Some old) × (now ≡ old ++ more)
 
--- one write: at least one byte is taken from the front of the piece; after an Err all is as before
+-- one write: at least one byte is taken from the start of the piece; after an Err all is as before
 abbrev pub Writes : {E : Type 0} → Option (List ℕ) → Option (List ℕ) → Result ℕ E → List ℕ → Type 0
 Writes before now (Ok n) piece = (0 < n) × (n ≤ length piece) × Takes before now (take n piece)
 Writes before now (Err e) piece = now ≡ before
 
--- a front of the text was taken, as long as the fault says, and not all
+-- a prefix of the text was taken, as long as the fault says, and not all
 abbrev pub TakesUpTo : WriteEnd → Option (List ℕ) → Option (List ℕ) → List ℕ → Type 0
 TakesUpTo (Fault written) before now text = (written < length text) × Takes before now (take written text)

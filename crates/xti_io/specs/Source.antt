@@ -1,12 +1,12 @@
 -- What a source that tells its bytes gives.
 use Rattle.std.specs.Prelude.{◌≡◌, ℕ, ◌<◌, ◌≤◌, List, [], ◌++◌, length, take, Option, Some, None, Result, Ok, Err}
 
--- these bytes went from the front of what was left
+-- these bytes went from the start of what was left
 abbrev pub Gives : Option (List ℕ) → Option (List ℕ) → List ℕ → Type 0
 Gives None now front = Unit {0}
 Gives (Some bytes) now front = (rest : List ℕ) × (now ≡ Some rest) × (bytes ≡ front ++ rest)
 
--- at most so many bytes went from the front of what was left
+-- at most so many bytes went from the start of what was left
 abbrev pub GivesUpTo : ℕ → Option (List ℕ) → Option (List ℕ) → Type 0
 GivesUpTo most before now = (front : List ℕ) × (length front ≤ most) × Gives before now front
 
@@ -20,7 +20,7 @@ abbrev pub HasMore : Option (List ℕ) → Type 0
 HasMore None = Unit {0}
 HasMore (Some bytes) = 0 < length bytes
 
--- one read: the next bytes come to the front of the buffer, and an Ok is 0 exactly at the end; after an Err all is as before
+-- one read: the next bytes come to the start of the buffer, and an Ok is 0 exactly at the end; after an Err all is as before
 abbrev pub Reads : {E : Type 0} → Option (List ℕ) → Option (List ℕ) → Result ℕ E → List ℕ → Type 0
 Reads before now (Ok n) buf = (n ≤ length buf) × Gives before now (take n buf) × (n ≡ 0 → IsAtEnd before) × (0 < n → HasMore before)
 Reads before now (Err e) buf = now ≡ before

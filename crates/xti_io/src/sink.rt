@@ -15,7 +15,7 @@ pub trait Sink {
     /// How many faults there were, up to 2 ^ 64 - 1.
     ghost faults: { Self → ℕ };
 
-    /// Takes bytes from the front of the piece, which isn't empty, and answers how many; at least one.
+    /// Takes bytes from the start of the piece, which isn't empty, and answers how many; at least one.
     fn write(&mut self, piece: &[u8]) -> Result<usize, Failed>
         requires { 0 < length piece.now }
         ensures bytes { Writes (held self.old) (held self.new) result piece.now }

@@ -21,7 +21,7 @@ pub trait Source {
     /// How many faults there were, up to 2 ^ 64 - 1.
     ghost faults: { Self → ℕ };
 
-    /// Fills the front of the buffer, which isn't empty, with the next bytes, and answers how many; 0 means the end.
+    /// Fills the start of the buffer, which isn't empty, with the next bytes, and answers how many; 0 means the end.
     fn read(&mut self, buf: &mut [u8]) -> Result<usize, Failed>
         requires { 0 < length buf.old }
         ensures bytes { Reads (left self.old) (left self.new) result buf.new }

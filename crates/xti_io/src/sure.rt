@@ -36,7 +36,7 @@ impl SureSource {
         SureSource { bytes, place: 0 }
     }
 
-    // Gives the next bytes, at most so many, in the front of the buffer.
+    // Gives the next bytes, at most so many, in the start of the buffer.
     pub(crate) fn give(&mut self, buf: &mut [u8], most: usize) -> usize
         ensures count { result ≡ min most (min (length buf.old) (length self.old)) }
         ensures bytes { take result buf.new ≡ take result self.old }

@@ -1,6 +1,6 @@
 -- The text of a journal: a first line, a line for each provider, a line for each entry, a line for each step
 -- that is blocked at the end, and a last line with the count of entries. Every line ends with LF, and the words
--- of a line are parted by one space. docs/JOURNAL.md has the format in words.
+-- of a line are separated by one space. docs/JOURNAL.md has the format in words.
 use Rattle.std.specs.Prelude.{ℕ, ◌+◌, Bool, List, [], ◌∷◌, ◌++◌, length, Option, Some, None, codes, decimal, if◌then◌else◌}
 use Rattle.std.specs.List.{flat_map}
 use Rattle.xti_text.specs.Words.{number_word, signed_word, octets_word}
@@ -37,7 +37,7 @@ mode_word key nonblock = key ++ (if nonblock then codes "nonblock" else codes "b
 abbrev pub limit_word : List ℕ → Limit → List ℕ
 limit_word key l = signed_word key (limit_number l)
 
--- members parted by commas, and `none` for the list without members
+-- members separated by commas, and `none` for the list without members
 abbrev pub parts_word : List ℕ → List (List ℕ) → List ℕ
 parts_word key [] = key ++ codes "none"
 parts_word key (p ∷ ps) = octets_word key p ++ flat_map (octets_word (codes ",")) ps

@@ -7,6 +7,6 @@ use Rattle.xti_journal.specs.JournalText.{entries_text}
 abbrev pub Written : Type 0
 Written = List ℕ × ℕ
 
--- the lines of these entries were written behind the first text, numbered on from its last
+-- the lines of these entries were written after the first text, numbered on from its last
 abbrev pub Took : Written → List Entry → Written → Type 0
 Took first past now = (now.0 ≡ first.0 ++ entries_text (first.1 + 1) past) × (now.1 ≡ first.1 + length past)

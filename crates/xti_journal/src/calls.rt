@@ -1,4 +1,4 @@
-//! Calls with their numbers, each behind a space.
+//! Calls with their numbers, each after a space.
 
 ghost use Rattle.std.specs.Prelude.{◌≡◌, ◌++◌, OnOk, IsTrue, codes};
 ghost use Rattle.xti_journal.specs.JournalText.{call_text, act_text};

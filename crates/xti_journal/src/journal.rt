@@ -51,7 +51,7 @@ pub(crate) fn put_head(out: &mut Vec<u8>, p: &Providers) -> Result<(), AllocErro
     put_provider(out, "ticlts", &p.ticlts)
 }
 
-// What a call answered and the state of its endpoint, behind an arrow, to the end of the line.
+// What a call answered and the state of its endpoint, after an arrow, to the end of the line.
 fn put_answer(out: &mut Vec<u8>, outcome: &Outcome, after: State) -> Result<(), AllocError>
     ensures { OnOk result (out.new.items ≡ out.old.items ++ codes " => " ++ (outcome_text outcome.now ++ codes " " ++ state_name after) ++ codes "\n") }
 {
@@ -135,7 +135,7 @@ fn put_journal(out: &mut Vec<u8>, j: &Journal) -> Result<(), AllocError>
     put_end(out, j.entries.len() as u64)
 }
 
-/// The text of a journal; `Err` is want of memory.
+/// The text of a journal; `Err` is out of memory.
 pub fn write_journal(alloc: Global, j: &Journal) -> Result<Octets, AllocError>
     ensures { IfOk result (λ text. text ≡ journal_text j.now) }
 {
@@ -144,7 +144,7 @@ pub fn write_journal(alloc: Global, j: &Journal) -> Result<Octets, AllocError>
     Ok(Octets::from_vec(out))
 }
 
-/// The line of the entry with this number, with its LF; `Err` is want of memory.
+/// The line of the entry with this number, with its LF; `Err` is out of memory.
 pub fn write_entry(alloc: Global, n: u64, e: &Entry) -> Result<Octets, AllocError>
     ensures { IfOk result (λ text. text ≡ entry_text n e.now) }
 {

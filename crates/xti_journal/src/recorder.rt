@@ -14,7 +14,7 @@ pub trait Recorder {
     ghost took: { Self → List Entry → Self → Type 0 };
 
     /// Takes the entry of a call that a worker has begun, what it answered, and the state of its endpoint afterwards; `Err` is
-    /// want of memory.
+    /// out of memory.
     fn begun(
         &mut self,
         worker: u32,

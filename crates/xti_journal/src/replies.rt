@@ -1,4 +1,4 @@
-//! What calls answered, each behind an arrow.
+//! What calls answered, each after an arrow.
 
 ghost use Rattle.std.specs.Prelude.{◌≡◌, ◌++◌, OnOk, IsTrue, codes};
 ghost use Rattle.xti_text.specs.Words.{number_word, octets_word};

@@ -1,4 +1,4 @@
-//! The words of a journal's lines, each written behind the text that parts it from the word before.
+//! The words of a journal's lines, each written after the text that separates it from the word before.
 
 ghost use Rattle.std.specs.Prelude.{◌≡◌, ◌++◌, OnOk, codes};
 ghost use Rattle.std.specs.List.{flat_map};
@@ -16,7 +16,7 @@ pub(crate) fn put_limit(out: &mut Vec<u8>, key: &str, l: Limit) -> Result<(), Al
     put_signed(out, key, l.number())
 }
 
-// Two hexadecimal digits for each byte, behind a text that ends in `x:`.
+// Two hexadecimal digits for each byte, after a text that ends in `x:`.
 #[inline(always)]
 pub(crate) fn put_pairs(out: &mut Vec<u8>, key: &str, o: &Octets) -> Result<(), AllocError>
     ensures { OnOk result (out.new.items ≡ out.old.items ++ key.now ++ flat_map hex_pair o.now) }
@@ -97,7 +97,7 @@ pub(crate) fn put_most(out: &mut Vec<u8>, amax: u32, omax: u32, umax: u32) -> Re
     put_number(out, " umax=", umax as u64)
 }
 
-// The state behind a call's answer, which ends the line. Each text's length is known here.
+// The state after a call's answer, which ends the line. Each text's length is known here.
 pub(crate) fn put_state(out: &mut Vec<u8>, state: State) -> Result<(), AllocError>
     ensures { OnOk result (out.new.items ≡ out.old.items ++ codes " " ++ state_name state ++ codes "\n") }
 {

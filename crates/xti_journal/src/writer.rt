@@ -29,7 +29,7 @@ impl Model for JournalWriter {
 }
 
 impl JournalWriter {
-    /// A journal with no entry yet, in the room of bytes that are done with; `Err` is want of memory.
+    /// A journal with no entry yet, in the room of bytes that are done with; `Err` is out of memory.
     pub fn begin(mut room: Vec<u8>, p: &Providers) -> Result<JournalWriter, AllocError>
         ensures { IfOk result (λ w. w ≡ (head_text p.now, 0)) }
     {
@@ -41,7 +41,7 @@ impl JournalWriter {
         })
     }
 
-    /// The whole text, behind whose entries the stall lines stand; `Err` is want of memory.
+    /// The whole text, after whose entries the stall lines stand; `Err` is out of memory.
     #[tactic(auto, unfolding(crate::specs::JournalText::journal_text))]
     pub fn end(self, stalls: &Stalls) -> Result<Octets, AllocError>
         ensures { IfOk result (λ text. (j : Journal) → Took (head_text j.providers, 0) j.entries self → stalls.now ≡ j.stalls → text ≡ journal_text j) }

@@ -49,7 +49,7 @@ all_taken hs f n max u t all closes = record {
   shorter = omega (arith, length-drop 1 hs);
 }
 
--- the whole of it, and the end behind it
+-- the whole of it, and the end after it
 pub end_taken : (hs kept : List (List ℕ)) (f : List ℕ) (n max : ℕ) (u b : List ℕ) → IsFirst hs f n u → length u ≤ max → ends_message (primitive_in f) ≡ true
     → kept ≡ drop 1 hs → b ≡ u → IsTakenFrom max n hs 0 kept b true
 end_taken hs kept f n max u b t all closes rest is = rw (rest, is) (all_taken hs f n max u t all closes)

@@ -1,4 +1,4 @@
--- The front of a list of symbols, by a run of bytes and what stands behind it.
+-- The start of a list of symbols, by a run of bytes and what stands after it.
 use Rattle.std.proofs.Common.{◌≡◌, ◌≤◌, ◌<◌, ◌+◌, ◌-◌, ◌++◌, ℕ, suc, zero, Bool, true, false, not, cond, List, [], ◌∷◌, length, take, drop, if◌then◌else◌, refl, sym, ap, ◌∙◌, arith, append_assoc, ne_eqb, length-append}
 use Rattle.std.specs.List.{slice_get, take_while}
 use Rattle.std.proofs.lemmas.List.{append-nil}
@@ -23,7 +23,7 @@ pub front-end : (max : ℕ) (s : List ℕ) → front max (end_of_message ∷ s) 
 front-end zero s = refl
 front-end (suc m) s = take_while-cons is_byte 256 (take m s)
 
--- a run of bytes that is no longer than the most is the first part of the front
+-- a run of bytes that is no longer than the most is the first part of what is taken
 pub front-bytes : (b s : List ℕ) (max : ℕ) → AreBytes b → length b ≤ max → front max (b ++ s) ≡ b ++ front (max - length b) s
 front-bytes [] s max bytes most = ap (λ n. front n s) (omega arith)
 front-bytes (x ∷ b) s zero bytes most = absurd (omega (arith, most))
@@ -41,7 +41,7 @@ front-stops n max (x ∷ s) (full, low) =
 pub room_for : (b s : List ℕ) (max : ℕ) → AreBytes b → length b ≤ max → length b ≤ length (front max (b ++ s))
 room_for b s max bytes most = omega (arith, ap length (front-bytes b s max bytes most), length-append b (front (max - length b) s))
 
--- ---- a run, an end behind it or not, and what is left
+-- ---- a run, an end after it or not, and what is left
 
 pub record IsTaken (b : List ℕ) (e : Bool) (s : List ℕ) (max : ℕ) : Type 0 where
   pub bytes : AreBytes b

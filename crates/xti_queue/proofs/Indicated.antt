@@ -151,7 +151,7 @@ unfolding begun
 begun-length [] n = refl
 begun-length (f ∷ fs) n = ap suc (sym (length-map fs primitive_in))
 
--- ---- what is left behind
+-- ---- what is left after
 
 pub left_behind-none : (max n : ℕ) → left_behind max (begun n []) ≡ begun n []
 unfolding begun left_behind

@@ -166,7 +166,7 @@ pub none_left : (hs : List (List ℕ)) (n max : ℕ) → (0 < length hs → ⊥)
 none_left hs n max empty =
     ap (λ l. left_behind max (begun n l)) (none_of hs empty) ∙ left_behind-none max n ∙ ap (λ l. begun n l) (sym (none_of hs empty))
 
--- ---- how long the front is
+-- ---- how long what is taken is
 
 pub taken_long : (m : ℕ) (u : List ℕ) → m ≤ length u → length (take m u) ≡ m
 taken_long zero u full = refl
@@ -207,7 +207,7 @@ len_more hs f n m u t all closes =
 pub none_front : (hs : List (List ℕ)) (n m : ℕ) → length hs ≤ 0 → length (front m (symbols_in n hs)) ≡ 0
 none_front hs n m none = ap (λ l. length (front m l)) (ap (λ l. symbols_in n l) (none_of hs (λ some. absurd (omega (arith, some, none)))) ∙ symbols_in-none n) ∙ ap length (front-none m)
 
--- ---- what stays true of the frames behind
+-- ---- what stays true of the frames after
 
 pub within_none : (hs : List (List ℕ)) → IsWithin 0 hs
 within_none [] = refl

@@ -1,4 +1,4 @@
--- Taking from the front of waiting frames.
+-- Taking from the start of waiting frames.
 use Rattle.std.specs.Prelude.{◌≡◌, ◌≤◌, ◌<◌, ◌-◌, ◌++◌, ℕ, Bool, false, List, [], ◌∷◌, length, drop}
 use Rattle.tpi_grammar.specs.Frame.{AreBytes}
 use Rattle.xti_model.specs.Symbols.{piece}
@@ -14,7 +14,7 @@ abbrev pub StopsAt : ℕ → List ℕ → ℕ → Type 0
 StopsAt n [] max = Unit {0}
 StopsAt n (s ∷ ss) max = (n ≡ max) × (s < 256)
 
--- these bytes, and an end behind them or not, were taken from the front of frames: up to an end, so many bytes, or the last frame
+-- these bytes, and an end after them or not, were taken from the start of frames: up to an end, so many bytes, or the last frame
 pub record IsTakenFrom (max taken : ℕ) (held : List (List ℕ)) (begins : ℕ) (kept : List (List ℕ)) (bytes : List ℕ) (closes : Bool) : Type 0 where
   pub moved : symbols_in taken held ≡ piece bytes closes ++ symbols_in begins kept
   pub stops : closes ≡ false → StopsAt (length bytes) (symbols_in begins kept) max

@@ -16,7 +16,7 @@ can_wait kind.T_EXDATA_IND = true
 can_wait kind.T_UNITDATA_IND = true
 can_wait _ = false
 
--- whether a message ends behind the user data: where MORE_flag is 0, and behind each datagram
+-- whether a message ends after the user data: where MORE_flag is 0, and after each datagram
 unfoldable pub ends_message : Prim → Bool
 ends_message (prim.T_DATA_IND more user) = not more
 ends_message (prim.T_EXDATA_IND more user) = not more
@@ -34,7 +34,7 @@ with_user user p = p
 abbrev pub without : ℕ → Prim → Prim
 without n p = with_user (drop n (user_of p)) p
 
--- the bytes of its user data, and an end behind them where a message ends
+-- the bytes of its user data, and an end after them where a message ends
 abbrev pub symbols_of : Prim → List ℕ
 symbols_of p = piece (user_of p) (ends_message p)
 
@@ -47,7 +47,7 @@ begun taken (f ∷ fs) = without taken (primitive_in f) ∷ map primitive_in fs
 unfoldable pub symbols_of_all : List Prim → List ℕ
 symbols_of_all ps = flat_map symbols_of ps
 
--- what is left when at most so many bytes of the first message are taken, and its end where it comes right behind them
+-- what is left when at most so many bytes of the first message are taken, and its end where it comes right after them
 unfoldable pub left_behind : ℕ → List Prim → List Prim
 left_behind max [] = []
 left_behind max (p ∷ ps) =

@@ -1,4 +1,4 @@
-//! Taking from the front of waiting frames.
+//! Taking from the start of waiting frames.
 
 ghost use Rattle.std.specs.Prelude.{◌≡◌, ◌≤◌, ◌<◌, ◌+◌, ◌-◌, ◌++◌, [], ◌∷◌, ℕ, List, true, false, if◌then◌else◌, length, take, drop, vec_len, vec_capacity, IfOk, IfSome, IfNone, OnErr};
 ghost use Rattle.std.specs.VecDeque.{deque_len, deque_capacity};
@@ -16,7 +16,7 @@ use std::collections::VecDeque;
 use tpi_prim::{Frame, Kind};
 use xti_base::Octets;
 
-/// The user data of a frame behind the first bytes.
+/// The user data of a frame after the first bytes.
 pub(crate) fn rest_of(frame: &Frame, taken: usize) -> &[u8]
     requires { taken ≤ length (user_of (primitive_in frame.now)) }
     ensures rest { result.now ≡ drop taken (user_of (primitive_in frame.now)) }
@@ -35,7 +35,7 @@ fn user_data(frame: &Frame) -> &[u8]
     frame.user()
 }
 
-/// Whether a message ends behind a frame.
+/// Whether a message ends after a frame.
 pub(crate) fn ends(frame: &Frame) -> bool
     requires { can_wait (kind_in frame.now) ≡ true }
     ensures { result ≡ ends_message (primitive_in frame.now) }
@@ -46,7 +46,7 @@ pub(crate) fn ends(frame: &Frame) -> bool
     }
 }
 
-/// How many bytes stand at the front, at most `max`, before an end.
+/// How many bytes stand at the start, at most `max`, before an end.
 fn run_len(held: &VecDeque<Frame>, taken: usize, max: usize) -> usize
     requires wait { AllWait held.now.items }
     requires within { IsWithin taken held.now.items }
@@ -123,7 +123,7 @@ fn take_front(
     if ended { Step::Ended } else { Step::More }
 }
 
-/// Takes frames from the front until an end, `max` bytes, or the end of the queue.
+/// Takes frames from the start until an end, `max` bytes, or the end of the queue.
 fn take_run(held: &mut VecDeque<Frame>, taken: &mut usize, bytes: &mut Vec<u8>, max: usize) -> bool
     requires wait { AllWait held.old.items }
     requires within { IsWithin taken.old held.old.items }
@@ -149,8 +149,8 @@ fn take_run(held: &mut VecDeque<Frame>, taken: &mut usize, bytes: &mut Vec<u8>, 
     }
 }
 
-/// Takes what the first frame alone gives: its next `max` bytes where it has more, and all of it where a message ends behind it.
-/// `None` where the piece goes on behind it, and where no frame waits; then, and after want of memory, all is as before.
+/// Takes what the first frame alone gives: its next `max` bytes where it has more, and all of it where a message ends after it.
+/// `None` where the piece goes on after it, and where no frame waits; then, and where memory runs out, all is as before.
 fn take_first(
     alloc: Global,
     held: &mut VecDeque<Frame>,
@@ -185,7 +185,7 @@ fn take_first(
     Ok(Some(Piece { bytes, ended: true }))
 }
 
-/// Takes from the frames at the front until an end, `max` bytes, or the end of the queue; after want of memory all is as before.
+/// Takes from the frames at the start until an end, `max` bytes, or the end of the queue; where memory runs out all is as before.
 pub(crate) fn take_piece(
     alloc: Global,
     held: &mut VecDeque<Frame>,

@@ -19,7 +19,7 @@ use xti_base::Octets;
 const MOST_SYMBOLS: usize = 65_537;
 
 /// Encoded T_DATA_IND, T_EXDATA_IND and T_UNITDATA_IND that wait to be received, seen as a list of symbols: their bytes, and an
-/// end behind each frame whose MORE_flag is 0 and behind each datagram.
+/// end after each frame whose MORE_flag is 0 and after each datagram.
 #[derive(Drop)]
 pub struct ReadQueue {
     alloc: Global,
@@ -42,7 +42,7 @@ impl Model for ReadQueue {
     ghost invariant = { λ q. IsKept q.held.items q.taken q.bytes q.ends q.spare (deque_capacity q.held) };
 }
 
-/// Bytes of one message, and whether the message ended behind them.
+/// Bytes of one message, and whether the message ended after them.
 #[derive(Drop)]
 pub struct Piece {
     pub bytes: Octets,
@@ -66,7 +66,7 @@ impl ReadQueue {
         }
     }
 
-    /// Makes room for `n` more frames; after want of memory the queue is as before.
+    /// Makes room for `n` more frames; where memory runs out the queue is as before.
     pub fn reserve(&mut self, n: usize) -> Result<(), AllocError>
         ensures pushed { self.new.pushed ≡ self.old.pushed }
         ensures taken { self.new.taken ≡ self.old.taken }
@@ -100,8 +100,8 @@ impl ReadQueue {
         self.held.push_back_reserved(frame);
     }
 
-    /// Takes the longest run of bytes at the front, at most `max`, that passes no end of a message, and the end where it comes right
-    /// behind the run. Of a datagram the rest stays. After want of memory the queue is as before. The cost is in proportion to the
+    /// Takes the longest run of bytes at the start, at most `max`, that passes no end of a message, and the end where it comes right
+    /// after the run. Of a datagram the rest stays. Where memory runs out the queue is as before. The cost is in proportion to the
     /// bytes taken and the frames passed.
     pub fn take(&mut self, max: usize) -> Result<Piece, AllocError>
         ensures bytes { IfOk result (λ p. p.bytes ≡ waiting.front max (symbols self.old)) }

@@ -59,13 +59,13 @@ pub least_none : (test : Binding → Bool) (bs : List Binding) → AllByRecursio
 least_none test [] h = refl
 least_none test (b ∷ bs) h = rw (least_cons test b bs, h.0) (least_none test bs h.1)
 
--- of two lists, one behind the other
+-- of two lists, one after the other
 pub least_append : (test : Binding → Bool) (bs cs : List Binding) → least_of test (bs ++ cs) ≡ both (least_of test bs) (least_of test cs)
 least_append test [] cs = refl
 least_append test (b ∷ bs) cs =
     rw (least_cons test b (bs ++ cs), least_append test bs cs, least_cons test b bs, both_assoc (one test b) (least_of test bs) (least_of test cs)) refl
 
--- what stands behind isn't asked for
+-- what stands after isn't asked for
 pub least_front : (test : Binding → Bool) (bs : List Binding) (n : ℕ) → AllByRecursion (λ b. test b ≡ false) (drop n bs) → least_of test (take n bs) ≡ least_of test bs
 least_front test bs n h =
     let all : least_of test (take n bs ++ drop n bs) ≡ least_of test bs = ap (least_of test) (take-append-drop n bs) in

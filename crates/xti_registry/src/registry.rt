@@ -142,7 +142,7 @@ impl Registry {
         Some(place as u32)
     }
 
-    /// Makes room for one more address; after want of memory the table is as before.
+    /// Makes room for one more address; where memory runs out the table is as before.
     pub fn reserve(&mut self) -> Result<(), AllocError>
         ensures switch { self.new.switch ≡ self.old.switch }
         ensures kept { self.old.spare ≤ self.new.spare }

@@ -87,7 +87,7 @@ spot-line (line ∷ lines) from worker k s h = by (is_of worker line) refl k h (
 abbrev pub beginning : Call → Going
 beginning c = record { call = c; so_far = go.Begin }
 
--- the call of the worker's line at this place, behind the entries
+-- the call of the worker's line at this place, after the entries
 abbrev pub call_at : List Line → List Entry → ℕ → Spot → Call
 call_at lines past worker s = with_numbers (meanings (take s.place lines) worker past) s.line.call
 

@@ -1,4 +1,4 @@
--- The stall lines of a run are those of its workers that are not through.
+-- The stall lines of a run are those of its workers that are not finished.
 use Rattle.std.proofs.Common.{◌≡◌, ℕ, zero, suc, ◌+◌, ◌<◌, Bool, true, false, ◌&&◌, List, [], ◌∷◌, ◌++◌, length, get_or, set, take, ◌≤◌, ◌≢◌, Option, Some, None, refl, sym, ap, ◌∙◌, subst, arith, inl, inr, ◌↔◌}
 use Rattle.std.specs.Prelude.{is_none, if◌then◌else◌}
 use Rattle.std.specs.List.{list_all, flat_map}
@@ -17,7 +17,7 @@ use Rattle.xti_replay.specs.declared.workers.Worker.{Worker}
 use Rattle.xti_replay.specs.Stalls.{stall_of, stall_at, stalls_after, stalls_of, are_through}
 use Rattle.xti_replay.specs.Progress.{pending, AreReady, stalls_from}
 
--- a stall line for each worker that is not through
+-- a stall line for each worker that is not finished
 each-stall : (lines : List Line) (past : List Entry) (from n : ℕ) (ws : List Worker) → length ws ≡ n → ((k : ℕ) (d : Worker) (v : ℕ) → k < length ws → v ≡ from + k → pending (get_or ws k d).next ≡ next_going lines past v)
     → stalls_from from ws ≡ flat_map (stall_at lines past) (numbers from n)
 each-stall lines past from zero [] e h = refl
@@ -54,7 +54,7 @@ kept-stalls lines past ws k = by (is_through lines past 0) refl
         positive : (j : ℕ) → 0 < j → j ≡ 0 → ⊥
         positive j pos z = omega arith
 
--- No stall lines exactly where each worker is through.
+-- No stall lines exactly where each worker is finished.
 
 stall-through : (v : ℕ) (g : Option Going) (rest : List StallLine) → stall_of v g ++ rest ≡ [] → (is_none g ≡ true) × (rest ≡ [])
 stall-through v None rest h = (refl, h)

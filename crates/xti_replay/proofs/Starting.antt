@@ -75,7 +75,7 @@ told-apart lines line past number w t ne =
       whole = t.whole;
     }
 
--- The next call is the same where further lines are behind.
+-- The next call is the same where further lines follow.
 
 spots-append : (from : ℕ) (lines more : List Line) (worker : ℕ) → spots_from from (lines ++ more) worker ≡ spots_from from lines worker ++ spots_from (from + length lines) more worker
 spots-append from [] more worker = ap (λ (n : ℕ). spots_from n more worker) (let e : from ≡ from + 0 = omega arith in e)

@@ -38,7 +38,7 @@ pub record IsNext (lines : List Line) (past : List Entry) (number : ℕ) (next :
   pub going : pending next ≡ next_going lines past number
   pub built : is_built_or_none next ≡ true
 
--- the worker's next call where it may make it: worker 0 always, another one once worker 0 is through
+-- the worker's next call where it may make it: worker 0 always, another one once worker 0 is finished
 pub record IsReady (lines : List Line) (past : List Entry) (number : ℕ) (w : Worker) : Type 0 where
   pub own : (number ≡ 0) ⊎ (is_through lines past 0 ≡ true) → IsNext lines past number w.next
   pub idle : is_through lines past 0 ≡ false → (number ≡ 0 → ⊥) → w.next ≡ None
@@ -63,7 +63,7 @@ pub record AreReady (lines : List Line) (past : List Entry) (ws : List Worker) :
   pub many : length ws ≡ 33
   pub ready : Of (IsReady lines past) ws
 
--- worker 0 makes its calls while the lines are handed out: so many were, and it is through with its own among them
+-- worker 0 makes its calls while the lines are handed out: so many were, and it is finished with its own among them
 pub record IsStarting (lines : List Line) (place : ℕ) (past : List Entry) (r : Run) : Type 0 where
   pub many : length r.workers.items ≡ 33
   pub told : Of (Told (take place lines) past) r.workers.items
@@ -73,7 +73,7 @@ pub record IsStarting (lines : List Line) (place : ℕ) (past : List Entry) (r :
   pub idle : (number : ℕ) (d : Worker) → number < 33 → (slice_index_or r.workers.items number d).next ≡ None
   pub last : (r.last ≡ 0) × (last_worker 0 past ≡ 0)
 
--- worker 0 is through, and each worker stands as the entries so far have it
+-- worker 0 is finished, and each worker stands as the entries so far have it
 pub record InStep (lines : List Line) (past : List Entry) (r : Run) : Type 0 where
   pub workers : AreKept lines past r.workers.items
   pub through : is_through lines past 0 ≡ true
@@ -109,7 +109,7 @@ HandsOut lines place past taken all old new handed true None = (handed ≡ false
 HandsOut lines place past taken all old new handed true (Some t) =
     (handed ≡ true) × (new.world.cells ≡ t.world) × IsStarting lines (place + 1) (past ++ t.entry ∷ []) new × (taken past → all (past ++ t.entry ∷ []))
 
--- all lines are handed out and worker 0 is through, or it is blocked and all entries are made
+-- all lines are handed out and worker 0 is finished, or it is blocked and all entries are made
 pub record IsSetUp (p : Providers) (lines : List Line) (all : List Entry) (taken now : Taken) (r : Run) (up : Bool) : Type 0 where
   pub past : List Entry
   pub takes : taken [] → now past

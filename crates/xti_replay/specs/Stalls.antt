@@ -1,4 +1,4 @@
--- The stall lines of a journal: the steps that workers would make next, where a run ends and they are not through.
+-- The stall lines of a journal: the steps that workers would make next, where a run ends and they are not finished.
 use Rattle.std.specs.Prelude.{ℕ, Bool, List, [], ◌∷◌, Option, Some, None, if◌then◌else◌}
 use Rattle.std.specs.List.{list_all, flat_map}
 use Rattle.xti_model.specs.declared.entry.Entry.{Entry}
@@ -13,17 +13,17 @@ abbrev pub stall_of : ℕ → Option Going → List StallLine
 stall_of worker None = []
 stall_of worker (Some g) = record { worker = worker; act = act_of g.so_far g.call } ∷ []
 
--- the worker and its next step, and nothing where it is through
+-- the worker and its next step, and nothing where it is finished
 abbrev pub stall_at : List Line → List Entry → ℕ → List StallLine
 stall_at lines entries worker = stall_of worker (next_going lines entries worker)
 
--- worker 0's alone where it is not through; else one for each worker that is not through, by rising worker
+-- worker 0's alone where it is not finished; else one for each worker that is not finished, by rising worker
 unfoldable pub stalls_after : List Line → List Entry → List StallLine
 stalls_after lines entries = if is_through lines entries 0 then flat_map (stall_at lines entries) workers else stall_at lines entries 0
 
 abbrev pub stalls_of : Script → List StallLine
 stalls_of s = stalls_after s.lines (robin s)
 
--- every worker is through
+-- every worker is finished
 unfoldable pub are_through : List Line → List Entry → Bool
 are_through lines entries = list_all (is_through lines entries) workers

@@ -44,7 +44,7 @@ fn stall_lines(alloc: Global, mut workers: Vec<Worker>) -> Result<Stalls, AllocE
     Ok(stalls)
 }
 
-/// Runs a script: worker 0 makes its calls first, then the others take turns, until each is through or blocked. The recorder
+/// Runs a script: worker 0 makes its calls first, then the others take turns, until each is finished or blocked. The recorder
 /// takes the entries as they come; answers the stall lines.
 pub fn replay_into<H: Recorder>(
     alloc: Global,
@@ -55,7 +55,7 @@ pub fn replay_into<H: Recorder>(
     ensures entries { OnOk result ((first : H) → H.took first [] recorder.old → H.took first (robin s.now) recorder.new) }
     ensures stalls { IfOk result (λ stalls. stalls ≡ stalls_of s.now) }
 
-    // No stall lines exactly where every worker of the script is through.
+    // No stall lines exactly where every worker of the script is finished.
     ensures through { IfOk result (λ stalls. (stalls ≡ []) ↔ (are_through s.now.lines (robin s.now) ≡ true)) }
 
     // What the headline says of a run.

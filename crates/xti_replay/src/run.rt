@@ -115,7 +115,7 @@ impl Run {
         Ok(true)
     }
 
-    /// The call of the worker's next line; `None` where it is through.
+    /// The call of the worker's next line; `None` where it is finished.
     fn next_call(&self, lines: &[Line], number: usize) -> Result<Option<Call>, AllocError>
         requires lines { IsTrue (are_playable lines.now) }
         requires many { length self.now.workers.items ≡ 33 }
@@ -151,7 +151,7 @@ impl Run {
         Ok(())
     }
 
-    /// Makes the worker's next step; false where it is through or blocked.
+    /// Makes the worker's next step; false where it is finished or blocked.
     fn ask<H: Recorder>(
         &mut self,
         alloc: Global,

@@ -26,7 +26,7 @@ limit = 67108864
 abbrev pub replayed : Script → Journal
 replayed s = record { providers = s.providers; entries = robin s; stalls = stalls_of s }
 
--- 0 where all are through, else 3
+-- 0 where all are finished, else 3
 abbrev pub status_with : Bool → ℕ
 status_with true = 0
 status_with false = 3
@@ -54,9 +54,9 @@ abbrev pub command_of : List (List ℕ) → Option Command
 command_of (word ∷ []) = named word
 command_of other = None
 
--- The input spells a script: the journal of its run, with a stall line for each worker that is not through. The run is legal, has each worker's calls in script order, each once,
--- and ends early only where each worker that is not through is blocked; it has no more steps than the script has calls and bytes of arguments.
--- Status 0 where every worker is through, else 3.
+-- The input is a valid script: the journal of its run, with a stall line for each worker that is not finished. The run is legal, has each worker's calls in script order, each once,
+-- and ends early only where worker 0 is blocked in its setup, or each worker that is not finished is blocked; it has no more steps than the script has calls and bytes of arguments.
+-- Status 0 where every worker is finished, else 3.
 pub record IsReplayed (input : List ℕ) (status : ℕ) (text : List ℕ) : Type 0 where
   pub script : Script
   pub is_script : IsScript script input
@@ -67,19 +67,19 @@ pub record IsReplayed (input : List ℕ) (status : ℕ) (text : List ℕ) : Type
   pub complete : Complete script.providers (robin script) script.lines
   pub few : length (robin script) ≤ length script.lines + script_bytes script.lines
 
--- the input spells none: status 2, and the first line by which it does not
+-- the input is no valid script: status 2, and the first line by which it is not
 pub record IsRefusedInput (input : List ℕ) (status : ℕ) (text : List ℕ) : Type 0 where
   pub line : ℕ
   pub refused : IsRefusedAt input line
   pub done : status ≡ 2
   pub printed : text ≡ refused_line line
 
--- the input spells frames one after the other: status 0 and a line for each
+-- the input is frames one after the other: status 0 and a line for each
 pub record IsListed (input : List ℕ) (status : ℕ) (text : List ℕ) : Type 0 where
   pub done : status ≡ 0
   pub shown : IsShown input text
 
--- the input spells none: status 2, and the first byte by which it does not
+-- the input isn't frames: status 2, and the first byte by which it isn't
 pub record IsRefusedByte (input : List ℕ) (status : ℕ) (text : List ℕ) : Type 0 where
   pub at : ℕ
   pub wrong : IsFirstWrong input at
@@ -132,7 +132,7 @@ pub record IsWritten (words : List (List ℕ)) (left : Option (List ℕ)) (statu
   pub output : IsOutput words left status text
   pub taken : Takes before now text
 
--- a write failed behind a front of the text that some status would have come with
+-- a write failed after a prefix of the text that some status would have come with
 pub record IsCutOff (words : List (List ℕ)) (left : Option (List ℕ)) (before now : Option (List ℕ)) : Type 0 where
   pub status : ℕ
   pub text : List ℕ
@@ -141,7 +141,7 @@ pub record IsCutOff (words : List (List ℕ)) (left : Option (List ℕ)) (before
   pub part : written < length text
   pub taken : Takes before now (take written text)
 
--- what a source that tells its bytes had left spells a script, within the limit
+-- what a source that tells its bytes had left is a valid script, within the limit
 pub record HasScript (left : Option (List ℕ)) : Type 0 where
   pub script : Script
   pub input : List ℕ
@@ -149,7 +149,7 @@ pub record HasScript (left : Option (List ℕ)) : Type 0 where
   pub within : length input ≤ limit
   pub is_script : IsScript script input
 
--- what a source that tells its bytes had left spells frames, within the limit
+-- what a source that tells its bytes had left is frames, within the limit
 pub record HasFrames (left : Option (List ℕ)) : Type 0 where
   pub input : List ℕ
   pub told : left ≡ Some input

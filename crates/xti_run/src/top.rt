@@ -28,7 +28,7 @@ const LIMIT: usize = 67_108_864;
 /// How a run of the program ends.
 ///
 /// 0: done whole. 1: the words are no command. 2: the input is too long, or isn't in its form. 3: a worker of the
-/// script is blocked at the end. 4: want of memory. 5: reading failed. 6: writing failed.
+/// script is blocked at the end. 4: out of memory. 5: reading failed. 6: writing failed.
 #[derive(Clone, Copy, Debug, PartialEq, Eq)]
 pub struct Status(pub u8);
 
@@ -193,7 +193,7 @@ pub fn program<T: Threads + Wait + Sync, R: Source, W: Sink, G: Gate>(
     ensures range { result.0 < 7 }
     ensures words { result.0 ≡ 1 → command_of words.now ≡ None }
 
-    // With no fault the whole text is written, or memory was wanting.
+    // With no fault the whole text is written, or memory ran out.
     ensures settled { NoFault (R.faults source.old) (R.faults source.new) → NoFault (W.faults sink.old) (W.faults sink.new) → (result.0 ≡ 4) ⊎ IsWritten words.now (R.left source.old) result.0 (W.held sink.old) (W.held sink.new) }
     ensures complete { (command : Command) → command_of words.now ≡ Some command → HasInput command (R.left source.old) → NoFault (R.faults source.old) (R.faults source.new) → NoFault (W.faults sink.old) (W.faults sink.new) → IsDone command result.0 ⊎ (result.0 ≡ 4) }
 

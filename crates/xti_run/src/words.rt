@@ -54,7 +54,7 @@ impl Words {
         }
     }
 
-    /// Adds a word at the end; after want of memory the words are as before.
+    /// Adds a word at the end; where memory runs out the words are as before.
     pub fn push(&mut self, word: &str) -> Result<(), AllocError>
         ensures ok { OnOk result (self.new ≡ self.old ++ word.now ∷ []) }
         ensures err { OnErr result (self.new ≡ self.old) }

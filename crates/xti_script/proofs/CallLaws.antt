@@ -277,7 +277,7 @@ is_fields_call earlier worker c words h =
 
 -- ---- any call
 
--- a call by its word, or by what is tried behind it
+-- a call by its word, or by what is tried after it
 word_is : (earlier : List Line) (worker : ℕ) (first word : List ℕ) (words : List (List ℕ)) (c : NamedCall) (here other : Option NamedCall) (b : Bool) → bytes_eq first word ≡ b → (here ≡ Some c → IsCall earlier worker c (word ∷ words)) → (other ≡ Some c → IsCall earlier worker c (first ∷ words))
     → cond b here other ≡ Some c → IsCall earlier worker c (first ∷ words)
 word_is earlier worker first word words c here other true t fits later e = subst (λ (v : List ℕ). IsCall earlier worker c (v ∷ words)) (sym (is_word first word t)) (fits e)
@@ -364,7 +364,7 @@ is_line earlier text line h =
     let any : call_by earlier (Some line.worker) h.words ≡ Some line = rw call refl in
     rw (h.split, by) (rw any (rw (few, bytes) refl))
 
--- ---- lines behind the earlier ones
+-- ---- lines after the earlier ones
 
 abbrev done : List Line → Result (List Line) ℕ
 done x = Ok x

@@ -1,4 +1,4 @@
--- The first word of a line, and the words behind it.
+-- The first word of a line, and the words after it.
 use Rattle.std.proofs.Common.{◌≡◌, ℕ, zero, suc, ◌+◌, ◌-◌, min, ◌<◌, ◌≤◌, Bool, true, false, cond, not, eqb, List, [], ◌∷◌, length, get_or, take, drop, Some, None, ltb, refl, sym, ap, ◌∙◌, arith}
 use lib.Lanes.{chunk}
 use Rattle.std.specs.List.{onto_first, position, position_or_len}
@@ -40,7 +40,7 @@ behind p zero xs h = omega arith
 behind p (suc at) [] h = absurd (omega arith)
 behind p (suc at) (x ∷ xs) h = fails_first (p x) at (position_or_len p xs) (position_or_len p (drop at xs)) h (behind p at xs)
 
--- no space is before the chunk: it has the first one, or that is behind it
+-- no space is before the chunk: it has the first one, or that is after it
 pub before_is : (p : ℕ → Bool) (xs : List ℕ) (at n before : ℕ) → at ≤ position_or_len p xs → before ≡ position_or_len p (chunk at n xs) → before ≡ min n (position_or_len p xs - at)
 before_is p xs at n before h e =
     let a = behind p at xs h in
@@ -57,7 +57,7 @@ found_none p xs h =
     let no : ltb (position_or_len p xs) (length xs) ≡ false = le-ltb _ _ h in
     rw no refl
 
--- ---- the words behind it
+-- ---- the words after it
 
 never : (b : Bool) (i : ℕ) → cond b (Some i) None ≡ None → b ≡ false
 never true i e = absurd cc

@@ -134,7 +134,7 @@ same_front (o ∷ others) (f ∷ front) wrong tail e =
     let t : take (suc (length front)) (map some others ++ None ∷ []) ≡ take (suc (length front)) (map some front ++ Some wrong ∷ tail) = cc in
     same_later o f others front wrong h (same_front others front wrong tail t)
 
--- the front that was good begins a script
+-- the lines that were good begin a script
 begins : (front back : List (List ℕ)) (lines : List Line) (text : List ℕ) (m : ℕ) → AreLines [] lines front → lines_of text ≡ (codes "xti-script 1" ∷ front) ++ back → m ≤ length front + 1 → CanBegin text m
 begins front back lines text m good parts le =
     let head : List (List ℕ) = codes "xti-script 1" ∷ front in

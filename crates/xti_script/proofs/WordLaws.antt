@@ -64,7 +64,7 @@ number_none word b t e =
 
 -- ---- one value after the other
 
--- these values, and others behind them where there are some
+-- these values, and others after them where there are some
 abbrev pub before : {A : Type 0} → List A → Option (List A) → Option (List A)
 before xs None = None
 before xs (Some ys) = Some (xs ++ ys)

@@ -7,7 +7,7 @@ abbrev pub Fails : {A : Type 0} → ScriptFail → Result A ℕ → Type 0
 Fails (Bad line) read = read ≡ Err line
 Fails OutOfMemory read = Unit {0}
 
--- the same value, the same wrong line, or want of memory
+-- the same value, the same wrong line, or out of memory
 abbrev pub Gives : {A : Type 0} → Result A ScriptFail → Result A ℕ → Type 0
 Gives (Ok value) read = read ≡ Ok value
 Gives (Err e) read = Fails e read

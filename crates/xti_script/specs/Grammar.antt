@@ -1,4 +1,4 @@
--- The form of scripts, as a relation between a script and its text. A line is judged behind the earlier lines.
+-- The form of scripts, as a relation between a script and its text. A line is judged after the earlier lines.
 use Rattle.std.specs.Prelude.{◌≡◌, ℕ, ◌+◌, ◌==◌, ◌≤◌, ◌<◌, Bool, true, false, ◌&&◌, ◌||◌, ◌⊎◌, List, [], ◌∷◌, ◌++◌, length, codes, Some}
 use Rattle.std.specs.List.{list_any}
 use Rattle.xti_base.specs.declared.kinds.Prov.{Prov}
@@ -87,7 +87,7 @@ pub record IsLine (earlier : List Line) (line : Line) (text : List ℕ) : Type 0
   pub few_lines : length earlier < most_lines
   pub few_bytes : script_bytes earlier + argument_bytes line.call ≤ most_bytes
 
--- the lines behind the first
+-- the lines after the first
 abbrev pub AreLines : List Line → List Line → List (List ℕ) → Type 0
 AreLines earlier [] [] = Unit {0}
 AreLines earlier (line ∷ lines) (text ∷ texts) = IsLine earlier line text × AreLines (earlier ++ line ∷ []) lines texts

@@ -5,7 +5,7 @@ use Rattle.xti_script.specs.declared.script_text.ScriptFail.{ScriptFail}
 use Rattle.xti_script.specs.declared.script_text.ScriptFail.TheVariants.{Bad, OutOfMemory}
 use Rattle.xti_script.specs.Refused.{IsRefusedAt}
 
--- this script, or want of memory
+-- this script, or out of memory
 abbrev pub IsRead : Result Script ScriptFail → Script → Type 0
 IsRead (Ok read) s = read ≡ s
 IsRead (Err (Bad line)) s = ⊥

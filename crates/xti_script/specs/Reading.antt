@@ -1,4 +1,4 @@
--- Reading lines from left to right, each behind the earlier ones.
+-- Reading lines from left to right, each after the earlier ones.
 use Rattle.std.specs.Prelude.{ℕ, ◌+◌, ◌-◌, Bool, true, false, ◌&&◌, not, nat_eq, nat_lt, nat_le, List, [], ◌∷◌, ◌++◌, length, drop, codes, map, find, Option, Some, None, if◌then◌else◌, Result, Ok, Err}
 use Rattle.std.specs.Str.{bytes_eq}
 use Rattle.std.specs.List.{starts_with}
@@ -37,7 +37,7 @@ abbrev pub field_value : Key → List (List ℕ) → Option Value
 field_value key [] = usual_value key
 field_value key (word ∷ words) = written_value key (behind_key (key_word key) word)
 
--- the words behind the field
+-- the words after the field
 abbrev pub field_rest : Key → List (List ℕ) → List (List ℕ)
 field_rest key [] = []
 field_rest key (word ∷ words) = if starts_with nat_eq word (key_word key) then words else word ∷ words
@@ -127,7 +127,7 @@ any_line_of earlier (word ∷ words) = call_by earlier (worker_of word) words
 abbrev pub less : ℕ → ℕ → Option ℕ
 less left n = if nat_le n left then Some (left - n) else None
 
--- what is left of so many bytes behind a call after so many lines
+-- what is left of so many bytes after a call after so many lines
 unfoldable pub room_after : ℕ → ℕ → NamedCall → Option ℕ
 room_after count left call = if nat_lt count most_lines then less left (argument_bytes call) else None
 
@@ -156,12 +156,12 @@ extended earlier line = longer earlier (within earlier (Some line))
 abbrev pub with_call : List Line → ℕ → Option NamedCall → Bool × List Line
 with_call earlier worker call = longer earlier (within earlier (by_worker worker call))
 
--- the lines behind this one, where there is one; else the number of the line that is wrong
+-- the lines after this one, where there is one; else the number of the line that is wrong
 abbrev pub behind : {A : Type 0} → ℕ → Option Line → (Line → Result A ℕ) → Result A ℕ
 behind number None others = Err number
 behind number (Some line) others = others line
 
--- the lines from this number on, behind the earlier ones
+-- the lines from this number on, after the earlier ones
 unfoldable pub lines_from : ℕ → List Line → List (List ℕ) → Result (List Line) ℕ
 lines_from number earlier [] = Ok earlier
 lines_from number earlier (text ∷ texts) = behind number (line_of earlier (words_of text)) (λ line. lines_from (number + 1) (earlier ++ line ∷ []) texts)

@@ -7,11 +7,11 @@ abbrev pub lines_of : List ℕ → List (List ℕ)
 lines_of [] = []
 lines_of (c ∷ text) = if c == 10 then [] ∷ lines_of text else onto_first c (lines_of text)
 
--- the pieces that are parted by this byte
+-- the pieces that are separated by this byte
 abbrev pub pieces_of : ℕ → List ℕ → List (List ℕ)
 pieces_of separator text = slice_split (λ c. c == separator) text
 
--- words are parted by one space
+-- words are separated by one space
 abbrev pub words_of : List ℕ → List (List ℕ)
 words_of line = pieces_of 32 line
 
@@ -37,7 +37,7 @@ is_name (c ∷ cs) = is_lower c && (nat_le (length cs) 15 && list_all is_name_by
 abbrev pub is_text_byte : ℕ → Bool
 is_text_byte c = is_lower c || is_upper c || is_digit c || (c == 95) || (c == 46) || (c == 45)
 
--- what may stand behind `t:`: at least one byte, each a letter, a digit, _ . or -
+-- what may stand after `t:`: at least one byte, each a letter, a digit, _ . or -
 abbrev pub is_plain_text : List ℕ → Bool
 is_plain_text [] = false
 is_plain_text (c ∷ cs) = list_all is_text_byte (c ∷ cs)

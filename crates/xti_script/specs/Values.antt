@@ -7,7 +7,7 @@ use Rattle.xti_script.specs.FieldValue.{Value}
 use Rattle.xti_script.specs.FieldValue.{Value as value}
 use Rattle.xti_script.specs.Texts.{pieces_of, is_digit, is_plain_text}
 
--- the number of the digits, behind a number
+-- the number of the digits, after a number
 abbrev pub decimal_behind : ℕ → List ℕ → ℕ
 decimal_behind n [] = n
 decimal_behind n (c ∷ cs) = decimal_behind (n * 10 + (c - 48)) cs
@@ -60,7 +60,7 @@ abbrev pub each_in : {A : Type 0} → (List ℕ → Option A) → List (List ℕ
 each_in in_piece [] = Some []
 each_in in_piece (piece ∷ pieces) = onto (in_piece piece) (each_in in_piece pieces)
 
--- 1 to 32, parted by commas
+-- 1 to 32, separated by commas
 unfoldable pub list_in : {A : Type 0} → (List ℕ → Option A) → List ℕ → Option (List A)
 list_in in_piece word = if nat_le (length (pieces_of 44 word)) 32 then each_in in_piece (pieces_of 44 word) else None
 

@@ -2,12 +2,12 @@
 use Rattle.std.specs.Prelude.{ℕ, List, [], ◌∷◌, Option, Some, None}
 use Rattle.xti_script.specs.Texts.{words_of}
 
--- the words behind a word: those of the text behind its space
+-- the words after a word: those of the text after its space
 abbrev pub words_behind : Option (List ℕ) → List (List ℕ)
 words_behind None = []
 words_behind (Some text) = words_of text
 
--- the first word that is left, where there is one, and those behind it
+-- the first word that is left, where there is one, and those after it
 abbrev pub words_left : Option (List ℕ) → Option (List ℕ) → List (List ℕ)
 words_left None behind = []
 words_left (Some word) behind = word ∷ words_behind behind

@@ -141,7 +141,7 @@ fn worker_of(word: &[u8]) -> Option<u32>
     }
 }
 
-/// Adds the line that the text gives behind the others; false where it gives none.
+/// Adds the line that the text gives after the others; false where it gives none.
 #[tactic(auto, unfolding(crate::specs::Reading::any_line_of, crate::specs::Reading::line_of))]
 pub(crate) fn read_line(draft: &mut Draft, text: &[u8]) -> Added
     ensures { IfOk result (λ added. (added, draft.new) ≡ longer draft.old (line_of draft.old (words_of text.now))) }

@@ -63,7 +63,7 @@ fn less_two_and_parts(
     less_parts(less_two(left, first, second)?, parts)
 }
 
-/// What is left of so many bytes behind those of the call; `None` where the call has more.
+/// What is left of so many bytes after those of the call; `None` where the call has more.
 fn left_after(left: usize, call: &NamedCall) -> Option<usize>
     ensures { result ≡ less left (argument_bytes call.now) }
 {
@@ -96,7 +96,7 @@ fn left_after(left: usize, call: &NamedCall) -> Option<usize>
     }
 }
 
-/// What is left of so many bytes behind one more line after so many; `None` where a limit is in the way.
+/// What is left of so many bytes after one more line after so many; `None` where a limit is in the way.
 #[tactic(auto, unfolding(crate::specs::Reading::room_after))]
 fn room_after(count: usize, left: usize, call: &NamedCall) -> Option<usize>
     ensures { result ≡ room_after count left call.now }
@@ -108,10 +108,10 @@ fn room_after(count: usize, left: usize, call: &NamedCall) -> Option<usize>
     }
 }
 
-/// Whether a line was added, or want of memory.
+/// Whether a line was added, or out of memory.
 pub(crate) type Added = Result<bool, AllocError>;
 
-/// What is left of so many bytes behind the line, whose name is added; `None` where a limit is in the way.
+/// What is left of so many bytes after the line, whose name is added; `None` where a limit is in the way.
 fn admit(
     names: &mut [TextSet],
     alloc: Global,
@@ -132,8 +132,8 @@ fn admit(
     Ok(Some(left))
 }
 
-/// Adds the line, which is moved but once; what is left of so many bytes behind it. `None` where a limit is in the way:
-/// then, and for want of memory, nothing is added.
+/// Adds the line, which is moved but once; what is left of so many bytes after it. `None` where a limit is in the way:
+/// then, and where memory runs out, nothing is added.
 fn add_line(
     lines: &mut Vec<Line>,
     names: &mut [TextSet],
@@ -199,7 +199,7 @@ impl Draft {
         })
     }
 
-    /// Adds a line; false where a limit is in the way. The lines are as before then, and for want of memory.
+    /// Adds a line; false where a limit is in the way. The lines are as before then, and where memory runs out.
     pub(crate) fn add(&mut self, line: Line) -> Added
         requires { line.worker ≤ last_worker }
         ensures ok { IfOk result (λ added. (added, self.new) ≡ extended self.old line) }

@@ -85,7 +85,7 @@ fn usual_value(key: Key) -> Option<Usual>
     }
 }
 
-/// What is behind the key; `None` where the word doesn't begin with it.
+/// What is after the key; `None` where the word doesn't begin with it.
 fn behind_key<'a>(key: &[u8], word: &'a [u8]) -> Option<&'a [u8]>
     ensures { option_copied result ≡ behind_key key.now word.now }
 {
@@ -95,7 +95,7 @@ fn behind_key<'a>(key: &[u8], word: &'a [u8]) -> Option<&'a [u8]>
     Some(&word[key.len()..])
 }
 
-/// What is behind the key of the next word, where this is a field with the key; the word is taken then.
+/// What is after the key of the next word, where this is a field with the key; the word is taken then.
 fn field_text<'a>(key: Key, words: &mut Words<'a>) -> Option<&'a [u8]>
     ensures text { written_value key (option_copied result) ≡ field_value key words.old }
     ensures rest { words.new ≡ field_rest key words.old }

@@ -59,7 +59,7 @@ pub(crate) fn empty_sets(alloc: Global) -> Result<Vec<TextSet>, AllocError>
     Ok(sets)
 }
 
-/// Adds the name that the line defines; for want of memory the names are as before.
+/// Adds the name that the line defines; where memory runs out the names are as before.
 pub(crate) fn add_name(alloc: Global, sets: &mut [TextSet], line: &Line) -> Result<(), AllocError>
     requires { line.now.worker < length sets.old }
     ensures ok { OnOk result ((worker : ℕ) (name : List ℕ) → has_at sets.new worker name ≡ (has_at sets.old worker name || is_own worker name line.now)) }

@@ -23,7 +23,7 @@ pub enum ScriptFail {
     /// The text is no script; the first line by which it isn't, from 1.
     #[error("the text is no script from line {line} on")]
     Bad { line: u64 },
-    /// Want of memory.
+    /// Out of memory.
     #[error("out of memory")]
     OutOfMemory,
 }
@@ -68,8 +68,8 @@ fn read_all_lines(alloc: Global, text: &[u8]) -> Result<Lines, ScriptFail>
     }
 }
 
-/// The script that the text spells. Errors: `Bad` where it spells none, with the first line by which it
-/// doesn't; `OutOfMemory` for want of memory.
+/// The script whose text this is. Errors: `Bad` where there is none, with the first line by which the text is no script;
+/// `OutOfMemory` where memory runs out.
 pub fn read_script(alloc: Global, text: &[u8]) -> Result<Script, ScriptFail>
     // What is read is a script with this text.
     ensures found { IfOk result (λ s. IsScript s text.now) }

@@ -8,7 +8,7 @@ ghost use Rattle.xti_script.specs.Reading.{views};
 use memchr::memchr;
 use std::alloc::{AllocError, Global};
 
-/// 1 at each byte that may stand behind `t:`: letters, digits, `_`, `.` and `-`.
+/// 1 at each byte that may stand after `t:`: letters, digits, `_`, `.` and `-`.
 #[rattlefmt::skip]
 static TEXT_BYTES: [u8; 256] = [
     0, 0, 0, 0, 0, 0, 0, 0, 0, 0, 0, 0, 0, 0, 0, 0, 0, 0, 0, 0, 0, 0, 0, 0, 0, 0, 0, 0, 0, 0, 0, 0,
@@ -21,7 +21,7 @@ static TEXT_BYTES: [u8; 256] = [
     0, 0, 0, 0, 0, 0, 0, 0, 0, 0, 0, 0, 0, 0, 0, 0, 0, 0, 0, 0, 0, 0, 0, 0, 0, 0, 0, 0, 0, 0, 0, 0,
 ];
 
-/// The first line, and what is behind its end.
+/// The first line, and what is after its end.
 pub(crate) fn first_line(text: &[u8]) -> (&[u8], &[u8])
     requires { 0 < length text.now }
     ensures lines { lines_of text.now ≡ result.0.now ∷ lines_of result.1.now }
@@ -118,7 +118,7 @@ fn are_text_bytes(text: &[u8]) -> bool
     are_marked(rest)
 }
 
-/// Whether the text may stand behind `t:`.
+/// Whether the text may stand after `t:`.
 pub(crate) fn is_plain_text(text: &[u8]) -> bool
     ensures { result ≡ is_plain_text text.now }
 {

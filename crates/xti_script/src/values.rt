@@ -45,7 +45,7 @@ fn is_decimal(word: &[u8]) -> bool
     }
 }
 
-/// The number that a word spells: decimal, without leading zeros, in 32 bits.
+/// The number that a word is, decimal, without leading zeros, in 32 bits.
 pub(crate) fn number_in(word: &[u8]) -> Option<u32>
     ensures { result ≡ number_in word.now }
 {
@@ -103,7 +103,7 @@ fn plain_bytes(alloc: Global, text: &[u8]) -> Result<Option<Octets>, AllocError>
     Ok(Some(Octets::copy_of(alloc, text)?))
 }
 
-/// The bytes that a word spells: `t:` and plain text, or `x:` and pairs of hexadecimal digits.
+/// The bytes that a word stands for: `t:` and plain text, or `x:` and pairs of hexadecimal digits.
 #[tactic(auto, unfolding(crate::specs::Values::bytes_in))]
 pub(crate) fn bytes_in(alloc: Global, word: &[u8]) -> Result<Option<Octets>, AllocError>
     ensures { IfOk result (λ bytes. bytes ≡ bytes_in word.now) }
@@ -143,7 +143,7 @@ fn each_number(alloc: Global, pieces: &[&[u8]]) -> Result<Option<Sizes>, AllocEr
     Ok(Some(sizes))
 }
 
-/// The byte words that a word spells, parted by commas.
+/// The byte words that a word has, separated by commas.
 #[tactic(auto, unfolding(crate::specs::Values::list_in))]
 pub(crate) fn parts_in(alloc: Global, word: &[u8]) -> Result<Option<Parts>, AllocError>
     ensures { IfOk result (λ parts. parts ≡ list_in bytes_in word.now) }
@@ -156,7 +156,7 @@ pub(crate) fn parts_in(alloc: Global, word: &[u8]) -> Result<Option<Parts>, Allo
     }
 }
 
-/// The numbers that a word spells, parted by commas.
+/// The numbers that a word has, separated by commas.
 #[tactic(auto, unfolding(crate::specs::Values::list_in))]
 pub(crate) fn sizes_in(alloc: Global, word: &[u8]) -> Result<Option<Sizes>, AllocError>
     ensures { IfOk result (λ sizes. sizes ≡ list_in number_in word.now) }

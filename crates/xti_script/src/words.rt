@@ -47,7 +47,7 @@ fn word_end(text: &[u8]) -> Option<usize>
     None
 }
 
-/// The first word of a line, and what is behind its space; `None` where it is the last word.
+/// The first word of a line, and what is after its space; `None` where it is the last word.
 fn first_word(line: &[u8]) -> (&[u8], Option<&[u8]>)
     ensures { words_of line.now ≡ result.0.now ∷ words_behind (option_copied result.1) }
 {
@@ -61,7 +61,7 @@ fn first_word(line: &[u8]) -> (&[u8], Option<&[u8]>)
 #[derive(Drop)]
 pub(crate) struct Words<'a> {
     first: Option<&'a [u8]>,
-    /// What is behind the first word and its space.
+    /// What is after the first word and its space.
     behind: Option<&'a [u8]>,
 }
 

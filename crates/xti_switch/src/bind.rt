@@ -110,7 +110,7 @@ fn bind_to(
     Ok(done(lent, fd, Reply::Bound { addr, qlen }))
 }
 
-/// Gives the open endpoint the address; after want of memory all is as before.
+/// Gives the open endpoint the address; where memory runs out all is as before.
 fn give(lent: &mut Lent, fd: Fd, prov: Prov, address: Octets, qlen: u32) -> Result<(), AllocError>
     requires fit { IsFit lent.old }
     requires switch { is_some lent.old.registry ≡ true }

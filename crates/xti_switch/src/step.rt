@@ -19,7 +19,7 @@ use xti_lent::Lent;
 use xti_model::{Applied, Call};
 
 /// One step of t_open, t_close, t_bind or t_unbind on the cells that the call touches: what it answers, and the state of its
-/// endpoint afterwards. None of them is ever blocked. After want of memory all is as before.
+/// endpoint afterwards. None of them is ever blocked. Where memory runs out all is as before.
 #[tactic(auto, unfolding(xti_model::specs::Step::step, xti_model::specs::Step::plan))]
 pub fn switch_step(lent: &mut Lent, call: &Call) -> Result<Applied, AllocError>
     requires call { changes_switch call.now ≡ true }

@@ -5,7 +5,7 @@ use std::alloc::{AllocError, Global};
 use std::test::*;
 use xti_base::Octets;
 
-/// Lines, each with what is behind it, that are refused behind the same lines before, and the output of each replay.
+/// Lines, each with what is after it, that are refused after the same lines before, and the output of each replay.
 #[derive(Clone, Copy)]
 struct Group {
     before: &'static [u8],
@@ -133,7 +133,7 @@ const GROUPS: [Group; 3] = [
     },
 ];
 
-/// An input with one part repeated, and the output of its replay. Where the part is within a bound, the line behind it
+/// An input with one part repeated, and the output of its replay. Where the part is within a bound, the line after it
 /// is the one that is refused.
 #[derive(Clone, Copy)]
 struct Repeated {

@@ -124,7 +124,7 @@ fn faults(rt: HostRuntime) -> Result<(), Fail> {
     Ok(())
 }
 
-// The contract of the program leaves want of memory open, so a body that always answers it would be proved: here it
+// The contract of the program leaves open when memory runs out, so a body that always answers that would be proved: here it
 // is refused.
 #[test]
 fn no_faults(rt: HostRuntime) -> Result<(), Fail> {

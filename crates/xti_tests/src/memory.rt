@@ -1,4 +1,4 @@
-//! With memory at hand these calls don't answer want of memory. Runs of scripts make the calls of the crates between them.
+//! With memory at hand these calls don't answer out of memory. Runs of scripts make the calls of the crates between them.
 
 use std::alloc::{AllocError, Global};
 use std::test::*;

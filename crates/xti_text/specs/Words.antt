@@ -1,4 +1,4 @@
--- Words of printed lines: each is written behind the text that parts it from the word before, as " " or " addr=".
+-- Words of printed lines: each is written after the text that separates it from the word before, as " " or " addr=".
 use Rattle.std.specs.Prelude.{ℕ, ℤ, ◌+◌, ◌/◌, ◌%◌, List, [], ◌∷◌, ◌++◌, codes, decimal, if◌then◌else◌, nat_lt}
 use Rattle.std.specs.List.{flat_map}
 use Rattle.std.specs.Fmt.{signed_decimal}

@@ -1,4 +1,4 @@
-//! The words of printed lines, each written behind the text that parts it from the word before.
+//! The words of printed lines, each written after the text that separates it from the word before.
 #![tactic(auto)]
 
 ghost use Rattle.std.specs.Prelude.{◌≡◌, ◌*◌, ◌+◌, ◌/◌, ◌%◌, ◌∷◌, [], ◌++◌, ◌<◌, ◌≤◌, OnOk, length, codes, decimal};
@@ -128,7 +128,7 @@ pub fn put_octets(out: &mut Vec<u8>, key: &str, bytes: &[u8]) -> Result<(), Allo
     put_pairs(out, "x:", bytes)
 }
 
-/// Appends two hexadecimal digits for each byte, behind a text that ends in `x:`, as " addr=x:".
+/// Appends two hexadecimal digits for each byte, after a text that ends in `x:`, as " addr=x:".
 #[inline(always)]
 pub fn put_pairs(out: &mut Vec<u8>, key: &str, bytes: &[u8]) -> Result<(), AllocError>
     ensures { OnOk result (out.new.items ≡ out.old.items ++ key.now ++ flat_map hex_pair bytes.now) }
