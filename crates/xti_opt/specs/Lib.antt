@@ -1,3 +1,4 @@
 pub mod Read
 pub mod Written
 pub mod Table
+pub mod Answers
