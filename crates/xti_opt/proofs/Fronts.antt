@@ -107,3 +107,16 @@ size_alone bytes h =
     let n : front_length (take (front_size bytes) bytes) ≡ front_length bytes =
     sym (word_kept 0 (take (front_size bytes) bytes) (drop (front_size bytes) bytes) (omega (arith, sizes.0, size))) ∙ ap front_length whole in
     ap (λ k. k + filling k) n ∙ sym size
+
+-- where an option begins, its header, its value and the bytes that fill it up stand there
+pub header_stands : (bytes : List ℕ) → begins_option bytes ≡ true → 16 ≤ length bytes
+header_stands bytes h = let lengths = length_within bytes h in omega (arith, lengths.0, lengths.1)
+
+pub value_after_header : (bytes : List ℕ) → begins_option bytes ≡ true → 16 ≤ word 0 bytes
+value_after_header bytes h = (length_within bytes h).0
+
+pub value_stands : (bytes : List ℕ) → begins_option bytes ≡ true → word 0 bytes ≤ length bytes
+value_stands bytes h = (length_within bytes h).1
+
+pub option_stands : (bytes : List ℕ) (n : ℕ) → (begins_option bytes ≡ true) × (n ≡ front_size bytes) → n ≤ length bytes
+option_stands bytes n h = rw (h.1) (front_within bytes h.0).1

@@ -3,3 +3,4 @@ pub mod Fronts
 pub mod Lists
 pub mod Spelling
 pub mod Negotiating
+pub mod InBytes

@@ -2,3 +2,4 @@ pub mod Read
 pub mod Written
 pub mod Table
 pub mod Answers
+pub mod Requests

@@ -2,10 +2,12 @@
 #![tactic(auto)]
 
 mod answers;
+mod front;
 mod laws;
 mod negotiation;
 mod numbers;
 mod reading;
+mod requests;
 mod settings;
 mod writing;
 
@@ -16,6 +18,7 @@ pub use numbers::{
     T_SUCCESS, XTI_GENERIC, XTI_RCVBUF, XTI_RCVLOWAT, XTI_SNDBUF, XTI_SNDLOWAT,
 };
 pub use reading::{OptRead, read_options};
+pub use requests::{OptRefusal, answer_size, negotiate_bytes};
 pub use settings::Settings;
 pub use writing::write_options;
 pub use xti_base::Opt;

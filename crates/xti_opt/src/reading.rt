@@ -1,10 +1,11 @@
 //! Reading lists of options.
 
 ghost use Rattle.std.specs.Prelude.{◌≡◌, ◌≤◌, ◌<◌, ◌↔◌, ℕ, All, true, not, length, Some, IfOk, IsErrOf, MatchOption};
-ghost use Rattle.xti_base.specs.Options.{word, front_length, front_option, read_options, is_option_list, the_options, options_bytes, IsOption, IsFirstWrongOption};
+ghost use Rattle.xti_base.specs.Options.{front_length, front_option, read_options, is_option_list, the_options, options_bytes, IsOption, IsFirstWrongOption};
 ghost use Rattle.xti_opt.specs.Read.{is_bad};
 
 use crate::OptList;
+use crate::front::word_at;
 use std::alloc::{AllocError, Global};
 use thiserror::Error;
 use xti_base::{Octets, Opt, size_of_front};
@@ -88,16 +89,6 @@ fn option_at_front(alloc: Global, bytes: &[u8]) -> Result<Opt, AllocError>
         status: word_at(bytes, 3),
         value: Octets::copy_of(alloc, &bytes[16..length])?,
     })
-}
-
-/// The big-endian word at this place, from 0, of the four of an option's header.
-fn word_at(bytes: &[u8], place: usize) -> u32
-    requires header { 16 ≤ length bytes.now }
-    requires place { place < 4 }
-    ensures { result ≡ word place bytes.now }
-{
-    let at = 4 * place;
-    u32::from_be_bytes([bytes[at], bytes[at + 1], bytes[at + 2], bytes[at + 3]])
 }
 
 #[cfg(test)]
