@@ -46,7 +46,7 @@ le_trans a b c h k = omega arith
 abbrev start : Settings → Negotiated
 start s = record { settings = s; options = []; result = t_success }
 
--- what was answered before, and this behind it
+-- what was answered before, and this after it
 abbrev pub behind : List Opt → ℕ → Negotiated → Negotiated
 behind os result n = record { settings = n.settings; options = os ++ n.options; result = worse result n.result }
 
@@ -137,7 +137,7 @@ one_from action n (o ∷ os) one = one_from action (next action n o) os (next_is
 pub result_is_one : (s : Settings) (action : ℕ) (os : List Opt) → IsOneOf (negotiate s action os)
 result_is_one s action os = one_from action (start s) os (inl refl)
 
--- one more option, answered behind those before it
+-- one more option, answered after those before it
 pub negotiate_more : (s : Settings) (action : ℕ) (os : List Opt) (i : ℕ) (o : Opt) → i < length os → o ≡ get_or os i o
     → negotiate s action (take (i + 1) os) ≡ next action (negotiate s action (take i os)) o
 negotiate_more s action os i o h e =

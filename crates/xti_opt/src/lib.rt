@@ -2,7 +2,7 @@
 #![tactic(auto)]
 
 mod answers;
-mod front;
+mod first;
 mod laws;
 mod negotiation;
 mod numbers;
@@ -22,6 +22,9 @@ pub use requests::{OptRefusal, answer_size, negotiate_bytes};
 pub use settings::Settings;
 pub use writing::write_options;
 pub use xti_base::Opt;
+
+#[cfg(test)]
+mod tests;
 
 /// Options, in order.
 pub type OptList = xti_base::Items<Opt>;

@@ -37,8 +37,8 @@ impl From<AllocError> for OptFail {
     }
 }
 
-/// Negotiates the options (XNS, t_optmgmt): each is answered in its place, from front to back, with its result as its
-/// status, and what T_NEGOTIATE sets is set. Answers the options and the overall result, which is the worst single one.
+/// Negotiates the options (XNS, t_optmgmt): each is answered in its place, one after the other, with its result as
+/// its status, and what T_NEGOTIATE sets is set. Answers the options and the overall result, which is the worst single one.
 /// After an error the settings are unchanged.
 /// Errors: `BadFlag` exactly where there is no such action; else `BadOption` exactly where two options have different
 /// levels; else `OutOfMemory` where memory runs out.
@@ -70,7 +70,7 @@ pub fn negotiate(
     Ok(told)
 }
 
-/// The options answered from front to back, and the worst result. Where memory runs out, the settings are those behind
+/// The options answered one after the other, and the worst result. Where memory runs out, the settings are those after
 /// some of the options.
 fn negotiate_each(
     alloc: Global,

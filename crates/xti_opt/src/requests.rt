@@ -7,7 +7,7 @@ ghost use Rattle.xti_opt.specs.Answers.{answer_of, meaning_at};
 ghost use Rattle.xti_opt.specs.Requests.{is_request, told};
 
 use crate::answers::{Answer, Subject, only_asks, worse};
-use crate::front::split_front;
+use crate::first::split_first;
 use crate::negotiation::is_action;
 use crate::numbers::T_SUCCESS;
 use crate::settings::Settings;
@@ -36,9 +36,9 @@ pub fn answer_size(action: u32, request: &[u8]) -> Result<usize, OptRefusal>
     look_at(action, request)?;
     let mut size = 0;
     let mut rest = request;
-    while let Some(option) = split_front(rest) {
+    while let Some(option) = split_first(rest) {
         size += size_of_answer(action, option.level, option.name, option.value);
-        rest = option.behind;
+        rest = option.rest;
     }
     Ok(size)
 }
@@ -69,11 +69,11 @@ pub fn negotiate_bytes(
     look_at(action, request)?;
     let mut overall = T_SUCCESS;
     let mut rest = request;
-    while let Some(option) = split_front(rest) {
+    while let Some(option) = split_first(rest) {
         let answer = settings.negotiate_one(action, option.level, option.name, option.value);
         write_answer(room, option.level, option.name, answer);
         overall = worse(overall, answer.result);
-        rest = option.behind;
+        rest = option.rest;
     }
     Ok(overall)
 }
@@ -99,15 +99,15 @@ fn is_one_level(request: &[u8]) -> bool
     requires { is_option_list request.now ≡ true }
     ensures { result ≡ is_one_level (the_options request.now) }
 {
-    let Some(first) = split_front(request) else {
+    let Some(first) = split_first(request) else {
         return true;
     };
-    let mut rest = first.behind;
-    while let Some(option) = split_front(rest) {
+    let mut rest = first.rest;
+    while let Some(option) = split_first(rest) {
         if option.level != first.level {
             return false;
         }
-        rest = option.behind;
+        rest = option.rest;
     }
     true
 }

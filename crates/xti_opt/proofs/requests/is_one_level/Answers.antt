@@ -2,7 +2,7 @@ use Rattle.std.proofs.Common.{◌∙◌, ap, sym, arith}
 use Rattle.std.specs.List.{list_all}
 use Rattle.xti_base.specs.Negotiation.{has_level, is_one_level}
 use Rattle.xti_opt.proofs.Lists.{no_more}
-use Rattle.xti_opt.proofs.InBytes.{front_behind, front_shorter, level_of_first, another_level, same_level}
+use Rattle.xti_opt.proofs.InBytes.{rest_is_list, rest_is_shorter, level_of_first, another_level, same_level}
 use Rattle.xti_opt.proofs.requests.is_one_level.Goals as goal
 
 pub returns-in_default : goal.returns-in_default
@@ -10,23 +10,23 @@ returns-in_default c = sym (ap is_one_level (no_more c.args.request.now c.requir
 
 pub loop-option-init : goal.loop-option-init
 loop-option-init c =
-    (front_behind c.args.request.now c.in-Some.first c.in-Some.ensures c.requires, level_of_first c.args.request.now c.in-Some.first c.in-Some.ensures c.requires)
+    (rest_is_list c.args.request.now c.in-Some.first c.in-Some.ensures c.requires, level_of_first c.args.request.now c.in-Some.first c.in-Some.ensures c.requires)
 
 pub returns-then-option-first : goal.returns-then-option-first
 returns-then-option-first c =
-    sym (another_level c.in-Some.first.level c.loop-option.rest.now c.in-Some-split_front.option c.in-Some-split_front.ensures c.loop-option.invariant.0 c.if-option-first.true) ∙ c.loop-option.invariant.1
+    sym (another_level c.in-Some.first.level c.loop-option.rest.now c.in-Some-split_first.option c.in-Some-split_first.ensures c.loop-option.invariant.0 c.if-option-first.true) ∙ c.loop-option.invariant.1
 
 pub loop-option-smaller : goal.loop-option-smaller
-loop-option-smaller c = omega (arith, front_shorter c.loop-option.rest.now c.in-Some-split_front.option c.in-Some-split_front.ensures)
+loop-option-smaller c = omega (arith, rest_is_shorter c.loop-option.rest.now c.in-Some-split_first.option c.in-Some-split_first.ensures)
 
 pub loop-option-preserved : goal.loop-option-preserved
 loop-option-preserved c =
     let rest = c.loop-option.rest.now in
-    let option = c.in-Some-split_front.option in (
-      front_behind rest option c.in-Some-split_front.ensures c.loop-option.invariant.0,
-      same_level c.in-Some.first.level rest option c.in-Some-split_front.ensures c.loop-option.invariant.0 c.if-option-first.false ∙ c.loop-option.invariant.1,
+    let option = c.in-Some-split_first.option in (
+      rest_is_list rest option c.in-Some-split_first.ensures c.loop-option.invariant.0,
+      same_level c.in-Some.first.level rest option c.in-Some-split_first.ensures c.loop-option.invariant.0 c.if-option-first.false ∙ c.loop-option.invariant.1,
     )
 
 pub returns : goal.returns
 returns c =
-    sym (ap (list_all (has_level c.in-Some.first.level)) (no_more c.loop-option.rest.now c.loop-option.invariant.0 c.in_default-split_front.ensures)) ∙ c.loop-option.invariant.1
+    sym (ap (list_all (has_level c.in-Some.first.level)) (no_more c.loop-option.rest.now c.loop-option.invariant.0 c.in_default-split_first.ensures)) ∙ c.loop-option.invariant.1

@@ -3,7 +3,7 @@ use Rattle.xti_base.specs.Options.{options_bytes}
 use Rattle.xti_base.specs.Negotiation.{is_action}
 use Rattle.xti_opt.specs.Answers.{answer_of}
 use Rattle.xti_opt.specs.Requests.{is_request}
-use Rattle.xti_opt.proofs.InBytes.{front_shorter, space_left, one_further, all_negotiated}
+use Rattle.xti_opt.proofs.InBytes.{rest_is_shorter, space_left, one_further, all_negotiated}
 use Rattle.xti_opt.proofs.requests.negotiate_bytes.Goals as goal
 
 pub write_answer-requires : goal.write_answer-requires
@@ -13,7 +13,7 @@ write_answer-requires c =
     c.loop-option.invariant (c.requires.space fine) c.in-Some.option (answer_of c.negotiate_one-answer.result) c.in-Some.ensures c.negotiate_one-answer.ensures.answer
 
 pub loop-option-smaller : goal.loop-option-smaller
-loop-option-smaller c = omega (arith, front_shorter c.loop-option.rest.now c.in-Some.option c.in-Some.ensures)
+loop-option-smaller c = omega (arith, rest_is_shorter c.loop-option.rest.now c.in-Some.option c.in-Some.ensures)
 
 pub loop-option-preserved : goal.loop-option-preserved
 loop-option-preserved c =

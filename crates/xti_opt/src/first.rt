@@ -1,32 +1,32 @@
-//! The option at the front of bytes.
+//! The first option of bytes.
 
 ghost use Rattle.std.specs.Prelude.{◌≡◌, ◌≤◌, ◌<◌, false, length, MatchOption};
 ghost use Rattle.xti_base.specs.Options.{word, begins_option};
-ghost use Rattle.xti_opt.specs.Requests.{IsFront};
+ghost use Rattle.xti_opt.specs.Requests.{IsFirst};
 
 use xti_base::size_of_front;
 
-/// The option at the front of bytes, lent, and the bytes behind it.
+/// The first option of bytes, lent, and the bytes after it.
 #[derive(Clone, Copy)]
-pub(crate) struct Front<'a> {
+pub(crate) struct First<'a> {
     pub(crate) level: u32,
     pub(crate) name: u32,
     pub(crate) value: &'a [u8],
-    pub(crate) behind: &'a [u8],
+    pub(crate) rest: &'a [u8],
 }
 
-/// What stands at the front; `None` exactly if no option does. Takes no memory.
+/// The first option; `None` exactly if the bytes begin with none. Takes no memory.
 #[tactic(auto, using(crate::proofs::Fronts::header_stands, crate::proofs::Fronts::value_after_header, crate::proofs::Fronts::value_stands, crate::proofs::Fronts::option_stands))]
-pub(crate) fn split_front(bytes: &[u8]) -> Option<Front<'_>>
-    ensures { MatchOption result (begins_option bytes.now ≡ false) (IsFront bytes.now) }
+pub(crate) fn split_first(bytes: &[u8]) -> Option<First<'_>>
+    ensures { MatchOption result (begins_option bytes.now ≡ false) (IsFirst bytes.now) }
 {
     let size = size_of_front(bytes)?;
     let length = word_at(bytes, 0) as usize;
-    Some(Front {
+    Some(First {
         level: word_at(bytes, 1),
         name: word_at(bytes, 2),
         value: &bytes[16..length],
-        behind: &bytes[size..],
+        rest: &bytes[size..],
     })
 }
 
