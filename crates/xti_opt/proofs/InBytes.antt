@@ -1,16 +1,17 @@
 -- Negotiating options that stand in bytes.
-use Rattle.std.proofs.Common.{◌≡◌, ◌≤◌, ◌+◌, ◌∙◌, ◌==◌, ◌&&◌, sym, ℕ, List, [], ◌∷◌, ◌++◌, length, Bool, true, false, refl, ap, arith, nat_le, append_assoc, append-nil, length-append, length-drop, if◌then◌else◌, None}
+use Rattle.std.proofs.Common.{◌≡◌, ◌≤◌, ◌+◌, ◌∙◌, ◌==◌, ◌&&◌, sym, ℕ, List, [], ◌∷◌, ◌++◌, length, true, false, refl, ap, arith, append_assoc, append-nil, length-append, length-drop}
 use Rattle.std.specs.List.{list_all}
 use Rattle.std.proofs.lemmas.Bool.Decides.{nat_tests}
 use Rattle.xti_base.specs.declared.options.Opt.{Opt}
 use Rattle.xti_base.specs.Room.{Roomy}
-use Rattle.xti_base.specs.Options.{word, word_bytes, begins_option, front_option, front_size, option_bytes, options_bytes, is_option_list, the_options, filling}
-use Rattle.xti_base.specs.Negotiation.{Settings, Negotiated, Answer, Meaning, send_size, receive_size, low_water, unknown, meaning, answer_meant, set_meant, answered, worse, only_asks, asked_size, sized, has_level, is_one_level, negotiate_from, negotiate, t_success, t_negotiate, t_check, t_current, most_room}
+use Rattle.xti_base.specs.Options.{begins_option, front_option, front_size, option_bytes, options_bytes, is_option_list, the_options, filling}
+use Rattle.xti_base.specs.Negotiation.{Settings, Negotiated, Answer, meaning, answer_meant, set_meant, answered, worse, has_level, is_one_level, negotiate_from, negotiate, t_success}
 use Rattle.xti_base.proofs.OptionLists.{front_within}
 use Rattle.xti_opt.specs.declared.first.First.{First}
 use Rattle.xti_opt.specs.Answers.{meaning_at}
 use Rattle.xti_opt.specs.Requests.{IsFirst, told}
 use Rattle.xti_opt.proofs.Lists.{options_front, behind_is_list, no_more}
+use Rattle.xti_opt.proofs.Values.{value_length}
 use Rattle.xti_opt.proofs.Spelling.{options_bytes-append, length-option_bytes}
 use Rattle.xti_opt.proofs.Negotiating.{negotiated, next, next_is, negotiate-append}
 
@@ -131,36 +132,6 @@ pub all_negotiated : (before : Settings) (room : Roomy) (action : ℕ) (request 
     → negotiated settings so_far.answers overall ≡ negotiate before action (the_options request)
 all_negotiated before room action request settings overall written rest so_far none =
     ap (negotiate_from (negotiated settings so_far.answers overall) action) (sym (no_more rest so_far.is_list none)) ∙ so_far.same
-
-either : (b : Bool) (x y : Answer) (n : ℕ) → length x.value ≡ n → length y.value ≡ n → length (if b then x else y).value ≡ n
-either true x y n e f = e
-either false x y n e f = f
-
-sized_word : (current n : ℕ) → length (sized current n).value ≡ 4
-sized_word current n = either (n == 0) _ _ 4 refl (either (nat_le n most_room) _ _ 4 refl refl)
-
-asked_word : (current : ℕ) (value : List ℕ) → length (asked_size current value).value ≡ 4
-asked_word current value = either (length value == 4) _ _ 4 (sized_word current (word 0 value)) refl
-
-same_value : (b : Bool) (x y z : Answer) → length x.value ≡ length y.value → length (if b then z else x).value ≡ length (if b then z else y).value
-same_value true x y z e = refl
-same_value false x y z e = e
-
-buffer_word : (action current start : ℕ) (value : List ℕ)
-    → length (if action == t_negotiate then asked_size current value else
-    if action == t_check then record (asked_size current value) { sets = None } else
-    if action == t_current then record { result = t_success; value = word_bytes current; sets = None } else record { result = t_success; value = word_bytes start; sets = None }).value ≡ 4
-buffer_word action current start value =
-    either (action == t_negotiate) _ _ 4 (asked_word current value) (either (action == t_check) _ _ 4 (asked_word current value) (either (action == t_current) _ _ 4 refl refl))
-
--- how long an answer is doesn't depend on the settings
-value_length : (s s' : Settings) (action : ℕ) (value : List ℕ) (m : Meaning) → length (answer_meant s action value m).value ≡ length (answer_meant s' action value m).value
-value_length s s' action value send_size =
-    same_value (only_asks action value) _ _ _ (buffer_word action s.sndbuf s.start_sndbuf value ∙ sym (buffer_word action s'.sndbuf s'.start_sndbuf value))
-value_length s s' action value receive_size =
-    same_value (only_asks action value) _ _ _ (buffer_word action s.rcvbuf s.start_rcvbuf value ∙ sym (buffer_word action s'.rcvbuf s'.start_rcvbuf value))
-value_length s s' action value low_water = refl
-value_length s s' action value unknown = refl
 
 answer_length : (s s' : Settings) (action : ℕ) (o : Opt)
     → length (option_bytes (answered o (answer_meant s action o.value (meaning o)))) ≡ length (option_bytes (answered o (answer_meant s' action o.value (meaning o))))

@@ -1,9 +1,10 @@
 //! Negotiating lists of options.
 
-ghost use Rattle.std.specs.Prelude.{◌≡◌, ◌↔◌, false, true, IfOk, OnOk, OnErr, IsErrOf};
+ghost use Rattle.std.specs.Prelude.{◌≡◌, ◌↔◌, All, false, true, IfOk, OnOk, OnErr, IsErrOf};
 ghost use Rattle.std.specs.List.{list_all};
 ghost use Rattle.xti_base.specs.Negotiation.{answered, has_level, is_action, is_one_level, negotiate};
 ghost use Rattle.xti_opt.specs.Answers.{answer_of};
+ghost use Rattle.xti_opt.specs.Written.{IsWritable};
 
 use crate::OptList;
 use crate::answers::{Answer, worse};
@@ -52,6 +53,9 @@ pub fn negotiate(
     ensures overall { IfOk result (λ told. told.1 ≡ (negotiate settings.old action list.now).result) }
     ensures settings { OnOk result (settings.new ≡ (negotiate settings.old action list.now).settings) }
     ensures err { OnErr result (settings.new ≡ settings.old) }
+
+    // What is answered may be written.
+    ensures writable { IfOk result (λ told. All IsWritable told.0) }
 
     // An action that is none is told before two levels are.
     ensures bad_flag { IsErrOf result OptFail.BadFlag ↔ (is_action action ≡ false) }
