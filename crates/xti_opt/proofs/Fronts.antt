@@ -1,4 +1,4 @@
--- The option at the front of bytes, and what stands behind it.
+-- The first option of bytes, and what comes after it.
 use Rattle.std.proofs.Common.{◌≡◌, ◌≤◌, ◌+◌, ◌-◌, ◌*◌, ◌&&◌, ◌∙◌, sym, ℕ, List, ◌++◌, length, take, drop, true, refl, ap, arith, nat_le, length-drop, length-append, slice_range, get_or}
 use Rattle.std.proofs.lemmas.Bool.{and_parts}
 use Rattle.std.proofs.lemmas.Bool.Decides.{nat_tests}
@@ -16,7 +16,7 @@ is_at_most a b h = grind (arith, nat_tests)
 at_most : (a b : ℕ) → nat_le a b ≡ true → a ≤ b
 at_most a b h = grind (arith, nat_tests)
 
--- more bytes behind leave the words of the header as they are
+-- more bytes after it leave the words of the header as they are
 word_kept : (place : ℕ) (xs ys : List ℕ) → 4 * place + 4 ≤ length xs → word place (xs ++ ys) ≡ word place xs
 word_kept place xs ys h =
     let a : get_or (xs ++ ys) (4 * place) 0 ≡ get_or xs (4 * place) 0 = get_or_append_left xs ys 0 (4 * place) (omega arith) in
@@ -43,7 +43,7 @@ range_kept xs ys i j h k =
     let left : j - i ≤ length (drop i xs) = omega (arith, length-drop i xs) in
     ap (λ l. take (j - i) l) (drop-append-le i xs ys front) ∙ take-append-le (j - i) (drop i xs) ys left
 
--- where the bytes of the option are there, more bytes behind it change nothing
+-- where the bytes of the option are there, more bytes after it change nothing
 pub begins_kept : (xs ys : List ℕ) → 16 ≤ length xs → front_size xs ≤ length xs → begins_option (xs ++ ys) ≡ begins_option xs
 begins_kept xs ys h k =
     let more : length xs ≤ length (xs ++ ys) = omega (arith, length-append xs ys) in
@@ -88,7 +88,7 @@ behind_kept xs ys h =
     let n : front_length (xs ++ ys) ≡ front_length xs = word_kept 0 xs ys (omega (arith, sizes.0, sizes.1)) in
     ap (λ k. drop (k + filling k) (xs ++ ys)) n ∙ drop-append-le (front_size xs) xs ys sizes.1
 
--- an option that begins also begins without what stands behind it
+-- an option that begins also begins without what comes after it
 pub begins_alone : (bytes : List ℕ) → begins_option bytes ≡ true → begins_option (take (front_size bytes) bytes) ≡ true
 begins_alone bytes h =
     let sizes = front_within bytes h in
@@ -107,3 +107,16 @@ size_alone bytes h =
     let n : front_length (take (front_size bytes) bytes) ≡ front_length bytes =
     sym (word_kept 0 (take (front_size bytes) bytes) (drop (front_size bytes) bytes) (omega (arith, sizes.0, size))) ∙ ap front_length whole in
     ap (λ k. k + filling k) n ∙ sym size
+
+-- where an option begins, its header, its value and the bytes that fill it up stand there
+pub header_stands : (bytes : List ℕ) → begins_option bytes ≡ true → 16 ≤ length bytes
+header_stands bytes h = let lengths = length_within bytes h in omega (arith, lengths.0, lengths.1)
+
+pub value_after_header : (bytes : List ℕ) → begins_option bytes ≡ true → 16 ≤ word 0 bytes
+value_after_header bytes h = (length_within bytes h).0
+
+pub value_stands : (bytes : List ℕ) → begins_option bytes ≡ true → word 0 bytes ≤ length bytes
+value_stands bytes h = (length_within bytes h).1
+
+pub option_stands : (bytes : List ℕ) (n : ℕ) → (begins_option bytes ≡ true) × (n ≡ front_size bytes) → n ≤ length bytes
+option_stands bytes n h = rw (h.1) (front_within bytes h.0).1

@@ -3,3 +3,5 @@ pub mod Fronts
 pub mod Lists
 pub mod Spelling
 pub mod Negotiating
+pub mod Values
+pub mod InBytes

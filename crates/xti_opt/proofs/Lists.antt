@@ -1,4 +1,4 @@
--- Lists of options, one behind the other.
+-- Lists of options, one after the other.
 use Rattle.std.proofs.Common.{◌≡◌, ◌≤◌, ◌<◌, ◌+◌, ◌-◌, ◌==◌, ◌∙◌, sym, ℕ, zero, suc, List, [], ◌∷◌, ◌++◌, length, take, drop, true, false, Bool, refl, ap, arith, is_some, length-drop, option_map, Option, None, Some, unwrap_or, inl, inr}
 use Rattle.std.proofs.lemmas.List.{take-append-drop, length-take-le, drop_all}
 use Rattle.std.proofs.lemmas.Bool.{cases_lt}
@@ -17,7 +17,7 @@ read_step : (most b : ℕ) (bytes : List ℕ) → begins_option (b ∷ bytes) �
 unfolding options_within
 read_step most b bytes begins = rw (begins, options_within) refl
 
--- an option at the front is the first, and the others are read from behind it
+-- the first option is read first, and the others from what comes after it
 pub read_front : (bytes : List ℕ) → begins_option bytes ≡ true → read_options bytes ≡ headed (front_option bytes) (read_options (behind_option bytes))
 read_front [] begins = absurd (let sizes = front_within [] begins in let no : ⊥ = omega (arith, sizes.0, sizes.1) in no)
 read_front (b ∷ bytes) begins =
@@ -80,7 +80,7 @@ no_more (b ∷ bytes) is none =
     let begins : begins_option (b ∷ bytes) ≡ true = list_begins (b ∷ bytes) is (omega arith) in
     absurd (cc)
 
--- a list of options and other bytes behind it: the options of both
+-- a list of options and other bytes after it: the options of both
 append_within : (most : ℕ) (xs ys : List ℕ) → length xs ≤ most → is_option_list xs ≡ true
     → read_options (xs ++ ys) ≡ option_map (λ os. the_options xs ++ os) (read_options ys)
 unfolding options_within
@@ -108,7 +108,7 @@ is_some_map : (firsts : List Opt) (o : Option (List Opt)) → is_some (option_ma
 is_some_map firsts None = refl
 is_some_map firsts (Some os) = refl
 
--- behind a list of options the rest decides
+-- after a list of options the rest decides
 pub is_list-append : (xs ys : List ℕ) → is_option_list xs ≡ true → is_option_list (xs ++ ys) ≡ is_option_list ys
 unfolding is_option_list
 is_list-append xs ys is = ap is_some (read-append xs ys is) ∙ is_some_map (the_options xs) (read_options ys)
@@ -120,7 +120,7 @@ one_is_list (b ∷ bytes) begins size =
     let none : behind_option (b ∷ bytes) ≡ [] = drop_all (front_size (b ∷ bytes)) (b ∷ bytes) (omega (arith, size)) in
     sym (rest_decides (b ∷ bytes) (filled (b ∷ bytes) (omega arith)) begins) ∙ ap is_option_list none ∙ no_bytes [] refl
 
--- one more option behind a list of them
+-- one more option after a list of them
 pub one_more : (bytes : List ℕ) (at : ℕ) → is_option_list (take at bytes) ≡ true → begins_option (drop at bytes) ≡ true → is_option_list (take (at + front_size (drop at bytes)) bytes) ≡ true
 one_more bytes at before begins =
     ap is_option_list (take-add at (front_size (drop at bytes)) bytes)
@@ -135,7 +135,7 @@ wrong_is_no_list bytes at wrong =
     ∙ is_list-append (take at bytes) (drop at bytes) wrong.options_before
     ∙ no_option (drop at bytes) (filled (drop at bytes) left) wrong.none_begins
 
--- no wrong option stands behind another
+-- no wrong option stands after another
 never_later : (bytes : List ℕ) (at later : ℕ) → IsFirstWrongOption bytes at → IsFirstWrongOption bytes later → at < later → ⊥
 never_later bytes at later wrong other h =
     let rest : List ℕ = drop at bytes in

@@ -1,12 +1,12 @@
 -- Negotiating a list of options, one after the other.
-use Rattle.std.proofs.Common.{◌≡◌, ◌≤◌, ◌<◌, ◌∙◌, sym, ℕ, List, [], ◌∷◌, ◌++◌, map, true, false, refl, ap, arith, nat_lt, All, inl, inr, append_assoc, append-nil, ◌⊎◌, Any, length-append}
+use Rattle.std.proofs.Common.{◌≡◌, ◌≤◌, ◌<◌, ◌+◌, ◌∙◌, sym, ℕ, List, [], ◌∷◌, ◌++◌, map, length, take, get_or, true, false, refl, ap, arith, nat_lt, All, inl, inr, append_assoc, append-nil, ◌⊎◌, Any, length-append}
 use Rattle.std.proofs.lemmas.Bool.{cases_lt}
 use Rattle.std.proofs.lemmas.Bool.Decides.{nat_tests}
 use Rattle.std.proofs.lemmas.List.Quantifiers.{Any-push}
-use Rattle.std.proofs.lemmas.List.{get_or_append_left, map-append}
+use Rattle.std.proofs.lemmas.List.{get_or_append_left, map-append, take_more}
 use Rattle.std.proofs.lemmas.List.Elements.{All-push, All-nil}
 use Rattle.xti_base.specs.declared.options.Opt.{Opt}
-use Rattle.xti_base.specs.Negotiation.{Settings, Negotiated, Answer, meaning, answer_meant, answered, badness, worse, negotiate_one, negotiate_from, negotiate, t_success}
+use Rattle.xti_base.specs.Negotiation.{Settings, Negotiated, Answer, meaning, answer_meant, answered, set_meant, badness, worse, negotiate_one, negotiate_from, negotiate, t_success}
 use Rattle.xti_opt.specs.Table.{place_of}
 
 is_less : (a b : ℕ) → a < b → nat_lt a b ≡ true
@@ -46,18 +46,18 @@ le_trans a b c h k = omega arith
 abbrev start : Settings → Negotiated
 start s = record { settings = s; options = []; result = t_success }
 
--- what was answered before, and this behind it
+-- what was answered before, and this after it
 abbrev pub behind : List Opt → ℕ → Negotiated → Negotiated
 behind os result n = record { settings = n.settings; options = os ++ n.options; result = worse result n.result }
 
 -- the answer to one option
-abbrev told : ℕ → Negotiated → Opt → Answer
+abbrev pub told : ℕ → Negotiated → Opt → Answer
 told action n o = answer_meant n.settings action o.value (meaning o)
 
-abbrev next : ℕ → Negotiated → Opt → Negotiated
+abbrev pub next : ℕ → Negotiated → Opt → Negotiated
 next action n o = negotiate_one n o (told action n o)
 
-abbrev negotiated : Settings → List Opt → ℕ → Negotiated
+abbrev pub negotiated : Settings → List Opt → ℕ → Negotiated
 negotiated s os result = record { settings = s; options = os; result = result }
 
 same_negotiated : (s : Settings) (os ps : List Opt) (a b : ℕ) → os ≡ ps → a ≡ b
@@ -136,3 +136,17 @@ one_from action n (o ∷ os) one = one_from action (next action n o) os (next_is
 
 pub result_is_one : (s : Settings) (action : ℕ) (os : List Opt) → IsOneOf (negotiate s action os)
 result_is_one s action os = one_from action (start s) os (inl refl)
+
+-- one more option, answered after those before it
+pub negotiate_more : (s : Settings) (action : ℕ) (os : List Opt) (i : ℕ) (o : Opt) → i < length os → o ≡ get_or os i o
+    → negotiate s action (take (i + 1) os) ≡ next action (negotiate s action (take i os)) o
+negotiate_more s action os i o h e =
+    ap (negotiate s action) (take_more os i o h)
+    ∙ from-append action (start s) (take i os) (get_or os i o ∷ [])
+    ∙ ap (next action (negotiate s action (take i os))) (sym e)
+
+-- what is kept of an answer makes the next step
+pub next_is : (action : ℕ) (n : Negotiated) (o : Opt) (a : Answer) (s : Settings) (os : List Opt) (result : ℕ)
+    → a ≡ told action n o → s ≡ set_meant n.settings (meaning o) a.sets → os ≡ n.options ++ answered o a ∷ [] → result ≡ worse n.result a.result
+    → next action n o ≡ negotiated s os result
+next_is action n o a s os result e f g h = rw (f, g, h, e) refl

@@ -49,7 +49,7 @@ option_spelled o is =
     same_option _ _ _ _ _ _ _ _ (from_be_bytes-to_be_bytes_4 o.level is.level) (from_be_bytes-to_be_bytes_4 o.name is.name) (from_be_bytes-to_be_bytes_4 o.status is.status)
     (take_at o.value (zeros o) (front_length (option_bytes o) - 16) count)
 
--- the option's bytes and others behind them
+-- the option's bytes and others after them
 read_spelled : (o : Opt) (rest : List ℕ) → IsOption o → read_options (option_bytes o ++ rest) ≡ headed o (read_options rest)
 read_spelled o rest is =
     let begins = begins_spelled o is in
@@ -95,7 +95,7 @@ header bytes =
     take_range bytes 12 16 (omega arith)
     ∙ ap (λ l. l ++ take 4 (drop 12 bytes)) (take_range bytes 8 12 (omega arith) ∙ ap (λ l. l ++ take 4 (drop 8 bytes)) (take_range bytes 4 8 (omega arith)))
 
--- what stands at the front is written again as it stood
+-- what comes first is written again as it stood
 pub front_written : (bytes : List ℕ) → AreBytes bytes → begins_option bytes ≡ true → option_bytes (front_option bytes) ≡ take (front_size bytes) bytes
 front_written bytes are begins =
     let lengths = length_within bytes begins in

@@ -65,7 +65,7 @@ pub fn negotiation_order()
     ensures empty { (s : Settings) (action : ℕ) →
         negotiate s action [] ≡ record { settings = s; options = []; result = t_success } }
 
-    // What stands behind is answered with the settings that those before it left.
+    // What comes after is answered with the settings that those before it left.
     ensures in_order { (s : Settings) (action : ℕ) (os more : List Opt) →
         let first = negotiate s action os in
         let rest = negotiate first.settings action more in

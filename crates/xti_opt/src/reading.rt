@@ -1,10 +1,11 @@
 //! Reading lists of options.
 
 ghost use Rattle.std.specs.Prelude.{◌≡◌, ◌≤◌, ◌<◌, ◌↔◌, ℕ, All, true, not, length, Some, IfOk, IsErrOf, MatchOption};
-ghost use Rattle.xti_base.specs.Options.{word, front_length, front_option, read_options, is_option_list, the_options, options_bytes, IsOption, IsFirstWrongOption};
+ghost use Rattle.xti_base.specs.Options.{front_length, front_option, read_options, is_option_list, the_options, options_bytes, IsOption, IsFirstWrongOption};
 ghost use Rattle.xti_opt.specs.Read.{is_bad};
 
 use crate::OptList;
+use crate::first::word_at;
 use std::alloc::{AllocError, Global};
 use thiserror::Error;
 use xti_base::{Octets, Opt, size_of_front};
@@ -15,7 +16,7 @@ pub enum OptRead {
     /// The bytes are no list of options; the place where the first wrong option begins, from 0.
     #[error("the option at byte {at} is wrong")]
     BadOption { at: usize },
-    /// Want of memory.
+    /// Out of memory.
     #[error("out of memory")]
     OutOfMemory,
 }
@@ -30,8 +31,8 @@ impl From<AllocError> for OptRead {
     }
 }
 
-/// The options of the bytes. The form is looked at first, without memory, so want of memory never hides a wrong option.
-/// Errors: `BadOption` exactly where the bytes are no list of options; `OutOfMemory` for want of memory.
+/// The options of the bytes. The form is looked at first, without memory, so being out of memory never hides a wrong option.
+/// Errors: `BadOption` exactly where the bytes are no list of options; else `OutOfMemory` where memory runs out.
 pub fn read_options(alloc: Global, bytes: &[u8]) -> Result<OptList, OptRead>
     ensures ok { IfOk result (λ list. read_options bytes.now ≡ Some list) }
     ensures bad { is_bad result ≡ not (is_option_list bytes.now) }
@@ -69,14 +70,14 @@ fn read_whole(alloc: Global, bytes: &[u8]) -> Result<OptList, AllocError>
     let mut list = OptList::new(alloc);
     let mut rest = bytes;
     while let Some(size) = size_of_front(rest) {
-        list.push(option_at_front(alloc, rest)?)?;
+        list.push(first_option(alloc, rest)?)?;
         rest = rest.split_at(size).1;
     }
     Ok(list)
 }
 
-/// The option that stands at the front.
-fn option_at_front(alloc: Global, bytes: &[u8]) -> Result<Opt, AllocError>
+/// The first option.
+fn first_option(alloc: Global, bytes: &[u8]) -> Result<Opt, AllocError>
     requires header { 16 ≤ front_length bytes.now }
     requires value { front_length bytes.now ≤ length bytes.now }
     ensures { IfOk result (λ option. option ≡ front_option bytes.now) }
@@ -90,16 +91,6 @@ fn option_at_front(alloc: Global, bytes: &[u8]) -> Result<Opt, AllocError>
     })
 }
 
-/// The big-endian word at this place, from 0, of the four of an option's header.
-fn word_at(bytes: &[u8], place: usize) -> u32
-    requires header { 16 ≤ length bytes.now }
-    requires place { place < 4 }
-    ensures { result ≡ word place bytes.now }
-{
-    let at = 4 * place;
-    u32::from_be_bytes([bytes[at], bytes[at + 1], bytes[at + 2], bytes[at + 3]])
-}
-
 #[cfg(test)]
 mod tests {
     use super::*;
@@ -110,7 +101,7 @@ mod tests {
     const WHOLE: &[u8] = b"\0\0\0\x14\0\0\xff\xff\0\0\x10\x02\0\0\0\0\0\0\0\x05";
 
     /// The bytes and their first 19 once more.
-    fn with_its_front(alloc: Global) -> Result<Vec<u8>, AllocError> {
+    fn with_its_prefix(alloc: Global) -> Result<Vec<u8>, AllocError> {
         let mut bytes = Vec::from_slice(alloc, WHOLE)?;
         bytes.extend_from_slice(&WHOLE[..19])?;
         Ok(bytes)
@@ -118,7 +109,7 @@ mod tests {
 
     #[test]
     fn reads_and_writes(rt: HostRuntime) -> Result<(), Fail> {
-        let behind = with_its_front(rt.alloc())?;
+        let cut = with_its_prefix(rt.alloc())?;
         // The bytes, how many options they are or where the first wrong one begins.
         let table: [(&[u8], Result<usize, OptRead>, &str); 9] = [
             (b"", Ok(0), "no bytes"),
@@ -134,7 +125,7 @@ mod tests {
                 "a length below 16",
             ),
             (
-                behind.as_slice(),
+                cut.as_slice(),
                 Err(OptRead::BadOption { at: 20 }),
                 "the second option is cut off",
             ),

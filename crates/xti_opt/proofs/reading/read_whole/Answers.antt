@@ -5,11 +5,11 @@ use Rattle.xti_opt.proofs.Fronts.{length_within}
 use Rattle.xti_opt.proofs.Lists.{options_front, behind_is_list, no_more}
 use Rattle.xti_opt.proofs.reading.read_whole.Goals as goal
 
-pub option_at_front-requires-clause-header : goal.option_at_front-requires-clause-header
-option_at_front-requires-clause-header c = (length_within c.loop-size.rest.now c.in-Some.ensures.0).0
+pub first_option-requires-clause-header : goal.first_option-requires-clause-header
+first_option-requires-clause-header c = (length_within c.loop-size.rest.now c.in-Some.ensures.0).0
 
-pub option_at_front-requires-clause-value : goal.option_at_front-requires-clause-value
-option_at_front-requires-clause-value c = (length_within c.loop-size.rest.now c.in-Some.ensures.0).1
+pub first_option-requires-clause-value : goal.first_option-requires-clause-value
+first_option-requires-clause-value c = (length_within c.loop-size.rest.now c.in-Some.ensures.0).1
 
 pub split_at-requires : goal.split_at-requires
 split_at-requires c = rw c.in-Some.ensures.1 ((front_within c.loop-size.rest.now c.in-Some.ensures.0).1)
@@ -25,7 +25,7 @@ loop-size-preserved c =
     let begins : begins_option rest ≡ true = c.in-Some.ensures.0 in
     let is : is_option_list rest ≡ true = c.loop-size.invariant.0 in
     let behind : c.split_at.result.1.now ≡ behind_option rest = c.split_at.ensures.back ∙ ap (λ n. drop n rest) c.in-Some.ensures.1 in
-    let pushed : c.push.new.self ≡ c.loop-size.list ++ front_option rest ∷ [] = c.in_ok-push.ensures.ok ∙ ap (λ o. c.loop-size.list ++ o ∷ []) c.in_ok-option_at_front.ensures in (
+    let pushed : c.push.new.self ≡ c.loop-size.list ++ front_option rest ∷ [] = c.in_ok-push.ensures.ok ∙ ap (λ o. c.loop-size.list ++ o ∷ []) c.in_ok-first_option.ensures in (
       ap is_option_list behind ∙ behind_is_list rest begins is,
       ap (λ l. l ++ the_options c.split_at.result.1.now) pushed
           ∙ ap (λ l. (c.loop-size.list ++ front_option rest ∷ []) ++ the_options l) behind
