@@ -31,9 +31,9 @@ ghost use Rattle.xti_sound.specs.Laws.{OfAllProviders, SoundWhenLent, OpenAndBou
 
 /// Every world that calls lead to is sound.
 ///
-/// `start`: the world in which nothing was called. `step`: a step of any call, whatever it was told of its progress
-/// and whatever its arguments, leads from a sound world to a sound one. `history`: so does every list of entries,
-/// legal or not.
+/// `start`: the world in which nothing was called. `step`: where the values of the providers are valid, a step of any
+/// call, whatever it was told of its progress and whatever its arguments, leads from a sound world to a sound one.
+/// `history`: so does every list of entries, legal or not.
 pub fn worlds_stay_sound()
     ensures start { (p : Providers) → SoundWorld p (opening p) }
     ensures step { (p : Providers) (w : World) (c : Call) (g : Go) (s : Step) → valid p ≡ true → SoundWorld p w → step p w c g ≡ Some s → SoundWorld p s.world }
