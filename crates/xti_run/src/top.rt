@@ -169,18 +169,12 @@ fn output<R: Source>(alloc: Global, words: &Words, source: &mut R) -> Result<Ans
     }
 }
 
-/// Runs the command of the words over a source and a sink, and answers how it ended.
-///
-/// The commands are `replay` and `frames`, one word each. `replay` reads a script, makes the calls of its workers by turns, and
-/// writes the journal; `frames` reads TPI frames one after the other, and writes a line for each.
-/// The words are looked at first, then the source is read, and the whole text is made before the first write.
-pub fn program<T: Threads + Wait + Sync, R: Source, W: Sink, G: Gate>(
-    _rt: &T,
+/// What `program` does. Its type has no `Wait`, so it is proved to return.
+fn run_to_end<R: Source, W: Sink>(
     alloc: Global,
     words: &Words,
     source: &mut R,
     sink: &mut W,
-    _gate: &G,
 ) -> Status
     // Below 4 the whole text was written: the journal of a legal run, the lines of the frames, or why there are none.
     ensures written { result.0 < 4 → IsWritten words.now (R.left source.old) result.0 (W.held sink.old) (W.held sink.new) }
@@ -210,4 +204,40 @@ pub fn program<T: Threads + Wait + Sync, R: Source, W: Sink, G: Gate>(
             Err(_) => Status(6),
         },
     }
+}
+
+/// Runs the command of the words over a source and a sink, and answers how it ended.
+///
+/// The commands are `replay` and `frames`, one word each. `replay` reads a script, makes the calls of its workers by turns, and
+/// writes the journal; `frames` reads TPI frames one after the other, and writes a line for each.
+/// The words are looked at first, then the source is read, and the whole text is made before the first write.
+/// Neither command waits for anybody, so the runtime and the gate are left alone.
+pub fn program<T: Threads + Wait + Sync, R: Source, W: Sink, G: Gate>(
+    _rt: &T,
+    alloc: Global,
+    words: &Words,
+    source: &mut R,
+    sink: &mut W,
+    _gate: &G,
+) -> Status
+    // Below 4 the whole text was written: the journal of a legal run, the lines of the frames, or why there are none.
+    ensures written { result.0 < 4 → IsWritten words.now (R.left source.old) result.0 (W.held sink.old) (W.held sink.new) }
+    ensures unwritten { (result.0 ≡ 4) ⊎ (result.0 ≡ 5) → W.held sink.new ≡ W.held sink.old }
+    ensures cut_off { result.0 ≡ 6 → IsCutOff words.now (R.left source.old) (W.held sink.old) (W.held sink.new) }
+
+    // Faults are answered only where their count rose.
+    ensures read_fault { result.0 ≡ 5 → (command_of words.now ≢ None) × Rose (R.faults source.old) (R.faults source.new) }
+    ensures write_fault { result.0 ≡ 6 → Rose (W.faults sink.old) (W.faults sink.new) }
+    ensures range { result.0 < 7 }
+    ensures words { result.0 ≡ 1 → command_of words.now ≡ None }
+
+    // With no fault the whole text is written, or memory ran out.
+    ensures settled { NoFault (R.faults source.old) (R.faults source.new) → NoFault (W.faults sink.old) (W.faults sink.new) → (result.0 ≡ 4) ⊎ IsWritten words.now (R.left source.old) result.0 (W.held sink.old) (W.held sink.new) }
+    ensures complete { (command : Command) → command_of words.now ≡ Some command → HasInput command (R.left source.old) → NoFault (R.faults source.old) (R.faults source.new) → NoFault (W.faults sink.old) (W.faults sink.new) → IsDone command result.0 ⊎ (result.0 ≡ 4) }
+
+    // What is read.
+    ensures read { command_of words.now ≢ None → GivesUpTo (limit + 1) (R.left source.old) (R.left source.new) }
+    ensures unread { command_of words.now ≡ None → source.new ≡ source.old }
+{
+    run_to_end(alloc, words, source, sink)
 }

@@ -1,0 +1,186 @@
+#!/usr/bin/env python3
+"""Makes inputs at the last good value of each limit, which are too long to be stored.
+
+usage: examples/limits.py [NAME]
+
+Prints the input of this name, or the names. `limits.txt` has a line for each: its name, the command's word, the exit
+status, and how many bytes are printed and their SHA-256. These came from a program that was written apart from the
+command.
+"""
+import pathlib
+import sys
+
+HERE = pathlib.Path(__file__).resolve().parent
+MOST_DATA = 65_536
+MOST_CONTROL = 1_024
+MOST_INPUT = 67_108_864
+MOST_LINES = 100_000
+MOST_BYTES = 4_194_304
+DATAGRAM = 8_192
+T_CONN_REQ, T_DATA_REQ, T_BIND_REQ, T_UNITDATA_REQ, T_ORDREL_REQ = 0, 3, 6, 8, 10
+T_CONN_IND, T_DATA_IND, T_UNITDATA_IND, T_UDERROR_IND = 11, 14, 20, 21
+TWO_ENDPOINTS = ["0 open a ticlts", "0 bind a addr=t:a", "0 open b ticlts", "0 bind b addr=t:b"]
+
+
+def octets(count, start=0):
+    """So many bytes, each value as often as the next."""
+    return bytes((start + 7 * i) % 256 for i in range(256)) * (count // 256) + bytes((start + 7 * i) % 256 for i in range(count % 256))
+
+
+def script(calls):
+    return "\n".join(["xti-script 1", *calls, ""]).encode()
+
+
+def frame(control, data=b""):
+    return len(control).to_bytes(4, "big") + len(data).to_bytes(4, "big") + control + data
+
+
+def words(*numbers):
+    return b"".join(number.to_bytes(4, "big") for number in numbers)
+
+
+def datagram_in_one():
+    data = octets(DATAGRAM)
+    return script([*TWO_ENDPOINTS, f"1 sndudata a addr=t:b data=x:{data.hex()}", "1 rcvudata b max=8192", "1 look b"])
+
+
+def datagram_in_parts():
+    """Sent in 16 parts, received in 16 pieces, then byte by byte at its end."""
+    data = octets(DATAGRAM, 3)
+    parts = ",".join("x:" + data[512 * i : 512 * i + 512].hex() for i in range(16))
+    sizes = ",".join(str(511 + i % 2) for i in range(16))
+    return script([
+        *TWO_ENDPOINTS,
+        f"1 sndvudata a addr=t:b parts={parts}",
+        f"1 rcvvudata b sizes={sizes}",
+        *(["1 rcvudata b max=1"] * 8),
+        "1 look b",
+        f"1 sndudata a addr=t:b data=t:{'d' * DATAGRAM}",
+        *(["1 rcvudata b max=1000"] * 9),
+    ])
+
+
+def datagram_over_its_limit():
+    return script([*TWO_ENDPOINTS, f"1 sndudata a addr=t:b data=t:{'d' * (DATAGRAM + 1)}", "1 look b"])
+
+
+def hexadecimal():
+    """As many bytes as a script may have, all but the two of its addresses in one word."""
+    return script([*TWO_ENDPOINTS, f"1 sndudata a data=x:{octets(MOST_BYTES - 2).hex()}", "1 look a"])
+
+
+def hexadecimal_over_its_limit():
+    return script([*TWO_ENDPOINTS, f"1 sndudata a data=x:{octets(MOST_BYTES - 1).hex()}"])
+
+
+def lines(count):
+    calls = [f"0 open e{i} ticlts nonblock" for i in range(64)]
+    calls += [f"0 bind e{i} addr=t:a{i}" for i in range(64)]
+    more = count - len(calls)
+    calls += [
+        f"{1 + i % 32} sndudata e{i % 61} addr=t:a{i % 64} data=t:{i}" if i // 64 % 2 == 0 else f"{1 + i % 32} rcvudata e{i % 64}"
+        for i in range(more)
+    ]
+    return script(calls)
+
+
+def names():
+    """70 names of worker 0 and 130 of worker 1, the longest among them; at most 64 endpoints are open at a time."""
+    calls = []
+    for worker, count in ((0, 70), (1, 130)):
+        listed = [f"n{worker}_{i}" if i % 2 else f"n{worker}_{i}".ljust(16, "z") for i in range(count)]
+        for i, name in enumerate(listed):
+            calls += [f"{worker} open {name} ticlts nonblock", f"{worker} bind {name}"]
+            if i % 6:
+                calls.append(f"{worker} close {name}")
+        calls += [f"{worker} getstate {name}" for name in listed]
+    calls += [f"1 sync n0_{i}" for i in range(1, 70, 2)]
+    return script(calls)
+
+
+def data_frames():
+    """The most user data, one byte less, and none, after each other."""
+    sizes = (MOST_DATA, MOST_DATA - 1, 0, 1, 1001, MOST_DATA)
+    return b"".join(frame(words(T_DATA_IND, i % 2), octets(size, i)) for i, size in enumerate(sizes))
+
+
+def data_over_its_limit():
+    return frame(words(T_DATA_REQ, 1), octets(MOST_DATA)) + frame(words(T_DATA_REQ, 0), octets(MOST_DATA + 1))
+
+
+def offset(part, place):
+    """Where a part stands; 0 for an empty one."""
+    return place if part else 0
+
+
+def with_parts(number, head, first, other, *more):
+    """The control part of a primitive with two variable parts, whose words take so many bytes, and words after them."""
+    listed = words(number, len(first), offset(first, head), len(other), offset(other, head + len(first)), *more)
+    return listed + first + other
+
+
+def control_frames():
+    """The longest control part, in one part and in two, with the most user data and with none."""
+    address = octets(MOST_CONTROL - 16)
+    frames = [frame(words(T_BIND_REQ, len(address), 16, 8) + address)]
+    for number in (T_CONN_REQ, T_UNITDATA_REQ, T_UNITDATA_IND):
+        for length in (0, 500, MOST_CONTROL - 20):
+            control = with_parts(number, 20, octets(length), octets(MOST_CONTROL - 20 - length, 5))
+            frames.append(frame(control, octets(MOST_DATA if length == 500 else 0)))
+    frames.append(frame(with_parts(T_UDERROR_IND, 24, octets(MOST_CONTROL - 24), b"", 1)))
+    frames.append(frame(with_parts(T_CONN_IND, 24, b"", octets(MOST_CONTROL - 24), 9), b"hi"))
+    return b"".join(frames)
+
+
+def control_over_its_limit():
+    """After a control part that is the longest, one that is a byte longer."""
+    return b"".join(frame(words(T_BIND_REQ, size, 16, 8) + octets(size)) for size in (MOST_CONTROL - 16, MOST_CONTROL - 15))
+
+
+def many_frames(count):
+    """Small frames of three primitives, in turn."""
+    each = [frame(words(T_DATA_IND, 0), b"data"), frame(words(T_ORDREL_REQ)), frame(words(T_DATA_REQ, 1))]
+    return b"".join(each) * (count // 3) + b"".join(each[: count % 3])
+
+
+def longest_input():
+    """Frames of exactly as many bytes as an input may have."""
+    whole = frame(words(T_DATA_IND, 1), octets(MOST_DATA))
+    count, rest = divmod(MOST_INPUT, len(whole))
+    return whole * count + frame(words(T_DATA_IND, 0), octets(rest - 16))
+
+
+INPUTS = {
+    "a-datagram-of-the-most-bytes": datagram_in_one,
+    "a-datagram-of-the-most-bytes-in-parts": datagram_in_parts,
+    "a-datagram-over-the-limit": datagram_over_its_limit,
+    "as-many-bytes-as-a-script-may-have": hexadecimal,
+    "a-byte-more-than-a-script-may-have": hexadecimal_over_its_limit,
+    "as-many-lines-as-a-script-may-have": lambda: lines(MOST_LINES),
+    "a-line-more-than-a-script-may-have": lambda: lines(MOST_LINES + 1),
+    "more-than-100-names-of-a-worker": names,
+    "frames-with-the-most-user-data": data_frames,
+    "a-frame-with-a-byte-too-much": data_over_its_limit,
+    "frames-with-the-longest-control-part": control_frames,
+    "a-frame-with-a-control-part-too-long": control_over_its_limit,
+    "150000-frames": lambda: many_frames(150_000),
+    "frames-of-as-many-bytes-as-an-input-may-have": longest_input,
+    "a-byte-more-than-an-input-may-have": lambda: longest_input() + b"\0",
+}
+
+
+def table():
+    """Of each name the command's word, the status, the count of the printed bytes and their digest."""
+    rows = (line.split() for line in (HERE / "limits.txt").read_text().splitlines())
+    return {name: (word, int(status), int(count), digest) for name, word, status, count, digest in rows}
+
+
+def main():
+    if len(sys.argv) == 2 and sys.argv[1] in INPUTS:
+        sys.stdout.buffer.write(INPUTS[sys.argv[1]]())
+    else:
+        print("\n".join(INPUTS))
+
+
+if __name__ == "__main__":
+    main()
