@@ -27,6 +27,17 @@ fn lists(rt: HostRuntime) -> Result<(), Fail> {
 }
 
 #[test]
+fn bytes_of_each_length(rt: HostRuntime) -> Result<(), Fail> {
+    let alloc = rt.alloc();
+    let bytes = [7u8; 100];
+    for length in 0..=bytes.len() {
+        let (front, _) = bytes.as_slice().split_at(length);
+        assert_eq!(rt; Octets::copy_of(alloc, front)?.copy()?.as_slice(), front, "{length}");
+    }
+    Ok(())
+}
+
+#[test]
 fn sources_and_sinks(rt: HostRuntime) -> Result<(), Fail> {
     let alloc = rt.alloc();
     let mut source = MemSource::new(Octets::copy_of(alloc, b"abc")?, 2, Calls::new(alloc));
