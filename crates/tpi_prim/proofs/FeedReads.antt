@@ -1,6 +1,7 @@
 -- Frames one after the other, read from bytes that come in pieces.
-use Rattle.std.proofs.Common.{◌≡◌, ◌≤◌, ◌<◌, ◌+◌, ◌-◌, ℕ, List, [], ◌∷◌, ◌++◌, length, take, drop, map, suc, Option, None, MatchOption, Err, take-append-drop, append_assoc, length-append, length-take, length-drop, arith, refl, sym, ◌∙◌, ap, subst}
+use Rattle.std.proofs.Common.{Bool, true, ◌==◌, ◌≡◌, ◌≤◌, ◌<◌, ◌+◌, ◌-◌, ◌^◌, ℕ, List, [], ◌∷◌, ◌++◌, length, take, drop, map, suc, Option, None, MatchOption, Err, take-append-drop, append_assoc, length-append, length-take, length-drop, arith, refl, sym, ◌∙◌, ap, subst}
 use Rattle.std.proofs.Math.Seq.{take-add, take-append-add, take-append_seam}
+use Rattle.std.proofs.lemmas.Bool.{eqb-true}
 use Rattle.std.proofs.lemmas.List.{map-append, length-take-le, take_all}
 use Rattle.tpi_grammar.specs.Form.{short, bad}
 use Rattle.tpi_grammar.specs.Frame.{Filled, IsFilled, spelling}
@@ -70,6 +71,18 @@ takes old new piece all ps used is front rest passed wrong = record {
     passed ∙ ap (λ n. capped (old.passed + n)) (sym (length-take-le used all front.within)),
   );
   rest = subst (λ (xs : List ℕ). MeansFrame xs short) (sym rest) front.rest;
+  wrong = wrong;
+}
+
+pub none_in : (xs : List ℕ) (b : Bool) → b ≡ (length xs == 0) → b ≡ true → xs ≡ []
+none_in [] b e t = refl
+none_in (x ∷ xs) b e t = absurd (omega (arith, eqb-true (length (x ∷ xs)) 0 (sym e ∙ t)))
+
+-- no bytes complete nothing
+pub takes_nothing : (old : Fed) (piece : List ℕ) → old.passed < 2 ^ 64 → MeansFrame old.rest short → old.wrong ≡ None → piece ≡ [] → Takes old old piece []
+takes_nothing old piece small rest wrong none = record {
+  frames = ([], record { each = tt; bytes = refl }, ap (λ (xs : List ℕ). old.rest ++ xs) none ∙ append_nil old.rest, omega (arith, small));
+  rest = rest;
   wrong = wrong;
 }
 

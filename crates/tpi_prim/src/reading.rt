@@ -1,6 +1,6 @@
 //! Reading primitives from bytes that come in pieces.
 
-ghost use Rattle.std.specs.Prelude.{◌≡◌, ◌≤◌, length, None, [], MatchResult};
+ghost use Rattle.std.specs.Prelude.{◌≡◌, ◌≤◌, length, None, [], IsOk, MatchResult};
 ghost use Rattle.tpi_grammar.specs.Form.{short};
 ghost use Rattle.tpi_grammar.specs.Measured.{MeansFrame};
 ghost use Rattle.tpi_prim.specs.Reading.{Feeds, IsFront, IsStop};
@@ -70,24 +70,29 @@ impl FrameReader {
     }
 
     /// Feeds a piece, and gives the primitives that it completes. After `Bad` each feed answers the same; where memory runs out
-    /// the reader is as before.
+    /// the reader is as before. A piece of no bytes takes no memory.
     pub fn feed(&mut self, piece: &[u8]) -> Result<Prims, FeedFail>
-        ensures { Feeds self.old self.new piece.now result }
+        ensures fed { Feeds self.old self.new piece.now result }
+        ensures sure { self.old.wrong ≡ None → piece.now ≡ [] → IsOk result }
     {
+        let passed = self.passed;
         if let Some(at) = self.wrong {
             return Err(FeedFail::Bad { at });
+        }
+        if piece.is_empty() {
+            return Ok(Prims::new(self.alloc));
         }
         let held = self.rest.len();
         self.rest.extend_from_slice(piece)?;
         match read_frames(self.alloc, self.rest.as_slice()) {
             Ok(Front { prims, used }) => {
                 self.rest.advance(used);
-                self.passed = self.passed.saturating_add(used as u64);
+                self.passed = passed.saturating_add(used as u64);
                 Ok(prims)
             }
             Err(Stop::Bad(place)) => {
                 self.rest.clear();
-                let at = self.passed.saturating_add(place as u64);
+                let at = passed.saturating_add(place as u64);
                 self.wrong = Some(at);
                 Err(FeedFail::Bad { at })
             }

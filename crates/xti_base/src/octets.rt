@@ -1,6 +1,6 @@
 //! Lists of bytes.
 
-ghost use Rattle.std.specs.Prelude.{◌≡◌, ◌++◌, ◌∷◌, [], ℕ, List, OnOk, OnErr, IfOk};
+ghost use Rattle.std.specs.Prelude.{◌≡◌, ◌≤◌, ◌++◌, ◌∷◌, [], ℕ, List, length, OnOk, OnErr, IfOk, IsOk};
 
 use smallvec::SmallVec;
 use std::alloc::{AllocError, Global};
@@ -31,9 +31,10 @@ impl Octets {
         }
     }
 
-    /// A copy of these bytes.
+    /// A copy of these bytes; of up to 16 bytes it takes no memory.
     pub fn copy_of(alloc: Global, bytes: &[u8]) -> Result<Octets, AllocError>
-        ensures { IfOk result (λ o. o ≡ bytes.now) }
+        ensures copy { IfOk result (λ o. o ≡ bytes.now) }
+        ensures sure { length bytes.now ≤ 16 → IsOk result }
     {
         // Most options are empty.
         if bytes.is_empty() {
@@ -61,9 +62,10 @@ impl Octets {
         Ok(bytes.into_vec()?)
     }
 
-    /// The same bytes once more.
+    /// The same bytes once more; up to 16 bytes take no memory.
     pub fn copy(&self) -> Result<Octets, AllocError>
-        ensures { IfOk result (λ o. o ≡ self.now) }
+        ensures copy { IfOk result (λ o. o ≡ self.now) }
+        ensures sure { length self.now ≤ 16 → IsOk result }
     {
         Octets::copy_of(*self.bytes.allocator(), self.bytes.as_slice())
     }

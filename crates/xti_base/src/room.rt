@@ -22,10 +22,10 @@ impl Model for Room {
 }
 
 impl Room {
-    /// No bytes, and spare room for at least `n`.
+    /// No bytes, and spare room for `n`.
     pub fn new(alloc: Global, n: usize) -> Result<Room, AllocError>
         ensures bytes { IfOk result (λ r. r.bytes ≡ []) }
-        ensures spare { IfOk result (λ r. n ≤ r.spare) }
+        ensures spare { IfOk result (λ r. r.spare ≡ n) }
     {
         Ok(Room {
             bytes: Vec::with_capacity(alloc, n)?,

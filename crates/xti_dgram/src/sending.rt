@@ -1,10 +1,11 @@
 //! Sending a datagram, whole or in parts.
 
-ghost use Rattle.std.specs.Prelude.{◌≡◌, ◌≤◌, ◌%◌, true, None, IfOk, IfSome, IsErrOf, OnOk, OnErr, is_some, length, option_map, option_and_then};
+ghost use Rattle.std.specs.Prelude.{◌≡◌, ◌≤◌, ◌%◌, true, false, None, IfOk, IsOk, IfSome, IsErrOf, OnOk, OnErr, is_some, length, option_map, option_and_then};
 ghost use Rattle.std.specs.List.{concat};
 ghost use Rattle.tpi_grammar.specs.declared.kind.Kind.TheVariants.{T_UNITDATA_IND};
 ghost use Rattle.tpi_prim.specs.Fields.{kind_in};
 ghost use Rattle.xti_model.specs.Calls.Datagrams.{datagram_from, send_changes, send_plan};
+ghost use Rattle.xti_model.specs.Plan.{first, has_effect};
 ghost use Rattle.xti_model.specs.Sending.{takes_datagram};
 ghost use Rattle.xti_model.specs.Step.{step_of};
 ghost use Rattle.xti_model.specs.Switch.{bound};
@@ -109,6 +110,7 @@ pub(crate) fn send(
     ensures still { IfOk result (λ a. taken a (cells lent.new) ≡ None → lent.new ≡ lent.old) }
     ensures kept { SameCells lent.old lent.new }
     ensures err { OnErr result (lent.new ≡ lent.old) }
+    ensures sure { has_effect (first (send_plan lent.old.providers (cells lent.old) fd.0 address.now options.now (length parts.now) (concat parts.now)).rows) ≡ false → IsOk result }
 {
     let Some(e) = lent.open_endpoint(fd) else {
         return Ok(refused(lent, fd, Errno::TBADF));

@@ -1,6 +1,7 @@
 //! One step.
 
-ghost use Rattle.std.specs.Prelude.{◌≡◌, None, IfOk, OnErr};
+ghost use Rattle.std.specs.Prelude.{◌≡◌, false, None, IfOk, IsOk, OnErr};
+ghost use Rattle.xti_model.specs.Memory.{may_run_out};
 ghost use Rattle.xti_model.specs.Step.{step};
 ghost use Rattle.xti_model.specs.Touched.{touched};
 ghost use Rattle.xti_model.specs.declared.entry.Go.{Go};
@@ -26,6 +27,7 @@ pub fn dgram_step(lent: &mut Lent, call: &Call) -> Result<Applied, AllocError>
     ensures still { IfOk result (λ a. taken a (cells lent.new) ≡ None → lent.new ≡ lent.old) }
     ensures kept { SameCells lent.old lent.new }
     ensures err { OnErr result (lent.new ≡ lent.old) }
+    ensures sure { (g : Go) → may_run_out lent.old.providers (cells lent.old) call.now g ≡ false → IsOk result }
 {
     match call {
         Call::TSndUData {

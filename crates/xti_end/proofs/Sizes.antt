@@ -33,3 +33,11 @@ sum-where-few p w fd n m k amax omax h = go (is_too_many n) refl
     go : (b : Bool) → is_too_many n ≡ b → step_of p w (receive_plan p w fd n m amax omax) ≡ step_of p w (receive_plan p w fd n k amax omax)
     go false e = rw (h e) refl
     go true e = too-many p w fd n m k amax omax (endpoint p w fd) e
+
+-- how much is received refuses nothing
+pub rows-alike : (p : Providers) (w : World) (fd n m k amax omax : ℕ) → (receive_plan p w fd n m amax omax).rows ≡ (receive_plan p w fd n k amax omax).rows
+rows-alike p w fd n m k amax omax = go (endpoint p w fd)
+  where
+    go : (o : Option Endpoint) → (if_open fd o (receive_from fd n m amax omax)).rows ≡ (if_open fd o (receive_from fd n k amax omax)).rows
+    go None = refl
+    go (Some e) = refl

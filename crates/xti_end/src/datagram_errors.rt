@@ -1,6 +1,6 @@
 //! The errors of datagrams that wait at an endpoint.
 
-ghost use Rattle.std.specs.Prelude.{◌≡◌, ◌≤◌, ◌<◌, ◌+◌, [], true, Some, length, slice_get, remove, OnOk, OnErr, IfSome};
+ghost use Rattle.std.specs.Prelude.{◌≡◌, ◌≤◌, ◌<◌, ◌+◌, [], true, Some, length, slice_get, remove, max, OnOk, OnErr, IfSome};
 ghost use Rattle.std.specs.Option.{option_copied, option_map};
 ghost use Rattle.tpi_grammar.specs.declared.kind.Kind.TheVariants.{T_UDERROR_IND};
 ghost use Rattle.tpi_prim.specs.Fields.{kind_in};
@@ -52,6 +52,7 @@ impl Endpoint {
         ensures same { self.new ≡ record self.old { spare_datagram_errors = self.new.spare_datagram_errors } }
         ensures kept { self.old.spare_datagram_errors ≤ self.new.spare_datagram_errors }
         ensures spare { OnOk result (1 ≤ self.new.spare_datagram_errors) }
+        ensures most { self.new.spare_datagram_errors ≤ max self.old.spare_datagram_errors 1 }
         ensures err { OnErr result (self.new ≡ self.old) }
     {
         self.datagram_errors.reserve()

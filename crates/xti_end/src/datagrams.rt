@@ -1,6 +1,6 @@
 //! The datagrams that wait at an endpoint.
 
-ghost use Rattle.std.specs.Prelude.{◌≡◌, ◌≤◌, ◌+◌, ◌++◌, ◌∷◌, [], true, false, map, not, OnOk, OnErr};
+ghost use Rattle.std.specs.Prelude.{◌≡◌, ◌≤◌, ◌+◌, ◌++◌, ◌∷◌, [], true, false, map, max, not, OnOk, OnErr};
 ghost use Rattle.tpi_grammar.specs.declared.kind.Kind.TheVariants.{T_UNITDATA_IND};
 ghost use Rattle.tpi_prim.specs.Fields.{kind_in};
 ghost use Rattle.xti_model.specs.Events.{some_wait};
@@ -53,6 +53,7 @@ impl Endpoint {
         ensures same { self.new ≡ record self.old { spare_datagrams = self.new.spare_datagrams } }
         ensures kept { self.old.spare_datagrams ≤ self.new.spare_datagrams }
         ensures spare { OnOk result (1 ≤ self.new.spare_datagrams) }
+        ensures most { self.new.spare_datagrams ≤ max self.old.spare_datagrams 1 }
         ensures err { OnErr result (self.new ≡ self.old) }
     {
         self.datagrams.reserve(1)

@@ -1,6 +1,6 @@
 //! Fields that are returned to a caller who takes so many bytes.
 
-ghost use Rattle.std.specs.Prelude.{◌≡◌, [], IfOk, if◌then◌else◌, ◌==◌};
+ghost use Rattle.std.specs.Prelude.{◌≡◌, ◌≤◌, [], length, IfOk, IsOk, if◌then◌else◌, ◌==◌};
 ghost use Rattle.xti_model.specs.Plan.{field, is_too_long, trimmed};
 
 use std::alloc::{AllocError, Global};
@@ -20,9 +20,10 @@ pub fn trimmed(alloc: Global, bytes: Octets, max: u32) -> Octets
     if max == 0 { Octets::new(alloc) } else { bytes }
 }
 
-/// A copy of a field as it is returned.
+/// A copy of a field as it is returned; of up to 16 bytes it takes no memory.
 pub fn trimmed_copy(alloc: Global, bytes: &[u8], max: u32) -> Result<Octets, AllocError>
-    ensures { IfOk result (λ copy. copy ≡ trimmed bytes.now max) }
+    ensures copy { IfOk result (λ copy. copy ≡ trimmed bytes.now max) }
+    ensures sure { length bytes.now ≤ 16 → IsOk result }
 {
     if max == 0 {
         Ok(Octets::new(alloc))

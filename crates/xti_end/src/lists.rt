@@ -1,6 +1,6 @@
 //! Lists of frames with spare room.
 
-ghost use Rattle.std.specs.Prelude.{◌≡◌, ◌≤◌, ◌<◌, ◌+◌, ◌++◌, ◌∷◌, [], not, Some, OnOk, OnErr, length, slice_get, remove, vec_capacity};
+ghost use Rattle.std.specs.Prelude.{◌≡◌, ◌≤◌, ◌<◌, ◌+◌, ◌++◌, ◌∷◌, [], not, Some, OnOk, OnErr, length, slice_get, remove, max, vec_capacity};
 ghost use Rattle.std.specs.Option.{option_copied};
 ghost use Rattle.xti_model.specs.Events.{some_wait};
 
@@ -42,6 +42,7 @@ impl FrameList {
         ensures frames { self.new.frames ≡ self.old.frames }
         ensures kept { self.old.spare ≤ self.new.spare }
         ensures spare { OnOk result (1 ≤ self.new.spare) }
+        ensures most { self.new.spare ≤ max self.old.spare 1 }
         ensures err { OnErr result (self.new ≡ self.old) }
     {
         if self.spare == 0 {

@@ -1,6 +1,7 @@
 //! The calls that touch one cell.
 
-ghost use Rattle.std.specs.Prelude.{◌≡◌, [], true, IfOk, OnErr, None};
+ghost use Rattle.std.specs.Prelude.{◌≡◌, [], true, false, IfOk, IsOk, OnErr, None};
+ghost use Rattle.xti_model.specs.Memory.{may_run_out};
 ghost use Rattle.xti_model.specs.Step.{step, step_of};
 ghost use Rattle.xti_model.specs.World.{place_of};
 ghost use Rattle.xti_model.specs.Calls.Show as Show;
@@ -23,6 +24,7 @@ impl Endpoint {
         ensures still { IfOk result (λ a. taken a (alone self.new) ≡ None → self.new ≡ self.old) }
         ensures room { SameRoom self.old self.new }
         ensures err { OnErr result (self.new ≡ self.old) }
+        ensures sure { may_run_out p.now (alone self.old) call.now _go ≡ false → IsOk result }
     {
         match call {
             Call::TRcvUData {

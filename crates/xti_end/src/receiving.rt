@@ -1,9 +1,10 @@
 //! t_rcvudata and t_rcvvudata.
 
-ghost use Rattle.std.specs.Prelude.{◌≡◌, ℕ, [], true, false, length, sum, take, IfOk, OnOk, OnErr, None};
+ghost use Rattle.std.specs.Prelude.{◌≡◌, ℕ, [], true, false, length, sum, take, IfOk, IsOk, OnOk, OnErr, None};
 ghost use Rattle.tpi_grammar.specs.Frame.{AreBytes};
 ghost use Rattle.xti_model.specs.Arguments.{is_too_many};
 ghost use Rattle.xti_model.specs.Events.{some_wait};
+ghost use Rattle.xti_model.specs.Plan.{first, has_effect};
 ghost use Rattle.xti_model.specs.Step.{step_of};
 ghost use Rattle.xti_model.specs.World.{place_of};
 ghost use Rattle.xti_model.specs.Calls.Datagrams as Datagrams;
@@ -155,6 +156,7 @@ impl Endpoint {
         ensures still { IfOk result (λ a. taken a (alone self.new) ≡ None → self.new ≡ self.old) }
         ensures room { SameRoom self.old self.new }
         ensures err { OnErr result (self.new ≡ self.old) }
+        ensures sure { has_effect (first (Datagrams.receive_plan p.now (alone self.old) fd.0 sizes max amax omax).rows) ≡ false → IsOk result }
     {
         if !self.is(fd) {
             return Ok(refused(self, p, fd, Errno::TBADF));
@@ -195,6 +197,7 @@ impl Endpoint {
         ensures still { IfOk result (λ a. taken a (alone self.new) ≡ None → self.new ≡ self.old) }
         ensures room { SameRoom self.old self.new }
         ensures err { OnErr result (self.new ≡ self.old) }
+        ensures sure { has_effect (first (Datagrams.receive_plan p.now (alone self.old) fd.0 (length sizes.now) (sum sizes.now) amax omax).rows) ≡ false → IsOk result }
     {
         self.rcvudata(p, fd, sizes.len(), total(sizes), amax, omax)
     }

@@ -1,11 +1,11 @@
 //! t_rcvuderr.
 
-ghost use Rattle.std.specs.Prelude.{◌≡◌, [], true, IfOk, OnErr, None};
+ghost use Rattle.std.specs.Prelude.{◌≡◌, [], true, false, IfOk, IsOk, OnErr, None};
 ghost use Rattle.std.specs.List.{list_any};
 ghost use Rattle.tpi_grammar.specs.declared.kind.Kind.TheVariants.{T_UDERROR_IND};
 ghost use Rattle.tpi_prim.specs.Fields.{kind_in};
 ghost use Rattle.xti_model.specs.Events.{some_wait};
-ghost use Rattle.xti_model.specs.Plan.{is_too_long};
+ghost use Rattle.xti_model.specs.Plan.{first, has_effect, is_too_long};
 ghost use Rattle.xti_model.specs.Step.{step_of};
 ghost use Rattle.xti_model.specs.World.{place_of};
 ghost use Rattle.xti_model.specs.Calls.Datagrams as Datagrams;
@@ -128,6 +128,7 @@ impl Endpoint {
         ensures still { IfOk result (λ a. taken a (alone self.new) ≡ None → self.new ≡ self.old) }
         ensures room { SameRoom self.old self.new }
         ensures err { OnErr result (self.new ≡ self.old) }
+        ensures sure { has_effect (first (Datagrams.error_plan p.now (alone self.old) fd.0 amax omax).rows) ≡ false → IsOk result }
     {
         if !self.is(fd) {
             return Ok(refused(self, p, fd, Errno::TBADF));

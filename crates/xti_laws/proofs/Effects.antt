@@ -9,11 +9,11 @@ use Rattle.xti_model.specs.declared.entry.Outcome.TheVariants.{Done}
 use Rattle.xti_model.specs.Endpoint.{Endpoint, Indication, Target}
 use Rattle.xti_model.specs.World.{World, Switch, Change, at_endpoint, at_switch, closes_endpoint, changed, change, cell_number, new_cell, endpoint, state_of}
 use Rattle.xti_model.specs.Links.{at_linked, take_back, break, broken, taken_back, if_names}
-use Rattle.xti_model.specs.Plan.{Plan, Refusal, answers, waits, loses, first, if_open, on_open}
+use Rattle.xti_model.specs.Plan.{Plan, Refusal, answers, waits, loses, first, if_open, on_open, has_effect}
 use Rattle.xti_model.specs.Step.{step_of, step_by, made}
 use Rattle.xti_model.specs.History.{left_by}
 use Rattle.xti_model.specs.Calls.Close as Close
-use Rattle.xti_laws.specs.States.{state_at, has_effect}
+use Rattle.xti_laws.specs.States.{state_at}
 use Rattle.xti_laws.proofs.Steady.{Steady, Sets, names-steady, taken_back-steady, given_up-steady}
 use Rattle.xti_laws.proofs.View.{endpoint-same, endpoint-other, closed-same, closed-other, switch-other, changed-append}
 

@@ -13,13 +13,13 @@ use Rattle.xti_model.specs.Provider.{is_provider, profile}
 use Rattle.xti_model.specs.Endpoint.{Endpoint, opened}
 use Rattle.xti_model.specs.World.{World, Switch, Cell, Numbered, endpoint_cell, switch_cell, change, open_cell, opens_place, at_switch, changed, cell_at, endpoint, endpoint_in, state_of, place_of, generation_of, the_switch, closed_place}
 use Rattle.xti_model.specs.Switch.{free_place, opening_place, if_provider, is_free, place_at, mark_open}
-use Rattle.xti_model.specs.Plan.{Plan, first, refuses}
+use Rattle.xti_model.specs.Plan.{Plan, first, refuses, has_effect}
 use Rattle.xti_model.specs.Step.{step, plan, step_of, step_by}
 use Rattle.xti_model.specs.History.{left_by}
 use Rattle.xti_model.specs.Sound.{ThereAgrees, CellAgrees}
 use Rattle.xti_model.specs.StateTable.{by_open, is_in_table}
 use Rattle.xti_model.specs.Calls.Open as Open
-use Rattle.xti_laws.specs.States.{state_at, ocnt_of, has_effect, TakesByTheTable, KeepsOtherStates}
+use Rattle.xti_laws.specs.States.{state_at, ocnt_of, TakesByTheTable, KeepsOtherStates}
 use Rattle.xti_laws.proofs.View.{cell_at-same, cell_at-other, recell, switch-other}
 
 -- where no row of an open refuses, a place opens

@@ -1,8 +1,7 @@
 -- What the rows of a call that has an effect say: none of them that refuses holds.
 use Rattle.std.proofs.Common.{Bool, true, false, List, [], ◌∷◌, ◌≡◌, refl, sym, cond, not, Some}
 use Rattle.std.proofs.lemmas.Bool.{false≢true}
-use Rattle.xti_model.specs.Plan.{Row, Refusal, answers, waits, loses, first}
-use Rattle.xti_laws.specs.States.{has_effect}
+use Rattle.xti_model.specs.Plan.{Row, Refusal, answers, waits, loses, first, has_effect}
 
 -- each row that answers or waits does not hold, in the rows' order
 abbrev pub Cleared : List Row → Type 0

@@ -13,7 +13,7 @@ use Rattle.xti_model.specs.World.{World, at_endpoint, at_switch, changed, endpoi
 use Rattle.xti_model.specs.Switch.{bound, chosen, give_up_address}
 use Rattle.xti_model.specs.Links.{linked, break}
 use Rattle.xti_model.specs.Events.{is_state, around, sending, receiving}
-use Rattle.xti_model.specs.Plan.{Plan, first, if_open, on_open}
+use Rattle.xti_model.specs.Plan.{Plan, first, if_open, on_open, has_effect}
 use Rattle.xti_model.specs.Step.{plan, step, step_of, send, connect}
 use Rattle.xti_model.specs.History.{left_by}
 use Rattle.xti_model.specs.Touched.{fd_of}
@@ -27,7 +27,7 @@ use Rattle.xti_model.specs.Calls.Receive as Receive
 use Rattle.xti_model.specs.Calls.Datagrams as Datagrams
 use Rattle.xti_model.specs.Calls.Show as Show
 use Rattle.xti_model.specs.StateTable.{move_of, by_close, by_bind, by_unbind, by_connect, by_rcvconnect, by_listen, by_accept_here, by_accept_there, by_snd, by_rcv, by_snddis, by_rcvdis, by_sndrel, by_rcvrel, by_datagram, by_show, passed, is_in_table}
-use Rattle.xti_laws.specs.States.{state_at, ocnt_of, has_effect, is_initialised, TakesByTheTable, PassesByTheTable}
+use Rattle.xti_laws.specs.States.{state_at, ocnt_of, is_initialised, TakesByTheTable, PassesByTheTable}
 use Rattle.xti_laws.proofs.Steady.{received-steady, datagram-steady, shown-steady}
 use Rattle.xti_laws.proofs.Effects.{AllLeave, steady, in_switch, closed-state, open-effect}
 use Rattle.xti_laws.proofs.TableRows.{bind-row, unbind-row, snd-row, rcv-row, datagram-row, show-row, close-row}

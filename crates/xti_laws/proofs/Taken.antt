@@ -7,11 +7,11 @@ use Rattle.xti_base.specs.declared.kinds.State.TheVariants.{T_UNINIT}
 use Rattle.xti_model.specs.declared.profile.Providers.{Providers}
 use Rattle.xti_model.specs.Endpoint.{Endpoint, ocnt}
 use Rattle.xti_model.specs.World.{World, Change, at_endpoint, changed, endpoint, state_of}
-use Rattle.xti_model.specs.Plan.{Row, Plan, Refusal, answers, waits, loses, first, on_open, if_open, later, later_row, later_plan}
+use Rattle.xti_model.specs.Plan.{Row, Plan, Refusal, answers, waits, loses, first, on_open, if_open, later, later_row, later_plan, has_effect}
 use Rattle.xti_model.specs.Step.{step_of}
 use Rattle.xti_model.specs.History.{left_by}
 use Rattle.xti_model.specs.StateTable.{Move, is_in_table}
-use Rattle.xti_laws.specs.States.{state_at, ocnt_of, has_effect, is_initialised}
+use Rattle.xti_laws.specs.States.{state_at, ocnt_of, is_initialised}
 use Rattle.xti_laws.proofs.Rows.{Cleared, cleared}
 use Rattle.xti_laws.proofs.Effects.{state_in, told-state, open-effect, step-effect, AllLeave, puts-first, leaves}
 

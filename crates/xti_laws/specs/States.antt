@@ -10,7 +10,7 @@ use Rattle.xti_model.specs.declared.profile.Providers.{Providers}
 use Rattle.xti_model.specs.Endpoint.{Endpoint, ocnt}
 use Rattle.xti_model.specs.World.{World, Cell, endpoint_cell, switch_cell, endpoint, state_of, places, the_switch}
 use Rattle.xti_model.specs.Switch.{opening_place}
-use Rattle.xti_model.specs.Plan.{Refusal, answers, waits, loses}
+use Rattle.xti_model.specs.Plan.{has_effect}
 use Rattle.xti_model.specs.Step.{plan, step, first_refusal}
 use Rattle.xti_model.specs.History.{left_by}
 use Rattle.xti_model.specs.Sound.{AgreesAt}
@@ -22,13 +22,6 @@ state_at p w fd = state_of (endpoint p w fd)
 abbrev pub ocnt_of : Option Endpoint → ℕ
 ocnt_of None = 0
 ocnt_of (Some e) = ocnt e
-
--- the effect is made where no refusal holds, and where fields are lost
-abbrev pub has_effect : Option Refusal → Bool
-has_effect None = true
-has_effect (Some loses) = true
-has_effect (Some (answers reply)) = false
-has_effect (Some (waits reply)) = false
 
 -- the descriptor whose state is told
 abbrev pub told : Providers → World → Call → Go → ℕ

@@ -12,6 +12,7 @@ pub mod Plan
 pub mod Arguments
 pub mod Calls
 pub mod Step
+pub mod Memory
 pub mod History
 pub mod Resolve
 pub mod Robin

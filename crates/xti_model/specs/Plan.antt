@@ -31,6 +31,13 @@ abbrev pub first : List Row → Option Refusal
 first [] = None
 first (row ∷ rows) = if row.holds then Some row.refusal else first rows
 
+-- the effect is made where no refusal holds, and where fields are lost
+abbrev pub has_effect : Option Refusal → Bool
+has_effect None = true
+has_effect (Some loses) = true
+has_effect (Some (answers reply)) = false
+has_effect (Some (waits reply)) = false
+
 -- the rows; where none holds, the changes and the outcome; the changes where it is not ready and does not wait; the changes and the number where all fields are lost
 pub record Plan : Type 0 where
   pub fd : ℕ

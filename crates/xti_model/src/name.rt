@@ -1,6 +1,6 @@
 //! Names in scripts.
 
-ghost use Rattle.std.specs.Prelude.{◌≡◌, IfOk};
+ghost use Rattle.std.specs.Prelude.{◌≡◌, ◌≤◌, length, IfOk, IsOk};
 
 use std::alloc::{AllocError, Global};
 use std::marker::Model;
@@ -34,9 +34,10 @@ impl Model for Name {
 }
 
 impl Name {
-    /// A copy of these bytes.
+    /// A copy of these bytes; of up to 14 bytes it takes no memory.
     pub fn copy_of(alloc: Global, bytes: &[u8]) -> Result<Name, AllocError>
-        ensures { IfOk result (λ n. n ≡ bytes.now) }
+        ensures copy { IfOk result (λ n. n ≡ bytes.now) }
+        ensures sure { length bytes.now ≤ 14 → IsOk result }
     {
         if bytes.len() > INLINE {
             let long = Box::new(alloc, Octets::copy_of(alloc, bytes)?)?;

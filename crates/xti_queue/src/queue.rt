@@ -1,6 +1,6 @@
 //! The queue that an endpoint keeps.
 
-ghost use Rattle.std.specs.Prelude.{◌≡◌, ◌≤◌, ◌<◌, ◌+◌, ◌-◌, ◌++◌, [], ◌∷◌, ℕ, List, true, length, drop, slice_get, IfOk, OnOk, OnErr};
+ghost use Rattle.std.specs.Prelude.{◌≡◌, ◌≤◌, ◌<◌, ◌+◌, ◌-◌, ◌++◌, [], ◌∷◌, ℕ, List, true, length, drop, max, slice_get, IfOk, OnOk, OnErr};
 ghost use Rattle.std.specs.Option.{option_copied, option_map};
 ghost use Rattle.tpi_prim.specs.Primitive.{kind_of, user_of};
 ghost use Rattle.tpi_prim.specs.Fields.{kind_in, primitive_in};
@@ -72,6 +72,7 @@ impl ReadQueue {
         ensures taken { self.new.taken ≡ self.old.taken }
         ensures kept { self.old.spare ≤ self.new.spare }
         ensures spare { OnOk result (n ≤ self.new.spare) }
+        ensures most { self.new.spare ≤ max self.old.spare n }
         ensures err { OnErr result (self.new ≡ self.old) }
     {
         if n <= self.spare {

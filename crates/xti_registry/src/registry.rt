@@ -1,6 +1,6 @@
 //! The switch's table.
 
-ghost use Rattle.std.specs.Prelude.{◌≡◌, ◌≤◌, ◌<◌, ◌+◌, true, false, IfOk, OnOk, OnErr, IfSome, length, option_map, position};
+ghost use Rattle.std.specs.Prelude.{◌≡◌, ◌≤◌, ◌<◌, ◌+◌, true, false, IfOk, OnOk, OnErr, IfSome, IsOk, length, max, option_map, position};
 ghost use Rattle.xti_model.specs.Profile.{usual, valid};
 ghost use Rattle.xti_model.specs.Switch.{free_address, free_place, give_address, give_up_address, is_free, mark_closed, mark_open, numbered_address, place_at};
 ghost use Rattle.xti_model.specs.World.{descriptor, opening_switch, places};
@@ -127,6 +127,7 @@ impl Registry {
     pub fn free_address(&self, alloc: Global, prov: Prov) -> Result<Octets, AllocError>
         ensures address { IfOk result (λ address. address ≡ free_address self.now.switch prov 0 (length self.now.switch.bindings)) }
         ensures short { IfOk result (λ address. length address ≤ 21) }
+        ensures sure { length (free_address self.now.switch prov 0 (length self.now.switch.bindings)) ≤ 16 → IsOk result }
     {
         let n = free_number(&self.bindings, &self.index, prov);
         Octets::copy_of(alloc, numbered_address(n).as_slice())
@@ -147,6 +148,7 @@ impl Registry {
         ensures switch { self.new.switch ≡ self.old.switch }
         ensures kept { self.old.spare ≤ self.new.spare }
         ensures spare { OnOk result (1 ≤ self.new.spare) }
+        ensures most { self.new.spare ≤ max self.old.spare 1 }
         ensures err { OnErr result (self.new ≡ self.old) }
     {
         if self.spare == 0 {

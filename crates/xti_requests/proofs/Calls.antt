@@ -17,7 +17,7 @@ use Rattle.xti_model.specs.Switch.{mark_open, opening_place}
 use Rattle.xti_model.specs.Links.{linked, at_linked, break, names, if_names}
 use Rattle.xti_model.specs.Events.{is_state, some_wait, looked, looks_disconnect, sending, receiving}
 use Rattle.xti_model.specs.Arguments.{is_expedited}
-use Rattle.xti_model.specs.Plan.{Plan, if_open, later_plan}
+use Rattle.xti_model.specs.Plan.{Plan, if_open, later_plan, has_effect}
 use Rattle.xti_model.specs.Step.{Step, step_of, send}
 use Rattle.xti_model.specs.Calls.Open as Open
 use Rattle.xti_model.specs.Calls.Close as Close
@@ -33,7 +33,6 @@ use Rattle.xti_requests.specs.Requests.{is_connected, disconnects_with, SoundReq
 use Rattle.xti_model.specs.Calls.Disconnect.{is_asked}
 use Rattle.xti_requests.proofs.Keeping.{keeps}
 use Rattle.xti_requests.proofs.Ways.{Way, takes, loses_all, is_refused, is_marked, way, some-is, not-both}
-use Rattle.xti_laws.specs.States.{has_effect}
 use Rattle.xti_laws.proofs.Rows.{Cleared, cleared, un-not}
 use Rattle.xti_requests.proofs.Counting.{find-some}
 use Rattle.xti_requests.proofs.OneChange.{Alike, one_world, one-other, hush, removes, rests-again, just, switch-sound}

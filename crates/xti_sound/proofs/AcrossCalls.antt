@@ -8,14 +8,13 @@ use Rattle.xti_model.specs.Endpoint.{Endpoint, Indication, Target, find_number, 
 use Rattle.xti_model.specs.World.{World, at_endpoint, closes_endpoint, changed, endpoint}
 use Rattle.xti_model.specs.Links.{names, if_names, at_linked, take_back, taken_back, break, broken}
 use Rattle.xti_model.specs.Events.{is_state, some_wait, sending, connected_or_asking}
-use Rattle.xti_model.specs.Plan.{first}
+use Rattle.xti_model.specs.Plan.{first, has_effect}
 use Rattle.xti_model.specs.Step.{step_of}
 use Rattle.xti_model.specs.History.{left_by}
 use Rattle.xti_model.specs.Calls.Close as Close
 use Rattle.xti_model.specs.Calls.Listen as Listen
 use Rattle.xti_model.specs.Calls.Disconnect as Disconnect
 use Rattle.xti_model.specs.Calls.Release as Release
-use Rattle.xti_laws.specs.States.{has_effect}
 use Rattle.xti_laws.proofs.View.{changed-append, closed-same, closed-other}
 use Rattle.xti_requests.specs.Requests.{SoundRequests, disconnects_with}
 use Rattle.xti_requests.proofs.Keeping.{AllKeep, append-keep, keeps}

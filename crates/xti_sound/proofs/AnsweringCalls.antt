@@ -21,7 +21,7 @@ use Rattle.xti_model.specs.Links.{names, if_names, linked, at_linked, take_back,
 use Rattle.xti_model.specs.Symbols.{rest}
 use Rattle.xti_model.specs.Events.{is_state, is_here, some_wait, around, sending, receiving}
 use Rattle.xti_model.specs.Arguments.{is_expedited}
-use Rattle.xti_model.specs.Plan.{Plan, Row, first, if_open, later_plan}
+use Rattle.xti_model.specs.Plan.{Plan, Row, first, if_open, later_plan, has_effect}
 use Rattle.xti_model.specs.Step.{plan, step, step_of, send}
 use Rattle.xti_model.specs.History.{left_by}
 use Rattle.xti_model.specs.Calls.Open as Open
@@ -35,7 +35,6 @@ use Rattle.xti_model.specs.Calls.Disconnect as Disconnect
 use Rattle.xti_model.specs.Calls.Release as Release
 use Rattle.xti_model.specs.Calls.Datagrams as Datagrams
 use Rattle.xti_model.specs.Calls.Show as Show
-use Rattle.xti_laws.specs.States.{has_effect}
 use Rattle.xti_laws.proofs.View.{endpoint-same, changed-append, closed-same, closed-other, switch-other}
 use Rattle.xti_requests.specs.Requests.{nobody, is_connected}
 use Rattle.xti_requests.proofs.Keeping.{append-keep}

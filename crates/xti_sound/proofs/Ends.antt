@@ -22,7 +22,7 @@ use Rattle.xti_model.specs.Symbols.{is_end, ends_waiting, bytes_waiting, front, 
 use Rattle.xti_model.specs.Sending.{ready_for, has_ends}
 use Rattle.xti_model.specs.Events.{is_state, some_wait, around}
 use Rattle.xti_model.specs.Arguments.{is_expedited, has_more}
-use Rattle.xti_model.specs.Plan.{Plan, if_open, first, later_plan}
+use Rattle.xti_model.specs.Plan.{Plan, if_open, first, later_plan, has_effect}
 use Rattle.xti_model.specs.Step.{Step, plan, step, step_of, send}
 use Rattle.xti_model.specs.History.{left_by}
 use Rattle.xti_model.specs.Calls.Open as Open
@@ -36,7 +36,6 @@ use Rattle.xti_model.specs.Calls.Disconnect as Disconnect
 use Rattle.xti_model.specs.Calls.Release as Release
 use Rattle.xti_model.specs.Calls.Datagrams as Datagrams
 use Rattle.xti_model.specs.Calls.Show as Show
-use Rattle.xti_laws.specs.States.{has_effect}
 use Rattle.xti_laws.proofs.View.{changed-append, endpoint-same, endpoint-other}
 use Rattle.xti_requests.proofs.Keeping.{AllKeep, append-keep, keeps}
 use Rattle.xti_sound.specs.Invariant.{Paired}

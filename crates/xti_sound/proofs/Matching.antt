@@ -22,7 +22,7 @@ use Rattle.xti_model.specs.Links.{names, if_names, linked, at_linked, take_back,
 use Rattle.xti_model.specs.Symbols.{rest, front, ended}
 use Rattle.xti_model.specs.Events.{looks_unbind, is_state, is_here, some_wait, around, sending, receiving}
 use Rattle.xti_model.specs.Arguments.{is_expedited}
-use Rattle.xti_model.specs.Plan.{Plan, Row, first, if_open, later_plan, outside, looks}
+use Rattle.xti_model.specs.Plan.{Plan, Row, first, if_open, later_plan, outside, looks, has_effect}
 use Rattle.xti_model.specs.Step.{plan, step, step_of, send}
 use Rattle.xti_model.specs.History.{left_by}
 use Rattle.xti_model.specs.Calls.Open as Open
@@ -36,7 +36,6 @@ use Rattle.xti_model.specs.Calls.Disconnect as Disconnect
 use Rattle.xti_model.specs.Calls.Release as Release
 use Rattle.xti_model.specs.Calls.Datagrams as Datagrams
 use Rattle.xti_model.specs.Calls.Show as Show
-use Rattle.xti_laws.specs.States.{has_effect}
 use Rattle.xti_laws.proofs.View.{changed-append, endpoint-same}
 use Rattle.xti_requests.specs.Requests.{SoundLinks, is_connected}
 use Rattle.xti_requests.proofs.Keeping.{AllKeep, append-keep, keeps}

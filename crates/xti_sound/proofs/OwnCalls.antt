@@ -14,7 +14,7 @@ use Rattle.xti_model.specs.World.{World, Switch, Binding, at_endpoint, at_switch
 use Rattle.xti_model.specs.Switch.{bound, is_bound, is_listening, has_listener, listener, chosen, give_address, give_up_address}
 use Rattle.xti_model.specs.Symbols.{rest}
 use Rattle.xti_model.specs.Events.{is_state, some_wait, looks_unbind, receiving, connected_or_asking}
-use Rattle.xti_model.specs.Plan.{Row, Plan, first, outside, looks}
+use Rattle.xti_model.specs.Plan.{Row, Plan, first, outside, looks, has_effect}
 use Rattle.xti_model.specs.Step.{step_of}
 use Rattle.xti_model.specs.History.{left_by}
 use Rattle.xti_model.specs.Calls.Bind as Bind
@@ -23,7 +23,6 @@ use Rattle.xti_model.specs.Calls.Listen as Listen
 use Rattle.xti_model.specs.Calls.Receive as Receive
 use Rattle.xti_model.specs.Calls.Disconnect as Disconnect
 use Rattle.xti_model.specs.Calls.Release as Release
-use Rattle.xti_laws.specs.States.{has_effect}
 use Rattle.xti_requests.specs.Requests.{SoundRequests}
 use Rattle.xti_requests.proofs.AcceptEnds.{same-prov}
 use Rattle.xti_requests.proofs.Ways.{flip, not-both}

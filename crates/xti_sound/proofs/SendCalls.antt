@@ -14,11 +14,10 @@ use Rattle.xti_model.specs.Links.{names, if_names, if_back, linked, at_linked}
 use Rattle.xti_model.specs.Symbols.{bytes_waiting, piece}
 use Rattle.xti_model.specs.Sending.{ready_for, message_limit, unfinished}
 use Rattle.xti_model.specs.Arguments.{is_expedited}
-use Rattle.xti_model.specs.Plan.{Row, Refusal, answers, waits, loses, first, if_open, later, later_row, later_plan}
+use Rattle.xti_model.specs.Plan.{Row, Refusal, answers, waits, loses, first, if_open, later, later_row, later_plan, has_effect}
 use Rattle.xti_model.specs.Step.{step_of, send}
 use Rattle.xti_model.specs.History.{left_by}
 use Rattle.xti_model.specs.Calls.Send as Send
-use Rattle.xti_laws.specs.States.{has_effect}
 use Rattle.xti_laws.proofs.View.{changed-append}
 use Rattle.xti_requests.proofs.Keeping.{AllKeep, keeps}
 use Rattle.xti_requests.proofs.Ways.{some-is}

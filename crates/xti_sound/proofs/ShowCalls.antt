@@ -17,13 +17,12 @@ use Rattle.xti_model.specs.World.{World, at_endpoint, opens_place, changed, endp
 use Rattle.xti_model.specs.Switch.{bound, mark_open, free_place, if_provider}
 use Rattle.xti_model.specs.Sending.{takes_datagram}
 use Rattle.xti_model.specs.Events.{some_wait, around}
-use Rattle.xti_model.specs.Plan.{Row, Plan, plan_of, first}
+use Rattle.xti_model.specs.Plan.{Row, Plan, plan_of, first, has_effect}
 use Rattle.xti_model.specs.Step.{step_of}
 use Rattle.xti_model.specs.History.{left_by}
 use Rattle.xti_model.specs.Calls.Open as Open
 use Rattle.xti_model.specs.Calls.Datagrams as Datagrams
 use Rattle.xti_model.specs.Calls.Show as Show
-use Rattle.xti_laws.specs.States.{has_effect}
 use Rattle.xti_requests.proofs.OpeningAndClosing.{opens-cases}
 use Rattle.xti_requests.proofs.Ways.{some-is, none-is, not-both}
 use Rattle.xti_requests.proofs.OneChange.{one_world}

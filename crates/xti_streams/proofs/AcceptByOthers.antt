@@ -12,7 +12,7 @@ use Rattle.xti_model.specs.World.{World, at_endpoint, at_switch, endpoint, chang
 use Rattle.xti_model.specs.Switch.{give_address}
 use Rattle.xti_model.specs.Links.{names}
 use Rattle.xti_model.specs.Events.{is_state}
-use Rattle.xti_model.specs.Plan.{Plan, if_open}
+use Rattle.xti_model.specs.Plan.{Plan, if_open, has_effect}
 use Rattle.xti_model.specs.Step.{Step, step_of}
 use Rattle.xti_model.specs.Calls.Listen as Listen
 use Rattle.xti_streams.proofs.Invariant.{View, view, HasView, NotNamedBy}
@@ -21,7 +21,6 @@ use Rattle.xti_requests.specs.Requests.{AskingCaller, SoundLinks}
 use Rattle.xti_requests.proofs.Keeping.{Keep, AllKeep, append-keep, keeps}
 use Rattle.xti_streams.proofs.NonLinking.{bound_like-keeps_view}
 use Rattle.xti_requests.proofs.Ways.{Way, takes, loses_all, is_refused, is_marked, way, not-both, flip}
-use Rattle.xti_laws.specs.States.{has_effect}
 use Rattle.xti_laws.proofs.Rows.{Cleared, cleared}
 use Rattle.xti_requests.proofs.AcceptEnds.{no-disconnect, still-asks}
 

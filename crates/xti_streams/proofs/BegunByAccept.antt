@@ -16,7 +16,7 @@ use Rattle.xti_model.specs.Endpoint.{Endpoint, Indication, find_number, address_
 use Rattle.xti_model.specs.World.{World, Change, at_endpoint, at_switch, endpoint, changed}
 use Rattle.xti_model.specs.Switch.{give_address}
 use Rattle.xti_model.specs.Events.{is_state}
-use Rattle.xti_model.specs.Plan.{Plan, answers, waits, if_open}
+use Rattle.xti_model.specs.Plan.{Plan, answers, waits, if_open, has_effect}
 use Rattle.xti_model.specs.Sending.{has_ends}
 use Rattle.xti_model.specs.Step.{Step, step_of}
 use Rattle.xti_model.specs.Streams.{Connection, connection_of}
@@ -29,7 +29,6 @@ use Rattle.xti_requests.specs.Requests.{SoundRequests, AskingCaller, SoundLinks}
 use Rattle.xti_requests.proofs.Keeping.{Keep, AllKeep, keeps}
 use Rattle.xti_streams.proofs.NonLinking.{bound_like-keeps_view}
 use Rattle.xti_requests.proofs.Ways.{Way, takes, loses_all, is_refused, is_marked, way, all_deny, first-denies, is_denial, never-loses, all_kept, some-is, none-is, not-both, flip}
-use Rattle.xti_laws.specs.States.{has_effect}
 use Rattle.xti_laws.proofs.Rows.{Cleared, cleared, un-not}
 use Rattle.xti_requests.proofs.EndpointUpdates.{target-none}
 use Rattle.xti_requests.proofs.AcceptEnds.{same-prov, responder-state, asks, responder, not_resfd, not_fd}

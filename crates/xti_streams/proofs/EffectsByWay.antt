@@ -11,7 +11,7 @@ use Rattle.xti_model.specs.declared.profile.Providers.{Providers}
 use Rattle.xti_model.specs.Endpoint.{Endpoint}
 use Rattle.xti_model.specs.World.{World, Change, Switch, at_endpoint, at_switch, closes_endpoint, changed, endpoint, state_of}
 use Rattle.xti_model.specs.Links.{names, at_linked, if_names}
-use Rattle.xti_model.specs.Plan.{Plan, answers, waits, loses, first, if_open}
+use Rattle.xti_model.specs.Plan.{Plan, answers, waits, loses, first, if_open, has_effect}
 use Rattle.xti_model.specs.Step.{Step, made, step_of}
 use Rattle.xti_model.specs.History.{Going}
 use Rattle.xti_model.specs.Streams.{Made, Connection, Sending, sent_by, got_by, sending_of, taken_after, is_over}
@@ -21,7 +21,6 @@ use Rattle.xti_streams.proofs.Invariant.{View, view, HasView, NotNamedBy}
 use Rattle.xti_requests.proofs.Keeping.{Keep, AllKeep, keeps}
 use Rattle.xti_streams.proofs.NonLinking.{KeepsView}
 use Rattle.xti_requests.proofs.Ways.{Way, takes, loses_all, is_refused, is_marked, way, all_deny, is_denial, first-denies, not-both}
-use Rattle.xti_laws.specs.States.{has_effect}
 use Rattle.xti_laws.proofs.Rows.{Cleared, cleared}
 use Rattle.xti_streams.proofs.Refusals.{denial-takes, denial-gives, denial-releases}
 use Rattle.xti_streams.proofs.Effects.{Effect, TransfersNothing, changes_nothing, PeerBecomes, same, NamesNobody}

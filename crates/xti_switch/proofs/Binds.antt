@@ -12,7 +12,7 @@ use Rattle.xti_model.specs.Endpoint.{Endpoint}
 use Rattle.xti_model.specs.World.{World, Switch, Binding, endpoint, the_switch}
 use Rattle.xti_model.specs.Switch.{chosen, less, least, give_address}
 use Rattle.xti_model.specs.Events.{is_state}
-use Rattle.xti_model.specs.Plan.{field, is_too_long, Refusal, loses}
+use Rattle.xti_model.specs.Plan.{field, is_too_long, Refusal, loses, first, has_effect}
 use Rattle.xti_model.specs.Step.{made, step_of, step_by}
 use Rattle.xti_model.specs.Calls.Bind as Bind
 use Rattle.xti_registry.specs.Known.{Known}
@@ -43,6 +43,15 @@ either p w fd address qlen amax e false t = rw t refl
 pub bind-free : (p : Providers) (w : World) (fd : ℕ) (address : List ℕ) (qlen amax : ℕ) (e : Endpoint) → endpoint p w fd ≡ Some e → is_state (T_UNBND ∷ []) e ≡ true → ltb 64 (length address) ≡ false → Bind.is_busy (the_switch p w) e.prov address qlen ≡ false
     → step_of p w (Bind.plan p w fd address qlen amax) ≡ Some (bound p w fd e.prov (chosen (the_switch p w) e.prov address) (Bind.queue e.prov qlen) amax)
 bind-free p w fd address qlen amax e o s l b = rw (o, s, l, b) (either p w fd address qlen amax e _ refl)
+
+lost-effect : (b : Bool) → has_effect (lost b) ≡ true
+lost-effect true = refl
+lost-effect false = refl
+
+-- it has an effect, whether or not its caller takes the address
+pub bind-effect : (p : Providers) (w : World) (fd : ℕ) (address : List ℕ) (qlen amax : ℕ) (e : Endpoint) → endpoint p w fd ≡ Some e → is_state (T_UNBND ∷ []) e ≡ true → ltb 64 (length address) ≡ false → Bind.is_busy (the_switch p w) e.prov address qlen ≡ false
+    → has_effect (first (Bind.plan p w fd address qlen amax).rows) ≡ true
+bind-effect p w fd address qlen amax e o s l b = rw (o, s, l, b) (lost-effect _)
 
 pub bind-busy : (p : Providers) (w : World) (fd : ℕ) (address : List ℕ) (qlen amax : ℕ) (e : Endpoint) → endpoint p w fd ≡ Some e → is_state (T_UNBND ∷ []) e ≡ true → ltb 64 (length address) ≡ false → Bind.is_busy (the_switch p w) e.prov address qlen ≡ true
     → step_of p w (Bind.plan p w fd address qlen amax) ≡ Some (made p fd (Done (Refused TADDRBUSY)) w)

@@ -1,8 +1,9 @@
 //! t_bind.
 
-ghost use Rattle.std.specs.Prelude.{◌≡◌, true, None, Some, is_some, IfOk, OnOk, OnErr};
+ghost use Rattle.std.specs.Prelude.{◌≡◌, true, false, None, Some, is_some, IfOk, IsOk, OnOk, OnErr};
 ghost use Rattle.xti_model.specs.World.{changed, the_switch};
 ghost use Rattle.xti_model.specs.Switch.{chosen, has_listener};
+ghost use Rattle.xti_model.specs.Plan.{first, has_effect};
 ghost use Rattle.xti_model.specs.Step.{step_of};
 ghost use Rattle.xti_model.specs.Calls.Bind as Bind;
 ghost use Rattle.xti_end.specs.Held.{is_open, with_parts};
@@ -31,6 +32,7 @@ pub(crate) fn bind(
     ensures still { IfOk result (λ a. taken a (cells lent.new) ≡ None → lent.new ≡ lent.old) }
     ensures kept { SameCells lent.old lent.new }
     ensures err { OnErr result (lent.new ≡ lent.old) }
+    ensures sure { has_effect (first (Bind.plan lent.old.providers (cells lent.old) fd.0 addr.now qlen amax).rows) ≡ false → IsOk result }
 {
     let (prov, state) = match lent.open_endpoint(fd) {
         None => return Ok(refused(lent, fd, Errno::TBADF)),

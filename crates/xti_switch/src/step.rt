@@ -1,8 +1,9 @@
 //! One step of a call that changes the switch.
 
-ghost use Rattle.std.specs.Prelude.{◌≡◌, true, None, IfOk, OnErr};
+ghost use Rattle.std.specs.Prelude.{◌≡◌, true, false, None, IfOk, IsOk, OnErr};
 ghost use Rattle.xti_model.specs.declared.entry.Go.{Go};
 ghost use Rattle.xti_model.specs.Built.{is_built};
+ghost use Rattle.xti_model.specs.Memory.{may_run_out};
 ghost use Rattle.xti_model.specs.Step.{step};
 ghost use Rattle.xti_model.specs.Touched.{touched};
 ghost use Rattle.xti_end.specs.Taken.{taken};
@@ -30,6 +31,7 @@ pub fn switch_step(lent: &mut Lent, call: &Call) -> Result<Applied, AllocError>
     ensures still { IfOk result (λ a. taken a (cells lent.new) ≡ None → lent.new ≡ lent.old) }
     ensures kept { SameCells lent.old lent.new }
     ensures err { OnErr result (lent.new ≡ lent.old) }
+    ensures sure { (g : Go) → may_run_out lent.old.providers (cells lent.old) call.now g ≡ false → IsOk result }
 {
     match call {
         Call::TOpen { prov, nonblock } => Ok(open(lent, *prov, *nonblock)),

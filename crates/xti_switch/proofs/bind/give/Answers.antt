@@ -21,7 +21,7 @@ returns-clause-ok c =
     let f = Bind.bound_to c.args.address c.args.qlen in
     let o = fd-open l c.args.fd.0 c.place_of.result h c.requires.fit.places c.requires.«open» c.place_of.ensures (sym c.endpoint.ensures.now) in
     let n : cell c.bind_endpoint.new.e ≡ change_endpoint (c.args.fd.0 / 64) f (cell h) = ap (λ (x : Held). cell x) c.bind_endpoint.ensures ∙ parts-changed l c.args.fd.0 h f o in
-    let s = given c.args.prov c.in_ok-known.known c.args.address c.args.fd.0 (nat_lt 0 c.args.qlen) c.put.new.self.switch c.registry.result.now c.reserve.new.self c.registry-2.result.now c.put.ensures.switch c.in_ok-known.ensures c.registry-2.ensures.now c.in_ok-reserve.ensures.switch in
+    let s = given c.args.prov c.in_ok-known.known c.args.address c.args.fd.0 (nat_lt 0 c.args.qlen) c.put.new.self.switch c.registry.result.now c.reserve.new.self c.registry-2.result.now c.put.ensures.switch c.in_ok-known.ensures.copy c.registry-2.ensures.now c.in_ok-reserve.ensures.switch in
     fd-written l c.args.fd.0 c.place_of.result h c.bind_endpoint.new.e (change_endpoint (c.args.fd.0 / 64) f) c.registry.result.now c.put.new.self (give_address c.args.prov c.args.address c.args.fd.0 (nat_lt 0 c.args.qlen)) c.place_of.ensures (sym c.endpoint.ensures.now) n (sym c.registry.ensures.now) s
 
 pub returns-clause-kept : goal.returns-clause-kept
