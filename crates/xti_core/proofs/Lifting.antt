@@ -1,6 +1,6 @@
 -- A step on the lent cell of its descriptor alone is the step on all lent cells.
 use Rattle.std.proofs.Common.{◌≡◌, ℕ, zero, suc, ◌+◌, ◌<◌, ◌≤◌, Bool, true, false, cond, eqb, List, [], ◌∷◌, Option, Some, None, refl, sym, ap, ◌∙◌, subst, arith}
-use Rattle.std.specs.Prelude.{map, option_map, Result, Ok, Err, IfOk, OnErr}
+use Rattle.std.specs.Prelude.{map, option_map, ◌&&◌, Result, Ok, Err, IfOk, OnErr}
 use Rattle.std.proofs.lemmas.Bool.{ne_eqb, eq-eqb, eqb-true}
 use Rattle.std.proofs.lemmas.Bool.Decides.{nat_tests}
 use Rattle.xti_model.specs.declared.call.Call.{Call}
@@ -9,13 +9,15 @@ use Rattle.xti_model.specs.declared.entry.Go.{Go}
 use Rattle.xti_model.specs.declared.entry.Applied.{Applied}
 use Rattle.xti_model.specs.declared.profile.Providers.{Providers}
 use Rattle.xti_model.specs.World.{World, Cell, switch_cell, is_among, only, place_of}
-use Rattle.xti_model.specs.Step.{plan, step}
+use Rattle.xti_model.specs.Memory.{takes_memory, may_run_out}
+use Rattle.xti_model.specs.Plan.{Plan, Refusal, first, has_effect}
+use Rattle.xti_model.specs.Step.{plan, step, first_refusal}
 use Rattle.xti_model.specs.Touched.{named}
 use Rattle.xti_end.specs.Held.{Held, cell, alone, SameRoom}
 use Rattle.xti_registry.specs.Known.{Known}
 use Rattle.xti_end.specs.Taken.{taken, IsAt}
 use Rattle.xti_laws.specs.Laws.{Within}
-use Rattle.xti_laws.proofs.Local.{step-local}
+use Rattle.xti_laws.proofs.Local.{plan-local, step-local}
 use Rattle.xti_laws.proofs.Others.{step-others}
 use Rattle.xti_laws.proofs.TableWalk.{told-fd}
 use Rattle.xti_lent.specs.Lending.{Lending, held_in, held_at, put_in, with_held, cell_lent, cells, cells_by}
@@ -109,6 +111,22 @@ lifted p l n h new c g a lt i own e r s =
     (step-local p (n ∷ []) (cells l) c g q.named q.told) (step-others p (n ∷ []) (cells l) c g q.named)
     (λ k b j. ap (λ z. cond (eqb k 64) (option_map (λ (k : Known). switch_cell k.switch) l.registry) (option_map cell z)) (put-other n k l.numbers l.held new (not-own n k j)))
     (ap (taken a) (alone-is (with_held l n new) n new lt o m) ∙ (s ∙ ap (λ w. step p w c g) (sym (alone-is l n h lt own e))))
+
+takes-alike : (p : Providers) (v w : World) (n : ℕ) (c : Call) → IsAt p n c → takes_memory p v c ≡ takes_memory p w c
+takes-alike p v w n (call.TRcvUData fd max amax omax) i = refl
+takes-alike p v w n (call.TRcvVUData fd sizes amax omax) i = refl
+takes-alike p v w n (call.TRcvUDErr fd amax omax) i = refl
+takes-alike p v w n (call.TGetState fd) i = refl
+takes-alike p v w n (call.TSync fd) i = refl
+takes-alike p v w n (call.SetMode fd nonblock) i = refl
+takes-alike p v w n other i = absurd i
+
+-- one cell tells whether its step may run out of memory
+pub runs-out-alike : (p : Providers) (l : Lending) (n : ℕ) (h : Held) (c : Call) (g : Go) → n < 64 → IsAt p n c → AtOwnPlaces l → held_at l n ≡ Some h → may_run_out p (alone h) c g ≡ may_run_out p (cells l) c g
+runs-out-alike p l n h c g lt i own e =
+    let r : first_refusal p (alone h) c g ≡ first_refusal p (cells l) c g =
+        ap (λ w. first_refusal p w c g) (sym (alone-is l n h lt own e)) ∙ ap (λ (x : Plan). first x.rows) (plan-local p (n ∷ []) (cells l) c g (reads p (cells l) n c g i).named) in
+    ap (λ (b : Bool). b && has_effect (first_refusal p (alone h) c g)) (takes-alike p (alone h) (cells l) n c i) ∙ ap (λ (x : Option Refusal). takes_memory p (cells l) c && has_effect x) r
 
 -- what is said of an answer
 pub if-ok : {E : Type 0} (r : Result Applied E) (P Q : Applied → Type 0) → ((a : Applied) → P a → Q a) → IfOk r P → IfOk r Q

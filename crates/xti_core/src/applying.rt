@@ -1,6 +1,7 @@
 //! One step over lent cells.
 
-ghost use Rattle.std.specs.Prelude.{◌≡◌, true, None, IfOk, OnErr};
+ghost use Rattle.std.specs.Prelude.{◌≡◌, true, false, None, IfOk, IsOk, OnErr};
+ghost use Rattle.xti_model.specs.Memory.{may_run_out};
 ghost use Rattle.xti_model.specs.Step.{step};
 ghost use Rattle.xti_model.specs.World.{place_of};
 ghost use Rattle.xti_model.specs.Built.{is_built};
@@ -26,6 +27,7 @@ pub(crate) fn local(lent: &mut Lent, call: &Call, fd: Fd, _go: Go) -> Result<App
     ensures still { IfOk result (λ a. taken a (cells lent.new) ≡ None → lent.new ≡ lent.old) }
     ensures kept { SameCells lent.old lent.new }
     ensures err { OnErr result (lent.new ≡ lent.old) }
+    ensures sure { may_run_out lent.old.providers (cells lent.old) call.now _go ≡ false → IsOk result }
 {
     let p = *lent.providers();
     let e = lent.endpoint(place_of(fd));
@@ -42,6 +44,7 @@ pub fn apply(lent: &mut Lent, call: &Call, _go: Go) -> Result<Applied, AllocErro
     ensures still { IfOk result (λ a. taken a (cells lent.new) ≡ None → lent.new ≡ lent.old) }
     ensures kept { SameCells lent.old lent.new }
     ensures err { OnErr result (lent.new ≡ lent.old) }
+    ensures sure { may_run_out lent.old.providers (cells lent.old) call.now _go ≡ false → IsOk result }
 {
     match call {
         Call::TRcvUData { fd, .. }

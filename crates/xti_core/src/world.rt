@@ -1,7 +1,8 @@
 //! The world for one thread.
 
-ghost use Rattle.std.specs.Prelude.{◌≡◌, true, None, IfOk, OnErr};
+ghost use Rattle.std.specs.Prelude.{◌≡◌, true, false, None, IfOk, IsOk, OnErr};
 ghost use Rattle.xti_model.specs.Built.{is_built};
+ghost use Rattle.xti_model.specs.Memory.{may_run_out};
 ghost use Rattle.xti_model.specs.Profile.{valid};
 ghost use Rattle.xti_model.specs.Step.{step};
 ghost use Rattle.xti_model.specs.World.{opening};
@@ -61,6 +62,7 @@ impl World {
         ensures still { IfOk result (λ a. taken a self.new.cells ≡ None → self.new ≡ self.old) }
         ensures providers { self.new.providers ≡ self.old.providers }
         ensures err { OnErr result (self.new ≡ self.old) }
+        ensures sure { may_run_out self.old.providers self.old.cells call.now go ≡ false → IsOk result }
     {
         apply(&mut self.lent, call, go)
     }

@@ -58,7 +58,7 @@ endpoint-alone e h g =
     all a b c d i j k l = simp (i, j, k, l) refl
 
 -- the endpoint in a place's cell is the one with its place and generation
-cell-endpoint : (p : Providers) (w : World) (n g : ℕ) (e : Endpoint) (c : Numbered) → n < 64 → cell_at w n ≡ Some c → c.cell ≡ endpoint_cell g (Some e) → endpoint p w (64 * g + n) ≡ Some e
+pub cell-endpoint : (p : Providers) (w : World) (n g : ℕ) (e : Endpoint) (c : Numbered) → n < 64 → cell_at w n ≡ Some c → c.cell ≡ endpoint_cell g (Some e) → endpoint p w (64 * g + n) ≡ Some e
 cell-endpoint p w n g e c l i j = looked p w g n l ∙ (ap (option_and_then (λ c. endpoint_in g c.cell)) i ∙ (ap (endpoint_in g) j ∙ ap (λ b. cond b (Some e) None) (eq-eqb g g refl)))
 
 body-sound : (p : Providers) (w : World) (n g : ℕ) (body : Option Endpoint) (c : Numbered) → SoundWorld p w → n < 64 → cell_at w n ≡ Some c → c.cell ≡ endpoint_cell g body → SoundBody body

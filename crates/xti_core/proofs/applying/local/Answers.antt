@@ -3,7 +3,7 @@ use Rattle.xti_end.specs.Taken.{IsAt}
 use Rattle.xti_lent.specs.Lending.{held_at}
 use Rattle.xti_lent.proofs.Open.{own-place}
 use Rattle.xti_core.proofs.Settling.{none-taken}
-use Rattle.xti_core.proofs.Lifting.{lifted, same-cells, same-back, if-ok, on-err}
+use Rattle.xti_core.proofs.Lifting.{lifted, runs-out-alike, same-cells, same-back, if-ok, on-err}
 use Rattle.xti_core.proofs.applying.local.Goals as goal
 
 pub local-requires : goal.local-requires
@@ -22,4 +22,5 @@ returns c =
       still = if-ok c.local.result _ _ (λ a h i. same-back c.args.lent.now c.place_of.result c.endpoint-e.result.now c.local.new.self e (h (none-taken a _ _ i))) c.local.ensures.still;
       kept = same-cells c.args.lent.now c.place_of.result c.endpoint-e.result.now c.local.new.self e c.local.ensures.room;
       err = on-err c.local.result _ _ (same-back c.args.lent.now c.place_of.result c.endpoint-e.result.now c.local.new.self e) c.local.ensures.err;
+      sure = λ h. c.local.ensures.sure (rw c.providers.ensures.providers (runs-out-alike c.args.lent.now.providers c.args.lent.now c.place_of.result c.endpoint-e.result.now c.args.call.now c.args._go lt at c.requires.places e) ∙ h);
     }

@@ -18,3 +18,6 @@ returns-clause-still c = rw (← c.self.view_is) (if-ok c.apply.result _ _ (λ a
 
 pub returns-clause-err : goal.returns-clause-err
 returns-clause-err c = rw (← c.self.view_is) (on-err c.apply.result _ _ (λ h. ap standing h) c.apply.ensures.err)
+
+pub returns-clause-sure : goal.returns-clause-sure
+returns-clause-sure c = rw (← c.self.view_is) c.apply.ensures.sure
