@@ -125,7 +125,7 @@ takes-alike p v w n other i = absurd i
 pub runs-out-alike : (p : Providers) (l : Lending) (n : ℕ) (h : Held) (c : Call) (g : Go) → n < 64 → IsAt p n c → AtOwnPlaces l → held_at l n ≡ Some h → may_run_out p (alone h) c g ≡ may_run_out p (cells l) c g
 runs-out-alike p l n h c g lt i own e =
     let r : first_refusal p (alone h) c g ≡ first_refusal p (cells l) c g =
-        ap (λ w. first_refusal p w c g) (sym (alone-is l n h lt own e)) ∙ ap (λ (x : Plan). first x.rows) (plan-local p (n ∷ []) (cells l) c g (reads p (cells l) n c g i).named) in
+    ap (λ w. first_refusal p w c g) (sym (alone-is l n h lt own e)) ∙ ap (λ (x : Plan). first x.rows) (plan-local p (n ∷ []) (cells l) c g (reads p (cells l) n c g i).named) in
     ap (λ (b : Bool). b && has_effect (first_refusal p (alone h) c g)) (takes-alike p (alone h) (cells l) n c i) ∙ ap (λ (x : Option Refusal). takes_memory p (cells l) c && has_effect x) r
 
 -- what is said of an answer
