@@ -1,5 +1,5 @@
 -- What a built call names on some cells of a world, and on all of them.
-use Rattle.std.proofs.Common.{◌≡◌, ℕ, ◌<◌, ◌≤◌, ◌%◌, ◌/◌, Bool, true, false, ◌||◌, eqb, List, [], ◌∷◌, ◌++◌, length, Option, Some, None, refl, sym, ap, ◌∙◌, arith}
+use Rattle.std.proofs.Common.{◌≡◌, ℕ, ◌<◌, ◌%◌, ◌/◌, Bool, true, false, ◌||◌, eqb, List, [], ◌∷◌, ◌++◌, Option, Some, None, refl, sym, ap, ◌∙◌, arith}
 use Rattle.std.specs.Prelude.{option_map, option_and_then, option_to_list, is_some}
 use Rattle.std.proofs.lemmas.Bool.{eq-eqb}
 use Rattle.xti_model.specs.declared.call.Call.{Call}
@@ -7,7 +7,7 @@ use Rattle.xti_model.specs.declared.call.Call.TheVariants as call
 use Rattle.xti_model.specs.declared.profile.Providers.{Providers}
 use Rattle.xti_model.specs.Built.{is_built}
 use Rattle.xti_model.specs.Endpoint.{Endpoint}
-use Rattle.xti_model.specs.World.{World, Cell, Switch, cell_at, endpoint, endpoint_in, the_switch, switch_or_empty, is_among}
+use Rattle.xti_model.specs.World.{World, Cell, cell_at, endpoint, endpoint_in, the_switch, switch_or_empty, is_among}
 use Rattle.xti_model.specs.Switch.{bound, opening_place}
 use Rattle.xti_model.specs.Touched.{named, others, fd_of, cell_of, of_some, peer_cell, target_cell, caller_cells, bound_cell, marked_cells, cells_to}
 use Rattle.xti_lent.specs.Lending.{cells_by}
