@@ -32,7 +32,11 @@ fn bytes_of_each_length(rt: HostRuntime) -> Result<(), Fail> {
     let bytes = [7u8; 100];
     for length in 0..=bytes.len() {
         let (front, _) = bytes.as_slice().split_at(length);
-        assert_eq!(rt; Octets::copy_of(alloc, front)?.copy()?.as_slice(), front, "{length}");
+        assert_eq!(rt;
+            Octets::copy_of(alloc, front)?.copy()?.as_slice(),
+            front,
+            "{length}"
+        );
     }
     Ok(())
 }
