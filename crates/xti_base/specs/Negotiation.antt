@@ -2,6 +2,7 @@
 use Rattle.std.specs.Prelude.{ℕ, ◌==◌, ◌&&◌, ◌||◌, nat_lt, nat_le, Bool, true, List, [], ◌∷◌, ◌++◌, length, Option, Some, None, if◌then◌else◌}
 use Rattle.std.specs.List.{list_all}
 use Rattle.xti_base.specs.declared.options.Opt.{Opt}
+use Rattle.xti_base.specs.declared.limits.TheConstants.{MOST_SIZE}
 use Rattle.xti_base.specs.Options.{word, word_bytes}
 
 -- the level and the names
@@ -54,7 +55,7 @@ t_notsupport = 1024
 
 -- the largest size of a buffer, and the value of every low-water mark
 abbrev pub most_room : ℕ
-most_room = 65536
+most_room = MOST_SIZE
 
 abbrev pub low_water_mark : ℕ
 low_water_mark = 1

@@ -5,8 +5,10 @@ mod errno;
 mod items;
 mod kinds;
 mod limit;
+pub mod limits;
 mod octets;
 mod options;
+pub mod reasons;
 mod room;
 
 pub use errno::Errno;

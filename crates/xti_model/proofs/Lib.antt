@@ -7,4 +7,4 @@ pub mod Working
 pub mod Sums
 pub mod Phases
 pub mod Completing
-pub mod Rising
+pub mod RisingNumbers

@@ -1,16 +1,20 @@
 -- Numbers of cells in rising order.
-use Rattle.std.specs.Prelude.{ℕ, ◌+◌, ◌<◌, ◌≤◌, List, [], ◌∷◌, length, slice_index, filter}
-use Rattle.xti_model.specs.Robin.{numbers}
-use Rattle.xti_model.specs.World.{is_among}
+use Rattle.std.specs.Prelude.{ℕ, ◌+◌, ◌<◌, ◌≤◌, ◌==◌, nat_lt, List, [], ◌∷◌, length, slice_index, if◌then◌else◌}
 
--- strictly rising, from the first number on and below the end
-abbrev pub IsRising : ℕ → ℕ → List ℕ → Type 0
-IsRising from end [] = Unit {0}
-IsRising from end (n ∷ ns) = (from ≤ n) × (n < end) × IsRising (n + 1) end ns
+-- strictly rising, from the first number on
+abbrev pub IsRising : ℕ → List ℕ → Type 0
+IsRising from [] = Unit {0}
+IsRising from (n ∷ ns) = (from ≤ n) × IsRising (n + 1) ns
 
--- the numbers of cells that are among these, in rising order
+-- rising numbers, and one more in its place; as they are where it is among them
+abbrev pub with_number : ℕ → List ℕ → List ℕ
+with_number n [] = n ∷ []
+with_number n (m ∷ ms) = if nat_lt n m then n ∷ m ∷ ms else if n == m then m ∷ ms else m ∷ with_number n ms
+
+-- these numbers in rising order, each once
 unfoldable pub listed : List ℕ → List ℕ
-listed ns = filter (is_among ns) (numbers 0 65)
+listed [] = []
+listed (n ∷ ns) = with_number n (listed ns)
 
 -- the number belongs at this place: after those below it, and before a greater one
 pub record IsPlaceFor (n : ℕ) (ns : List ℕ) (place : ℕ) : Type 0 where

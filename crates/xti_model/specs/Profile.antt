@@ -1,5 +1,6 @@
 -- The values of the providers: those at the start, and those that a script may set.
 use Rattle.std.specs.Prelude.{ℕ, Bool, true, false, ◌==◌, ◌&&◌, ◌||◌, not, nat_le}
+use Rattle.xti_base.specs.declared.limits.TheConstants.{MOST_SIZE, USUAL_DATAGRAM, USUAL_BUFFER}
 use Rattle.xti_base.specs.declared.limit.Limit.{Limit}
 use Rattle.xti_base.specs.declared.limit.Limit.TheVariants.{At, Infinite, Invalid}
 use Rattle.xti_model.specs.declared.profile.Profile.{Profile}
@@ -7,14 +8,14 @@ use Rattle.xti_model.specs.declared.profile.Providers.{Providers}
 
 abbrev pub usual : Providers
 usual = record {
-  ticots = record { tsdu = At 65536; sendzero = true; same_addr = false; sndbuf = 16384; rcvbuf = 16384 };
-  ticotsord = record { tsdu = At 0; sendzero = false; same_addr = false; sndbuf = 16384; rcvbuf = 16384 };
-  ticlts = record { tsdu = At 8192; sendzero = true; same_addr = false; sndbuf = 16384; rcvbuf = 16384 };
+  ticots = record { tsdu = At MOST_SIZE; sendzero = true; same_addr = false; sndbuf = USUAL_BUFFER; rcvbuf = USUAL_BUFFER };
+  ticotsord = record { tsdu = At 0; sendzero = false; same_addr = false; sndbuf = USUAL_BUFFER; rcvbuf = USUAL_BUFFER };
+  ticlts = record { tsdu = At USUAL_DATAGRAM; sendzero = true; same_addr = false; sndbuf = USUAL_BUFFER; rcvbuf = USUAL_BUFFER };
 }
 
 -- a message or a buffer of at least one byte
 abbrev pub is_size : ℕ → Bool
-is_size n = nat_le 1 n && nat_le n 65536
+is_size n = nat_le 1 n && nat_le n MOST_SIZE
 
 -- messages have ends, and a limit
 abbrev pub has_limit : Limit → Bool

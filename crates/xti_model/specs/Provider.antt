@@ -1,5 +1,6 @@
 -- What a provider offers.
 use Rattle.std.specs.Prelude.{ℕ, zero, suc, Bool, true, false, not, if◌then◌else◌, Option, Some, None}
+use Rattle.xti_base.specs.declared.limits.TheConstants.{MOST_ADDRESS, MOST_OPTIONS, MOST_CONNECT_DATA, MOST_EXPEDITED_MESSAGE}
 use Rattle.xti_base.specs.Kinds.{same_service}
 use Rattle.xti_base.specs.declared.limit.Info.{Info}
 use Rattle.xti_base.specs.declared.kinds.Prov.{Prov}
@@ -49,16 +50,16 @@ is_stream p prov = is_stream_limit (profile p prov).tsdu
 
 abbrev pub expedited_limit : Prov → Limit
 expedited_limit Ticlts = Invalid
-expedited_limit prov = At 128
+expedited_limit prov = At MOST_EXPEDITED_MESSAGE
 
 abbrev pub connection_limit : Prov → Limit
 connection_limit Ticlts = Invalid
-connection_limit prov = At 64
+connection_limit prov = At MOST_CONNECT_DATA
 
 abbrev pub info : Providers → Prov → Info
 info p prov = record {
-  addr = At 64;
-  options = At 256;
+  addr = At MOST_ADDRESS;
+  options = At MOST_OPTIONS;
   tsdu = (profile p prov).tsdu;
   etsdu = expedited_limit prov;
   connect = connection_limit prov;

@@ -1,5 +1,6 @@
 -- The history in which the workers take turns.
 use Rattle.std.specs.Prelude.{ℕ, zero, suc, ◌+◌, ◌-◌, Bool, List, [], ◌∷◌, ◌++◌, length, slice_get, Option, Some, None, is_none, option_map, option_and_then, if◌then◌else◌}
+use Rattle.xti_base.specs.declared.limits.TheConstants.{LAST_WORKER, MOST_STEPS}
 use Rattle.xti_model.specs.declared.call.Call.{Call}
 use Rattle.xti_model.specs.declared.entry.Act.{Act}
 use Rattle.xti_model.specs.declared.entry.Act.TheVariants as act
@@ -60,9 +61,9 @@ abbrev pub numbers : ℕ → ℕ → List ℕ
 numbers from zero = []
 numbers from (suc n) = from ∷ numbers (from + 1) n
 
--- workers 1 to 32, from the one after the last that made a step
+-- the workers but 0, from the one after the last that made a step
 abbrev pub order_after : ℕ → List ℕ
-order_after last = numbers (last + 1) (32 - last) ++ numbers 1 last
+order_after last = numbers (last + 1) (LAST_WORKER - last) ++ numbers 1 last
 
 abbrev pub last_worker : ℕ → List Entry → ℕ
 last_worker w [] = w
@@ -82,7 +83,7 @@ robin_from p lines (suc more) w past = elim (next_turn p lines w past) [ None �
 
 -- a bound on the steps of a script
 abbrev pub most_steps : ℕ
-most_steps = 4294304
+most_steps = MOST_STEPS
 
 abbrev pub robin : Script → List Entry
 robin s = robin_from s.providers s.lines most_steps (opening s.providers) []

@@ -1,5 +1,6 @@
 -- When an endpoint's cell is sound, and when the switch agrees with the cells of the places.
 use Rattle.std.specs.Prelude.{ℕ, ◌+◌, ◌==◌, ◌<◌, ◌≡◌, ◌&&◌, ◌||◌, nat_lt, nat_le, Bool, true, List, [], ◌∷◌, length, filter, Option, Some, None, is_some, is_none}
+use Rattle.xti_base.specs.declared.limits.TheConstants.{MOST_QUEUE, MOST_ADDRESS}
 use Rattle.xti_model.specs.declared.profile.Providers.{Providers}
 use Rattle.xti_model.specs.Endpoint.{Endpoint, address_of, ocnt}
 use Rattle.xti_model.specs.World.{World, Cell, endpoint_cell, switch_cell, Numbered, Switch, Binding, places, descriptor, place_of, cell_at, the_switch}
@@ -14,7 +15,7 @@ abbrev pub is_only_asked : Endpoint → Bool
 is_only_asked e = (requests e == 0) || (is_none e.peer && is_none e.target)
 
 abbrev pub is_sound : Endpoint → Bool
-is_sound e = nat_le e.qlen 8 && nat_le (length (address_of e)) 64 && nat_le (requests e) e.qlen && is_only_asked e
+is_sound e = nat_le e.qlen MOST_QUEUE && nat_le (length (address_of e)) MOST_ADDRESS && nat_le (requests e) e.qlen && is_only_asked e
 
 abbrev pub is_sound_body : Option Endpoint → Bool
 is_sound_body None = true

@@ -1,12 +1,12 @@
 -- The cells that a call may read or change.
-use Rattle.std.specs.Prelude.{ℕ, ◌+◌, List, [], ◌∷◌, ◌++◌, map, filter, Option, Some, None, option_map, option_to_list}
+use Rattle.std.specs.Prelude.{ℕ, ◌+◌, List, [], ◌∷◌, ◌++◌, map, Option, Some, None, option_map, option_to_list}
 use Rattle.xti_model.specs.declared.profile.Providers.{Providers}
 use Rattle.xti_model.specs.declared.call.Call.{Call}
 use Rattle.xti_model.specs.declared.call.Call.TheVariants as call
 use Rattle.xti_model.specs.Endpoint.{Endpoint, find_number}
-use Rattle.xti_model.specs.World.{World, is_among, endpoint, the_switch, place_of, switch_number, places}
+use Rattle.xti_model.specs.World.{World, endpoint, the_switch, place_of, switch_number}
 use Rattle.xti_model.specs.Switch.{bound, listener, opening_place}
-use Rattle.xti_model.specs.Robin.{numbers}
+use Rattle.xti_model.specs.Cells.{listed}
 
 -- the cell of a descriptor that is named
 abbrev pub cell_of : Providers → Option ℕ → List ℕ
@@ -99,6 +99,6 @@ fd_of (call.SetMode fd nonblock) = Some fd.0
 abbrev pub named : Providers → World → Call → List ℕ
 named p w c = cell_of p (fd_of c) ++ others p w c
 
--- the cells of a call, in rising order
+-- the cells of a call, in rising order, each once
 abbrev pub touched : Providers → World → Call → List ℕ
-touched p w c = filter (is_among (named p w c)) (numbers 0 (places p + 1))
+touched p w c = listed (named p w c)

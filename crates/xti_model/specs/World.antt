@@ -2,6 +2,7 @@
 -- All of them are there or only some. What is asked of a cell that is not there is answered as for a closed place.
 use Rattle.std.specs.Prelude.{ℕ, zero, suc, ◌+◌, ◌-◌, ◌*◌, ◌/◌, ◌%◌, ◌==◌, not, Bool, false, List, [], ◌∷◌, ◌++◌, Option, Some, None, option_and_then, find, map, filter, replicate, if◌then◌else◌}
 use Rattle.std.specs.List.{list_any}
+use Rattle.xti_base.specs.declared.limits.TheConstants.{MOST_PLACES, DESCRIPTORS}
 use Rattle.xti_base.specs.declared.kinds.Prov.{Prov}
 use Rattle.xti_base.specs.declared.kinds.State.{State}
 use Rattle.xti_base.specs.declared.kinds.State.TheVariants.{T_UNINIT}
@@ -38,7 +39,7 @@ World = List Numbered
 
 -- how many places there are
 abbrev pub places : Providers → ℕ
-places p = 64
+places p = MOST_PLACES
 
 -- the switch's cell comes after those of the places
 abbrev pub switch_number : Providers → ℕ
@@ -54,9 +55,9 @@ place_of p fd = fd % places p
 abbrev pub generation_of : Providers → ℕ → ℕ
 generation_of p fd = fd / places p
 
--- a place that was closed so often is not used again: 2 ^ 32 descriptors, and none of the last generation
+-- a place that was closed so often is not used again, so that no descriptor is the number that stands for none
 abbrev pub last_generation : Providers → ℕ
-last_generation p = 4294967296 / places p - 1
+last_generation p = DESCRIPTORS / places p - 1
 
 -- the cells of so many closed places, from a number on
 abbrev pub closed_places : ℕ → ℕ → World

@@ -1,16 +1,18 @@
 //! The cells of a call, in rising order.
 
-ghost use Rattle.std.specs.Prelude.{◌≡◌, ◌<◌, ◌≤◌, ◌⊎◌, [], ◌∷◌, true, length, slice_get, IfSome, IfNone};
-ghost use Rattle.xti_model.specs.Cells.{listed, IsPlaceFor};
+ghost use Rattle.std.specs.Prelude.{◌≡◌, ◌<◌, ◌≤◌, ◌⊎◌, [], true, length, slice_get, IfSome, IfNone};
+ghost use Rattle.xti_base.specs.declared.limits.TheConstants.{MOST_TOUCHED};
+ghost use Rattle.xti_model.specs.Cells.{listed, with_number, IsPlaceFor};
 ghost use Rattle.xti_model.specs.World.{is_among};
 
 use arrayvec::ArrayVec;
 use std::marker::Model;
+use xti_base::limits::MOST_TOUCHED;
 
-/// At most 11 numbers of cells, strictly rising, which take no memory.
+/// The numbers of the cells that a call touches, at most `MOST_TOUCHED`, strictly rising. They take no memory.
 #[derive(Drop)]
 pub struct Cells {
-    numbers: ArrayVec<u32, 11>,
+    numbers: ArrayVec<u32, MOST_TOUCHED>,
 }
 
 impl Model for Cells {
@@ -21,7 +23,7 @@ impl Model for Cells {
 
     ghost view = { λ c. c.numbers.items };
 
-    ghost invariant = { λ c. IsRising 0 65 c.numbers.items };
+    ghost invariant = { λ c. IsRising 0 c.numbers.items };
 }
 
 /// Where a number belongs among rising numbers; `None` where it is there.
@@ -52,9 +54,8 @@ impl Cells {
 
     /// Adds a number, which may be there already.
     pub fn insert(&mut self, n: u32)
-        requires cell { n < 65 }
-        requires room { (length self.old < 11) ⊎ (is_among self.old n ≡ true) }
-        ensures { self.new ≡ listed (n ∷ self.old) }
+        requires { (length self.old < MOST_TOUCHED) ⊎ (is_among self.old n ≡ true) }
+        ensures { self.new ≡ with_number n self.old }
     {
         if let Some(place) = place_for(self.numbers.as_slice(), n) {
             self.numbers.insert(place, n);
@@ -71,7 +72,7 @@ impl Cells {
     /// How many numbers there are.
     pub fn len(&self) -> usize
         ensures len { result ≡ length self.now }
-        ensures most { result ≤ 11 }
+        ensures most { result ≤ MOST_TOUCHED }
         ensures rising { self.now ≡ listed self.now }
     {
         self.numbers.len()

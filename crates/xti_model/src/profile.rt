@@ -1,9 +1,12 @@
 //! What a script's head may set for each provider.
 
-ghost use Rattle.std.specs.Prelude.{◌≡◌};
+ghost use Rattle.std.specs.Prelude.{◌≡◌, ◌≤◌, ◌<◌};
+ghost use Rattle.xti_base.specs.declared.limits.TheConstants.{MOST_PLACES};
 ghost use Rattle.xti_model.specs.Profile.{usual, is_size, has_limit, has_messages, is_stream_limit, has_buffers, valid_connections, valid_orderly, valid_datagrams, valid};
+ghost use Rattle.xti_model.specs.World.{places, last_generation, place_of, generation_of, descriptor};
 
-use xti_base::Limit;
+use xti_base::limits::{DESCRIPTORS, MOST_PLACES, MOST_SIZE, USUAL_BUFFER, USUAL_DATAGRAM};
+use xti_base::{Fd, Limit};
 
 /// The values of a provider that a script's head may set.
 #[derive(Clone, Copy, Debug, PartialEq, Eq)]
@@ -31,14 +34,11 @@ pub struct Providers {
     pub ticlts: Profile,
 }
 
-/// The most bytes of a message and of a buffer.
-const MOST: u32 = 65536;
-
 /// Whether a message or a buffer may have so many bytes.
 fn is_size(bytes: u32) -> bool
     ensures { result ≡ is_size bytes }
 {
-    1 <= bytes && bytes <= MOST
+    1 <= bytes && bytes <= MOST_SIZE
 }
 
 /// Whether messages have ends, and a limit.
@@ -103,11 +103,11 @@ impl Providers {
         ensures { result ≡ usual }
     {
         let plain = Profile {
-            tsdu: Limit::At(65536),
+            tsdu: Limit::At(MOST_SIZE),
             sendzero: true,
             same_addr: false,
-            sndbuf: 16384,
-            rcvbuf: 16384,
+            sndbuf: USUAL_BUFFER,
+            rcvbuf: USUAL_BUFFER,
         };
         Providers {
             ticots: plain,
@@ -117,20 +117,58 @@ impl Providers {
                 ..plain
             },
             ticlts: Profile {
-                tsdu: Limit::At(8192),
+                tsdu: Limit::At(USUAL_DATAGRAM),
                 ..plain
             },
         }
     }
 
-    /// Whether a script may set these values. The message size is 1 to 65536 bytes; for connections it may also be
+    /// Whether a script may set these values. The message size is 1 to `MOST_SIZE` bytes; for connections it may also be
     /// without a limit, and for `ticotsord` 0 bytes, and then no message may be empty. `same_addr` is for
-    /// connections only. Each buffer has 1 to 65536 bytes. Takes no memory.
+    /// connections only. Each buffer has 1 to `MOST_SIZE` bytes. Takes no memory.
     pub fn valid(&self) -> bool
         ensures { result ≡ valid self.now }
     {
         self.ticots.valid_connections()
             && self.ticotsord.valid_orderly()
             && self.ticlts.valid_datagrams()
+    }
+
+    /// How many places of endpoints there are.
+    pub fn places(&self) -> u32
+        ensures places { result ≡ places self.now }
+        ensures some { 1 < result }
+        ensures most { result ≤ MOST_PLACES }
+    {
+        MOST_PLACES as u32
+    }
+
+    /// The generation of a place that isn't opened again, so that no endpoint ever has the greatest descriptor.
+    pub fn last_generation(&self) -> u32
+        ensures { result ≡ last_generation self.now }
+    {
+        (DESCRIPTORS / self.places() as u64 - 1) as u32
+    }
+
+    /// The place of a descriptor, which is the number of its cell.
+    pub fn place_of(&self, fd: Fd) -> u32
+        ensures place { result ≡ place_of self.now fd.0 }
+        ensures bound { result < places self.now }
+    {
+        fd.0 % self.places()
+    }
+
+    /// The generation of its place for which a descriptor stands.
+    pub fn generation_of(&self, fd: Fd) -> u32
+        ensures { result ≡ generation_of self.now fd.0 }
+    {
+        fd.0 / self.places()
+    }
+
+    /// The number of the switch's cell, which comes after those of the places.
+    pub fn switch_number(&self) -> u32
+        ensures { result ≡ places self.now }
+    {
+        self.places()
     }
 }

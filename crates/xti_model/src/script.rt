@@ -148,7 +148,7 @@ pub enum NamedCall {
 /// A line of a script: a worker, and a call that it makes.
 #[derive(Drop)]
 pub struct Line {
-    /// The worker, from 0 to 32; worker 0 is the setup.
+    /// The worker, from 0 to `LAST_WORKER`; worker 0 is the setup.
     pub worker: u32,
     /// The call.
     pub call: NamedCall,

@@ -1,28 +1,28 @@
 //! An address that takes no memory.
 
 ghost use Rattle.std.specs.Prelude.{◌≤◌};
+ghost use Rattle.xti_base.specs.declared.limits.TheConstants.{MOST_ADDRESS};
 
-/// The most bytes of an address.
-const MOST_BYTES: usize = 64;
+use xti_base::limits::MOST_ADDRESS;
 
-/// An address of at most 64 bytes, held in the value itself.
+/// An address of at most `MOST_ADDRESS` bytes, held in the value itself.
 #[derive(Clone, Copy, Drop)]
 pub struct Spot {
     len: u32,
-    bytes: [u8; 64],
-    ghost fits: { len ≤ 64 },
+    bytes: [u8; MOST_ADDRESS],
+    ghost fits: { len ≤ MOST_ADDRESS },
 }
 
 impl Spot {
     ghost use Rattle.std.specs.Prelude.{◌≡◌, [], nat_lt, length, if◌then◌else◌};
     ghost use Rattle.xti_model.specs.Spot.{spot_bytes};
 
-    /// The address; no bytes where it has more than 64.
+    /// The address; no bytes where it has more than `MOST_ADDRESS`.
     pub fn of(address: &[u8]) -> Spot
-        ensures { spot_bytes result ≡ (if nat_lt 64 (length address.now) then [] else address.now) }
+        ensures { spot_bytes result ≡ (if nat_lt MOST_ADDRESS (length address.now) then [] else address.now) }
     {
-        let mut bytes = [0; 64];
-        if address.len() > MOST_BYTES {
+        let mut bytes = [0; MOST_ADDRESS];
+        if address.len() > MOST_ADDRESS {
             return Spot { len: 0, bytes };
         }
         bytes[..address.len()].copy_from_slice(address);

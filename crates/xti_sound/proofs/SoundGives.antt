@@ -16,7 +16,7 @@ use Rattle.xti_model.specs.Endpoint.{Endpoint, Indication, Target, find_number}
 use Rattle.xti_model.specs.World.{World, endpoint, the_switch, place_of}
 use Rattle.xti_model.specs.Switch.{bound, listener, opening_place, place_at}
 use Rattle.xti_model.specs.Touched.{cell_of, of_some, peer_cell, target_cell, caller_cell, caller_cells, bound_cell, listener_cell, cells_to, marked_cells, named}
-use Rattle.xti_model.specs.Calls.Connect.{last_possible}
+use Rattle.xti_base.specs.declared.limits.TheConstants.{LAST_SEQUENCE}
 use Rattle.xti_requests.specs.Requests.{SoundRequests, Stands, disconnects_with, indications_with}
 use Rattle.xti_requests.proofs.Ways.{some-is, none-is, not-both}
 use Rattle.xti_requests.proofs.EndpointUpdates.{target-none}
@@ -49,7 +49,7 @@ datagrams-alone e d h g =
     }
 
 -- The numbers of requests.
-small : (top : ℕ) (xs : List Indication) → ((n : ℕ) → top < n → indications_with n xs ≡ 0) → top ≤ last_possible → All NumberFits xs
+small : (top : ℕ) (xs : List Indication) → ((n : ℕ) → top < n → indications_with n xs ≡ 0) → top ≤ LAST_SEQUENCE → All NumberFits xs
 small top [] h k = All-nil NumberFits
 small top (x ∷ xs) h k = All-cons NumberFits x xs (go (nat_lt top x.number) refl) (small top xs (λ n l. (let z : indications_with n (x ∷ xs) ≡ 0 = h n l in fewer n (eqb x.number n) z)) k)
   where
@@ -57,7 +57,7 @@ small top (x ∷ xs) h k = All-cons NumberFits x xs (go (nat_lt top x.number) re
     fewer n true z = absurd (omega arith)
     fewer n false z = omega arith
 
-    go : (b : Bool) → nat_lt top x.number ≡ b → x.number ≤ last_possible
+    go : (b : Bool) → nat_lt top x.number ≡ b → x.number ≤ LAST_SEQUENCE
     go true i =
         let z : indications_with x.number (x ∷ xs) ≡ 0 = h x.number (ltb-true top x.number i) in
         let y : indications_with x.number (x ∷ xs) ≡ 1 + indications_with x.number xs = ap (λ c. cond c 1 0 + indications_with x.number xs) (eq-eqb x.number x.number refl) in absurd (omega arith)

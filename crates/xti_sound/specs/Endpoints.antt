@@ -9,7 +9,7 @@ use Rattle.xti_model.specs.Provider.{has_datagrams}
 use Rattle.xti_model.specs.Endpoint.{Endpoint, Indication, Disconnect, Target, Confirmation, Datagram, DatagramError}
 use Rattle.xti_model.specs.Symbols.{bytes_waiting}
 use Rattle.xti_model.specs.Sending.{datagram_limit}
-use Rattle.xti_model.specs.Calls.Connect.{last_possible}
+use Rattle.xti_base.specs.declared.limits.TheConstants.{LAST_SEQUENCE}
 use Rattle.xti_requests.specs.Requests.{is_one_of}
 use Rattle.xti_requests.specs.Requests.{is_connected}
 
@@ -60,7 +60,7 @@ pub record Disconnecting (state : State) (target : Option Target) (peer : Option
 pub record RequestFields (pending outstanding : List Indication) (last_number : ℕ) (peer_address : Option (List ℕ)) (confirmation : Option Confirmation) : Type 0 where
   pub pending_short : All ShortIndication pending
   pub outstanding_short : All ShortIndication outstanding
-  pub numbered : last_number ≤ last_possible
+  pub numbered : last_number ≤ LAST_SEQUENCE
   pub peer : ShortAddress peer_address
   pub confirmed : ShortConfirmation confirmation
 

@@ -9,7 +9,7 @@ use Rattle.xti_base.specs.declared.kinds.State.TheVariants.{T_UNBND, T_IDLE}
 use Rattle.xti_model.specs.declared.entry.Entry.{Entry}
 use Rattle.xti_model.specs.History.{Legal, after}
 use Rattle.xti_model.specs.Endpoint.{Endpoint, Indication}
-use Rattle.xti_model.specs.Calls.Connect.{last_possible}
+use Rattle.xti_base.specs.declared.limits.TheConstants.{LAST_SEQUENCE}
 use Rattle.xti_model.specs.World.{World, Cell, Switch, endpoint_cell, switch_cell, endpoint, last_generation}
 use Rattle.xti_model.specs.Sound.{CellAgrees, is_sound_cell}
 use Rattle.xti_requests.specs.Requests.{SoundRequests}
@@ -59,7 +59,7 @@ pub record DatagramsAlone (e : Endpoint) : Type 0 where
 
 -- the numbers of requests have 32 bits
 abbrev pub NumberFits : Indication → Type 0
-NumberFits i = i.number ≤ last_possible
+NumberFits i = i.number ≤ LAST_SEQUENCE
 
 -- each open endpoint's provider passes the test
 abbrev pub OpenProvidersPass : (Prov → Bool) → Providers → World → Type 0

@@ -1,5 +1,6 @@
 -- bind and unbind
 use Rattle.std.specs.Prelude.{ℕ, ◌&&◌, nat_lt, min, false, Bool, List, [], ◌∷◌, length, Some, None, is_some, if◌then◌else◌}
+use Rattle.xti_base.specs.declared.limits.TheConstants.{MOST_QUEUE, MOST_ADDRESS}
 use Rattle.xti_base.specs.declared.kinds.Prov.{Prov}
 use Rattle.xti_base.specs.declared.kinds.State.TheVariants.{T_UNBND, T_IDLE}
 use Rattle.xti_base.specs.declared.errno.Errno.TheVariants.{TBADADDR, TADDRBUSY}
@@ -19,14 +20,14 @@ abbrev pub is_busy : Switch → Prov → List ℕ → ℕ → Bool
 is_busy s prov address qlen =
     if has_datagrams prov then is_some (bound s prov address) else (nat_lt 0 qlen && has_listener s prov address)
 
--- the queue that is given: at most 8 indications, and none where there are no connections
+-- the queue that is given: at most MOST_QUEUE indications, and none where there are no connections
 abbrev pub queue : Prov → ℕ → ℕ
-queue prov qlen = if has_datagrams prov then 0 else min qlen 8
+queue prov qlen = if has_datagrams prov then 0 else min qlen MOST_QUEUE
 
 abbrev pub rows : Switch → List ℕ → ℕ → ℕ → Endpoint → List Row
 rows s address qlen amax e =
     outside (T_UNBND ∷ []) e ∷
-    refuses (nat_lt 64 (length address)) TBADADDR ∷
+    refuses (nat_lt MOST_ADDRESS (length address)) TBADADDR ∷
     refuses (is_busy s e.prov address qlen) TADDRBUSY ∷
     overflows (field (chosen s e.prov address) amax ∷ []) ∷ []
 

@@ -1,5 +1,6 @@
 -- close
 use Rattle.std.specs.Prelude.{ℕ, List, [], ◌∷◌, ◌++◌, map, None, if◌then◌else◌}
+use Rattle.xti_base.specs.declared.reasons.TheConstants.{PEER_CLOSED}
 use Rattle.xti_model.specs.declared.profile.Providers.{Providers}
 use Rattle.xti_model.specs.declared.entry.Outcome.TheVariants.{Done}
 use Rattle.xti_model.specs.declared.entry.Reply.TheVariants.{Plain}
@@ -11,7 +12,7 @@ use Rattle.xti_model.specs.Plan.{Plan, plan_of, on_open}
 
 -- the request is given up where it is the caller's
 abbrev pub given_up : ℕ → ℕ → Endpoint → Endpoint
-given_up fd number e = if is_target fd number e.target then record (disconnected 5 0 [] e) { target = None } else e
+given_up fd number e = if is_target fd number e.target then record (disconnected PEER_CLOSED 0 [] e) { target = None } else e
 
 abbrev pub give_up_caller : ℕ → Indication → Change
 give_up_caller fd i = at_endpoint i.caller (given_up fd i.number)
@@ -23,7 +24,7 @@ abbrev pub closing : Providers → ℕ → List Change
 closing p fd = closes_endpoint fd ∷ at_switch (forget p fd) ∷ []
 
 abbrev pub changes : Providers → ℕ → Endpoint → List Change
-changes p fd e = break fd e 5 [] ++ map (give_up_caller fd) (e.pending ++ e.outstanding) ++ closing p fd
+changes p fd e = break fd e PEER_CLOSED [] ++ map (give_up_caller fd) (e.pending ++ e.outstanding) ++ closing p fd
 
 abbrev pub plan : Providers → World → ℕ → Plan
 plan p w fd = on_open p w fd (λ e. plan_of fd e [] (changes p fd e) (Done Plain))

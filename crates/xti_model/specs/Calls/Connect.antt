@@ -1,5 +1,7 @@
 -- connect, its second step, and rcvconnect
 use Rattle.std.specs.Prelude.{ℕ, ◌+◌, ◌==◌, ◌||◌, not, is_none, Bool, List, [], ◌∷◌, ◌++◌, length, option_map, Option, Some, None, if◌then◌else◌}
+use Rattle.xti_base.specs.declared.reasons.TheConstants.{NO_LISTENER, QUEUE_FULL}
+use Rattle.xti_base.specs.declared.limits.TheConstants.{LAST_SEQUENCE}
 use Rattle.xti_base.specs.declared.kinds.State.TheVariants.{T_IDLE, T_OUTCON, T_INCON, T_DATAXFER}
 use Rattle.xti_base.specs.declared.errno.Errno.TheVariants.{TNODATA}
 use Rattle.xti_model.specs.declared.profile.Providers.{Providers}
@@ -23,12 +25,9 @@ rows address options udata e =
     bad_udata udata ∷
     looks looks_connecting e ∷ []
 
-abbrev pub last_possible : ℕ
-last_possible = 4294967295
-
 -- whether the listener's queue is full, or its numbers are used up
 abbrev pub is_full : Endpoint → Bool
-is_full l = (length l.pending + ocnt l == l.qlen) || (l.last_number == last_possible)
+is_full l = (length l.pending + ocnt l == l.qlen) || (l.last_number == LAST_SEQUENCE)
 
 abbrev pub is_listening : Endpoint → Bool
 is_listening l = is_state (T_IDLE ∷ T_INCON ∷ []) l
@@ -51,8 +50,8 @@ turned_away reason e = in_state T_OUTCON (disconnected reason 0 [] e)
 -- the request reaches an endpoint that is open
 abbrev pub reach : ℕ → ℕ → List ℕ → List ℕ → Endpoint → Endpoint → List Change
 reach fd l options udata e le =
-    if not (is_listening le) then at_endpoint fd (turned_away 1) ∷ [] else
-    if is_full le then at_endpoint fd (turned_away 2) ∷ [] else
+    if not (is_listening le) then at_endpoint fd (turned_away NO_LISTENER) ∷ [] else
+    if is_full le then at_endpoint fd (turned_away QUEUE_FULL) ∷ [] else
     at_endpoint l (asked fd (address_of e) options udata) ∷ at_endpoint fd (asking l (le.last_number + 1)) ∷ []
 
 -- the listener, and the endpoint that is open there
@@ -61,7 +60,7 @@ pub record Found : Type 0 where
   pub endpoint : Endpoint
 
 abbrev pub request : ℕ → List ℕ → List ℕ → Endpoint → Option Found → List Change
-request fd options udata e None = at_endpoint fd (turned_away 1) ∷ []
+request fd options udata e None = at_endpoint fd (turned_away NO_LISTENER) ∷ []
 request fd options udata e (Some l) = reach fd l.fd options udata e l.endpoint
 
 abbrev pub found_at : Providers → World → Option ℕ → Option Found

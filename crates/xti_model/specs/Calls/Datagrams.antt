@@ -1,5 +1,6 @@
 -- sndudata, rcvudata, their vector forms, and rcvuderr
 use Rattle.std.specs.Prelude.{ℕ, ◌==◌, ◌&&◌, ◌||◌, not, nat_lt, Bool, true, false, List, [], ◌∷◌, ◌++◌, length, take, drop, slice_get, option_and_then, Option, Some, None, if◌then◌else◌}
+use Rattle.xti_base.specs.declared.reasons.TheConstants.{UNDELIVERABLE}
 use Rattle.xti_base.specs.declared.limit.Limit.{Limit}
 use Rattle.xti_base.specs.declared.limit.Limit.TheVariants.{At, Infinite, Invalid}
 use Rattle.xti_base.specs.declared.kinds.State.TheVariants.{T_IDLE}
@@ -56,15 +57,11 @@ abbrev pub deliver : ℕ → Option ℕ → Datagram → DatagramError → List 
 deliver fd None d err = at_endpoint fd (with_error_unmarked err) ∷ []
 deliver fd (Some to) d err = at_endpoint to (with_datagram d) ∷ at_endpoint fd (mark_flow None) ∷ []
 
--- the code of a datagram that nobody was there to take
-abbrev pub undeliverable : ℕ
-undeliverable = 1
-
 abbrev pub datagram_from : Endpoint → List ℕ → List ℕ → Datagram
 datagram_from e options bytes = record { source = address_of e; options = options; bytes = bytes }
 
 abbrev pub error_to : List ℕ → List ℕ → DatagramError
-error_to address options = record { destination = address; options = options; code = undeliverable }
+error_to address options = record { destination = address; options = options; code = UNDELIVERABLE }
 
 abbrev pub send_changes : ℕ → List ℕ → List ℕ → List ℕ → Option ℕ → Endpoint → List Change
 send_changes fd address options bytes to e = deliver fd to (datagram_from e options bytes) (error_to address options)

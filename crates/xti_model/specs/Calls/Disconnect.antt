@@ -1,5 +1,6 @@
 -- snddis and rcvdis
 use Rattle.std.specs.Prelude.{ℕ, ◌&&◌, not, is_none, Bool, List, [], ◌∷◌, ◌++◌, drop, slice_get, Option, Some, None, if◌then◌else◌}
+use Rattle.xti_base.specs.declared.reasons.TheConstants.{REJECTED, ABORTED}
 use Rattle.xti_base.specs.declared.kinds.State.TheVariants.{T_IDLE, T_INCON}
 use Rattle.xti_base.specs.declared.errno.Errno.TheVariants.{TBADSEQ, TNODIS}
 use Rattle.xti_model.specs.declared.profile.Providers.{Providers}
@@ -26,7 +27,7 @@ send_rows number udata e =
     looks looks_disconnect e ∷ []
 
 abbrev pub rejected : List ℕ → Endpoint → Endpoint
-rejected udata c = record (disconnected 3 0 udata c) { target = None }
+rejected udata c = record (disconnected REJECTED 0 udata c) { target = None }
 
 abbrev pub reject : ℕ → List ℕ → Option Indication → List Change
 reject fd udata None = []
@@ -37,7 +38,7 @@ idle e = in_state T_IDLE (reset e)
 
 abbrev pub send_changes : ℕ → ℕ → List ℕ → Endpoint → List Change
 send_changes fd number udata e =
-    if is_asked e then reject fd udata (find_number number e.outstanding) else break fd e 4 udata ++ at_endpoint fd idle ∷ []
+    if is_asked e then reject fd udata (find_number number e.outstanding) else break fd e ABORTED udata ++ at_endpoint fd idle ∷ []
 
 abbrev pub send_plan : Providers → World → ℕ → ℕ → List ℕ → Plan
 send_plan p w fd number udata = on_open p w fd (λ e. plan_of fd e (send_rows number udata e) (send_changes fd number udata e) (Done Plain))

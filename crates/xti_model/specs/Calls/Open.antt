@@ -1,5 +1,6 @@
 -- open
 use Rattle.std.specs.Prelude.{ℕ, not, is_none, Bool, List, [], ◌∷◌, Option, Some, None}
+use Rattle.xti_base.specs.declared.limits.TheConstants.{NO_NUMBER}
 use Rattle.xti_base.specs.declared.kinds.Prov.{Prov}
 use Rattle.xti_base.specs.declared.errno.Errno.TheVariants.{TBADNAME, TSYSERR}
 use Rattle.xti_model.specs.declared.profile.Providers.{Providers}
@@ -33,7 +34,7 @@ plan_at p s prov nonblock place = record {
 
 -- the descriptor of an open that failed
 abbrev pub no_fd : ℕ
-no_fd = 4294967295
+no_fd = NO_NUMBER
 
 abbrev pub refused_plan : Providers → Switch → Prov → Bool → Plan
 refused_plan p s prov nonblock = record {

@@ -1,5 +1,6 @@
 -- snd and sndv
 use Rattle.std.specs.Prelude.{ℕ, ◌+◌, ◌-◌, ◌==◌, ◌&&◌, ◌||◌, not, nat_lt, min, Bool, true, false, List, [], ◌∷◌, ◌++◌, length, take, drop, Option, Some, None, if◌then◌else◌}
+use Rattle.xti_base.specs.declared.limits.TheConstants.{MOST_SEND}
 use Rattle.xti_base.specs.declared.errno.Errno.TheVariants.{TBADFLAG, TBADDATA, TFLOW}
 use Rattle.xti_model.specs.declared.profile.Providers.{Providers}
 use Rattle.xti_model.specs.declared.entry.Outcome.{Outcome}
@@ -21,7 +22,7 @@ is_over (Some limit) n = nat_lt limit n
 
 -- more than one call takes
 abbrev pub is_too_much : ℕ → List ℕ → Bool
-is_too_much parts bytes = is_too_many parts || nat_lt 65536 (length bytes)
+is_too_much parts bytes = is_too_many parts || nat_lt MOST_SEND (length bytes)
 
 -- bytes that the provider does not send as they are; so many of them were taken before
 abbrev pub is_bad_data : Providers → List ℕ → Bool → ℕ → Endpoint → Bool

@@ -1,5 +1,6 @@
 -- The calls that show, and those that set options and the mode.
 use Rattle.std.specs.Prelude.{ℕ, ◌||◌, not, nat_lt, Bool, false, List, [], ◌∷◌, length, unwrap_or, slice_get, Option, Some, None, if◌then◌else◌}
+use Rattle.xti_base.specs.declared.limits.TheConstants.{MOST_OPTIONS}
 use Rattle.xti_base.specs.declared.kinds.State.TheVariants.{T_OUTCON, T_DATAXFER, T_OUTREL, T_INREL}
 use Rattle.xti_base.specs.declared.kinds.Event.{Event}
 use Rattle.xti_base.specs.declared.kinds.Event.TheVariants.{T_GODATA, T_GOEXDATA}
@@ -62,7 +63,7 @@ negotiated p action options e = negotiate (settings (profile p e.prov) e) action
 abbrev pub option_rows : Negotiated → ℕ → List ℕ → ℕ → List Row
 option_rows n action options omax =
     refuses (not (is_action action)) TBADFLAG ∷
-    refuses (nat_lt 256 (length options) || not (is_option_list options) || not (is_one_level (the_options options))) TBADOPT ∷
+    refuses (nat_lt MOST_OPTIONS (length options) || not (is_option_list options) || not (is_one_level (the_options options))) TBADOPT ∷
     overflows (field (options_bytes n.options) omax ∷ []) ∷ []
 
 abbrev pub with_settings : Settings → Endpoint → Endpoint

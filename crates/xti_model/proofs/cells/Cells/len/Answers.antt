@@ -1,5 +1,5 @@
 use Rattle.std.proofs.Common.{sym}
-use Rattle.xti_model.proofs.Rising.{rising-listed}
+use Rattle.xti_model.proofs.RisingNumbers.{rising-listed}
 use Rattle.xti_model.proofs.cells.Cells.len.Goals as goal
 
 pub returns-clause-rising : goal.returns-clause-rising
