@@ -1,7 +1,6 @@
 //! The switch's table.
 
 ghost use Rattle.std.specs.Prelude.{◌≡◌, ◌≤◌, ◌<◌, ◌+◌, true, false, IfOk, OnOk, OnErr, IfSome, IsOk, length, max, option_map, position};
-ghost use Rattle.xti_model.specs.Profile.{usual, valid};
 ghost use Rattle.xti_model.specs.Switch.{free_address, free_place, give_address, give_up_address, is_free, mark_closed, mark_open, numbered_address, place_at};
 ghost use Rattle.xti_model.specs.World.{descriptor, opening_switch, places};
 ghost use Rattle.xti_registry.specs.Known.{bound_at, switch_with};
@@ -15,12 +14,6 @@ use std::alloc::{AllocError, Global};
 use std::marker::Model;
 use xti_base::{Fd, Octets, Prov};
 use xti_model::Providers;
-
-/// How many places there are.
-const PLACES: usize = 64;
-
-/// A place that was closed so often is not used again.
-const LAST_GENERATION: u32 = 67_108_863;
 
 /// The most bytes of a numbered address: `#` and the digits of a number of 64 bits.
 const LONGEST: usize = 21;
@@ -50,17 +43,17 @@ impl Model for Registry {
 }
 
 /// Whether the place is closed and can be used.
-fn is_free(place: &Place) -> bool
-    ensures { result ≡ is_free usual place.now }
+fn is_free(p: &Providers, place: &Place) -> bool
+    ensures { result ≡ is_free p.now place.now }
 {
-    !place.is_open && place.generation < LAST_GENERATION
+    !place.is_open && place.generation < p.last_generation()
 }
 
-fn least_free(places: &[Place]) -> Option<usize>
-    ensures place { result ≡ position (is_free usual) places.now }
+fn least_free(p: &Providers, places: &[Place]) -> Option<usize>
+    ensures place { result ≡ position (is_free p.now) places.now }
     ensures bound { IfSome result (λ place. place < length places.now) }
 {
-    places.iter().position(is_free)
+    places.iter().position(|place| is_free(p, place))
 }
 
 /// `#` and a number.
@@ -96,11 +89,10 @@ fn free_number(bindings: &[Binding], index: &Index, prov: Prov) -> usize
 impl Registry {
     /// The table in the opening world: no address is bound, and each place is closed and was never open.
     pub fn fresh(alloc: Global, p: &Providers) -> Result<Registry, AllocError>
-        requires { valid p.now ≡ true }
         ensures { IfOk result (λ r. r.switch ≡ opening_switch (places p.now)) }
     {
-        let mut places = Vec::with_capacity(alloc, PLACES)?;
-        for _ in 0..PLACES {
+        let mut places = Vec::with_capacity(alloc, p.places() as usize)?;
+        for _ in 0..p.places() {
             places.push(Place {
                 generation: 0,
                 is_open: false,
@@ -134,12 +126,11 @@ impl Registry {
     }
 
     /// The least place that can be opened. Takes no memory.
-    pub fn free_place(&self) -> Option<u32>
-        ensures place { result ≡ free_place usual self.now.switch }
-        ensures bound { IfSome result (λ place. place < 64) }
-        ensures places { length self.now.switch.places ≡ 64 }
+    pub fn free_place(&self, p: &Providers) -> Option<u32>
+        ensures place { result ≡ free_place p.now self.now.switch }
+        ensures bound { IfSome result (λ place. place < length self.now.switch.places) }
     {
-        let place = least_free(&self.places)?;
+        let place = least_free(p, &self.places)?;
         Some(place as u32)
     }
 
@@ -180,16 +171,17 @@ impl Registry {
     }
 
     /// The place opens, and the descriptor of its generation is answered. Takes no memory.
-    pub fn open_place(&mut self, place: u32) -> Fd
-        requires place { place < 64 }
-        requires free { is_free usual (place_at self.old.switch place) ≡ true }
-        ensures descriptor { result.0 ≡ descriptor usual (place_at self.old.switch place).generation place }
+    pub fn open_place(&mut self, p: &Providers, place: u32) -> Fd
+        requires place { place < length self.old.switch.places }
+        requires number { place < places p.now }
+        requires free { is_free p.now (place_at self.old.switch place) ≡ true }
+        ensures descriptor { result.0 ≡ descriptor p.now (place_at self.old.switch place).generation place }
         ensures switch { self.new.switch ≡ mark_open place self.old.switch }
         ensures spare { self.new.spare ≡ self.old.spare }
     {
         let at = &mut self.places[place as usize];
         at.is_open = true;
-        Fd(64 * at.generation + place)
+        Fd(p.places() * at.generation + place)
     }
 
     /// The open place closes, and its generation rises. Takes no memory.
