@@ -1,23 +1,5 @@
--- What stays true of the table.
-use Rattle.std.proofs.Common.{◌≡◌, ◌≤◌, ℕ, Bool, true, false, cond, List, [], ◌∷◌, length, filter, replicate, arith}
-use Rattle.std.proofs.lemmas.List.{length-replicate}
-use Rattle.std.proofs.lemmas.List.Elements.{All-replicate}
-use Rattle.xti_model.specs.World.{Binding, Place, closed_place}
-use Rattle.xti_registry.specs.Kept.{IsCounted, IsKept}
-use Rattle.xti_registry.proofs.Chains.{no_index}
-
-closed_counted : IsCounted closed_place
-closed_counted = record { closed = omega arith; again = λ h. cc }
-
--- the table in which nothing is bound
-pub kept_opening : (places : List Place) (bindings : List Binding) (last before : List ℕ) (capacity index_capacity : ℕ) → places ≡ replicate 64 closed_place → bindings ≡ [] → last ≡ replicate 64 0 → before ≡ [] → IsKept places bindings last before 0 capacity index_capacity
-kept_opening places bindings last before capacity index_capacity p b l e = rw (p, b, l, e) (record {
-  places_known = length-replicate 64 closed_place;
-  counted = All-replicate IsCounted 64 closed_place closed_counted;
-  indexed = no_index;
-  room = omega arith;
-  index_room = omega arith;
-})
+-- What a filter keeps.
+use Rattle.std.proofs.Common.{◌≤◌, Bool, true, false, cond, List, [], ◌∷◌, length, filter, arith}
 
 pub filter_le : {X : Type 0} (p : X → Bool) (xs : List X) → length (filter p xs) ≤ length xs
 filter_le p [] = omega arith

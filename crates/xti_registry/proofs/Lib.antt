@@ -1,5 +1,7 @@
 mod Least
-mod Chains
-mod Found
-mod Addresses
 mod Keeping
+mod Links
+mod Chains
+mod Lookup
+mod Removal
+mod FreeAddress

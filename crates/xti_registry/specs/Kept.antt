@@ -1,17 +1,16 @@
 -- What stays true of the switch's table.
-use Rattle.std.specs.Prelude.{◌≡◌, ◌≤◌, ◌<◌, ◌+◌, ◌^◌, ℕ, true, List, length, All}
-use Rattle.xti_model.specs.World.{Binding, Place}
-use Rattle.xti_registry.specs.Index.{IsIndex}
+use Rattle.std.specs.Prelude.{◌≡◌, ◌<◌, ◌+◌, ◌^◌, ℕ, true, List, length, All}
+use Rattle.xti_model.specs.World.{Place}
+use Rattle.xti_registry.specs.Chains.{IsChained, HasRoom}
+use Rattle.xti_registry.specs.declared.addresses.Addresses.{Addresses}
 
--- a place has been closed fewer than 2 ^ 26 times, and will have been when it is closed again
-pub record IsCounted (place : Place) : Type 0 where
-  pub closed : place.generation < 2 ^ 26
-  pub again : place.is_open ≡ true → place.generation + 1 < 2 ^ 26
+-- the generation of an open place can rise by one in 32 bits
+abbrev pub CanClose : Place → Type 0
+CanClose place = place.is_open ≡ true → place.generation + 1 < 2 ^ 32
 
--- there are 64 places; the index is one of the bindings; and there is room for as many more as are promised
-pub record IsKept (places : List Place) (bindings : List Binding) (last before : List ℕ) (spare capacity index_capacity : ℕ) : Type 0 where
-  pub places_known : length places ≡ 64
-  pub counted : All IsCounted places
-  pub indexed : IsIndex bindings last before
-  pub room : length bindings + spare ≤ capacity
-  pub index_room : length bindings + spare ≤ index_capacity
+-- places have numbers of 32 bits; the addresses are in their chains; and there is room for as many more as are promised
+pub record IsKept (places : List Place) (addresses : Addresses) (spare : ℕ) : Type 0 where
+  pub numbered : length places < 2 ^ 32
+  pub can_close : All CanClose places
+  pub chained : IsChained addresses
+  pub room : HasRoom addresses spare

@@ -1,3 +1,5 @@
 pub mod Known
-pub mod Index
+pub mod Word
+pub mod Links
+pub mod Chains
 pub mod Kept

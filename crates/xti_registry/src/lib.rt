@@ -1,9 +1,10 @@
 //! The switch's table: which addresses are bound, and of each place its generation and whether it is open.
 #![tactic(auto)]
 
-mod index;
+mod addresses;
+mod binding;
+mod place;
 mod registry;
-mod tables;
 
 pub use registry::Registry;
 

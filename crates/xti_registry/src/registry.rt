@@ -1,26 +1,21 @@
 //! The switch's table.
 
 ghost use Rattle.std.specs.Prelude.{◌≡◌, ◌≤◌, ◌<◌, ◌+◌, true, false, IfOk, OnOk, OnErr, IfSome, IsOk, length, max, option_map, position};
-ghost use Rattle.xti_model.specs.Profile.{usual, valid};
 ghost use Rattle.xti_model.specs.Switch.{free_address, free_place, give_address, give_up_address, is_free, mark_closed, mark_open, numbered_address, place_at};
 ghost use Rattle.xti_model.specs.World.{descriptor, opening_switch, places};
 ghost use Rattle.xti_registry.specs.Known.{bound_at, switch_with};
-ghost use Rattle.xti_registry.specs.Index.{IsIndex};
+ghost use Rattle.xti_registry.specs.Chains.{IsChained};
+ghost use Rattle.xti_registry.specs.Links.{bindings_of};
 
-use crate::index::{Index, forget};
-use crate::tables::{Binding, Place};
+use crate::addresses::Addresses;
+use crate::binding::Binding;
+use crate::place::Place;
 use arrayvec::ArrayVec;
 use itoa::Buffer;
 use std::alloc::{AllocError, Global};
 use std::marker::Model;
 use xti_base::{Fd, Octets, Prov};
 use xti_model::Providers;
-
-/// How many places there are.
-const PLACES: usize = 64;
-
-/// A place that was closed so often is not used again.
-const LAST_GENERATION: u32 = 67_108_863;
 
 /// The most bytes of a numbered address: `#` and the digits of a number of 64 bits.
 const LONGEST: usize = 21;
@@ -29,38 +24,37 @@ const LONGEST: usize = 21;
 #[derive(Drop)]
 pub struct Registry {
     places: Vec<Place>,
-    bindings: Vec<Binding>,
-    index: Index,
+    addresses: Addresses,
     spare: usize,
 }
 
 impl Model for Registry {
-    ghost use Rattle.std.specs.Prelude.{vec_capacity};
     ghost use Rattle.xti_registry.specs.Kept.{IsKept};
+    ghost use Rattle.xti_registry.specs.Links.{bindings_of};
     ghost use Rattle.xti_registry.specs.Known.{Known};
 
     ghost Value = { Known };
 
     ghost view = { λ r. record {
-      switch = record { bindings = r.bindings.items; places = r.places.items };
+      switch = record { bindings = bindings_of r.addresses; places = r.places.items };
       spare = r.spare;
     } };
 
-    ghost invariant = { λ r. IsKept r.places.items r.bindings.items r.index.last.items r.index.before.items r.spare (vec_capacity r.bindings) (vec_capacity r.index.before) };
+    ghost invariant = { λ r. IsKept r.places.items r.addresses r.spare };
 }
 
 /// Whether the place is closed and can be used.
-fn is_free(place: &Place) -> bool
-    ensures { result ≡ is_free usual place.now }
+fn is_free(p: &Providers, place: &Place) -> bool
+    ensures { result ≡ is_free p.now place.now }
 {
-    !place.is_open && place.generation < LAST_GENERATION
+    !place.is_open && place.generation < p.last_generation()
 }
 
-fn least_free(places: &[Place]) -> Option<usize>
-    ensures place { result ≡ position (is_free usual) places.now }
+fn least_free(p: &Providers, places: &[Place]) -> Option<usize>
+    ensures place { result ≡ position (is_free p.now) places.now }
     ensures bound { IfSome result (λ place. place < length places.now) }
 {
-    places.iter().position(is_free)
+    places.iter().position(|place| is_free(p, place))
 }
 
 /// `#` and a number.
@@ -77,30 +71,29 @@ fn numbered_address(n: usize) -> ArrayVec<u8, LONGEST>
 }
 
 /// The first number from 0 on whose address no endpoint of the provider is bound to.
-fn free_number(bindings: &[Binding], index: &Index, prov: Prov) -> usize
-    requires { IsIndex bindings.now index.now.last.items index.now.before.items }
-    ensures { free_address (switch_with bindings.now) prov 0 (length bindings.now) ≡ numbered_address result }
+fn free_number(addresses: &Addresses, prov: Prov) -> usize
+    requires { IsChained addresses.now }
+    ensures { free_address (switch_with (bindings_of addresses.now)) prov 0 (length (bindings_of addresses.now)) ≡ numbered_address result }
 {
-    for n in 0..bindings.len() {
+    for n in 0..addresses.len() {
         let address = numbered_address(n);
-        if index
-            .least_at(bindings, prov, address.as_slice(), false)
+        if addresses
+            .least_at(prov, address.as_slice(), false)
             .is_none()
         {
             return n;
         }
     }
-    bindings.len()
+    addresses.len()
 }
 
 impl Registry {
     /// The table in the opening world: no address is bound, and each place is closed and was never open.
     pub fn fresh(alloc: Global, p: &Providers) -> Result<Registry, AllocError>
-        requires { valid p.now ≡ true }
         ensures { IfOk result (λ r. r.switch ≡ opening_switch (places p.now)) }
     {
-        let mut places = Vec::with_capacity(alloc, PLACES)?;
-        for _ in 0..PLACES {
+        let mut places = Vec::with_capacity(alloc, p.places() as usize)?;
+        for _ in 0..p.places() {
             places.push(Place {
                 generation: 0,
                 is_open: false,
@@ -108,18 +101,17 @@ impl Registry {
         }
         Ok(Registry {
             places,
-            bindings: Vec::new(alloc),
-            index: Index::new(alloc)?,
+            addresses: Addresses::new(alloc)?,
             spare: 0,
         })
     }
 
     /// The least descriptor that is bound to the address; with `listening`, of the endpoints with a queue alone. Takes no memory.
-    /// The cost is in proportion to how many bindings stand in the address's chain, one of 64.
+    /// The cost is in proportion to how many bindings stand in the address's chain.
     pub fn bound(&self, prov: Prov, addr: &[u8], listening: bool) -> Option<Fd>
         ensures { option_map (λ fd. fd.0) result ≡ bound_at self.now.switch prov addr.now listening }
     {
-        let least = self.index.least_at(&self.bindings, prov, addr, listening)?;
+        let least = self.addresses.least_at(prov, addr, listening)?;
         Some(Fd(least))
     }
 
@@ -129,17 +121,16 @@ impl Registry {
         ensures short { IfOk result (λ address. length address ≤ 21) }
         ensures sure { length (free_address self.now.switch prov 0 (length self.now.switch.bindings)) ≤ 16 → IsOk result }
     {
-        let n = free_number(&self.bindings, &self.index, prov);
+        let n = free_number(&self.addresses, prov);
         Octets::copy_of(alloc, numbered_address(n).as_slice())
     }
 
     /// The least place that can be opened. Takes no memory.
-    pub fn free_place(&self) -> Option<u32>
-        ensures place { result ≡ free_place usual self.now.switch }
-        ensures bound { IfSome result (λ place. place < 64) }
-        ensures places { length self.now.switch.places ≡ 64 }
+    pub fn free_place(&self, p: &Providers) -> Option<u32>
+        ensures place { result ≡ free_place p.now self.now.switch }
+        ensures bound { IfSome result (λ place. place < length self.now.switch.places) }
     {
-        let place = least_free(&self.places)?;
+        let place = least_free(p, &self.places)?;
         Some(place as u32)
     }
 
@@ -152,8 +143,7 @@ impl Registry {
         ensures err { OnErr result (self.new ≡ self.old) }
     {
         if self.spare == 0 {
-            self.bindings.reserve(1)?;
-            self.index.reserve()?;
+            self.addresses.reserve()?;
             self.spare = 1;
         }
         Ok(())
@@ -165,9 +155,7 @@ impl Registry {
         ensures switch { self.new.switch ≡ give_address prov addr fd.0 listening self.old.switch }
         ensures spare { self.old.spare ≤ self.new.spare + 1 }
     {
-        let binding = Binding::new(prov, addr, fd, listening);
-        self.index.add(binding.chain());
-        self.bindings.push_reserved(binding);
+        self.addresses.add(Binding::new(prov, addr, fd, listening));
         self.spare -= 1;
     }
 
@@ -176,20 +164,21 @@ impl Registry {
         ensures switch { self.new.switch ≡ give_up_address fd.0 self.old.switch }
         ensures spare { self.old.spare ≤ self.new.spare }
     {
-        forget(&mut self.bindings, &mut self.index, fd);
+        self.addresses.remove(fd);
     }
 
     /// The place opens, and the descriptor of its generation is answered. Takes no memory.
-    pub fn open_place(&mut self, place: u32) -> Fd
-        requires place { place < 64 }
-        requires free { is_free usual (place_at self.old.switch place) ≡ true }
-        ensures descriptor { result.0 ≡ descriptor usual (place_at self.old.switch place).generation place }
+    pub fn open_place(&mut self, p: &Providers, place: u32) -> Fd
+        requires place { place < length self.old.switch.places }
+        requires number { place < places p.now }
+        requires free { is_free p.now (place_at self.old.switch place) ≡ true }
+        ensures descriptor { result.0 ≡ descriptor p.now (place_at self.old.switch place).generation place }
         ensures switch { self.new.switch ≡ mark_open place self.old.switch }
         ensures spare { self.new.spare ≡ self.old.spare }
     {
         let at = &mut self.places[place as usize];
         at.is_open = true;
-        Fd(64 * at.generation + place)
+        Fd(p.places() * at.generation + place)
     }
 
     /// The open place closes, and its generation rises. Takes no memory.

@@ -5,11 +5,7 @@ use xti_base::{Fd, Octets, Prov};
 use xti_model::Providers;
 
 fn empty(alloc: Global) -> Result<Registry, Fail> {
-    let p = Providers::usual();
-    if !p.valid() {
-        Err("the usual providers aren't valid")?;
-    }
-    Ok(Registry::fresh(alloc, &p)?)
+    Ok(Registry::fresh(alloc, &Providers::usual())?)
 }
 
 fn bind(alloc: Global, table: &mut Registry, prov: Prov, addr: &[u8], fd: u32) -> Result<(), Fail> {

@@ -1,11 +1,9 @@
-use Rattle.std.proofs.Common.{arith}
 use Rattle.xti_registry.proofs.registry.Registry.remove.Goals as goal
 
 pub invariant_of-self : goal.invariant_of-self
 invariant_of-self c = record {
-  places_known = c.self.invariant.places_known;
-  counted = c.self.invariant.counted;
-  indexed = c.forget.ensures.index;
-  room = omega arith;
-  index_room = omega arith;
+  numbered = c.self.invariant.numbered;
+  can_close = c.self.invariant.can_close;
+  chained = c.remove.ensures.chained;
+  room = c.remove.ensures.room c.self.inside.spare c.self.invariant.room;
 }

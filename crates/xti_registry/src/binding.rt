@@ -1,13 +1,13 @@
-//! What the table is made of.
+//! A binding of an address, with the word by which its chain is found.
 
 ghost use Rattle.std.specs.Prelude.{◌≡◌, ◌<◌};
 ghost use Rattle.xti_model.specs.Switch.{is_bound};
-ghost use Rattle.xti_registry.specs.Index.{word_of, chain_of, binding_chain};
+ghost use Rattle.xti_registry.specs.Word.{word_of, chain_of, binding_chain};
 
 use std::marker::Model;
 use xti_base::{Fd, Octets, Prov};
 
-/// How many chains there are: one for each place.
+/// How many chains there are: as many as places, so that most have one binding or none.
 pub(crate) const CHAINS: usize = 64;
 
 /// How many bytes of an address its word is made of.
@@ -26,7 +26,7 @@ pub(crate) struct Binding {
 impl Model for Binding {
     ghost use Rattle.std.specs.Prelude.{◌≡◌};
     ghost use Rattle.xti_model.specs.World.{Binding};
-    ghost use Rattle.xti_registry.specs.Index.{word_of};
+    ghost use Rattle.xti_registry.specs.Word.{word_of};
 
     ghost Value = { Binding };
 
@@ -50,7 +50,7 @@ pub(crate) fn word_of(prov: Prov, address: &[u8]) -> u32
 /// The chain of a word.
 pub(crate) fn chain_of(word: u32) -> usize
     ensures chain { result ≡ chain_of word }
-    ensures bound { result < 64 }
+    ensures bound { result < CHAINS }
 {
     word as usize % CHAINS
 }
@@ -72,7 +72,7 @@ impl Binding {
     /// The chain in which it stands.
     pub(crate) fn chain(&self) -> usize
         ensures chain { result ≡ binding_chain self.now }
-        ensures bound { result < 64 }
+        ensures bound { result < CHAINS }
     {
         chain_of(self.word)
     }
@@ -84,19 +84,4 @@ impl Binding {
     {
         self.word == word && self.prov.is(prov) && self.address.as_slice() == address
     }
-}
-
-/// How often a place was closed, and whether it is open.
-#[derive(Drop)]
-pub(crate) struct Place {
-    pub(crate) generation: u32,
-    pub(crate) is_open: bool,
-}
-
-impl Model for Place {
-    ghost use Rattle.xti_model.specs.World.{Place};
-
-    ghost Value = { Place };
-
-    ghost view = { λ p. record { generation = p.generation; is_open = p.is_open } };
 }
