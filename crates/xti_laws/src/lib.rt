@@ -1,17 +1,17 @@
 //! Laws of the definitions of a step: what a step reads, what it changes, and how.
 #![tactic(auto)]
 
-ghost use Rattle.std.specs.Prelude.{◌≡◌, ℕ, Bool, List, true};
+ghost use Rattle.std.specs.Prelude.{ℕ, Bool, List};
 ghost use Rattle.xti_model.specs.declared.call.Call.{Call};
 ghost use Rattle.xti_model.specs.declared.entry.Go.{Go};
 ghost use Rattle.xti_model.specs.declared.entry.Entry.{Entry};
 ghost use Rattle.xti_model.specs.declared.profile.Providers.{Providers};
-ghost use Rattle.xti_model.specs.World.{World, Cell, endpoint};
+ghost use Rattle.xti_model.specs.World.{World, Cell};
 ghost use Rattle.xti_model.specs.Step.{plan};
 ghost use Rattle.xti_model.specs.Touched.{touched};
 ghost use Rattle.xti_model.specs.History.{after};
 ghost use Rattle.xti_laws.specs.Updates.{PlanKinds};
-ghost use Rattle.xti_laws.specs.States.{TakesByTheTable, PassesByTheTable, KeepsEveryState, KeepsOtherStates, is_initialised};
+ghost use Rattle.xti_laws.specs.States.{TakesByTheTable, PassesByTheTable, KeepsEveryState, KeepsOtherStates, AllInitialised};
 ghost use Rattle.xti_laws.specs.Counts.{CountsByTheTable, KeepsEveryCount, KeepsOtherCounts};
 ghost use Rattle.xti_laws.specs.Waiting.{BlockedAsWanted, BlockedHasGoodArguments};
 ghost use Rattle.xti_laws.specs.Laws.{HasNamed, Enough, TouchesSame, SameIfTold, SameSteps, LeavesOthers, Keeps, Passes, PassesAfterAny, KnowsNoMore};
@@ -80,7 +80,7 @@ pub fn states_follow_the_table()
     ensures passed { (p : Providers) (w : World) (c : Call) (g : Go) → PassesByTheTable p w c g }
     ensures refused { (p : Providers) (w : World) (c : Call) (g : Go) → KeepsEveryState p w c g }
     ensures others { (p : Providers) (w : World) (c : Call) (g : Go) → KeepsOtherStates p w c g }
-    ensures begun { (p : Providers) (entries : List Entry) (fd : ℕ) → is_initialised (endpoint p (after p entries) fd) ≡ true }
+    ensures begun { (p : Providers) (entries : List Entry) → AllInitialised p (after p entries) }
 {}
 
 /// How many indications are outstanding after a step is settled by the state table too.

@@ -6,3 +6,4 @@ pub mod NeverAnswered
 pub mod Progress
 pub mod Replies
 pub mod Symbols
+pub mod Given
