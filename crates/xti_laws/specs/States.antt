@@ -35,6 +35,9 @@ abbrev pub is_initialised : Option Endpoint → Bool
 is_initialised None = true
 is_initialised (Some e) = not (same_state e.state T_UNINIT)
 
+abbrev pub AllInitialised : Providers → World → Type 0
+AllInitialised p w = (fd : ℕ) → is_initialised (endpoint p w fd) ≡ true
+
 abbrev pub is_initialised_cell : Cell → Bool
 is_initialised_cell (endpoint_cell generation body) = is_initialised body
 is_initialised_cell (switch_cell s) = true

@@ -1,5 +1,5 @@
 -- What holds of every open endpoint by itself, after any calls.
-use Rattle.std.specs.Prelude.{ℕ, Bool, true, false, ◌+◌, ◌<◌, ◌≤◌, ◌≡◌, List, [], ◌∷◌, length, Option, Some, None, is_some, is_none}
+use Rattle.std.specs.Prelude.{ℕ, Bool, true, false, ◌+◌, ◌*◌, ◌<◌, ◌≤◌, ◌≡◌, List, [], ◌∷◌, length, Option, Some, None, is_some, is_none}
 use Rattle.std.specs.List.{All}
 use Rattle.xti_base.specs.declared.kinds.Prov.{Prov}
 use Rattle.xti_base.specs.declared.kinds.State.{State}
@@ -9,35 +9,34 @@ use Rattle.xti_model.specs.Provider.{has_datagrams}
 use Rattle.xti_model.specs.Endpoint.{Endpoint, Indication, Disconnect, Target, Confirmation, Datagram, DatagramError}
 use Rattle.xti_model.specs.Symbols.{bytes_waiting}
 use Rattle.xti_model.specs.Sending.{datagram_limit}
-use Rattle.xti_base.specs.declared.limits.TheConstants.{LAST_SEQUENCE}
-use Rattle.xti_requests.specs.Requests.{is_one_of}
-use Rattle.xti_requests.specs.Requests.{is_connected}
+use Rattle.xti_base.specs.declared.limits.TheConstants.{LAST_SEQUENCE, MOST_ADDRESS, MOST_OPTIONS, MOST_CONNECT_DATA, MOST_SIZE, MOST_QUEUE, MOST_EXPEDITED, MOST_EXPEDITED_MESSAGE}
+use Rattle.xti_requests.specs.Requests.{is_one_of, is_connected}
 
--- An address has at most 64 bytes, options at most 256, data that go with a connection at most 64, and a datagram at most 65,536.
+-- Addresses, options, data that go with a connection, and datagrams have at most as many bytes as the profile allows.
 abbrev pub ShortAddress : Option (List ℕ) → Type 0
 ShortAddress None = Unit
-ShortAddress (Some address) = length address ≤ 64
+ShortAddress (Some address) = length address ≤ MOST_ADDRESS
 
 abbrev pub ShortIndication : Indication → Type 0
-ShortIndication i = (length i.address ≤ 64) × (length i.options ≤ 256) × (length i.udata ≤ 64)
+ShortIndication i = (length i.address ≤ MOST_ADDRESS) × (length i.options ≤ MOST_OPTIONS) × (length i.udata ≤ MOST_CONNECT_DATA)
 
 abbrev pub ShortDisconnect : Disconnect → Type 0
-ShortDisconnect d = length d.udata ≤ 64
+ShortDisconnect d = length d.udata ≤ MOST_CONNECT_DATA
 
 abbrev pub ShortConfirmation : Option Confirmation → Type 0
 ShortConfirmation None = Unit
-ShortConfirmation (Some c) = (length c.address ≤ 64) × (length c.options ≤ 256) × (length c.udata ≤ 64)
+ShortConfirmation (Some c) = (length c.address ≤ MOST_ADDRESS) × (length c.options ≤ MOST_OPTIONS) × (length c.udata ≤ MOST_CONNECT_DATA)
 
 abbrev pub ShortDatagram : Datagram → Type 0
-ShortDatagram d = (length d.source ≤ 64) × (length d.options ≤ 256) × (length d.bytes ≤ 65536)
+ShortDatagram d = (length d.source ≤ MOST_ADDRESS) × (length d.options ≤ MOST_OPTIONS) × (length d.bytes ≤ MOST_SIZE)
 
 abbrev pub ShortError : DatagramError → Type 0
-ShortError d = (length d.destination ≤ 64) × (length d.options ≤ 256)
+ShortError d = (length d.destination ≤ MOST_ADDRESS) × (length d.options ≤ MOST_OPTIONS)
 
--- its address and its queue of requests: it has an address in every state but T_UNBND, and no queue there; at most 8 requests and no more than the queue takes;
+-- its address and its queue of requests: it has an address in every state but T_UNBND, and no queue there; no more requests than the queue takes;
 -- requests are pending in T_IDLE and T_INCON alone, and in T_INCON one is outstanding
 pub record Listening (state : State) (address : Option (List ℕ)) (qlen : ℕ) (pending outstanding : List Indication) : Type 0 where
-  pub queue : qlen ≤ 8
+  pub queue : qlen ≤ MOST_QUEUE
   pub short : ShortAddress address
   pub bound : is_none address ≡ is_one_of (T_UNBND ∷ []) state
   pub unbound : is_one_of (T_UNBND ∷ []) state ≡ true → qlen ≡ 0
@@ -64,14 +63,18 @@ pub record RequestFields (pending outstanding : List Indication) (last_number : 
   pub peer : ShortAddress peer_address
   pub confirmed : ShortConfirmation confirmation
 
+-- the bytes of the sender's buffer and the receiver's, at most
+abbrev pub two_buffers : ℕ
+two_buffers = 2 * MOST_SIZE
+
 -- its data of a connection: the bytes that wait, and those of an unfinished message
 pub record StreamData (normal expedited : List ℕ) (unfinished_normal unfinished_expedited : ℕ) : Type 0 where
-  pub normal_few : bytes_waiting normal ≤ 131072
-  pub expedited_few : bytes_waiting expedited ≤ 256
-  pub unfinished : unfinished_normal ≤ 65536
-  pub expedited_unfinished : unfinished_expedited ≤ 128
+  pub normal_few : bytes_waiting normal ≤ two_buffers
+  pub expedited_few : bytes_waiting expedited ≤ MOST_EXPEDITED
+  pub unfinished : unfinished_normal ≤ MOST_SIZE
+  pub expedited_unfinished : unfinished_expedited ≤ MOST_EXPEDITED_MESSAGE
 
--- its datagrams: at most 16, and one where one is begun; and its errors: at most one
+-- its datagrams, and at least one where one is begun; and its errors: at most one
 pub record WaitingDatagrams (datagrams : List Datagram) (begun : Bool) (datagram_errors : List DatagramError) (flow_datagram : Option (List ℕ)) : Type 0 where
   pub few : length datagrams ≤ datagram_limit
   pub short : All ShortDatagram datagrams

@@ -1,10 +1,12 @@
 -- How many bytes the fields of a reply have at most, by the arguments of the call and the limits of the profile.
 use Rattle.std.specs.Prelude.{ℕ, ◌≤◌, ◌*◌, ◌/◌, min, List, [], ◌∷◌, length, sum}
+use Rattle.xti_base.specs.declared.limits.TheConstants.{MOST_ADDRESS, MOST_OPTIONS, MOST_CONNECT_DATA, MOST_SIZE}
 use Rattle.xti_model.specs.declared.call.Call.{Call}
 use Rattle.xti_model.specs.declared.call.Call.TheVariants as call
 use Rattle.xti_model.specs.declared.entry.Outcome.{Outcome}
 use Rattle.xti_model.specs.declared.entry.Outcome.TheVariants.{Done, Part}
 use Rattle.xti_model.specs.declared.entry.Reply.{Reply}
+use Rattle.xti_sound.specs.Endpoints.{two_buffers}
 use Rattle.xti_model.specs.declared.entry.Reply.TheVariants.{Bound, Connected, Listened, Got, Discon, UData, UDErr, Addresses, Options}
 
 -- the most bytes of a reply's fields of bytes, in their order
@@ -16,18 +18,29 @@ pub record Lengths : Type 0 where
 abbrev pub lengths : ℕ → ℕ → ℕ → Lengths
 lengths first second third = record { first = first; second = second; third = third }
 
--- an address of a bind: the provider's choice has at most three bytes
-abbrev pub bound_length : List ℕ → ℕ
-bound_length [] = 3
-bound_length (a ∷ address) = min (length (a ∷ address)) 64
+-- the most bytes of an address that the provider chooses
+abbrev pub longest_choice : ℕ
+longest_choice = 3
 
--- the answers to options: an option has at least 16 bytes where it is asked, and at most 20 where it is answered
+-- the address of a bind
+abbrev pub bound_length : List ℕ → ℕ
+bound_length [] = longest_choice
+bound_length (a ∷ address) = min (length (a ∷ address)) MOST_ADDRESS
+
+-- the fewest bytes of an option that is asked, and the most of one that is answered
+abbrev pub shortest_option : ℕ
+shortest_option = 16
+
+abbrev pub longest_answer : ℕ
+longest_answer = 20
+
+-- the answers to options
 abbrev pub answered_length : List ℕ → ℕ
-answered_length options = 20 * (min (length options) 256 / 16)
+answered_length options = longest_answer * (min (length options) MOST_OPTIONS / shortest_option)
 
 -- an address, options and data that go with a connection
 abbrev pub news_lengths : ℕ → ℕ → ℕ → Lengths
-news_lengths amax omax umax = lengths (min amax 64) (min omax 256) (min umax 64)
+news_lengths amax omax umax = lengths (min amax MOST_ADDRESS) (min omax MOST_OPTIONS) (min umax MOST_CONNECT_DATA)
 
 -- the fields of each call's reply; other calls answer none
 abbrev pub lengths_of : Call → Lengths
@@ -35,13 +48,13 @@ lengths_of (call.TBind fd addr qlen amax) = lengths (min amax (bound_length addr
 lengths_of (call.TConnect fd addr opt udata amax omax umax) = news_lengths amax omax umax
 lengths_of (call.TRcvConnect fd amax omax umax) = news_lengths amax omax umax
 lengths_of (call.TListen fd amax omax umax) = news_lengths amax omax umax
-lengths_of (call.TRcv fd max) = lengths (min max 131072) 0 0
-lengths_of (call.TRcvV fd sizes) = lengths (min (sum sizes) 131072) 0 0
-lengths_of (call.TRcvDis fd umax) = lengths (min umax 64) 0 0
-lengths_of (call.TRcvUData fd max amax omax) = lengths (min amax 64) (min omax 256) (min max 65536)
-lengths_of (call.TRcvVUData fd sizes amax omax) = lengths (min amax 64) (min omax 256) (min (sum sizes) 65536)
-lengths_of (call.TRcvUDErr fd amax omax) = lengths (min amax 64) (min omax 256) 0
-lengths_of (call.TGetProtAddr fd amax pmax) = lengths (min amax 64) (min pmax 64) 0
+lengths_of (call.TRcv fd max) = lengths (min max two_buffers) 0 0
+lengths_of (call.TRcvV fd sizes) = lengths (min (sum sizes) two_buffers) 0 0
+lengths_of (call.TRcvDis fd umax) = lengths (min umax MOST_CONNECT_DATA) 0 0
+lengths_of (call.TRcvUData fd max amax omax) = lengths (min amax MOST_ADDRESS) (min omax MOST_OPTIONS) (min max MOST_SIZE)
+lengths_of (call.TRcvVUData fd sizes amax omax) = lengths (min amax MOST_ADDRESS) (min omax MOST_OPTIONS) (min (sum sizes) MOST_SIZE)
+lengths_of (call.TRcvUDErr fd amax omax) = lengths (min amax MOST_ADDRESS) (min omax MOST_OPTIONS) 0
+lengths_of (call.TGetProtAddr fd amax pmax) = lengths (min amax MOST_ADDRESS) (min pmax MOST_ADDRESS) 0
 lengths_of (call.TOptMgmt fd action opt omax) = lengths (min omax (answered_length opt)) 0 0
 lengths_of other = lengths 0 0 0
 

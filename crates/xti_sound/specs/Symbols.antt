@@ -1,17 +1,18 @@
 -- Symbols that wait, in worlds whose sends are of bytes.
 use Rattle.std.specs.Prelude.{ℕ, true, ◌≤◌, ◌≡◌, All, Some}
+use Rattle.xti_base.specs.declared.limits.TheConstants.{MOST_ENDS, MOST_EXPEDITED_ENDS}
 use Rattle.xti_model.specs.declared.profile.Providers.{Providers}
 use Rattle.xti_model.specs.Provider.{is_stream}
 use Rattle.xti_model.specs.Endpoint.{Endpoint}
 use Rattle.xti_model.specs.World.{World, endpoint}
-use Rattle.xti_model.specs.Symbols.{ends_waiting}
+use Rattle.xti_model.specs.Symbols.{end_of_message, ends_waiting}
 
--- at most 256 ends wait among normal data and 16 among expedited, each symbol is a byte or an end, and a stream has no ends
+-- few ends wait among normal data and among expedited, each symbol is a byte or an end, and a stream has no ends
 pub record FewEnds (p : Providers) (e : Endpoint) : Type 0 where
-  pub normal : ends_waiting e.normal ≤ 256
-  pub expedited : ends_waiting e.expedited ≤ 16
-  pub normal_symbols : All (λ s. s ≤ 256) e.normal
-  pub expedited_symbols : All (λ s. s ≤ 256) e.expedited
+  pub normal : ends_waiting e.normal ≤ MOST_ENDS
+  pub expedited : ends_waiting e.expedited ≤ MOST_EXPEDITED_ENDS
+  pub normal_symbols : All (λ s. s ≤ end_of_message) e.normal
+  pub expedited_symbols : All (λ s. s ≤ end_of_message) e.expedited
   pub stream : is_stream p e.prov ≡ true → ends_waiting e.normal ≡ 0
 
 abbrev pub SoundSymbols : Providers → World → Type 0

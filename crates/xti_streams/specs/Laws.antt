@@ -12,8 +12,13 @@ use Rattle.xti_model.specs.Endpoint.{Endpoint}
 use Rattle.xti_model.specs.World.{World, endpoint}
 use Rattle.xti_model.specs.Links.{is_linked}
 use Rattle.xti_model.specs.Sending.{waiting_of}
-use Rattle.xti_model.specs.History.{after}
+use Rattle.xti_model.specs.History.{Legal, after}
+use Rattle.xti_model.specs.SentBytes.{AllSendBytes}
 use Rattle.xti_model.specs.Streams.{Made, Connection, connection, life, is_over, sent, got}
+
+-- a legal history whose sends are of bytes
+abbrev pub IsLegalOfBytes : Providers → List Entry → Type 0
+IsLegalOfBytes p entries = Legal p entries × AllSendBytes entries
 
 -- one list is a prefix of another; it may be the whole
 pub record Prefix (prefix whole : List ℕ) : Type 0 where

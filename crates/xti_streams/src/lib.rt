@@ -7,9 +7,9 @@ ghost use Rattle.xti_model.specs.declared.profile.Providers.{Providers};
 ghost use Rattle.xti_model.specs.declared.script.Script.{Script};
 ghost use Rattle.xti_model.specs.History.{Legal};
 ghost use Rattle.xti_model.specs.Robin.{robin};
-ghost use Rattle.xti_model.specs.SentBytes.{AllSendBytes, LinesSendBytes};
+ghost use Rattle.xti_model.specs.SentBytes.{LinesSendBytes};
 ghost use Rattle.xti_script.specs.Grammar.{HasText};
-ghost use Rattle.xti_streams.specs.Laws.{PrefixLaw, WaitingLaw, ReleaseLaw};
+ghost use Rattle.xti_streams.specs.Laws.{IsLegalOfBytes, PrefixLaw, WaitingLaw, ReleaseLaw};
 
 /// On each connection what was received is a prefix of what was sent.
 ///
@@ -18,9 +18,9 @@ ghost use Rattle.xti_streams.specs.Laws.{PrefixLaw, WaitingLaw, ReleaseLaw};
 /// is linked or the release waits there, what waits, put after what it received, is what was sent. `release`: if it
 /// received the release, it received all.
 pub fn connections_keep_order()
-    ensures prefix { (p : Providers) (entries : List Entry) → Legal p entries → AllSendBytes entries → PrefixLaw p entries }
-    ensures waiting { (p : Providers) (entries : List Entry) → Legal p entries → AllSendBytes entries → WaitingLaw p entries }
-    ensures release { (p : Providers) (entries : List Entry) → Legal p entries → AllSendBytes entries → ReleaseLaw p entries }
+    ensures prefix { (p : Providers) (entries : List Entry) → IsLegalOfBytes p entries → PrefixLaw p entries }
+    ensures waiting { (p : Providers) (entries : List Entry) → IsLegalOfBytes p entries → WaitingLaw p entries }
+    ensures release { (p : Providers) (entries : List Entry) → IsLegalOfBytes p entries → ReleaseLaw p entries }
 {}
 
 /// The same of the run of any script in which the workers take turns, where the sends of its lines are of bytes.

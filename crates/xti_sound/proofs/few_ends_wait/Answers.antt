@@ -6,7 +6,7 @@ pub returns-clause-start : goal.returns-clause-start
 returns-clause-start c = opening-symbols
 
 pub returns-clause-step : goal.returns-clause-step
-returns-clause-step c = step-symbols
+returns-clause-step c p w d g b k h s i = step-symbols p w d g s b k h i
 
 pub returns-clause-history : goal.returns-clause-history
 returns-clause-history c = after-symbols

@@ -2,4 +2,4 @@ use Rattle.xti_sound.proofs.Short.{replies-short}
 use Rattle.xti_sound.proofs.replies_are_short.Goals as goal
 
 pub returns : goal.returns
-returns c = record { short = λ p w d g s h. replies-short p w h d g s }
+returns c = record { short = λ p w d g h s. replies-short p w h d g s }

@@ -11,7 +11,7 @@ pub returns-clause-few : goal.returns-clause-few
 returns-clause-few c p w h = few-bindings p w h.registered.agreement
 
 pub returns-clause-bound : goal.returns-clause-bound
-returns-clause-bound c = bound-open
+returns-clause-bound c p w h prov address fd = bound-open p w prov address fd h
 
 pub returns-clause-free : goal.returns-clause-free
 returns-clause-free c p w prov h = chosen-free (the_switch p w) prov (few-bindings p w h.registered.agreement)
@@ -20,4 +20,4 @@ pub returns-clause-short : goal.returns-clause-short
 returns-clause-short c p w prov h = chosen-short (the_switch p w) prov (few-bindings p w h.registered.agreement)
 
 pub returns-clause-listens : goal.returns-clause-listens
-returns-clause-listens c = listener-open
+returns-clause-listens c p w h prov address from fd = listener-open p w prov address from fd h
