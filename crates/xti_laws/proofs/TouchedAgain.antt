@@ -1,18 +1,17 @@
 -- On the touched cells alone a call touches the same cells.
-use Rattle.std.proofs.Common.{ℕ, true, List, ◌∷◌, ◌++◌, ◌≡◌, refl, ap, ◌∙◌, ◌+◌, Option, Some, None}
-use Rattle.std.specs.List.{filter}
+use Rattle.std.proofs.Common.{ℕ, true, List, ◌∷◌, ◌++◌, ◌≡◌, refl, ap, ◌∙◌, Option, Some, None}
 use Rattle.std.specs.Prelude.{option_to_list}
 use Rattle.xti_model.specs.declared.call.Call.{Call}
 use Rattle.xti_model.specs.declared.call.Call.TheVariants as call
 use Rattle.xti_model.specs.declared.profile.Providers.{Providers}
 use Rattle.xti_model.specs.Endpoint.{Endpoint}
-use Rattle.xti_model.specs.Robin.{numbers}
-use Rattle.xti_model.specs.World.{World, endpoint, is_among, only, place_of, places, switch_number}
+use Rattle.xti_model.specs.Cells.{listed}
+use Rattle.xti_model.specs.World.{World, endpoint, is_among, only, place_of, switch_number}
 use Rattle.xti_model.specs.Switch.{bound, listener, opening_place}
 use Rattle.xti_model.specs.Touched.{named, touched, others, fd_of, cell_of, of_some, peer_cell, target_cell, caller_cells, listener_cell, bound_cell, marked_cells, cells_to, caller_cell}
-use Rattle.xti_laws.specs.Laws.{Within, KnowsNoMore}
+use Rattle.xti_laws.specs.Laws.{Within}
 use Rattle.xti_laws.proofs.Only.{endpoint-only, the_switch-only}
-use Rattle.xti_laws.proofs.TouchedCells.{named-within}
+use Rattle.xti_laws.proofs.Touched.{touched-within}
 use Rattle.xti_laws.proofs.Others.{within-right}
 
 -- what is named through a switch, where the switch is the same
@@ -57,5 +56,5 @@ others-only p t w (call.TSndVUData fd addr opt parts) h = datagram-only p t w fd
 others-only p t w (call.TLookAt fd) h = look-only p t w fd.0 h.0 h.1
 others-only p t w other h = refl
 
-pub touched-again : (p : Providers) (w : World) (c : Call) → KnowsNoMore p w → touched p (only (touched p w c) w) c ≡ touched p w c
-touched-again p w c k = ap (λ ns. filter (is_among (cell_of p (fd_of c) ++ ns)) (numbers 0 (places p + 1))) (others-only p (touched p w c) w c (named-within p w c k))
+pub touched-again : (p : Providers) (w : World) (c : Call) → touched p (only (touched p w c) w) c ≡ touched p w c
+touched-again p w c = ap (λ ns. listed (cell_of p (fd_of c) ++ ns)) (others-only p (touched p w c) w c (touched-within p w c))

@@ -1,5 +1,5 @@
 -- A step is settled by the touched cells, and changes no others.
-use Rattle.std.proofs.Common.{ℕ, Bool, true, false, List, [], ◌∷◌, ◌++◌, ◌≡◌, refl, sym, ap, ◌∙◌, subst, map, eqb, length, ◌+◌, ◌*◌, ◌<◌, ◌≤◌, Option, Some, None, arith}
+use Rattle.std.proofs.Common.{ℕ, Bool, true, false, List, [], ◌∷◌, ◌++◌, ◌≡◌, refl, sym, ap, ◌∙◌, subst, eqb, length, ◌+◌, ◌*◌, ◌<◌, ◌≤◌, Option, Some, None, arith}
 use Rattle.std.proofs.lemmas.Bool.{false≢true, eqb-true}
 use Rattle.std.proofs.lemmas.List.Quantifiers.{position-Some}
 use Rattle.std.specs.Prelude.{option_map, option_and_then, option_to_list, ◌%◌, is_none}
@@ -10,47 +10,19 @@ use Rattle.xti_model.specs.declared.entry.Go.{Go}
 use Rattle.xti_model.specs.declared.entry.Outcome.{Outcome}
 use Rattle.xti_model.specs.declared.profile.Providers.{Providers}
 use Rattle.xti_model.specs.Provider.{is_provider}
-use Rattle.xti_model.specs.Endpoint.{Endpoint, Indication}
 use Rattle.xti_model.specs.World.{World, Switch, closed_place, cell_at, endpoint, endpoint_in, generation_of, is_among, only, without, place_of, state_of, the_switch}
-use Rattle.xti_model.specs.Switch.{bound, listener, free_place, opening_place, if_provider, is_free, place_at}
+use Rattle.xti_model.specs.Switch.{free_place, opening_place, if_provider, is_free, place_at}
 use Rattle.xti_model.specs.Plan.{Refusal, answers, waits, loses, first}
 use Rattle.xti_model.specs.Step.{plan, step, step_of, step_by, made}
 use Rattle.xti_model.specs.History.{left_by}
-use Rattle.xti_model.specs.Touched.{named, touched, others, fd_of, cell_of, of_some, peer_cell, target_cell, caller_cell, caller_cells, bound_cell, marked_cells, cells_to}
+use Rattle.xti_model.specs.Touched.{named, touched, others, fd_of, cell_of}
 use Rattle.xti_model.specs.Calls.Open as Open
 use Rattle.xti_laws.specs.Laws.{Within, restrict, KnowsNoMore, TellsNone}
 use Rattle.xti_laws.proofs.Only.{endpoint-only, the_switch-only}
 use Rattle.xti_laws.proofs.Local.{step-local}
 use Rattle.xti_laws.proofs.Others.{step-others}
-use Rattle.xti_laws.proofs.Touched.{Below, touched-within}
+use Rattle.xti_laws.proofs.Touched.{touched-within}
 use Rattle.xti_laws.proofs.TableWalk.{told-fd, ToldIs}
-
--- Each named cell is one of the places or the switch.
-place-below : (x : ℕ) → x % 64 < 65
-place-below x = omega arith
-
-append-below : (ns ms : List ℕ) → Below ns → Below ms → Below (ns ++ ms)
-append-below [] ms h k = k
-append-below (n ∷ ns) ms h k = (h.0, append-below ns ms h.1 k)
-
-cell-below : (p : Providers) (o : Option ℕ) → Below (cell_of p o)
-cell-below p None = tt
-cell-below p (Some fd) = (place-below fd, tt)
-
-callers-below : (p : Providers) (is : List Indication) → Below (map (λ i. place_of p i.caller) is)
-callers-below p [] = tt
-callers-below p (i ∷ is) = (place-below i.caller, callers-below p is)
-
-some-below : (o : Option Endpoint) (f : Endpoint → List ℕ) → ((e : Endpoint) → Below (f e)) → Below (of_some o f)
-some-below None f h = tt
-some-below (Some e) f h = h e
-
-switch-below : (ns : List ℕ) → Below ns → Below (64 ∷ ns)
-switch-below ns h = (omega arith, h)
-
-marked-below : (p : Providers) (w : World) (e : Endpoint) (o : Option (List ℕ)) → Below (cells_to p w e o)
-marked-below p w e None = tt
-marked-below p w e (Some address) = switch-below (bound_cell p w address e) (cell-below p (bound (the_switch p w) e.prov address))
 
 none-some : (n : ℕ) → None ≡ Some n → ⊥
 none-some n k = false≢true (ap is_none (sym k))
@@ -61,32 +33,6 @@ opening-small p s prov n k = go (is_provider prov)
     go : (b : Bool) → if_provider b (free_place p s) ≡ Some n → n < 64
     go true h = let i : n < length s.places = (position-Some (is_free p) s.places n closed_place h).0 in omega (arith, i, k)
     go false h = absurd (none-some n h)
-
-opening-below : (p : Providers) (s : Switch) (prov : Prov) → length s.places ≤ 64 → Below (option_to_list (opening_place p s prov))
-opening-below p s prov k = go (opening_place p s prov) refl
-  where
-    go : (o : Option ℕ) → opening_place p s prov ≡ o → Below (option_to_list o)
-    go None h = tt
-    go (Some n) h = let i : n < 64 = opening-small p s prov n k h in (omega (arith, i), tt)
-
-others-below : (p : Providers) (w : World) (c : Call) → KnowsNoMore p w → Below (others p w c)
-others-below p w (call.TOpen prov nonblock) k = switch-below (option_to_list (opening_place p (the_switch p w) prov)) (opening-below p (the_switch p w) prov k)
-others-below p w (call.TClose fd) k = switch-below _ (some-below (endpoint p w fd.0) _ (λ e. append-below (peer_cell p e ++ target_cell p e) (caller_cells p e) (append-below (peer_cell p e) (target_cell p e) (cell-below p e.peer) (cell-below p _)) (callers-below p (e.pending ++ e.outstanding))))
-others-below p w (call.TBind fd addr qlen amax) k = switch-below [] tt
-others-below p w (call.TUnbind fd) k = switch-below [] tt
-others-below p w (call.TConnect fd addr opt udata amax omax umax) k = switch-below _ (some-below (endpoint p w fd.0) _ (λ e. cell-below p (listener (the_switch p w) e.prov addr fd.0)))
-others-below p w (call.TAccept fd resfd seq opt udata) k = switch-below (place_of p resfd.0 ∷ of_some (endpoint p w fd.0) (caller_cell p seq.0)) (place-below resfd.0, some-below (endpoint p w fd.0) _ (λ e. cell-below p _))
-others-below p w (call.TSnd fd bytes flags) k = some-below (endpoint p w fd.0) _ (λ e. cell-below p e.peer)
-others-below p w (call.TSndV fd parts flags) k = some-below (endpoint p w fd.0) _ (λ e. cell-below p e.peer)
-others-below p w (call.TSndRel fd) k = some-below (endpoint p w fd.0) _ (λ e. cell-below p e.peer)
-others-below p w (call.TSndDis fd seq udata) k = some-below (endpoint p w fd.0) _ (λ e. append-below (peer_cell p e ++ target_cell p e) (caller_cell p seq.0 e) (append-below (peer_cell p e) (target_cell p e) (cell-below p e.peer) (cell-below p _)) (cell-below p _))
-others-below p w (call.TSndUData fd addr opt bytes) k = switch-below _ (some-below (endpoint p w fd.0) _ (λ e. cell-below p (bound (the_switch p w) e.prov addr)))
-others-below p w (call.TSndVUData fd addr opt parts) k = switch-below _ (some-below (endpoint p w fd.0) _ (λ e. cell-below p (bound (the_switch p w) e.prov addr)))
-others-below p w (call.TLookAt fd) k = some-below (endpoint p w fd.0) _ (λ e. append-below (peer_cell p e) (marked_cells p w e) (cell-below p e.peer) (marked-below p w e e.flow_datagram))
-others-below p w other k = tt
-
-pub named-within : (p : Providers) (w : World) (c : Call) → KnowsNoMore p w → Within (touched p w c) (named p w c)
-named-within p w c k = touched-within p w c (append-below (cell_of p (fd_of c)) (others p w c) (cell-below p (fd_of c)) (others-below p w c k))
 
 -- The endpoint whose state is told is among them, but for an open that no place can take.
 head-within : (p : Providers) (t : List ℕ) (ns : List ℕ) (o : Option ℕ) (fd : ℕ) → o ≡ Some fd → Within t (cell_of p o ++ ns) → is_among t (place_of p fd) ≡ true
@@ -139,13 +85,13 @@ open-reads p w prov nonblock g k n = go (opening_place p (the_switch p w) prov) 
     t = touched p w (call.TOpen prov nonblock)
 
     same : the_switch p (only t w) ≡ the_switch p w
-    same = the_switch-only p t (named-within p w (call.TOpen prov nonblock) k).0 w
+    same = the_switch-only p t (touched-within p w (call.TOpen prov nonblock)).0 w
 
     go : (o : Option ℕ) → opening_place p (the_switch p w) prov ≡ o → step p (only t w) (call.TOpen prov nonblock) g ≡ option_map (restrict t) (step p w (call.TOpen prov nonblock) g)
     go (Some m) h =
         let i : m < 64 = opening-small p (the_switch p w) prov m k h in
-        step-local p t w (call.TOpen prov nonblock) g (named-within p w (call.TOpen prov nonblock) k)
-        (ap (λ z. is_among t (place_of p (Open.plan_where p (the_switch p w) prov nonblock z).fd)) h ∙ (ap (is_among t) (fd-place (place_at (the_switch p w) m).generation m i) ∙ (subst (λ z. Within t (option_to_list z)) h (named-within p w (call.TOpen prov nonblock) k).1).0))
+        step-local p t w (call.TOpen prov nonblock) g (touched-within p w (call.TOpen prov nonblock))
+        (ap (λ z. is_among t (place_of p (Open.plan_where p (the_switch p w) prov nonblock z).fd)) h ∙ (ap (is_among t) (fd-place (place_at (the_switch p w) m).generation m i) ∙ (subst (λ z. Within t (option_to_list z)) h (touched-within p w (call.TOpen prov nonblock)).1).0))
     go None h =
         ap (λ s. step_of p (only t w) (Open.plan_in p s prov nonblock)) same ∙
         (ap (λ z. step_of p (only t w) (Open.plan_where p (the_switch p w) prov nonblock z)) h ∙
@@ -154,7 +100,7 @@ open-reads p w prov nonblock g k n = go (opening_place p (the_switch p w) prov) 
 
 pub touched-reads : (p : Providers) (w : World) (c : Call) (g : Go) → KnowsNoMore p w → TellsNone p w c → step p (only (touched p w c) w) c g ≡ option_map (restrict (touched p w c)) (step p w c g)
 touched-reads p w (call.TOpen prov nonblock) g k n = open-reads p w prov nonblock g k n
-touched-reads p w other g k n = step-local p (touched p w other) w other g (named-within p w other k) (told-at p w other g (fd_of other) refl refl (told-fd p w other g) (named-within p w other k))
+touched-reads p w other g k n = step-local p (touched p w other) w other g (touched-within p w other) (told-at p w other g (fd_of other) refl refl (told-fd p w other g) (touched-within p w other))
 
-pub touched-changes : (p : Providers) (w : World) (c : Call) (g : Go) → KnowsNoMore p w → without (touched p w c) (left_by w (step p w c g)) ≡ without (touched p w c) w
-touched-changes p w c g k = step-others p (touched p w c) w c g (named-within p w c k)
+pub touched-changes : (p : Providers) (w : World) (c : Call) (g : Go) → without (touched p w c) (left_by w (step p w c g)) ≡ without (touched p w c) w
+touched-changes p w c g = step-others p (touched p w c) w c g (touched-within p w c)

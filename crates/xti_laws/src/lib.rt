@@ -27,15 +27,15 @@ pub fn steps_are_local()
 
 /// A step is settled by the touched cells of its call, and changes no others.
 ///
-/// Of worlds whose switch knows no more places than there are. `reads`: the step on the touched cells alone is the
-/// step on all, an open that no place can take being one that tells the state of no open endpoint. `changes`: all
-/// other cells stay. `again`: on its touched cells alone a call touches just these. `known`: the switch knows no
-/// more places than there are after any entries, legal or not.
+/// `reads`: the step on the touched cells alone is the step on all, where the switch knows no more places than there
+/// are, and an open that no place can take tells the state of no open endpoint. `changes`: all other cells stay.
+/// `again`: on its touched cells alone a call touches just these. `known`: the switch knows no more places than there
+/// are after any entries, legal or not.
 pub fn touched_cells_settle_a_step()
     ensures reads { (p : Providers) (w : World) (c : Call) (g : Go) → KnowsNoMore p w → TellsNone p w c → step p (only (touched p w c) w) c g ≡ option_map (restrict (touched p w c)) (step p w c g) }
-    ensures changes { (p : Providers) (w : World) (c : Call) (g : Go) → KnowsNoMore p w → without (touched p w c) (left_by w (step p w c g)) ≡ without (touched p w c) w }
+    ensures changes { (p : Providers) (w : World) (c : Call) (g : Go) → without (touched p w c) (left_by w (step p w c g)) ≡ without (touched p w c) w }
     ensures known { (p : Providers) (entries : List Entry) → KnowsNoMore p (after p entries) }
-    ensures again { (p : Providers) (w : World) (c : Call) → KnowsNoMore p w → touched p (only (touched p w c) w) c ≡ touched p w c }
+    ensures again { (p : Providers) (w : World) (c : Call) → touched p (only (touched p w c) w) c ≡ touched p w c }
 {}
 
 /// Each change that a call may make is one of the named kinds.
