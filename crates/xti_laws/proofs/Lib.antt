@@ -16,8 +16,8 @@ mod Leaving
 mod OtherStates
 pub mod TableWalk
 mod Initialised
+pub mod TouchedAgain
 pub mod TouchedCells
-mod TouchedAgain
 mod KnownPlaces
 mod Blocking
 mod Waiting

@@ -1,6 +1,6 @@
 -- The touched cells, in rising order, have all that a call names.
-use Rattle.std.proofs.Common.{ℕ, Bool, true, false, ◌||◌, List, [], ◌∷◌, ◌≡◌, refl, ◌∙◌, eqb}
-use Rattle.std.proofs.lemmas.Bool.{eq-eqb}
+use Rattle.std.proofs.Common.{ℕ, Bool, true, false, ◌||◌, List, [], ◌∷◌, ◌≡◌, refl, subst, ◌∙◌, eqb}
+use Rattle.std.proofs.lemmas.Bool.{eqb-true, eq-eqb, false≢true}
 use Rattle.xti_model.specs.declared.call.Call.{Call}
 use Rattle.xti_model.specs.declared.profile.Providers.{Providers}
 use Rattle.xti_model.specs.World.{World, is_among}
@@ -24,3 +24,15 @@ within-more t (n ∷ ns) f = (f n (here n ns), within-more t ns (λ m i. f m (th
 
 pub touched-within : (p : Providers) (w : World) (c : Call) → Within (touched p w c) (named p w c)
 touched-within p w c = within-more (touched p w c) (named p w c) (λ n i. among-listed (named p w c) n ∙ i)
+
+-- what has the touched cells has all that are named
+among-within : (t ns : List ℕ) (n : ℕ) → Within t ns → is_among ns n ≡ true → is_among t n ≡ true
+among-within t [] n h k = absurd (false≢true k)
+among-within t (m ∷ ns) n h k = go (eqb m n) refl k (among-within t ns n h.1)
+  where
+    go : (b : Bool) → eqb m n ≡ b → (b || is_among ns n) ≡ true → (is_among ns n ≡ true → is_among t n ≡ true) → is_among t n ≡ true
+    go true e i j = subst (λ z. is_among t z ≡ true) (eqb-true m n e) h.0
+    go false e i j = j i
+
+pub within-named : (p : Providers) (t : List ℕ) (w : World) (c : Call) → Within t (touched p w c) → Within t (named p w c)
+within-named p t w c h = within-more t (named p w c) (λ n i. among-within t (touched p w c) n h (among-listed (named p w c) n ∙ i))

@@ -21,7 +21,8 @@ use Rattle.xti_laws.specs.Laws.{Within, restrict, KnowsNoMore, TellsNone}
 use Rattle.xti_laws.proofs.Only.{endpoint-only, the_switch-only}
 use Rattle.xti_laws.proofs.Local.{step-local}
 use Rattle.xti_laws.proofs.Others.{step-others}
-use Rattle.xti_laws.proofs.Touched.{touched-within}
+use Rattle.xti_laws.proofs.Touched.{touched-within, within-named}
+use Rattle.xti_laws.proofs.TouchedAgain.{named-some}
 use Rattle.xti_laws.proofs.TableWalk.{told-fd, ToldIs}
 
 none-some : (n : ℕ) → None ≡ Some n → ⊥
@@ -39,9 +40,9 @@ head-within : (p : Providers) (t : List ℕ) (ns : List ℕ) (o : Option ℕ) (f
 head-within p t ns None fd i h = absurd (none-some fd i)
 head-within p t ns (Some x) fd i h = (subst (λ z. Within t (cell_of p z ++ ns)) i h).0
 
-told-at : (p : Providers) (w : World) (c : Call) (g : Go) (o : Option ℕ) → fd_of c ≡ o → is_none o ≡ false → ToldIs p w c g o → Within (touched p w c) (named p w c) → is_among (touched p w c) (place_of p (plan p w c g).fd) ≡ true
-told-at p w c g None i n t h = absurd (false≢true (sym n))
-told-at p w c g (Some fd) i n t h = ap (λ z. is_among (touched p w c) (place_of p z)) t ∙ head-within p (touched p w c) (others p w c) (fd_of c) fd i h
+told-at : (p : Providers) (t : List ℕ) (w : World) (c : Call) (g : Go) (o : Option ℕ) → fd_of c ≡ o → is_none o ≡ false → ToldIs p w c g o → Within t (named p w c) → is_among t (place_of p (plan p w c g).fd) ≡ true
+told-at p t w c g None i n e h = absurd (false≢true (sym n))
+told-at p t w c g (Some fd) i n e h = ap (λ z. is_among t (place_of p z)) e ∙ head-within p t (others p w c) (fd_of c) fd i h
 
 cell_at-gone : (t : List ℕ) (n : ℕ) → is_among t n ≡ false → (w : World) → cell_at (only t w) n ≡ None
 cell_at-gone t n k [] = refl
@@ -76,31 +77,44 @@ refused-only p t w s prov nonblock h (Some loses) = ap Some (none-made p t w Ope
 fd-place : (g n : ℕ) → n < 64 → (64 * g + n) % 64 ≡ n
 fd-place g n h = omega (arith, h)
 
-open-reads : (p : Providers) (w : World) (prov : Prov) (nonblock : Bool) (g : Go) → KnowsNoMore p w → TellsNone p w (call.TOpen prov nonblock)
-    → step p (only (touched p w (call.TOpen prov nonblock)) w) (call.TOpen prov nonblock) g ≡ option_map (restrict (touched p w (call.TOpen prov nonblock))) (step p w (call.TOpen prov nonblock) g)
+open-reads : (p : Providers) (t : List ℕ) (w : World) (prov : Prov) (nonblock : Bool) (g : Go) → KnowsNoMore p w → TellsNone p w (call.TOpen prov nonblock) → Within t (named p w (call.TOpen prov nonblock))
+    → step p (only t w) (call.TOpen prov nonblock) g ≡ option_map (restrict t) (step p w (call.TOpen prov nonblock) g)
 unfolding step plan
-open-reads p w prov nonblock g k n = go (opening_place p (the_switch p w) prov) refl
+open-reads p t w prov nonblock g k n within = go (opening_place p (the_switch p w) prov) refl
   where
-    t : List ℕ
-    t = touched p w (call.TOpen prov nonblock)
-
     same : the_switch p (only t w) ≡ the_switch p w
-    same = the_switch-only p t (touched-within p w (call.TOpen prov nonblock)).0 w
+    same = the_switch-only p t within.0 w
 
     go : (o : Option ℕ) → opening_place p (the_switch p w) prov ≡ o → step p (only t w) (call.TOpen prov nonblock) g ≡ option_map (restrict t) (step p w (call.TOpen prov nonblock) g)
     go (Some m) h =
         let i : m < 64 = opening-small p (the_switch p w) prov m k h in
-        step-local p t w (call.TOpen prov nonblock) g (touched-within p w (call.TOpen prov nonblock))
-        (ap (λ z. is_among t (place_of p (Open.plan_where p (the_switch p w) prov nonblock z).fd)) h ∙ (ap (is_among t) (fd-place (place_at (the_switch p w) m).generation m i) ∙ (subst (λ z. Within t (option_to_list z)) h (touched-within p w (call.TOpen prov nonblock)).1).0))
+        step-local p t w (call.TOpen prov nonblock) g within
+        (ap (λ z. is_among t (place_of p (Open.plan_where p (the_switch p w) prov nonblock z).fd)) h ∙ (ap (is_among t) (fd-place (place_at (the_switch p w) m).generation m i) ∙ (subst (λ z. Within t (option_to_list z)) h within.1).0))
     go None h =
         ap (λ s. step_of p (only t w) (Open.plan_in p s prov nonblock)) same ∙
         (ap (λ z. step_of p (only t w) (Open.plan_where p (the_switch p w) prov nonblock z)) h ∙
         (refused-only p t w (the_switch p w) prov nonblock (n h) (first (Open.rows p (the_switch p w) prov)) ∙
         sym (ap (λ z. option_map (restrict t) (step_of p w (Open.plan_where p (the_switch p w) prov nonblock z))) h)))
 
+-- the step on any cells of a world that have all that the call names
+pub named-reads : (p : Providers) (t : List ℕ) (w : World) (c : Call) (g : Go) → KnowsNoMore p w → TellsNone p w c → Within t (named p w c) → step p (only t w) c g ≡ option_map (restrict t) (step p w c g)
+named-reads p t w (call.TOpen prov nonblock) g k n h = open-reads p t w prov nonblock g k n h
+named-reads p t w other g k n h = step-local p t w other g h (told-at p t w other g (fd_of other) refl refl (told-fd p w other g) h)
+
 pub touched-reads : (p : Providers) (w : World) (c : Call) (g : Go) → KnowsNoMore p w → TellsNone p w c → step p (only (touched p w c) w) c g ≡ option_map (restrict (touched p w c)) (step p w c g)
-touched-reads p w (call.TOpen prov nonblock) g k n = open-reads p w prov nonblock g k n
-touched-reads p w other g k n = step-local p (touched p w other) w other g (touched-within p w other) (told-at p w other g (fd_of other) refl refl (told-fd p w other g) (touched-within p w other))
+touched-reads p w c g k n = named-reads p (touched p w c) w c g k n (touched-within p w c)
 
 pub touched-changes : (p : Providers) (w : World) (c : Call) (g : Go) → without (touched p w c) (left_by w (step p w c g)) ≡ without (touched p w c) w
 touched-changes p w c g = step-others p (touched p w c) w c g (touched-within p w c)
+
+-- some cells of a world have all that the call touches on them alone: so they have all that it names in the world
+some-within : (p : Providers) (t : List ℕ) (w : World) (c : Call) → Within t (touched p (only t w) c) → Within t (named p w c)
+some-within p t w c h =
+    let i : Within t (named p (only t w) c) = within-named p t (only t w) c h in
+    subst (Within t) (named-some p t w c i) i
+
+pub some-reads : (p : Providers) (t : List ℕ) (w : World) (c : Call) (g : Go) → Within t (touched p (only t w) c) → KnowsNoMore p w → TellsNone p w c → step p (only t w) c g ≡ option_map (restrict t) (step p w c g)
+some-reads p t w c g h k n = named-reads p t w c g k n (some-within p t w c h)
+
+pub some-changes : (p : Providers) (t : List ℕ) (w : World) (c : Call) (g : Go) → Within t (touched p (only t w) c) → without t (left_by w (step p w c g)) ≡ without t w
+some-changes p t w c g h = step-others p t w c g (some-within p t w c h)

@@ -1,19 +1,19 @@
 //! Laws of the definitions of a step: what a step reads, what it changes, and how.
 #![tactic(auto)]
 
-ghost use Rattle.std.specs.Prelude.{◌≡◌, ℕ, Bool, List, true, option_map};
+ghost use Rattle.std.specs.Prelude.{◌≡◌, ℕ, Bool, List, true};
 ghost use Rattle.xti_model.specs.declared.call.Call.{Call};
 ghost use Rattle.xti_model.specs.declared.entry.Go.{Go};
 ghost use Rattle.xti_model.specs.declared.entry.Entry.{Entry};
 ghost use Rattle.xti_model.specs.declared.profile.Providers.{Providers};
-ghost use Rattle.xti_model.specs.World.{World, Cell, endpoint, is_among, only, without, place_of};
-ghost use Rattle.xti_model.specs.Step.{plan, step};
-ghost use Rattle.xti_model.specs.Touched.{named, touched};
-ghost use Rattle.xti_model.specs.History.{after, after_from, left_by};
+ghost use Rattle.xti_model.specs.World.{World, Cell, endpoint};
+ghost use Rattle.xti_model.specs.Step.{plan};
+ghost use Rattle.xti_model.specs.Touched.{touched};
+ghost use Rattle.xti_model.specs.History.{after};
 ghost use Rattle.xti_laws.specs.Updates.{PlanKinds};
 ghost use Rattle.xti_laws.specs.States.{TakesByTheTable, PassesByTheTable, KeepsEveryState, KeepsOtherStates, is_initialised};
 ghost use Rattle.xti_laws.specs.Waiting.{BlockedAsWanted, BlockedHasGoodArguments};
-ghost use Rattle.xti_laws.specs.Laws.{Within, restrict, AllCells, Keeps, KnowsNoMore, TellsNone};
+ghost use Rattle.xti_laws.specs.Laws.{HasNamed, Enough, TouchesSame, SameIfTold, SameSteps, LeavesOthers, Keeps, Passes, PassesAfterAny, KnowsNoMore};
 
 /// A step is settled by the cells that its call names, and leaves all others as they are.
 ///
@@ -21,8 +21,8 @@ ghost use Rattle.xti_laws.specs.Laws.{Within, restrict, AllCells, Keeps, KnowsNo
 /// it leaves them there, if the cells that the call names are among them, and that of the endpoint whose state
 /// is told. `changes`: cells that the call doesn't name stay. Both hold of any list of cells.
 pub fn steps_are_local()
-    ensures reads { (p : Providers) (t : List ℕ) (w : World) (c : Call) (g : Go) → Within t (named p w c) → is_among t (place_of p (plan p w c g).fd) ≡ true → step p (only t w) c g ≡ option_map (restrict t) (step p w c g) }
-    ensures changes { (p : Providers) (t : List ℕ) (w : World) (c : Call) (g : Go) → Within t (named p w c) → without t (left_by w (step p w c g)) ≡ without t w }
+    ensures reads { (p : Providers) (t : List ℕ) (w : World) (c : Call) → HasNamed p t w c → SameIfTold p t w c }
+    ensures changes { (p : Providers) (t : List ℕ) (w : World) (c : Call) → HasNamed p t w c → LeavesOthers p t w c }
 {}
 
 /// A step is settled by the touched cells of its call, and changes no others.
@@ -32,10 +32,20 @@ pub fn steps_are_local()
 /// `again`: on its touched cells alone a call touches just these. `known`: the switch knows no more places than there
 /// are after any entries, legal or not.
 pub fn touched_cells_settle_a_step()
-    ensures reads { (p : Providers) (w : World) (c : Call) (g : Go) → KnowsNoMore p w → TellsNone p w c → step p (only (touched p w c) w) c g ≡ option_map (restrict (touched p w c)) (step p w c g) }
-    ensures changes { (p : Providers) (w : World) (c : Call) (g : Go) → without (touched p w c) (left_by w (step p w c g)) ≡ without (touched p w c) w }
+    ensures reads { (p : Providers) (w : World) (c : Call) → SameSteps p (touched p w c) w c }
+    ensures changes { (p : Providers) (w : World) (c : Call) → LeavesOthers p (touched p w c) w c }
     ensures known { (p : Providers) (entries : List Entry) → KnowsNoMore p (after p entries) }
-    ensures again { (p : Providers) (w : World) (c : Call) → touched p (only (touched p w c) w) c ≡ touched p w c }
+    ensures again { (p : Providers) (w : World) (c : Call) → TouchesSame p (touched p w c) w c }
+{}
+
+/// Some cells of a world are enough for a call, where all that it touches on them alone is among them.
+///
+/// `names`: the call then touches just what it touches in the whole world. `reads`: a step on them is the step of that
+/// world, as on the touched cells. `changes`: all other cells stay. Of every call, and of any cells.
+pub fn some_cells_are_enough()
+    ensures names { (p : Providers) (t : List ℕ) (w : World) (c : Call) → Enough p t w c → TouchesSame p t w c }
+    ensures reads { (p : Providers) (t : List ℕ) (w : World) (c : Call) → Enough p t w c → SameSteps p t w c }
+    ensures changes { (p : Providers) (t : List ℕ) (w : World) (c : Call) → Enough p t w c → LeavesOthers p t w c }
 {}
 
 /// Each change that a call may make is one of the named kinds.
@@ -44,7 +54,7 @@ pub fn touched_cells_settle_a_step()
 /// cell after any entries, legal or not.
 pub fn changes_are_named()
     ensures kinds { (p : Providers) (w : World) (c : Call) (g : Go) → PlanKinds (plan p w c g) }
-    ensures kept { (p : Providers) (test : Cell → Bool) → Keeps p (λ cell. test cell ≡ true) → (w : World) (past entries : List Entry) → AllCells (λ cell. test cell ≡ true) w → AllCells (λ cell. test cell ≡ true) (after_from p w past entries) }
+    ensures kept { (p : Providers) (test : Cell → Bool) → Keeps p (Passes test) → PassesAfterAny p test }
 {}
 
 /// What a wait depends on settles whether a step is blocked.
