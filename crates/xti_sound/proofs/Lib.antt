@@ -33,3 +33,4 @@ pub mod ProvidersStay
 pub mod Telling
 pub mod Progressing
 pub mod Short
+mod NeverAnswered

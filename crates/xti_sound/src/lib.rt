@@ -24,6 +24,7 @@ ghost use Rattle.xti_sound.specs.Invariant.{SoundWorld, Paired};
 ghost use Rattle.xti_model.specs.SentBytes.{SendsBytes, AllSendBytes};
 ghost use Rattle.xti_sound.specs.Connections.{LinkedWith, Linked, NamesBack, IsReleased};
 ghost use Rattle.xti_sound.specs.Endpoints.{Buffers, ShortDatagram};
+ghost use Rattle.xti_sound.specs.NeverAnswered.{IsAnswer, HasAnswer};
 ghost use Rattle.xti_sound.specs.Progress.{Progress};
 ghost use Rattle.xti_sound.specs.Replies.{lengths_of, IsShortOutcome};
 ghost use Rattle.xti_sound.specs.Symbols.{SoundSymbols};
@@ -134,6 +135,14 @@ pub fn steps_tell_progress()
 /// arguments and the limits of the profile.
 pub fn replies_are_short()
     ensures short { (p : Providers) (w : World) (c : Call) (g : Go) (s : Step) → SoundWorld p w → step p w c g ≡ Some s → IsShortOutcome (lengths_of c) s.outcome }
+{}
+
+/// No call answers TACCES, TNOADDR, TSTATECHNG or TPROTO.
+///
+/// `step`: the outcome of a step, in any world, is no such refusal. `history`: nor is that of any entry of a legal history.
+pub fn some_errors_are_never_answered()
+    ensures step { (p : Providers) (w : World) (c : Call) (g : Go) (s : Step) → step p w c g ≡ Some s → IsAnswer s.outcome }
+    ensures history { (p : Providers) (entries : List Entry) → Legal p entries → All HasAnswer entries }
 {}
 
 /// The premises of these laws are needed: without them a legal history breaks what they say.
