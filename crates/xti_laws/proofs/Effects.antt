@@ -1,8 +1,7 @@
--- The state of a descriptor after a list of changes.
+-- The state of a descriptor and its outstanding indications after a list of changes.
 use Rattle.std.proofs.Common.{ℕ, Bool, true, false, List, [], ◌∷◌, ◌++◌, ◌≡◌, refl, sym, ap, ◌∙◌, eqb, cond, map, Option, Some, None}
 use Rattle.std.proofs.lemmas.Bool.{eqb-true, false≢true}
 use Rattle.std.specs.Prelude.{option_map, unwrap_or}
-use Rattle.xti_base.specs.declared.kinds.State.{State}
 use Rattle.xti_base.specs.declared.kinds.State.TheVariants.{T_UNINIT}
 use Rattle.xti_model.specs.declared.profile.Providers.{Providers}
 use Rattle.xti_model.specs.declared.entry.Outcome.TheVariants.{Done}
@@ -13,21 +12,26 @@ use Rattle.xti_model.specs.Plan.{Plan, Refusal, answers, waits, loses, first, if
 use Rattle.xti_model.specs.Step.{step_of, step_by, made}
 use Rattle.xti_model.specs.History.{left_by}
 use Rattle.xti_model.specs.Calls.Close as Close
-use Rattle.xti_laws.specs.States.{state_at}
-use Rattle.xti_laws.proofs.Steady.{Steady, Sets, names-steady, taken_back-steady, given_up-steady}
+use Rattle.xti_laws.specs.States.{ocnt_of}
+use Rattle.xti_laws.proofs.Steady.{Standing, stands, standing, Steady, Sets, names-steady, taken_back-steady, given_up-steady}
 use Rattle.xti_laws.proofs.View.{endpoint-same, endpoint-other, closed-same, closed-other, switch-other, changed-append}
 
-abbrev pub state_in : Providers → World → ℕ → Option State
-state_in p w x = option_map (λ e. e.state) (endpoint p w x)
+abbrev pub standing_in : Providers → World → ℕ → Option Standing
+standing_in p w x = option_map standing (endpoint p w x)
 
-pub told-state : (p : Providers) (w : World) (x : ℕ) → state_at p w x ≡ unwrap_or (state_in p w x) T_UNINIT
-told-state p w x = go (endpoint p w x)
-  where
-    go : (o : Option Endpoint) → state_of o ≡ unwrap_or (option_map (λ e. e.state) o) T_UNINIT
-    go None = refl
-    go (Some e) = refl
+-- T_UNINIT and none outstanding where no endpoint is open
+abbrev pub closed : Standing
+closed = stands T_UNINIT 0
 
--- the change leaves the state of a descriptor
+pub told-state : (o : Option Endpoint) → state_of o ≡ (unwrap_or (option_map standing o) closed).state
+told-state None = refl
+told-state (Some e) = refl
+
+pub told-count : (o : Option Endpoint) → ocnt_of o ≡ (unwrap_or (option_map standing o) closed).count
+told-count None = refl
+told-count (Some e) = refl
+
+-- the change leaves the standing of a descriptor
 pub data Leaves (x : ℕ) : Change → Type 0 where
   elsewhere : (fd : ℕ) (f : Endpoint → Endpoint) → eqb x fd ≡ false → Leaves x (at_endpoint fd f)
   steady : (fd : ℕ) (f : Endpoint → Endpoint) → Steady f → Leaves x (at_endpoint fd f)
@@ -38,24 +42,24 @@ abbrev pub AllLeave : ℕ → List Change → Type 0
 AllLeave x [] = Unit
 AllLeave x (c ∷ cs) = Leaves x c × AllLeave x cs
 
-map-steady : (f : Endpoint → Endpoint) → Steady f → (o : Option Endpoint) → option_map (λ e. e.state) (option_map f o) ≡ option_map (λ e. e.state) o
+map-steady : (f : Endpoint → Endpoint) → Steady f → (o : Option Endpoint) → option_map standing (option_map f o) ≡ option_map standing o
 map-steady f h None = refl
 map-steady f h (Some e) = ap Some (h e)
 
-leaves-one : (p : Providers) (x : ℕ) (c : Change) → Leaves x c → (w : World) → state_in p (change (cell_number p c) (new_cell p c) w) x ≡ state_in p w x
-leaves-one p x c (elsewhere fd f h) w = ap (option_map (λ e. e.state)) (endpoint-other p fd x h f w)
-leaves-one p x c (in_switch f) w = ap (option_map (λ e. e.state)) (switch-other p f x w)
-leaves-one p x c (closes_elsewhere fd h) w = ap (option_map (λ e. e.state)) (closed-other p fd x h w)
+leaves-one : (p : Providers) (x : ℕ) (c : Change) → Leaves x c → (w : World) → standing_in p (change (cell_number p c) (new_cell p c) w) x ≡ standing_in p w x
+leaves-one p x c (elsewhere fd f h) w = ap (option_map standing) (endpoint-other p fd x h f w)
+leaves-one p x c (in_switch f) w = ap (option_map standing) (switch-other p f x w)
+leaves-one p x c (closes_elsewhere fd h) w = ap (option_map standing) (closed-other p fd x h w)
 leaves-one p x c (steady fd f h) w = go (eqb x fd) refl
   where
-    here : x ≡ fd → state_in p (change (cell_number p (at_endpoint fd f)) (new_cell p (at_endpoint fd f)) w) x ≡ state_in p w x
-    here i = ap (state_in p (change (cell_number p (at_endpoint fd f)) (new_cell p (at_endpoint fd f)) w)) i ∙ (ap (option_map (λ e. e.state)) (endpoint-same p fd f w) ∙ (map-steady f h (endpoint p w fd) ∙ ap (state_in p w) (sym i)))
+    here : x ≡ fd → standing_in p (change (cell_number p (at_endpoint fd f)) (new_cell p (at_endpoint fd f)) w) x ≡ standing_in p w x
+    here i = ap (standing_in p (change (cell_number p (at_endpoint fd f)) (new_cell p (at_endpoint fd f)) w)) i ∙ (ap (option_map standing) (endpoint-same p fd f w) ∙ (map-steady f h (endpoint p w fd) ∙ ap (standing_in p w) (sym i)))
 
-    go : (b : Bool) → eqb x fd ≡ b → state_in p (change (cell_number p (at_endpoint fd f)) (new_cell p (at_endpoint fd f)) w) x ≡ state_in p w x
+    go : (b : Bool) → eqb x fd ≡ b → standing_in p (change (cell_number p (at_endpoint fd f)) (new_cell p (at_endpoint fd f)) w) x ≡ standing_in p w x
     go true i = here (eqb-true x fd i)
-    go false i = ap (option_map (λ e. e.state)) (endpoint-other p fd x i f w)
+    go false i = ap (option_map standing) (endpoint-other p fd x i f w)
 
-pub leaves : (p : Providers) (x : ℕ) (cs : List Change) → AllLeave x cs → (w : World) → state_in p (changed p w cs) x ≡ state_in p w x
+pub leaves : (p : Providers) (x : ℕ) (cs : List Change) → AllLeave x cs → (w : World) → standing_in p (changed p w cs) x ≡ standing_in p w x
 leaves p x [] h w = refl
 leaves p x (c ∷ cs) h w = leaves p x cs h.1 (change (cell_number p c) (new_cell p c) w) ∙ leaves-one p x c h.0 w
 
@@ -64,33 +68,33 @@ append-leave x [] ds h k = k
 append-leave x (c ∷ cs) ds h k = (h.0, append-leave x cs ds h.1 k)
 
 -- the change of an endpoint that is open
-pub puts : (p : Providers) (w : World) (fd : ℕ) (e : Endpoint) (f : Endpoint → Endpoint) → endpoint p w fd ≡ Some e → state_in p (changed p w (at_endpoint fd f ∷ [])) fd ≡ Some (f e).state
-puts p w fd e f o = ap (option_map (λ e. e.state)) (endpoint-same p fd f w ∙ ap (option_map f) o)
+pub puts : (p : Providers) (w : World) (fd : ℕ) (e : Endpoint) (f : Endpoint → Endpoint) → endpoint p w fd ≡ Some e → standing_in p (changed p w (at_endpoint fd f ∷ [])) fd ≡ Some (standing (f e))
+puts p w fd e f o = ap (option_map standing) (endpoint-same p fd f w ∙ ap (option_map f) o)
 
-map-sets : (g : State → State) (f : Endpoint → Endpoint) → Sets g f → (o : Option Endpoint) → option_map (λ e. e.state) (option_map f o) ≡ option_map g (option_map (λ e. e.state) o)
+map-sets : (g : Standing → Standing) (f : Endpoint → Endpoint) → Sets g f → (o : Option Endpoint) → option_map standing (option_map f o) ≡ option_map g (option_map standing o)
 map-sets g f h None = refl
 map-sets g f h (Some e) = ap Some (h e)
 
-pub sets : (p : Providers) (w : World) (fd : ℕ) (g : State → State) (f : Endpoint → Endpoint) → Sets g f → state_in p (changed p w (at_endpoint fd f ∷ [])) fd ≡ option_map g (state_in p w fd)
-sets p w fd g f h = ap (option_map (λ e. e.state)) (endpoint-same p fd f w) ∙ map-sets g f h (endpoint p w fd)
+pub sets : (p : Providers) (w : World) (fd : ℕ) (g : Standing → Standing) (f : Endpoint → Endpoint) → Sets g f → standing_in p (changed p w (at_endpoint fd f ∷ [])) fd ≡ option_map g (standing_in p w fd)
+sets p w fd g f h = ap (option_map standing) (endpoint-same p fd f w) ∙ map-sets g f h (endpoint p w fd)
 
 -- first of all the endpoint's own change, and then others that leave it
-pub puts-first : (p : Providers) (w : World) (fd : ℕ) (e : Endpoint) (f : Endpoint → Endpoint) (cs : List Change) → endpoint p w fd ≡ Some e → AllLeave fd cs → state_in p (changed p w (at_endpoint fd f ∷ cs)) fd ≡ Some (f e).state
+pub puts-first : (p : Providers) (w : World) (fd : ℕ) (e : Endpoint) (f : Endpoint → Endpoint) (cs : List Change) → endpoint p w fd ≡ Some e → AllLeave fd cs → standing_in p (changed p w (at_endpoint fd f ∷ cs)) fd ≡ Some (standing (f e))
 puts-first p w fd e f cs o h = leaves p fd cs h (changed p w (at_endpoint fd f ∷ [])) ∙ puts p w fd e f o
 
 -- the endpoint's own change comes after others
-pub sets-after : (p : Providers) (w : World) (fd : ℕ) (g : State → State) (f : Endpoint → Endpoint) (s : State) (cs ds : List Change) → Sets g f → state_in p (changed p w cs) fd ≡ Some s → AllLeave fd ds
-    → state_in p (changed p w (cs ++ at_endpoint fd f ∷ ds)) fd ≡ Some (g s)
+pub sets-after : (p : Providers) (w : World) (fd : ℕ) (g : Standing → Standing) (f : Endpoint → Endpoint) (s : Standing) (cs ds : List Change) → Sets g f → standing_in p (changed p w cs) fd ≡ Some s → AllLeave fd ds
+    → standing_in p (changed p w (cs ++ at_endpoint fd f ∷ ds)) fd ≡ Some (g s)
 sets-after p w fd g f s cs ds h o k =
-    ap (λ z. state_in p z fd) (changed-append p w cs (at_endpoint fd f ∷ ds)) ∙
+    ap (λ z. standing_in p z fd) (changed-append p w cs (at_endpoint fd f ∷ ds)) ∙
     (leaves p fd ds k (changed p (changed p w cs) (at_endpoint fd f ∷ [])) ∙ (sets p (changed p w cs) fd g f h ∙ ap (option_map g) o))
 
-pub closed-state : (p : Providers) (w : World) (fd : ℕ) (cs ds : List Change) → AllLeave fd ds → state_in p (changed p w (cs ++ closes_endpoint fd ∷ ds)) fd ≡ None
+pub closed-state : (p : Providers) (w : World) (fd : ℕ) (cs ds : List Change) → AllLeave fd ds → standing_in p (changed p w (cs ++ closes_endpoint fd ∷ ds)) fd ≡ None
 closed-state p w fd cs ds k =
-    ap (λ z. state_in p z fd) (changed-append p w cs (closes_endpoint fd ∷ ds)) ∙
-    (leaves p fd ds k (changed p (changed p w cs) (closes_endpoint fd ∷ [])) ∙ ap (option_map (λ e. e.state)) (closed-same p fd (changed p w cs)))
+    ap (λ z. standing_in p z fd) (changed-append p w cs (closes_endpoint fd ∷ ds)) ∙
+    (leaves p fd ds k (changed p (changed p w cs) (closes_endpoint fd ∷ [])) ∙ ap (option_map standing) (closed-same p fd (changed p w cs)))
 
--- the parts of effects that leave every state
+-- the parts of effects that leave every standing
 pub linked-leave : (x fd : ℕ) (o : Option ℕ) (f : Endpoint → Endpoint) → Steady f → AllLeave x (at_linked fd o f)
 linked-leave x fd None f h = tt
 linked-leave x fd (Some peer) f h = (steady peer (if_names fd f) (names-steady fd f h), tt)

@@ -1,7 +1,6 @@
--- Which changes of a plan leave the state of a descriptor.
+-- Which changes of a plan leave the state of a descriptor and its outstanding indications.
 use Rattle.std.proofs.Common.{ℕ, Bool, true, false, List, [], ◌∷◌, ◌++◌, ◌≡◌, refl, sym, ap, ◌∙◌, cond, not, subst, eqb, ◌+◌, ◌-◌, length, map, Option, Some, None}
 use Rattle.std.specs.Prelude.{unwrap_or}
-use Rattle.xti_base.specs.declared.kinds.State.TheVariants.{T_UNINIT}
 use Rattle.xti_model.specs.declared.profile.Providers.{Providers}
 use Rattle.xti_model.specs.Endpoint.{Endpoint, Indication, find_number, address_of}
 use Rattle.xti_model.specs.World.{World, Change, at_endpoint, changed, endpoint}
@@ -19,12 +18,16 @@ use Rattle.xti_model.specs.Calls.Send as Send
 use Rattle.xti_model.specs.Calls.Disconnect as Disconnect
 use Rattle.xti_model.specs.Calls.Datagrams as Datagrams
 use Rattle.xti_laws.specs.States.{state_at}
+use Rattle.xti_laws.specs.Counts.{ocnt_at}
 use Rattle.xti_laws.proofs.Steady.{mark_flow-steady, sent-steady, symbols-steady}
-use Rattle.xti_laws.proofs.Effects.{told-state, AllLeave, elsewhere, steady, in_switch, closes_elsewhere, append-leave, leaves, linked-leave, break-leave, callers-leave}
+use Rattle.xti_laws.proofs.Effects.{closed, told-state, told-count, AllLeave, elsewhere, steady, in_switch, closes_elsewhere, append-leave, leaves, linked-leave, break-leave, callers-leave}
 use Rattle.xti_laws.proofs.StatesOfConnections.{bind_like-leave}
 
 pub leaves-state : (p : Providers) (x : ℕ) (cs : List Change) → AllLeave x cs → (w : World) → state_at p (changed p w cs) x ≡ state_at p w x
-leaves-state p x cs h w = told-state p (changed p w cs) x ∙ (ap (λ o. unwrap_or o T_UNINIT) (leaves p x cs h w) ∙ sym (told-state p w x))
+leaves-state p x cs h w = told-state (endpoint p (changed p w cs) x) ∙ (ap (λ o. (unwrap_or o closed).state) (leaves p x cs h w) ∙ sym (told-state (endpoint p w x)))
+
+pub leaves-count : (p : Providers) (x : ℕ) (cs : List Change) → AllLeave x cs → (w : World) → ocnt_at p (changed p w cs) x ≡ ocnt_at p w x
+leaves-count p x cs h w = told-count (endpoint p (changed p w cs) x) ∙ (ap (λ o. (unwrap_or o closed).count) (leaves p x cs h w) ∙ sym (told-count (endpoint p w x)))
 
 abbrev pub PlanLeaves : ℕ → Plan → Type 0
 PlanLeaves x plan = AllLeave x plan.changes × AllLeave x plan.marks × AllLeave x plan.lost

@@ -1,25 +1,25 @@
 -- A place opens where the switch agrees with its cell.
-use Rattle.std.proofs.Common.{ℕ, Bool, true, false, [], ◌∷◌, ◌≡◌, refl, sym, ap, ◌∙◌, cond, not, eqb, ◌&&◌, ◌+◌, ◌*◌, ◌<◌, Option, Some, None, arith}
+use Rattle.std.proofs.Common.{ℕ, Bool, true, false, [], ◌∷◌, ◌≡◌, refl, sym, ap, subst, ◌∙◌, cond, not, eqb, ◌&&◌, ◌+◌, ◌*◌, ◌<◌, Option, Some, None, arith}
 use Rattle.std.proofs.lemmas.Bool.{false≢true, eqb-true, eq-eqb, eqb-false}
 use Rattle.std.proofs.lemmas.List.Quantifiers.{position-Some}
 use Rattle.std.specs.Prelude.{is_none, option_map, option_and_then, ◌%◌, ◌/◌}
 use Rattle.xti_base.specs.declared.kinds.Prov.{Prov}
-use Rattle.xti_base.specs.declared.kinds.State.TheVariants.{T_UNINIT}
 use Rattle.xti_base.specs.declared.errno.Errno.TheVariants.{TBADNAME, TSYSERR}
 use Rattle.xti_model.specs.declared.call.Call.TheVariants as call
 use Rattle.xti_model.specs.declared.entry.Go.{Go}
 use Rattle.xti_model.specs.declared.profile.Providers.{Providers}
 use Rattle.xti_model.specs.Provider.{is_provider, profile}
 use Rattle.xti_model.specs.Endpoint.{Endpoint, opened}
-use Rattle.xti_model.specs.World.{World, Switch, Cell, Numbered, endpoint_cell, switch_cell, change, open_cell, opens_place, at_switch, changed, cell_at, endpoint, endpoint_in, state_of, place_of, generation_of, the_switch, closed_place}
+use Rattle.xti_model.specs.World.{World, Switch, Cell, Numbered, endpoint_cell, switch_cell, change, open_cell, opens_place, at_switch, changed, cell_at, endpoint, endpoint_in, place_of, generation_of, the_switch, closed_place}
 use Rattle.xti_model.specs.Switch.{free_place, opening_place, if_provider, is_free, place_at, mark_open}
 use Rattle.xti_model.specs.Plan.{Plan, first, refuses, has_effect}
-use Rattle.xti_model.specs.Step.{step, plan, step_of, step_by}
+use Rattle.xti_model.specs.Step.{step, plan, step_of, step_by, first_refusal}
 use Rattle.xti_model.specs.History.{left_by}
 use Rattle.xti_model.specs.Sound.{ThereAgrees, CellAgrees}
-use Rattle.xti_model.specs.StateTable.{by_open, is_in_table}
+use Rattle.xti_model.specs.StateTable.{by_open}
 use Rattle.xti_model.specs.Calls.Open as Open
-use Rattle.xti_laws.specs.States.{state_at, ocnt_of, TakesByTheTable, KeepsOtherStates}
+use Rattle.xti_laws.specs.States.{told, next, OpensWhereItAgrees}
+use Rattle.xti_laws.proofs.Taken.{FollowsIf}
 use Rattle.xti_laws.proofs.View.{cell_at-same, cell_at-other, recell, switch-other}
 
 -- where no row of an open refuses, a place opens
@@ -114,38 +114,41 @@ elsewhere p w g n x e c k = go (eqb (place_of p x) n) refl
     go false i = ap (option_and_then (λ c. endpoint_in (generation_of p x) c.cell)) (cell_at-other n (place_of p x) i (open_cell e) w)
 
 opened-at : (p : Providers) (w : World) (prov : Prov) (nonblock : Bool) (g n : ℕ) → n < 64 → Closed w n g
-    → is_in_table by_open (state_at p w (64 * g + n)) (ocnt_of (endpoint p w (64 * g + n))) (state_at p (changed p w (opens_place n (opened (profile p prov) prov nonblock) ∷ at_switch (mark_open n) ∷ [])) (64 * g + n)) ≡ true
+    → FollowsIf Unit by_open (endpoint p w (64 * g + n)) (endpoint p (changed p w (opens_place n (opened (profile p prov) prov nonblock) ∷ at_switch (mark_open n) ∷ [])) (64 * g + n))
 opened-at p w prov nonblock g n h c =
-    ap (λ x. is_in_table by_open (state_of x) (ocnt_of x) (state_at p (changed p w (opens_place n (opened (profile p prov) prov nonblock) ∷ at_switch (mark_open n) ∷ [])) (64 * g + n))) (before p w g n h c) ∙
-    ap (λ x. is_in_table by_open T_UNINIT 0 (state_of x)) (switch-other p (mark_open n) (64 * g + n) (change n (open_cell (opened (profile p prov) prov nonblock)) w) ∙ after p w g n (opened (profile p prov) prov nonblock) h c)
+    subst (λ x. FollowsIf Unit by_open x (endpoint p (changed p w (opens_place n (opened (profile p prov) prov nonblock) ∷ at_switch (mark_open n) ∷ [])) (64 * g + n))) (sym (before p w g n h c))
+    (subst (FollowsIf Unit by_open None) (sym (switch-other p (mark_open n) (64 * g + n) (change n (open_cell (opened (profile p prov) prov nonblock)) w) ∙ after p w g n (opened (profile p prov) prov nonblock) h c)) (λ i. refl, λ k. refl))
 
-pub open-takes : (p : Providers) (w : World) (prov : Prov) (nonblock : Bool) (g : Go) → TakesByTheTable p w (call.TOpen prov nonblock) g
+pub open-takes : (p : Providers) (w : World) (prov : Prov) (nonblock : Bool) (g : Go) → OpensWhereItAgrees p w (call.TOpen prov nonblock) → has_effect (first_refusal p w (call.TOpen prov nonblock) g) ≡ true
+    → FollowsIf Unit by_open (endpoint p w (told p w (call.TOpen prov nonblock) g)) (endpoint p (next p w (call.TOpen prov nonblock) g) (told p w (call.TOpen prov nonblock) g))
 unfolding step plan
-open-takes p w prov nonblock g a i = go (opening_place p (the_switch p w) prov) refl
+open-takes p w prov nonblock g a = go (opening_place p (the_switch p w) prov) refl
   where
     s : Switch
     s = the_switch p w
 
     go : (o : Option ℕ) → opening_place p s prov ≡ o → has_effect (first (Open.plan_where p s prov nonblock o).rows) ≡ true
-        → is_in_table by_open (state_at p w (Open.plan_where p s prov nonblock o).fd) (ocnt_of (endpoint p w (Open.plan_where p s prov nonblock o).fd)) (state_at p (left_by w (step_of p w (Open.plan_where p s prov nonblock o))) (Open.plan_where p s prov nonblock o).fd) ≡ true
+        → FollowsIf Unit by_open (endpoint p w (Open.plan_where p s prov nonblock o).fd) (endpoint p (left_by w (step_of p w (Open.plan_where p s prov nonblock o))) (Open.plan_where p s prov nonblock o).fd)
     go None h j = absurd (open-some (is_provider prov) (free_place p s) j h)
-    go (Some n) h j = open-made (λ z. is_in_table by_open (state_at p w (Open.fd_at p s n)) (ocnt_of (endpoint p w (Open.fd_at p s n))) (state_at p z (Open.fd_at p s n)) ≡ true) p w (Open.plan_at p s prov nonblock n) (not (is_provider prov)) (is_none (free_place p s))
+    go (Some n) h j = open-made (λ z. FollowsIf Unit by_open (endpoint p w (Open.fd_at p s n)) (endpoint p z (Open.fd_at p s n))) p w (Open.plan_at p s prov nonblock n) (not (is_provider prov)) (is_none (free_place p s))
         (opened-at p w prov nonblock (place_at s n).generation n (a n h).0 (closed-there p s w n (free-closed p s prov n h) (a n h).1)) j
 
-pub open-others : (p : Providers) (w : World) (prov : Prov) (nonblock : Bool) (g : Go) → KeepsOtherStates p w (call.TOpen prov nonblock) g
+-- every other descriptor has the endpoint that it had
+pub open-others : (p : Providers) (w : World) (prov : Prov) (nonblock : Bool) (g : Go) → OpensWhereItAgrees p w (call.TOpen prov nonblock) → (x : ℕ) → eqb x (told p w (call.TOpen prov nonblock) g) ≡ false
+    → endpoint p (next p w (call.TOpen prov nonblock) g) x ≡ endpoint p w x
 unfolding step plan
 open-others p w prov nonblock g a x = go (opening_place p (the_switch p w) prov) refl
   where
     s : Switch
     s = the_switch p w
 
-    steps : (b d : Bool) (y : Plan) → state_at p (changed p w y.changes) x ≡ state_at p w x → state_at p (left_by w (step_by p w y (first (refuses b TBADNAME ∷ refuses d TSYSERR ∷ [])))) x ≡ state_at p w x
+    steps : (b d : Bool) (y : Plan) → endpoint p (changed p w y.changes) x ≡ endpoint p w x → endpoint p (left_by w (step_by p w y (first (refuses b TBADNAME ∷ refuses d TSYSERR ∷ [])))) x ≡ endpoint p w x
     steps true d y k = refl
     steps false true y k = refl
     steps false false y k = k
 
-    go : (o : Option ℕ) → opening_place p s prov ≡ o → eqb x (Open.plan_where p s prov nonblock o).fd ≡ false → false ≡ false → state_at p (left_by w (step_of p w (Open.plan_where p s prov nonblock o))) x ≡ state_at p w x
-    go None h k r = steps (not (is_provider prov)) (is_none (free_place p s)) (Open.refused_plan p s prov nonblock) refl
-    go (Some n) h k r = steps (not (is_provider prov)) (is_none (free_place p s)) (Open.plan_at p s prov nonblock n)
-        (ap state_of (switch-other p (mark_open n) x (change n (open_cell (opened (profile p prov) prov nonblock)) w) ∙
-        elsewhere p w (place_at s n).generation n x (opened (profile p prov) prov nonblock) (closed-there p s w n (free-closed p s prov n h) (a n h).1) k))
+    go : (o : Option ℕ) → opening_place p s prov ≡ o → eqb x (Open.plan_where p s prov nonblock o).fd ≡ false → endpoint p (left_by w (step_of p w (Open.plan_where p s prov nonblock o))) x ≡ endpoint p w x
+    go None h k = steps (not (is_provider prov)) (is_none (free_place p s)) (Open.refused_plan p s prov nonblock) refl
+    go (Some n) h k = steps (not (is_provider prov)) (is_none (free_place p s)) (Open.plan_at p s prov nonblock n)
+        (switch-other p (mark_open n) x (change n (open_cell (opened (profile p prov) prov nonblock)) w) ∙
+        elsewhere p w (place_at s n).generation n x (opened (profile p prov) prov nonblock) (closed-there p s w n (free-closed p s prov n h) (a n h).1) k)

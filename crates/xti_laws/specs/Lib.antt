@@ -2,3 +2,4 @@ pub mod Updates
 pub mod Laws
 pub mod Waiting
 pub mod States
+pub mod Counts

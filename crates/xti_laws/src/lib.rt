@@ -12,6 +12,7 @@ ghost use Rattle.xti_model.specs.Touched.{touched};
 ghost use Rattle.xti_model.specs.History.{after};
 ghost use Rattle.xti_laws.specs.Updates.{PlanKinds};
 ghost use Rattle.xti_laws.specs.States.{TakesByTheTable, PassesByTheTable, KeepsEveryState, KeepsOtherStates, is_initialised};
+ghost use Rattle.xti_laws.specs.Counts.{CountsByTheTable, KeepsEveryCount, KeepsOtherCounts};
 ghost use Rattle.xti_laws.specs.Waiting.{BlockedAsWanted, BlockedHasGoodArguments};
 ghost use Rattle.xti_laws.specs.Laws.{HasNamed, Enough, TouchesSame, SameIfTold, SameSteps, LeavesOthers, Keeps, Passes, PassesAfterAny, KnowsNoMore};
 
@@ -80,4 +81,16 @@ pub fn states_follow_the_table()
     ensures refused { (p : Providers) (w : World) (c : Call) (g : Go) → KeepsEveryState p w c g }
     ensures others { (p : Providers) (w : World) (c : Call) (g : Go) → KeepsOtherStates p w c g }
     ensures begun { (p : Providers) (entries : List Entry) (fd : ℕ) → is_initialised (endpoint p (after p entries) fd) ≡ true }
+{}
+
+/// How many indications are outstanding after a step is settled by the state table too.
+///
+/// `counted`: a step that has an effect changes the count of the call's endpoint as `count_after` says: a listen by one
+/// more, an accept by one less, and in T_INCON a snddis or a rcvdis by one less. The disconnect that a listener takes is
+/// to be of an outstanding indication, as it is after any entries. `refused`: a step without an effect leaves every
+/// count. `others`: every step leaves the counts of all other endpoints.
+pub fn counts_follow_the_table()
+    ensures counted { (p : Providers) (w : World) (c : Call) (g : Go) → CountsByTheTable p w c g }
+    ensures refused { (p : Providers) (w : World) (c : Call) (g : Go) → KeepsEveryCount p w c g }
+    ensures others { (p : Providers) (w : World) (c : Call) (g : Go) → KeepsOtherCounts p w c g }
 {}
