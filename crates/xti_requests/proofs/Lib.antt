@@ -14,3 +14,4 @@ pub mod AcceptCall
 pub mod Bindings
 pub mod Steps
 pub mod Histories
+mod OldestDisconnect

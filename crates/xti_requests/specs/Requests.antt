@@ -8,6 +8,9 @@ use Rattle.xti_base.specs.declared.kinds.State.TheVariants.{T_OUTCON}
 use Rattle.xti_model.specs.declared.profile.Providers.{Providers}
 use Rattle.xti_model.specs.Endpoint.{Endpoint, Indication, Disconnect, Target, has_number, find_number}
 use Rattle.xti_model.specs.World.{World, Binding, endpoint, the_switch}
+use Rattle.xti_model.specs.declared.call.Call.{Call}
+use Rattle.xti_model.specs.declared.entry.Go.{Go}
+use Rattle.xti_model.specs.Step.{Step, step}
 use Rattle.xti_model.specs.StateTable.{with_connection}
 use Rattle.xti_model.specs.Calls.Disconnect.{is_asked}
 
@@ -92,3 +95,11 @@ AllOpen p w (b ∷ bs) = IsOpenOf p w b.fd b.prov × AllOpen p w bs
 -- each binding is of an open endpoint of its provider
 abbrev pub BoundToOpen : Providers → World → Type 0
 BoundToOpen p w = AllOpen p w (the_switch p w).bindings
+
+-- both
+abbrev pub LinkedAndBound : Providers → World → Type 0
+LinkedAndBound p w = SoundLinks p w × BoundToOpen p w
+
+-- a step leads from such a world to such a one
+abbrev pub StaysLinked : Providers → World → Call → Go → Type 0
+StaysLinked p w c g = LinkedAndBound p w → (s : Step) → step p w c g ≡ Some s → LinkedAndBound p s.world
