@@ -13,6 +13,7 @@ pub record Indication : Type 0 where
   pub options : List ℕ
   pub udata : List ℕ
 
+-- a disconnect that waits: why, the number of the request if it was one, and data
 pub record Disconnect : Type 0 where
   pub reason : ℕ
   pub number : ℕ
@@ -23,21 +24,25 @@ pub record Target : Type 0 where
   pub listener : ℕ
   pub number : ℕ
 
+-- the answer to a request that was accepted
 pub record Confirmation : Type 0 where
   pub address : List ℕ
   pub options : List ℕ
   pub udata : List ℕ
 
+-- a datagram that waits
 pub record Datagram : Type 0 where
   pub source : List ℕ
   pub options : List ℕ
   pub bytes : List ℕ
 
+-- a datagram that was not delivered: to where, and the code
 pub record DatagramError : Type 0 where
   pub destination : List ℕ
   pub options : List ℕ
   pub code : ℕ
 
+-- an endpoint that is open
 pub record Endpoint : Type 0 where
   pub prov : Prov
   pub nonblock : Bool
@@ -118,9 +123,11 @@ reset e = record e {
   flow_datagram = None;
 }
 
+-- only the state changes
 abbrev pub in_state : State → Endpoint → Endpoint
 in_state state e = record e { state = state }
 
+-- one disconnect more waits
 abbrev pub disconnected : ℕ → ℕ → List ℕ → Endpoint → Endpoint
 disconnected reason number udata e = record e { disconnects = e.disconnects ++ record { reason = reason; number = number; udata = udata } ∷ [] }
 
@@ -128,9 +135,11 @@ disconnected reason number udata e = record e { disconnects = e.disconnects ++ r
 abbrev pub ocnt : Endpoint → ℕ
 ocnt e = length e.outstanding
 
+-- the indication has this sequence number
 abbrev pub has_number : ℕ → Indication → Bool
 has_number number i = i.number == number
 
+-- the indication with this sequence number
 abbrev pub find_number : ℕ → List Indication → Option Indication
 find_number number is = find (has_number number) is
 
@@ -139,9 +148,11 @@ abbrev pub without_number : ℕ → List Indication → List Indication
 without_number number [] = []
 without_number number (i ∷ is) = if has_number number i then is else i ∷ without_number number is
 
+-- the request is to this listener, with this number
 abbrev pub is_target : ℕ → ℕ → Option Target → Bool
 is_target listener number None = false
 is_target listener number (Some t) = (t.listener == listener) && (t.number == number)
 
+-- no bytes where it is not bound
 abbrev pub address_of : Endpoint → List ℕ
 address_of e = unwrap_or e.address []

@@ -14,10 +14,12 @@ use Rattle.xti_model.specs.Switch.{bound}
 use Rattle.xti_model.specs.Links.{linked}
 use Rattle.xti_model.specs.Sending.{ready_for, takes_datagram}
 
+-- whether the list has a member
 abbrev pub some_wait : {A : Type 0} → List A → Bool
 some_wait [] = false
 some_wait (x ∷ xs) = true
 
+-- whether the endpoint is in one of these states
 abbrev pub is_state : List State → Endpoint → Bool
 is_state states e = list_any (same_state e.state) states
 
@@ -25,9 +27,11 @@ is_state states e = list_any (same_state e.state) states
 abbrev pub receiving : List State
 receiving = T_DATAXFER ∷ T_OUTREL ∷ []
 
+-- the states in which data may be sent
 abbrev pub sending : List State
 sending = T_DATAXFER ∷ T_INREL ∷ []
 
+-- the states in which there is a connection, or a request for one
 abbrev pub connected_or_asking : List State
 connected_or_asking = T_OUTCON ∷ T_INCON ∷ T_DATAXFER ∷ T_OUTREL ∷ T_INREL ∷ []
 
@@ -43,20 +47,23 @@ is_here e T_ORDREL = e.release && not (some_wait e.normal) && not (some_wait e.e
 is_here e T_GOEXDATA = false
 is_here e T_GODATA = false
 
--- what an endpoint finds around it: the one that it is linked with, and the one that is bound to the address of its datagram mark
+-- what an endpoint finds around it: the one that it is linked with, and the one at the address of its datagram mark
 pub record Around : Type 0 where
   pub peer : Option Endpoint
   pub marked : Option Endpoint
 
+-- the endpoint, the one that it is linked with, and the one at its datagram mark
 abbrev pub around : Providers → World → ℕ → Endpoint → Around
 around p w fd e = record {
   peer = linked p w fd e;
   marked = option_and_then (λ address. option_and_then (endpoint p w) (bound (the_switch p w) e.prov address)) e.flow_datagram;
 }
 
+-- a send would be ready
 abbrev pub can_send_again : Around → Bool → Endpoint → Bool
 can_send_again a expedited e = is_some a.peer && ready_for expedited e a.peer
 
+-- whether the event is there
 abbrev pub is_pending : Around → Endpoint → Event → Bool
 is_pending a e T_GOEXDATA = e.flow_expedited && can_send_again a true e
 is_pending a e T_GODATA = (e.flow_normal && can_send_again a false e) || (is_some e.flow_datagram && takes_datagram a.marked)
@@ -66,6 +73,7 @@ is_pending a e other = is_here e other
 abbrev pub events : List Event
 events = T_DISCONNECT ∷ T_LISTEN ∷ T_CONNECT ∷ T_UDERR ∷ T_EXDATA ∷ T_DATA ∷ T_ORDREL ∷ T_GOEXDATA ∷ T_GODATA ∷ []
 
+-- the events that are there, in the order in which look tells them
 abbrev pub pending : Around → Endpoint → List Event
 pending a e = filter (is_pending a e) events
 
@@ -73,15 +81,19 @@ pending a e = filter (is_pending a e) events
 abbrev pub looks_connecting : List Event
 looks_connecting = T_DISCONNECT ∷ T_LISTEN ∷ []
 
+-- a disconnect alone is told
 abbrev pub looks_disconnect : List Event
 looks_disconnect = T_DISCONNECT ∷ []
 
+-- a disconnect and a release are told
 abbrev pub looks_data : List Event
 looks_data = T_DISCONNECT ∷ T_ORDREL ∷ []
 
+-- an error of a datagram is told
 abbrev pub looks_datagrams : List Event
 looks_datagrams = T_UDERR ∷ []
 
+-- a request and data are told
 abbrev pub looks_unbind : List Event
 looks_unbind = T_LISTEN ∷ T_DATA ∷ []
 

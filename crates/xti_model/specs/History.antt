@@ -17,9 +17,11 @@ pub record Going : Type 0 where
   pub call : Call
   pub so_far : Go
 
+-- the entry is of this worker
 abbrev pub is_own : ℕ → Entry → Bool
 is_own worker e = e.worker == worker
 
+-- the entries of one worker, in their order
 abbrev pub own : List Entry → ℕ → List Entry
 own entries worker = filter (is_own worker) entries
 
@@ -28,6 +30,7 @@ abbrev pub call_after : Option Call → Act → Option Call
 call_after c (act.Begin begun) = Some begun
 call_after c act.More = c
 
+-- what is left of a call after this outcome: nothing, or the rest of it
 abbrev pub going_after : Option Call → Outcome → Option Going
 going_after None outcome = None
 going_after (Some c) (Done reply) = None
@@ -38,6 +41,7 @@ abbrev pub unfinished_from : Option Call → Option Going → List Entry → Opt
 unfinished_from c going [] = going
 unfinished_from c going (e ∷ es) = unfinished_from (call_after c e.act) (going_after (call_after c e.act) e.outcome) es
 
+-- the call that a worker has begun and not finished
 abbrev pub unfinished : List Entry → ℕ → Option Going
 unfinished past worker = unfinished_from None None (own past worker)
 
@@ -46,19 +50,24 @@ abbrev pub begins : Option Going → Call → Option Going
 begins None c = Some (record { call = c; so_far = go.Begin })
 begins (Some g) c = None
 
+-- the call that an entry makes a step of
 abbrev pub made_by : Option Going → Act → Option Going
 made_by going (act.Begin c) = begins going c
 made_by going act.More = going
 
+-- the same, by the entries before
 abbrev pub doing : List Entry → Entry → Option Going
 doing past e = made_by (unfinished past e.worker) e.act
 
+-- the next step of a call that goes on
 abbrev pub step_going : Providers → World → Going → Option Step
 step_going p w g = step p w g.call g.so_far
 
+-- the step that an entry is, after these entries
 abbrev pub step_at : Providers → World → List Entry → Entry → Option Step
 step_at p w past e = option_and_then (step_going p w) (doing past e)
 
+-- a blocked step leaves the world as it is
 abbrev pub left_by : World → Option Step → World
 left_by w None = w
 left_by w (Some s) = s.world
@@ -68,6 +77,7 @@ abbrev pub after_from : Providers → World → List Entry → List Entry → Wo
 after_from p w past [] = w
 after_from p w past (e ∷ es) = after_from p (left_by w (step_at p w past e)) (past ++ e ∷ []) es
 
+-- the world after the entries, from the opening world
 abbrev pub after : Providers → List Entry → World
 after p entries = after_from p (opening p) [] entries
 
@@ -76,9 +86,11 @@ abbrev pub Fits : Option Step → Entry → Type 0
 Fits None e = ⊥
 Fits (Some s) e = (e.outcome ≡ s.outcome) × (e.after ≡ s.after)
 
+-- each entry is the step of its call
 abbrev pub LegalFrom : Providers → World → List Entry → List Entry → Type 0
 LegalFrom p w past [] = Unit
 LegalFrom p w past (e ∷ es) = Fits (step_at p w past e) e × LegalFrom p (left_by w (step_at p w past e)) (past ++ e ∷ []) es
 
+-- a history: each entry has what the step of its call gives there
 abbrev pub Legal : Providers → List Entry → Type 0
 Legal p entries = LegalFrom p (opening p) [] entries

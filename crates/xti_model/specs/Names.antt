@@ -3,6 +3,7 @@ use Rattle.std.specs.Prelude.{ℕ, ◌≤◌, List, take}
 use Rattle.xti_model.specs.declared.name.Text.{Text}
 use Rattle.xti_model.specs.declared.name.Text.TheVariants.{Short, Long}
 
+-- the bytes of a name
 abbrev pub text_bytes : Text → List ℕ
 text_bytes (Short len bytes) = take len bytes
 text_bytes (Long bytes) = bytes.value

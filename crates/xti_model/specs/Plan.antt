@@ -22,6 +22,7 @@ pub data Refusal : Type 0 where
   waits : Reply → Refusal
   loses : Refusal
 
+-- a refusal, and whether its condition holds
 pub record Row : Type 0 where
   pub holds : Bool
   pub refusal : Refusal
@@ -38,7 +39,8 @@ has_effect (Some loses) = true
 has_effect (Some (answers reply)) = false
 has_effect (Some (waits reply)) = false
 
--- the rows; where none holds, the changes and the outcome; the changes where it is not ready and does not wait; the changes and the number where all fields are lost
+-- The refusals in order; where none holds, the changes and the outcome. marks: the changes where it is not ready and does
+-- not wait. lost: the changes where a field has too little room, and lost_number is the number that is told then.
 pub record Plan : Type 0 where
   pub fd : ℕ
   pub nonblock : Bool
@@ -49,27 +51,35 @@ pub record Plan : Type 0 where
   pub lost : List Change
   pub lost_number : ℕ
 
+-- an error, where the condition holds
 abbrev pub refuses : Bool → Errno → Row
 refuses holds e = record { holds = holds; refusal = answers (Refused e) }
 
+-- nothing to take, or no room: the caller waits, or is refused with O_NONBLOCK
 abbrev pub not_ready : Bool → Errno → Row
 not_ready holds e = record { holds = holds; refusal = waits (Refused e) }
 
+-- an event that is there is told by TLOOK
 abbrev pub shows : Option Event → Row
 shows o = record { holds = is_some o; refusal = answers (Look (unwrap_or o T_LISTEN)) }
 
+-- the first of these events that is there
 abbrev pub looks : List Event → Endpoint → Row
 looks row e = shows (looked row e)
 
+-- the call is not for this state
 abbrev pub outside : List State → Endpoint → Row
 outside states e = refuses (not (is_state states e)) TOUTSTATE
 
+-- the provider has no connections
 abbrev pub without_connections : Endpoint → Row
 without_connections e = refuses (not (has_connections e.prov)) TNOTSUPPORT
 
+-- the provider has no datagrams
 abbrev pub without_datagrams : Endpoint → Row
 without_datagrams e = refuses (not (has_datagrams e.prov)) TNOTSUPPORT
 
+-- the provider has no orderly release
 abbrev pub without_release : Endpoint → Row
 without_release e = refuses (not (has_release e.prov)) TNOTSUPPORT
 
@@ -78,12 +88,15 @@ pub record Field : Type 0 where
   pub bytes : List ℕ
   pub max : ℕ
 
+-- bytes that are told, and the room for them
 abbrev pub field : List ℕ → ℕ → Field
 field bytes max = record { bytes = bytes; max = max }
 
+-- a room of 0 asks for nothing
 abbrev pub is_too_long : Field → Bool
 is_too_long f = not (f.max == 0) && nat_lt f.max (length f.bytes)
 
+-- one of the fields has too little room
 abbrev pub overflows : List Field → Row
 overflows fields = record { holds = list_any is_too_long fields; refusal = loses }
 
@@ -95,6 +108,7 @@ trimmed bytes max = if max == 0 then [] else bytes
 abbrev pub plan_of : ℕ → Endpoint → List Row → List Change → Outcome → Plan
 plan_of fd e rows changes outcome = record { fd = fd; nonblock = e.nonblock; rows = rows; changes = changes; outcome = outcome; marks = []; lost = changes; lost_number = 0 }
 
+-- no endpoint is open with the descriptor
 abbrev pub bad_fd : ℕ → Plan
 bad_fd fd = record { fd = fd; nonblock = false; rows = refuses true TBADF ∷ []; changes = []; outcome = Done (Refused TBADF); marks = []; lost = []; lost_number = 0 }
 
@@ -103,6 +117,7 @@ abbrev pub if_open : ℕ → Option Endpoint → (Endpoint → Plan) → Plan
 if_open fd None plan = bad_fd fd
 if_open fd (Some e) plan = plan e
 
+-- the plan of a call of the endpoint that is open with the descriptor
 abbrev pub on_open : Providers → World → ℕ → (Endpoint → Plan) → Plan
 on_open p w fd plan = if_open fd (endpoint p w fd) plan
 
@@ -112,8 +127,10 @@ later n (answers reply) = answers (Sent n)
 later n (waits reply) = waits (Sent n)
 later n loses = loses
 
+-- a refusal after so many bytes were taken
 abbrev pub later_row : ℕ → Row → Row
 later_row n row = record row { refusal = later n row.refusal }
 
+-- the plan of a later step of a send
 abbrev pub later_plan : ℕ → Plan → Plan
 later_plan n plan = record plan { rows = map (later_row n) plan.rows; marks = [] }

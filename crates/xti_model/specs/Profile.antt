@@ -6,6 +6,7 @@ use Rattle.xti_base.specs.declared.limit.Limit.TheVariants.{At, Infinite, Invali
 use Rattle.xti_model.specs.declared.profile.Profile.{Profile}
 use Rattle.xti_model.specs.declared.profile.Providers.{Providers}
 
+-- the values where a script sets none
 abbrev pub usual : Providers
 usual = record {
   ticots = record { tsdu = At MOST_SIZE; sendzero = true; same_addr = false; sndbuf = USUAL_BUFFER; rcvbuf = USUAL_BUFFER };
@@ -33,6 +34,7 @@ abbrev pub is_stream_limit : Limit → Bool
 is_stream_limit (At n) = n == 0
 is_stream_limit other = false
 
+-- both buffers have a size
 abbrev pub has_buffers : Profile → Bool
 has_buffers p = is_size p.sndbuf && is_size p.rcvbuf
 
@@ -40,6 +42,7 @@ has_buffers p = is_size p.sndbuf && is_size p.rcvbuf
 abbrev pub valid_orderly : Profile → Bool
 valid_orderly p = has_buffers p && (has_messages p.tsdu || (is_stream_limit p.tsdu && not p.sendzero))
 
+-- messages have ends, with or without a limit
 abbrev pub valid_connections : Profile → Bool
 valid_connections p = has_buffers p && has_messages p.tsdu
 
@@ -47,5 +50,6 @@ valid_connections p = has_buffers p && has_messages p.tsdu
 abbrev pub valid_datagrams : Profile → Bool
 valid_datagrams p = has_buffers p && has_limit p.tsdu && not p.same_addr
 
+-- the values that a script may set
 abbrev pub valid : Providers → Bool
 valid p = valid_connections p.ticots && valid_orderly p.ticotsord && valid_datagrams p.ticlts

@@ -13,28 +13,34 @@ use Rattle.xti_model.specs.declared.profile.Profile.{Profile}
 use Rattle.xti_model.specs.declared.profile.Providers.{Providers}
 use Rattle.xti_model.specs.Profile.{is_stream_limit}
 
+-- what is not a provider has the first one's values, and no endpoint
 abbrev pub profile : Providers → Prov → Profile
 profile p Ticots = p.ticots
 profile p Ticotsord = p.ticotsord
 profile p Ticlts = p.ticlts
 profile p Other = p.ticots
 
+-- the service type
 abbrev pub service : Prov → ServType
 service Ticots = T_COTS
 service Ticotsord = T_COTS_ORD
 service Ticlts = T_CLTS
 service Other = T_COTS
 
+-- whether the name names a provider
 abbrev pub is_provider : Prov → Bool
 is_provider Other = false
 is_provider prov = true
 
+-- T_CLTS
 abbrev pub has_datagrams : Prov → Bool
 has_datagrams prov = same_service (service prov) T_CLTS
 
+-- T_COTS, with or without orderly release
 abbrev pub has_connections : Prov → Bool
 has_connections prov = not (has_datagrams prov)
 
+-- T_COTS_ORD
 abbrev pub has_release : Prov → Bool
 has_release prov = same_service (service prov) T_COTS_ORD
 
@@ -48,14 +54,17 @@ limit_over_zero other = None
 abbrev pub is_stream : Providers → Prov → Bool
 is_stream p prov = is_stream_limit (profile p prov).tsdu
 
+-- the most bytes of an expedited message
 abbrev pub expedited_limit : Prov → Limit
 expedited_limit Ticlts = Invalid
 expedited_limit prov = At MOST_EXPEDITED_MESSAGE
 
+-- the most bytes of data that go with a request, a confirmation or a disconnect
 abbrev pub connection_limit : Prov → Limit
 connection_limit Ticlts = Invalid
 connection_limit prov = At MOST_CONNECT_DATA
 
+-- what getinfo tells
 abbrev pub info : Providers → Prov → Info
 info p prov = record {
   addr = At MOST_ADDRESS;

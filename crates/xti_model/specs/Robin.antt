@@ -15,9 +15,11 @@ use Rattle.xti_model.specs.Step.{Step}
 use Rattle.xti_model.specs.History.{Going, unfinished, step_going}
 use Rattle.xti_model.specs.Resolve.{Placed, placed, resolved, begun}
 
+-- the first line that the worker has not begun
 abbrev pub next_line : List Line → List Entry → ℕ → Option Placed
 next_line lines past worker = slice_get (placed lines worker) (length (begun past worker))
 
+-- its call, with what its names stand for now
 abbrev pub begin_line : List Entry → Placed → Going
 begin_line past l = record { call = resolved l.earlier l.line past; so_far = go.Begin }
 
@@ -26,12 +28,15 @@ abbrev pub next_or : List Line → List Entry → ℕ → Option Going → Optio
 next_or lines past worker None = option_map (begin_line past) (next_line lines past worker)
 next_or lines past worker (Some g) = Some g
 
+-- the next step of a worker
 abbrev pub next_going : List Line → List Entry → ℕ → Option Going
 next_going lines past worker = next_or lines past worker (unfinished past worker)
 
+-- the worker has made all its calls
 abbrev pub is_through : List Line → List Entry → ℕ → Bool
 is_through lines past worker = is_none (next_going lines past worker)
 
+-- how an entry shows the step
 abbrev pub act_of : Go → Call → Act
 act_of go.Begin c = act.Begin c
 act_of (go.More n) c = act.More
@@ -41,9 +46,11 @@ pub record Turn : Type 0 where
   pub entry : Entry
   pub world : World
 
+-- the entry of a step
 abbrev pub turn_of : ℕ → Going → Step → Turn
 turn_of worker g s = record { entry = record { worker = worker; act = act_of g.so_far g.call; outcome = s.outcome; after = s.after }; world = s.world }
 
+-- none where the step is blocked
 abbrev pub turn_going : Providers → World → ℕ → Going → Option Turn
 turn_going p w worker g = option_map (turn_of worker g) (step_going p w g)
 
@@ -65,6 +72,7 @@ numbers from (suc n) = from ∷ numbers (from + 1) n
 abbrev pub order_after : ℕ → List ℕ
 order_after last = numbers (last + 1) (LAST_WORKER - last) ++ numbers 1 last
 
+-- the worker of the last entry
 abbrev pub last_worker : ℕ → List Entry → ℕ
 last_worker w [] = w
 last_worker w (e ∷ es) = last_worker e.worker es
@@ -73,6 +81,7 @@ last_worker w (e ∷ es) = last_worker e.worker es
 abbrev pub whose_turn : List Line → List Entry → List ℕ
 whose_turn lines past = if is_through lines past 0 then order_after (last_worker 0 past) else 0 ∷ []
 
+-- the next step of all
 abbrev pub next_turn : Providers → List Line → World → List Entry → Option Turn
 next_turn p lines w past = first_turn (turn p lines w past) (whose_turn lines past)
 
@@ -85,5 +94,6 @@ robin_from p lines (suc more) w past = elim (next_turn p lines w past) [ None �
 abbrev pub most_steps : ℕ
 most_steps = MOST_STEPS
 
+-- the whole run of a script, from the opening world
 abbrev pub robin : Script → List Entry
 robin s = robin_from s.providers s.lines most_steps (opening s.providers) []

@@ -14,13 +14,16 @@ requests e = length e.pending + ocnt e
 abbrev pub is_only_asked : Endpoint → Bool
 is_only_asked e = (requests e == 0) || (is_none e.peer && is_none e.target)
 
+-- what every call takes for granted of an endpoint
 abbrev pub is_sound : Endpoint → Bool
 is_sound e = nat_le e.qlen MOST_QUEUE && nat_le (length (address_of e)) MOST_ADDRESS && nat_le (requests e) e.qlen && is_only_asked e
 
+-- the same of a place
 abbrev pub is_sound_body : Option Endpoint → Bool
 is_sound_body None = true
 is_sound_body (Some e) = is_sound e
 
+-- the same of any cell
 abbrev pub is_sound_cell : Cell → Bool
 is_sound_cell (endpoint_cell generation body) = is_sound_body body
 is_sound_cell (switch_cell s) = true
@@ -34,6 +37,7 @@ abbrev pub binding_to : ℕ → Endpoint → Option (List ℕ) → List Binding
 binding_to fd e None = []
 binding_to fd e (Some address) = record { prov = e.prov; address = address; fd = fd; listening = nat_lt 0 e.qlen } ∷ []
 
+-- a closed place has none
 abbrev pub binding_of : ℕ → Option Endpoint → List Binding
 binding_of fd None = []
 binding_of fd (Some e) = binding_to fd e e.address
@@ -44,10 +48,12 @@ pub record Agrees (p : Providers) (s : Switch) (place generation : ℕ) (body : 
   pub openness_known : (place_at s place).is_open ≡ is_some body
   pub bindings_known : bindings_at p s place ≡ binding_of (descriptor p generation place) body
 
+-- the same of the place's cell
 abbrev pub CellAgrees : Providers → Switch → ℕ → Cell → Type 0
 CellAgrees p s place (endpoint_cell generation body) = Agrees p s place generation body
 CellAgrees p s place (switch_cell other) = ⊥
 
+-- the cell must be there
 abbrev pub ThereAgrees : Providers → Switch → ℕ → Option Numbered → Type 0
 ThereAgrees p s place None = ⊥
 ThereAgrees p s place (Some c) = CellAgrees p s place c.cell

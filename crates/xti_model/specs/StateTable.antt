@@ -22,22 +22,27 @@ pub data Move : Type 0 where
 pub data Count : Type 0 where
   any_count just_one over_one not_one : Count
 
+-- the state after a move: this one, or the same
 pub data Next : Type 0 where
   becomes : State → Next
   stays : Next
 
+-- from these states, at these counts, the move leads there
 pub record TableRow : Type 0 where
   pub move : Move
   pub from : List State
   pub count : Count
   pub to : Next
 
+-- a row of the table
 abbrev pub row : Move → List State → Count → Next → TableRow
 row move from count to = record { move = move; from = from; count = count; to = to }
 
+-- every state but T_UNINIT
 abbrev pub any_open : List State
 any_open = T_UNBND ∷ T_IDLE ∷ T_OUTCON ∷ T_INCON ∷ T_DATAXFER ∷ T_OUTREL ∷ T_INREL ∷ []
 
+-- a connection or a request of one's own
 abbrev pub with_connection : List State
 with_connection = T_OUTCON ∷ T_DATAXFER ∷ T_OUTREL ∷ T_INREL ∷ []
 
@@ -70,6 +75,7 @@ state_table =
     row by_show any_open any_count stays ∷
     row by_close any_open any_count (becomes T_UNINIT) ∷ []
 
+-- moves as numbers, to be compared
 abbrev pub move_number : Move → ℕ
 move_number by_open = 0
 move_number by_bind = 1
@@ -90,16 +96,19 @@ move_number by_datagram = 15
 move_number by_show = 16
 move_number by_close = 17
 
+-- whether there are so many outstanding indications
 abbrev pub counts : Count → ℕ → Bool
 counts any_count ocnt = true
 counts just_one ocnt = ocnt == 1
 counts over_one ocnt = nat_lt 1 ocnt
 counts not_one ocnt = not (ocnt == 1)
 
+-- whether the state follows
 abbrev pub leads : Next → State → State → Bool
 leads (becomes state) from to = same_state to state
 leads stays from to = same_state to from
 
+-- whether the row allows it
 abbrev pub is_row : Move → State → ℕ → State → TableRow → Bool
 is_row move from ocnt to r = (move_number r.move == move_number move) && list_any (same_state from) r.from && counts r.count ocnt && leads r.to from to
 
@@ -107,6 +116,7 @@ is_row move from ocnt to r = (move_number r.move == move_number move) && list_an
 abbrev pub is_in_table : Move → State → ℕ → State → Bool
 is_in_table move from ocnt to = list_any (is_row move from ocnt to) state_table
 
+-- the two steps of connect are two moves
 abbrev pub connect_move : Go → Move
 connect_move go.Begin = by_connect
 connect_move (go.More n) = by_rcvconnect

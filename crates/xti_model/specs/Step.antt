@@ -29,6 +29,7 @@ abbrev pub send : Providers → World → ℕ → ℕ → List ℕ → ℕ → G
 send p w fd parts bytes flags go.Begin = Send.plan p w fd parts bytes flags 0
 send p w fd parts bytes flags (go.More n) = later_plan n (Send.plan p w fd parts bytes flags n)
 
+-- the second step takes the confirmation
 abbrev pub connect : Providers → World → ℕ → List ℕ → List ℕ → List ℕ → ℕ → ℕ → ℕ → Go → Plan
 connect p w fd address options udata amax omax umax go.Begin = Connect.plan p w fd address options udata
 connect p w fd address options udata amax omax umax (go.More n) = Connect.confirm_plan p w fd amax omax umax
@@ -74,15 +75,18 @@ pub record Step : Type 0 where
   pub after : State
   pub world : World
 
+-- the outcome, and the state of the endpoint in the new world
 abbrev pub made : Providers → ℕ → Outcome → World → Step
 made p fd outcome w = record { outcome = outcome; after = state_of (endpoint p w fd); world = w }
 
+-- by the first row that holds
 abbrev pub step_by : Providers → World → Plan → Option Refusal → Option Step
 step_by p w plan None = Some (made p plan.fd plan.outcome (changed p w plan.changes))
 step_by p w plan (Some (answers reply)) = Some (made p plan.fd (Done reply) w)
 step_by p w plan (Some (waits reply)) = if plan.nonblock then Some (made p plan.fd (Done reply) (changed p w plan.marks)) else None
 step_by p w plan (Some loses) = Some (made p plan.fd (Done (Overflow (record { 0 = plan.lost_number }))) (changed p w plan.lost))
 
+-- the step that a plan is
 abbrev pub step_of : Providers → World → Plan → Option Step
 step_of p w plan = step_by p w plan (first plan.rows)
 
@@ -90,5 +94,6 @@ step_of p w plan = step_by p w plan (first plan.rows)
 unfoldable pub step : Providers → World → Call → Go → Option Step
 step p w c go = step_of p w (plan p w c go)
 
+-- the step can't be made now
 abbrev pub is_blocked : Providers → World → Call → Go → Bool
 is_blocked p w c go = is_none (step p w c go)

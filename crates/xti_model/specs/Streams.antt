@@ -29,9 +29,11 @@ pub record Made : Type 0 where
   pub outcome : Outcome
   pub after : State
 
+-- a step that was made
 abbrev pub made_of : Entry → Going → Made
 made_of e g = record { going = g; outcome = e.outcome; after = e.after }
 
+-- one more, if it is there
 abbrev pub add : Option Made → List Made → List Made
 add None later = later
 add (Some m) later = m ∷ later
@@ -47,13 +49,16 @@ pub record Connection : Type 0 where
   pub caller : ℕ
   pub has_ends : Bool
 
+-- the connection that an accept makes
 abbrev pub connection_of : Providers → ℕ → ℕ → Endpoint → Option Connection
 connection_of p resfd number e = option_map (λ i. record { responder = resfd; caller = i.caller; has_ends = has_ends p e false }) (find_number number e.outstanding)
 
+-- the connection that a step makes
 abbrev pub accepted_by : Providers → World → Call → Outcome → Option Connection
 accepted_by p w (call.TAccept fd resfd seq opt udata) (Done Plain) = option_and_then (connection_of p resfd.0 seq.0) (endpoint p w fd.0)
 accepted_by p w other outcome = None
 
+-- the connection that an entry makes
 abbrev pub connection_in : Providers → World → Option Entry → Option Connection
 connection_in p w None = None
 connection_in p w (Some e) = of_act e.act
@@ -66,9 +71,11 @@ connection_in p w (Some e) = of_act e.act
 abbrev pub connection : Providers → List Entry → ℕ → Option Connection
 connection p entries place = connection_in p (after p (take place entries)) (slice_get entries place)
 
+-- the step is of a call of this endpoint
 abbrev pub is_made_by : ℕ → Made → Bool
 is_made_by fd m = names fd (fd_of m.going.call)
 
+-- the endpoint has no connection any more
 abbrev pub is_over : State → Bool
 is_over s = same_state s T_IDLE || same_state s T_UNINIT
 
@@ -86,24 +93,29 @@ pub record Sending : Type 0 where
   pub bytes : List ℕ
   pub flags : ℕ
 
+-- what a call sends
 abbrev pub sending_of : Call → Option Sending
 sending_of (call.TSnd fd bytes flags) = Some (record { bytes = bytes; flags = flags })
 sending_of (call.TSndV fd parts flags) = Some (record { bytes = concat parts; flags = flags })
 sending_of other = None
 
+-- how many bytes earlier steps took
 abbrev pub taken_before : Go → ℕ
 taken_before go.Begin = 0
 taken_before (go.More n) = n
 
+-- how many bytes are taken after this step
 abbrev pub taken_after : Outcome → Option ℕ
 taken_after (Part n) = Some n
 taken_after (Done (Sent n)) = Some n
 taken_after other = None
 
+-- both normal, or both expedited
 abbrev pub same_kind : Bool → Bool → Bool
 same_kind true b = b
 same_kind false b = not b
 
+-- expedited messages always have ends
 abbrev pub kind_has_ends : Connection → Bool → Bool
 kind_has_ends c expedited = expedited || c.has_ends
 
@@ -114,18 +126,22 @@ adds c expedited s before n =
     then piece (take (n - before) (drop before s.bytes)) ((n == length s.bytes) && not (has_more s.flags) && kind_has_ends c expedited)
     else []
 
+-- what a step sent
 abbrev pub sent_by : Connection → Bool → Go → Option Sending → Option ℕ → List ℕ
 sent_by c expedited so_far (Some s) (Some n) = adds c expedited s (taken_before so_far) n
 sent_by c expedited so_far s n = []
 
+-- what a step sent, of one kind
 abbrev pub sent_made : Connection → Bool → Made → List ℕ
 sent_made c expedited m = sent_by c expedited m.going.so_far (sending_of m.going.call) (taken_after m.outcome)
 
+-- what a step received
 abbrev pub got_by : Connection → Bool → Outcome → List ℕ
 got_by c expedited (Done (Got bytes flags)) =
     if same_kind expedited (is_expedited flags) then piece bytes (not (has_more flags) && kind_has_ends c expedited) else []
 got_by c expedited other = []
 
+-- what a step received, of one kind
 abbrev pub got_made : Connection → Bool → Made → List ℕ
 got_made c expedited m = got_by c expedited m.outcome
 

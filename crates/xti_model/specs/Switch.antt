@@ -7,12 +7,15 @@ use Rattle.xti_model.specs.Provider.{is_provider}
 use Rattle.xti_model.specs.declared.profile.Providers.{Providers}
 use Rattle.xti_model.specs.World.{Switch, Binding, Place, last_generation, closed_place}
 
+-- bound to the address at the provider
 abbrev pub is_bound : Prov → List ℕ → Binding → Bool
 is_bound prov address b = same_prov b.prov prov && bytes_eq b.address address
 
+-- bound there with a queue
 abbrev pub is_listening : Prov → List ℕ → Binding → Bool
 is_listening prov address b = is_bound prov address b && b.listening
 
+-- the lesser of a number and another, where there is one
 abbrev pub less : ℕ → Option ℕ → Option ℕ
 less n None = Some n
 less n (Some m) = Some (min n m)
@@ -22,6 +25,7 @@ abbrev pub least : List ℕ → Option ℕ
 least [] = None
 least (n ∷ ns) = less n (least ns)
 
+-- the descriptors of these bindings
 abbrev pub descriptors : (Binding → Bool) → Switch → List ℕ
 descriptors test s = map (λ b. b.fd) (filter test s.bindings)
 
@@ -51,9 +55,11 @@ abbrev pub chosen : Switch → Prov → List ℕ → List ℕ
 chosen s prov [] = free_address s prov 0 (length s.bindings)
 chosen s prov (a ∷ address) = a ∷ address
 
+-- one binding more, after the others
 abbrev pub give_address : Prov → List ℕ → ℕ → Bool → Switch → Switch
 give_address prov address fd listening s = record s { bindings = s.bindings ++ record { prov = prov; address = address; fd = fd; listening = listening } ∷ [] }
 
+-- all bindings of the descriptor are gone
 abbrev pub give_up_address : ℕ → Switch → Switch
 give_up_address fd s = record s { bindings = filter (λ b. not (b.fd == fd)) s.bindings }
 
@@ -65,6 +71,7 @@ is_free p place = not place.is_open && nat_lt place.generation (last_generation 
 abbrev pub free_place : Providers → Switch → Option ℕ
 free_place p s = position (is_free p) s.places
 
+-- no place opens for a name that names no provider
 abbrev pub if_provider : Bool → Option ℕ → Option ℕ
 if_provider true place = place
 if_provider false place = None
@@ -73,14 +80,18 @@ if_provider false place = None
 abbrev pub opening_place : Providers → Switch → Prov → Option ℕ
 opening_place p s prov = if_provider (is_provider prov) (free_place p s)
 
+-- a place that is not known counts as closed
 abbrev pub place_at : Switch → ℕ → Place
 place_at s n = slice_index_or s.places n closed_place
 
+-- what is known of one place changes
 abbrev pub set_place : ℕ → Place → Switch → Switch
 set_place n p s = record s { places = slice_set s.places n p }
 
+-- the place opens
 abbrev pub mark_open : ℕ → Switch → Switch
 mark_open n s = set_place n (record (place_at s n) { is_open = true }) s
 
+-- the place closes, and its generation rises
 abbrev pub mark_closed : ℕ → Switch → Switch
 mark_closed n s = set_place n (record { generation = (place_at s n).generation + 1; is_open = false }) s

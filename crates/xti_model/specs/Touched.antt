@@ -13,6 +13,7 @@ abbrev pub cell_of : Providers → Option ℕ → List ℕ
 cell_of p None = []
 cell_of p (Some fd) = place_of p fd ∷ []
 
+-- no cells where no endpoint is open
 abbrev pub of_some : Option Endpoint → (Endpoint → List ℕ) → List ℕ
 of_some None cells = []
 of_some (Some e) cells = cells e
@@ -21,24 +22,31 @@ of_some (Some e) cells = cells e
 abbrev pub of_open : Providers → World → ℕ → (Endpoint → List ℕ) → List ℕ
 of_open p w fd cells = of_some (endpoint p w fd) cells
 
+-- the cell of its peer
 abbrev pub peer_cell : Providers → Endpoint → List ℕ
 peer_cell p e = cell_of p e.peer
 
+-- the cell of the listener that it asks
 abbrev pub target_cell : Providers → Endpoint → List ℕ
 target_cell p e = cell_of p (option_map (λ t. t.listener) e.target)
 
+-- the cell of the caller with this number
 abbrev pub caller_cell : Providers → ℕ → Endpoint → List ℕ
 caller_cell p number e = cell_of p (option_map (λ i. i.caller) (find_number number e.outstanding))
 
+-- the cells of all callers that wait for its answer
 abbrev pub caller_cells : Providers → Endpoint → List ℕ
 caller_cells p e = map (λ i. place_of p i.caller) (e.pending ++ e.outstanding)
 
+-- the cell of the endpoint that is bound to the address
 abbrev pub bound_cell : Providers → World → List ℕ → Endpoint → List ℕ
 bound_cell p w address e = cell_of p (bound (the_switch p w) e.prov address)
 
+-- the cell of the listener at the address
 abbrev pub listener_cell : Providers → World → ℕ → List ℕ → Endpoint → List ℕ
 listener_cell p w fd address e = cell_of p (listener (the_switch p w) e.prov address fd)
 
+-- the switch, and the cell of the endpoint at the address
 abbrev pub cells_to : Providers → World → Endpoint → Option (List ℕ) → List ℕ
 cells_to p w e None = []
 cells_to p w e (Some address) = switch_number p ∷ bound_cell p w address e

@@ -36,16 +36,20 @@ pub record Want : Type 0 where
   pub flags : ℕ
   pub to : List ℕ
 
+-- a wait of this kind, with nothing else told
 abbrev pub want : WantKind → ℕ → Want
 want kind fd = record { kind = kind; fd = fd; left = 0; flags = 0; to = [] }
 
+-- how many bytes earlier steps took
 abbrev pub taken_before : Go → ℕ
 taken_before go.Begin = 0
 taken_before (go.More n) = n
 
+-- how many bytes are left, and whether they are expedited
 abbrev pub want_to_send : ℕ → List ℕ → ℕ → Go → Want
 want_to_send fd bytes flags g = record (want for_snd fd) { left = length bytes - taken_before g; flags = flags }
 
+-- the first step never waits
 abbrev pub want_of_connect : ℕ → Go → Option Want
 want_of_connect fd go.Begin = None
 want_of_connect fd (go.More n) = Some (want for_rcvconnect fd)
@@ -69,9 +73,11 @@ want_of other g = None
 abbrev pub send_arguments : ℕ → List ℕ → ℕ → List Row
 send_arguments parts bytes flags = refuses (has_other_flags flags) TBADFLAG ∷ refuses (Send.is_too_much parts bytes) TBADDATA ∷ []
 
+-- the rows on the arguments of a datagram alone
 abbrev pub datagram_arguments : List ℕ → List ℕ → ℕ → List Row
 datagram_arguments address options parts = bad_address address ∷ bad_options options ∷ refuses (is_too_many parts) TBADDATA ∷ []
 
+-- the rows on a call's arguments alone
 abbrev pub argument_rows : Call → List Row
 argument_rows (call.TSnd fd bytes flags) = send_arguments 1 bytes flags
 argument_rows (call.TSndV fd parts flags) = send_arguments (length parts) (concat parts) flags
@@ -89,6 +95,7 @@ has_good_arguments c = is_none (first (argument_rows c))
 abbrev pub is_bad_left : Providers → ℕ → Bool → Endpoint → Bool
 is_bad_left p left expedited e = ((left == 0) && not (profile p e.prov).sendzero) || Send.is_over (message_limit p e expedited) (unfinished expedited e + left)
 
+-- the other rows of a send
 abbrev pub send_rows : Providers → ℕ → ℕ → Option Endpoint → Endpoint → List Row
 send_rows p left flags peer e =
     without_connections e ∷
@@ -97,9 +104,11 @@ send_rows p left flags peer e =
     looks looks_data e ∷
     not_ready (not (ready_for (is_expedited flags) e peer)) TFLOW ∷ []
 
+-- no datagram of the provider has this length
 abbrev pub is_bad_length : Profile → ℕ → Bool
 is_bad_length profile left = Datagrams.is_over profile.tsdu left || ((left == 0) && not profile.sendzero)
 
+-- the other rows of a datagram's send
 abbrev pub datagram_rows : Providers → ℕ → Option Endpoint → Endpoint → List Row
 datagram_rows p left there e =
     without_datagrams e ∷
@@ -117,10 +126,12 @@ want_rows p w v for_rcv e = Receive.rows 1 e
 want_rows p w v for_sndudata e = datagram_rows p v.left (option_and_then (endpoint p w) (bound (the_switch p w) e.prov v.to)) e
 want_rows p w v for_rcvudata e = Datagrams.receive_rows 1 0 0 e
 
+-- the caller waits
 abbrev pub is_waiting : Option Refusal → Bool
 is_waiting (Some (waits reply)) = true
 is_waiting other = false
 
+-- nobody waits at a closed place
 abbrev pub is_waiting_at : Providers → World → Want → Option Endpoint → Bool
 is_waiting_at p w v None = false
 is_waiting_at p w v (Some e) = not e.nonblock && is_waiting (first (want_rows p w v v.kind e))

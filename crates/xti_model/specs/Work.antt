@@ -18,5 +18,6 @@ argument_bytes (named.TSndVUData fd addr opt parts) = length addr + length opt +
 argument_bytes (named.TOptMgmt fd action opt omax) = length opt
 argument_bytes other = 0
 
+-- the bytes of all lines' arguments
 abbrev pub script_bytes : List Line → ℕ
 script_bytes lines = sum_by (λ line. argument_bytes line.call) lines

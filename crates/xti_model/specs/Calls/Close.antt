@@ -14,17 +14,22 @@ use Rattle.xti_model.specs.Plan.{Plan, plan_of, on_open}
 abbrev pub given_up : ℕ → ℕ → Endpoint → Endpoint
 given_up fd number e = if is_target fd number e.target then record (disconnected PEER_CLOSED 0 [] e) { target = None } else e
 
+-- the caller of an indication hears that its listener closed
 abbrev pub give_up_caller : ℕ → Indication → Change
 give_up_caller fd i = at_endpoint i.caller (given_up fd i.number)
 
+-- the switch knows neither the address nor the generation any more
 abbrev pub forget : Providers → ℕ → Switch → Switch
 forget p fd s = mark_closed (place_of p fd) (give_up_address fd s)
 
+-- the endpoint and the switch are changed together
 abbrev pub closing : Providers → ℕ → List Change
 closing p fd = closes_endpoint fd ∷ at_switch (forget p fd) ∷ []
 
+-- the peer, the listener and the callers of the endpoint hear of its end
 abbrev pub changes : Providers → ℕ → Endpoint → List Change
 changes p fd e = break fd e PEER_CLOSED [] ++ map (give_up_caller fd) (e.pending ++ e.outstanding) ++ closing p fd
 
+-- close is never refused
 abbrev pub plan : Providers → World → ℕ → Plan
 plan p w fd = on_open p w fd (λ e. plan_of fd e [] (changes p fd e) (Done Plain))

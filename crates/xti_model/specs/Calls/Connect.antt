@@ -16,6 +16,7 @@ use Rattle.xti_model.specs.Events.{is_state, looks_connecting, looks_disconnect}
 use Rattle.xti_model.specs.Arguments.{bad_address, bad_options, bad_udata}
 use Rattle.xti_model.specs.Plan.{Row, Plan, Field, without_connections, outside, looks, not_ready, overflows, field, trimmed, plan_of, on_open}
 
+-- when connect is refused, in order
 abbrev pub rows : List ℕ → List ℕ → List ℕ → Endpoint → List Row
 rows address options udata e =
     without_connections e ∷
@@ -29,6 +30,7 @@ rows address options udata e =
 abbrev pub is_full : Endpoint → Bool
 is_full l = (length l.pending + ocnt l == l.qlen) || (l.last_number == LAST_SEQUENCE)
 
+-- only in T_IDLE and T_INCON does a listener take requests
 abbrev pub is_listening : Endpoint → Bool
 is_listening l = is_state (T_IDLE ∷ T_INCON ∷ []) l
 
@@ -59,23 +61,29 @@ pub record Found : Type 0 where
   pub fd : ℕ
   pub endpoint : Endpoint
 
+-- with nobody at the address, the request is answered by a disconnect
 abbrev pub request : ℕ → List ℕ → List ℕ → Endpoint → Option Found → List Change
 request fd options udata e None = at_endpoint fd (turned_away NO_LISTENER) ∷ []
 request fd options udata e (Some l) = reach fd l.fd options udata e l.endpoint
 
+-- the endpoint of that descriptor, if it is open
 abbrev pub found_at : Providers → World → Option ℕ → Option Found
 found_at p w None = None
 found_at p w (Some l) = option_map (λ e. record { fd = l; endpoint = e }) (endpoint p w l)
 
+-- the listener at the address, which is never the caller itself
 abbrev pub found : Providers → World → ℕ → List ℕ → Endpoint → Option Found
 found p w fd address e = found_at p w (listener (the_switch p w) e.prov address fd)
 
+-- a caller that waits goes on with a second step
 abbrev pub outcome : Endpoint → Outcome
 outcome e = if e.nonblock then Done (Refused TNODATA) else Part 0
 
+-- connect, with what was found at the address
 abbrev pub plan_to : ℕ → List ℕ → List ℕ → List ℕ → Endpoint → Option Found → Plan
 plan_to fd address options udata e l = plan_of fd e (rows address options udata e) (request fd options udata e l) (outcome e)
 
+-- the first step of connect
 abbrev pub plan : Providers → World → ℕ → List ℕ → List ℕ → List ℕ → Plan
 plan p w fd address options udata = on_open p w fd (λ e. plan_to fd address options udata e (found p w fd address e))
 
@@ -84,9 +92,11 @@ abbrev pub confirmation_or : Option Confirmation → Confirmation
 confirmation_or None = record { address = []; options = []; udata = [] }
 confirmation_or (Some c) = c
 
+-- what the caller is told, and how much of each it has room for
 abbrev pub fields : Confirmation → ℕ → ℕ → ℕ → List Field
 fields c amax omax umax = field c.address amax ∷ field c.options omax ∷ field c.udata umax ∷ []
 
+-- when rcvconnect is refused, in order
 abbrev pub confirm_rows : ℕ → ℕ → ℕ → Endpoint → List Row
 confirm_rows amax omax umax e =
     without_connections e ∷
@@ -95,11 +105,14 @@ confirm_rows amax omax umax e =
     not_ready (is_none e.confirmation) TNODATA ∷
     overflows (fields (confirmation_or e.confirmation) amax omax umax) ∷ []
 
+-- the confirmation is taken
 abbrev pub confirmed : Endpoint → Endpoint
 confirmed e = record e { confirmation = None; state = T_DATAXFER }
 
+-- what the caller is told
 abbrev pub connected : Confirmation → ℕ → ℕ → ℕ → Reply
 connected c amax omax umax = Connected (trimmed c.address amax) (trimmed c.options omax) (trimmed c.udata umax)
 
+-- rcvconnect, and the second step of connect
 abbrev pub confirm_plan : Providers → World → ℕ → ℕ → ℕ → ℕ → Plan
 confirm_plan p w fd amax omax umax = on_open p w fd (λ e. plan_of fd e (confirm_rows amax omax umax e) (at_endpoint fd confirmed ∷ []) (Done (connected (confirmation_or e.confirmation) amax omax umax)))

@@ -17,6 +17,7 @@ use Rattle.xti_model.specs.Plan.{Row, Plan, refuses, without_connections, outsid
 abbrev pub has_nothing : Endpoint → Bool
 has_nothing e = not (some_wait e.expedited) && (e.mid_expedited || not (some_wait e.normal))
 
+-- when a receive is refused, in order
 abbrev pub rows : ℕ → Endpoint → List Row
 rows sizes e =
     without_connections e ∷
@@ -35,11 +36,14 @@ received p max e =
     if some_wait e.expedited then record e { expedited = rest max e.expedited; mid_expedited = goes_on p true max e }
     else record e { normal = rest max e.normal }
 
+-- T_EXPEDITED and T_MORE
 abbrev pub flags : Bool → Bool → ℕ
 flags expedited more = (if expedited then 2 else 0) + (if more then 1 else 0)
 
+-- the longest run of bytes that is asked for
 abbrev pub got : Providers → Bool → ℕ → Endpoint → Reply
 got p expedited max e = Got (front max (waiting_of expedited e)) (flags expedited (goes_on p expedited max e))
 
+-- rcv, and rcvv with all sizes together; expedited data come first
 abbrev pub plan : Providers → World → ℕ → ℕ → ℕ → Plan
 plan p w fd sizes max = on_open p w fd (λ e. plan_of fd e (rows sizes e) (at_endpoint fd (received p max) ∷ []) (Done (got p (some_wait e.expedited) max e)))
