@@ -9,19 +9,18 @@ use Rattle.std.proofs.lemmas.Option.{none-some}
 use Rattle.xti_model.specs.declared.entry.Entry.{Entry}
 use Rattle.xti_model.specs.declared.script.Line.{Line}
 use Rattle.xti_model.specs.declared.profile.Providers.{Providers}
-use Rattle.xti_model.specs.World.{World, opening}
+use Rattle.xti_model.specs.World.{World}
 use Rattle.xti_model.specs.Step.{Step}
 use Rattle.xti_model.specs.History.{Going, is_own, unfinished, unfinished_from, step_going, after}
 use Rattle.xti_model.specs.Resolve.{placed, lines_of, is_begin}
-use Rattle.xti_model.specs.Robin.{is_through, next_going, last_worker, numbers, order_after, Turn, turn_of, turn_going, turn, first_turn, next_turn, robin_from}
+use Rattle.xti_model.specs.Robin.{is_through, next_going, last_worker, numbers, order_after, Turn, turn_of, turn_going, turn, first_turn, next_turn}
 use Rattle.xti_model.specs.Work.{script_bytes}
-use Rattle.xti_model.specs.Complete.{workers, is_stuck, is_stuck_by, is_setup, is_worker, is_setup_stuck, is_rest_done, Complete}
+use Rattle.xti_model.specs.Complete.{workers, is_stuck, is_stuck_by, is_setup, is_worker, is_setup_stuck, is_rest_done}
 use Rattle.xti_model.proofs.Appending.{all-split}
-use Rattle.xti_model.proofs.Turns.{MayGo, next_turn-each, first_turn-none, all-numbers, at-numbers, robin_from-ends}
+use Rattle.xti_model.proofs.Turns.{MayGo, next_turn-each, first_turn-none, all-numbers, at-numbers}
 use Rattle.xti_model.proofs.Legality.{IsLegalAt, turn-legal}
 use Rattle.xti_model.proofs.Working.{line_work, placed_work, going_work, worker_work, own-more, IsPossibleGoing, Lessens, turn-lessens}
 use Rattle.xti_model.proofs.Sums.{sum-at_most, sum-falls, placed-work, lines-all, lines-bytes}
-use Rattle.xti_model.proofs.Following.{robin-follows}
 use Rattle.xti_model.proofs.Phases.{IsInPhase, phase-first, turn-phase}
 
 -- the work that is left to all workers
@@ -155,9 +154,3 @@ ends-so p lines w past k n = by (is_through lines past 0) refl n
 
         done : (worker : ℕ) → 0 ≤ worker → worker < 33 → (is_through lines past worker || is_stuck p past lines worker) ≡ true
         done worker a b = of_number worker b (worker == 0) refl
-
-pub robin-complete : (p : Providers) (lines : List Line) (n : ℕ) → length lines + script_bytes lines ≤ n → Complete p (robin_from p lines n (opening p) []) lines
-robin-complete p lines n le =
-    let run = robin_from-ends p lines (IsRun p lines) (all_work lines) (turn-run p lines) n (opening p) [] (record { legal = (tt, refl); possible = λ worker. tt; phase = inl refl; within = refl })
-    (omega (arith, first-work lines, le)) in
-    record { workers_only = run.2.within; follows = robin-follows p lines n; ends = ends-so p lines run.0 (robin_from p lines n (opening p) []) run.2 run.1 }

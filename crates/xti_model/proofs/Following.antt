@@ -12,12 +12,12 @@ use Rattle.xti_model.specs.declared.entry.Entry.{Entry}
 use Rattle.xti_model.specs.declared.script.NamedCall.{NamedCall}
 use Rattle.xti_model.specs.declared.script.Line.{Line}
 use Rattle.xti_model.specs.declared.profile.Providers.{Providers}
-use Rattle.xti_model.specs.World.{World, opening}
+use Rattle.xti_model.specs.World.{World}
 use Rattle.xti_model.specs.Step.{Step}
 use Rattle.xti_model.specs.History.{Going, is_own, own, unfinished, step_going}
 use Rattle.xti_model.specs.Resolve.{Placed, placed, placed_from, if_own, is_of, lines_of, begun, answer_of, or_else, answer_to, opens, listens, opened_fd, listened_number, with_numbers}
 use Rattle.xti_model.specs.Robin.{begin_line, next_line, next_or, next_going, is_through, act_of, turn_of, turn_going, turn, next_turn, robin_from}
-use Rattle.xti_model.specs.Complete.{begun_calls, resolved_in, Follows, Each, workers}
+use Rattle.xti_model.specs.Complete.{begun_calls, resolved_in, Follows, Each}
 use Rattle.xti_model.proofs.Appending.{own-append, begun-append, begun_calls-append, answer_of-more, take-one_more, all-append, all-then, map-same}
 use Rattle.xti_model.proofs.Legality.{GoesOn, unfinished-goes_on}
 use Rattle.xti_model.proofs.Turns.{MayGo, next_turn-each, robin_from-keeps}
@@ -223,8 +223,3 @@ robin_from-follows p lines n w past f = (robin_from-keeps p lines (λ v es. (wor
 pub each-of_all : (P : ℕ → Type 0) → ((n : ℕ) → P n) → (ns : List ℕ) → Each P ns
 each-of_all P h [] = tt
 each-of_all P h (n ∷ ns) = (h n, each-of_all P h ns)
-
--- the whole run
-pub robin-follows : (p : Providers) (lines : List Line) (n : ℕ) → Each (Follows (robin_from p lines n (opening p) []) lines) workers
-robin-follows p lines n =
-    each-of_all (Follows (robin_from p lines n (opening p) []) lines) (λ worker. (robin_from-follows p lines n (opening p) [] (λ w. record { follows = refl; settled = tt }) worker).follows) workers

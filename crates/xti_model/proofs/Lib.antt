@@ -7,4 +7,7 @@ pub mod Working
 pub mod Sums
 pub mod Phases
 pub mod Completing
+pub mod Unfinished
+pub mod WorkLeft
+pub mod GoingOn
 pub mod RisingNumbers

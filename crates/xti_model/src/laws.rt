@@ -11,7 +11,7 @@ ghost use Rattle.xti_model.specs.Profile.{usual, valid};
 ghost use Rattle.xti_model.specs.Robin.{robin_from, robin, most_steps};
 ghost use Rattle.xti_model.specs.SentBytes.{AreBytes, SendsBytes};
 ghost use Rattle.xti_model.specs.Work.{script_bytes};
-ghost use Rattle.xti_model.specs.Complete.{Follows, Each, workers, Complete};
+ghost use Rattle.xti_model.specs.Complete.{Follows, Each, workers, Complete, IsHistoryOf};
 
 use crate::call::Call;
 use xti_base::Octets;
@@ -25,6 +25,12 @@ pub fn usual_is_valid()
 pub fn robin_is_legal()
     ensures goes_on { (p : Providers) (lines : List Line) (n : ℕ) (past : List Entry) → Legal p past → Legal p (robin_from p lines n (after p past) past) }
     ensures whole { (s : Script) → Legal s.providers (robin s) }
+{}
+
+/// From any legal history of a script round robin goes on so that each worker's calls stand in script order, each once, and until each worker is finished or blocked, where it may make as many steps as the lines and the bytes of their arguments.
+pub fn robin_goes_on()
+    ensures follows { (p : Providers) (lines : List Line) (n : ℕ) (past : List Entry) → IsHistoryOf p lines past → Each (Follows (robin_from p lines n (after p past) past) lines) workers }
+    ensures complete { (p : Providers) (lines : List Line) (n : ℕ) (past : List Entry) → IsHistoryOf p lines past → length lines + script_bytes lines ≤ n → Complete p (robin_from p lines n (after p past) past) lines }
 {}
 
 /// In the round-robin run of any script each worker's calls stand in script order, each once.

@@ -16,7 +16,8 @@ pub use call::Call;
 pub use cells::Cells;
 pub use entry::{Act, Applied, Entries, Entry, Go, Outcome, Reply};
 pub use laws::{
-    calls_send_bytes, robin_follows, robin_is_complete, robin_is_legal, usual_is_valid,
+    calls_send_bytes, robin_follows, robin_goes_on, robin_is_complete, robin_is_legal,
+    usual_is_valid,
 };
 pub use name::Name;
 pub use profile::{Profile, Providers};
