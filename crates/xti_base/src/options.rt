@@ -1,7 +1,7 @@
 //! Options, and the form of lists of them (XNS, t_opthdr).
 
-ghost use Rattle.std.specs.Prelude.{◌≡◌, ◌≤◌, MatchOption, false, length, true};
-ghost use Rattle.xti_base.specs.Options.{are_zero, front_length, front_size, begins_option, is_option_list};
+ghost use Rattle.std.specs.Prelude.{◌≡◌, ◌≤◌, length};
+ghost use Rattle.xti_base.specs.Options.{are_zero, front_length, is_option_list, IsSizeOfFront};
 
 use crate::octets::Octets;
 
@@ -38,7 +38,7 @@ pub fn is_option_list(bytes: &[u8]) -> bool
 /// Takes no memory.
 #[tactic(auto, using(crate::proofs::OptionLists::zeros_decide), unfolding(crate::specs::Options::begins_option))]
 pub fn size_of_front(bytes: &[u8]) -> Option<usize>
-    ensures { MatchOption result (begins_option bytes.now ≡ false) (λ size. (begins_option bytes.now ≡ true) × (size ≡ front_size bytes.now)) }
+    ensures { IsSizeOfFront bytes.now result }
 {
     if bytes.len() < 16 {
         return None;

@@ -6,12 +6,12 @@ ghost use Rattle.xti_model.specs.declared.entry.Entry.{Entry};
 ghost use Rattle.xti_model.specs.declared.profile.Providers.{Providers};
 ghost use Rattle.xti_model.specs.declared.script.Line.{Line};
 ghost use Rattle.xti_model.specs.declared.script.Script.{Script};
-ghost use Rattle.xti_model.specs.History.{after, Legal};
+ghost use Rattle.xti_model.specs.History.{Legal};
 ghost use Rattle.xti_model.specs.Profile.{usual, valid};
-ghost use Rattle.xti_model.specs.Robin.{robin_from, robin, most_steps};
+ghost use Rattle.xti_model.specs.Robin.{robin, most_steps};
 ghost use Rattle.xti_model.specs.SentBytes.{AreBytes, SendsBytes};
 ghost use Rattle.xti_model.specs.Work.{script_bytes};
-ghost use Rattle.xti_model.specs.Complete.{Follows, Each, workers, Complete, IsHistoryOf};
+ghost use Rattle.xti_model.specs.Complete.{Follows, Each, workers, Complete, GoesOnLegally, GoesOnInOrder, GoesOnToTheEnd};
 
 use crate::call::Call;
 use xti_base::Octets;
@@ -23,14 +23,16 @@ pub fn usual_is_valid()
 
 /// Round robin goes on legally from any legal history, and the whole run is legal.
 pub fn robin_is_legal()
-    ensures goes_on { (p : Providers) (lines : List Line) (n : ℕ) (past : List Entry) → Legal p past → Legal p (robin_from p lines n (after p past) past) }
+    ensures goes_on { (p : Providers) (lines : List Line) (n : ℕ) (past : List Entry) → GoesOnLegally p lines n past }
     ensures whole { (s : Script) → Legal s.providers (robin s) }
 {}
 
-/// From any legal history of a script round robin goes on so that each worker's calls stand in script order, each once, and until each worker is finished or blocked, where it may make as many steps as the lines and the bytes of their arguments.
+/// From any legal history of a script round robin goes on so that each worker's calls stand in script order, each once,
+/// and until each worker is finished or blocked, where it may make as many steps as the script has lines and bytes of
+/// arguments.
 pub fn robin_goes_on()
-    ensures follows { (p : Providers) (lines : List Line) (n : ℕ) (past : List Entry) → IsHistoryOf p lines past → Each (Follows (robin_from p lines n (after p past) past) lines) workers }
-    ensures complete { (p : Providers) (lines : List Line) (n : ℕ) (past : List Entry) → IsHistoryOf p lines past → length lines + script_bytes lines ≤ n → Complete p (robin_from p lines n (after p past) past) lines }
+    ensures follows { (p : Providers) (lines : List Line) (n : ℕ) (past : List Entry) → GoesOnInOrder p lines n past }
+    ensures complete { (p : Providers) (lines : List Line) (n : ℕ) (past : List Entry) → GoesOnToTheEnd p lines n past }
 {}
 
 /// In the round-robin run of any script each worker's calls stand in script order, each once.
@@ -38,7 +40,8 @@ pub fn robin_follows()
     ensures { (s : Script) → Each (Follows (robin s) s.lines) workers }
 {}
 
-/// Where the lines and the bytes of their arguments are no more than the bound on steps, the round-robin run of a script goes on until each worker is finished or blocked.
+/// Where the lines and the bytes of their arguments are no more than the bound on steps, the round-robin run of a script
+/// goes on until each worker is finished or blocked.
 pub fn robin_is_complete()
     ensures { (s : Script) → length s.lines + script_bytes s.lines ≤ most_steps → Complete s.providers (robin s) s.lines }
 {}
