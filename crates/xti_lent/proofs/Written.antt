@@ -2,6 +2,7 @@
 use Rattle.std.proofs.Common.{◌≡◌, ℕ, ◌<◌, subst, Bool, true, false, cond, eqb, List, [], ◌∷◌, Option, Some, None, refl, sym, ap, ◌∙◌}
 use Rattle.std.specs.Prelude.{map, is_some}
 use Rattle.std.proofs.lemmas.Bool.{eq-eqb}
+use Rattle.xti_model.specs.declared.profile.Providers.{Providers}
 use Rattle.xti_model.specs.Endpoint.{Endpoint}
 use Rattle.xti_model.specs.World.{World, Cell, Switch, places, place_of, generation_of, change, change_endpoint, changed, at_endpoint, at_switch}
 use Rattle.xti_registry.specs.Known.{Known}
@@ -90,3 +91,11 @@ pub fd-both : (l : Lending) (fd n : ℕ) (h new : Held) (f : Cell → Cell) (k o
 fd-both l fd n h new f k other g q eh c ek s =
     subst (λ m. cells (with_registry (with_held l n new) other) ≡ changed l.providers (change m f (cells l)) (at_switch g ∷ [])) q
     (both-written l n h new f k other g (subst (λ m. m < places l.providers) (sym q) (place-below l.providers fd)) eh c ek s)
+
+-- the same by providers that are those of the cells
+pub written-by : (l : Lending) (p : Providers) (fd n : ℕ) (h new : Held) (f : Endpoint → Endpoint) → p ≡ l.providers → n ≡ place_of p fd → held_at l n ≡ Some h → cell new ≡ change_endpoint (generation_of p fd) f (cell h)
+    → cells (with_held l n new) ≡ changed l.providers (cells l) (at_endpoint fd f ∷ [])
+written-by l p fd n h new f e q eh c = fd-written l fd n h new f (q ∙ ap (λ (x : Providers). place_of x fd) e) eh (c ∙ ap (λ (x : Providers). change_endpoint (generation_of x fd) f (cell h)) e)
+
+pub lent-by : (l : Lending) (p : Providers) (fd n : ℕ) → p ≡ l.providers → n ≡ place_of p fd → is_some (held_at l (place_of l.providers fd)) ≡ true → is_some (held_at l n) ≡ true
+lent-by l p fd n e q h = subst (λ m. is_some (held_at l m) ≡ true) (sym (q ∙ ap (λ (x : Providers). place_of x fd) e)) h
