@@ -1,4 +1,3 @@
-pub mod Written
 pub mod Sound
 pub mod Sizes
 pub mod Rows

@@ -3,6 +3,7 @@ use Rattle.std.proofs.Common.{◌≡◌, ◌≤◌, ℕ, Bool, true, false, not,
 use Rattle.std.specs.Prelude.{option_and_then}
 use Rattle.std.specs.List.{AllByRecursion}
 use Rattle.std.proofs.lemmas.Bool.Decides.{nat_tests}
+use Rattle.xti_base.specs.declared.limits.TheConstants.{MOST_ADDRESS, MOST_SEND}
 use Rattle.xti_base.specs.declared.errno.Errno.TheVariants.{TFLOW}
 use Rattle.xti_model.specs.declared.entry.Applied.{Applied}
 use Rattle.xti_model.specs.declared.entry.Outcome.TheVariants.{Done}
@@ -58,12 +59,12 @@ none-holds (x ∷ xs) e = let s = none-step x.holds x.refusal (first xs) e in (s
 abbrev pub Unrefused : Providers → List ℕ → List ℕ → ℕ → List ℕ → Endpoint → Type 0
 Unrefused p address options n bytes e = first (send_rows p address options n bytes None e) ≡ None
 
-pub short-address : (p : Providers) (address options : List ℕ) (n : ℕ) (bytes : List ℕ) (e : Endpoint) → Unrefused p address options n bytes e → ltb 64 (length address) ≡ false
+pub short-address : (p : Providers) (address options : List ℕ) (n : ℕ) (bytes : List ℕ) (e : Endpoint) → Unrefused p address options n bytes e → ltb MOST_ADDRESS (length address) ≡ false
 short-address p address options n bytes e u =
     let s = (none-holds (send_rows p address options n bytes None e) u).1.1.0 in
     grind (arith, nat_tests, s)
 
-pub small-data : (p : Providers) (address options : List ℕ) (n : ℕ) (bytes : List ℕ) (e : Endpoint) → valid p ≡ true → Unrefused p address options n bytes e → length bytes ≤ 65536
+pub small-data : (p : Providers) (address options : List ℕ) (n : ℕ) (bytes : List ℕ) (e : Endpoint) → valid p ≡ true → Unrefused p address options n bytes e → length bytes ≤ MOST_SEND
 small-data p address options n bytes e v u =
     let s = none-holds (send_rows p address options n bytes None e) u in
     small-datagram p e.prov bytes v s.0 s.1.1.1.1.1.0
@@ -108,7 +109,7 @@ pub send-flow : (p : Providers) (w : World) (fd : ℕ) (address options : List �
 send-flow p w fd address options n bytes e o u t b = unready p w fd address options n bytes e false o u t ∙ rw b refl
 
 abbrev pub spot_of : List ℕ → List ℕ
-spot_of address = cond (ltb 64 (length address)) [] address
+spot_of address = cond (ltb MOST_ADDRESS (length address)) [] address
 
 -- the mark is left, and the refusal answered
 pub flow-left : (l k : Lending) (fd : ℕ) (address options : List ℕ) (n : ℕ) (bytes : List ℕ) (e : Endpoint) (s : List ℕ) (a : Applied) → endpoint l.providers (cells l) fd ≡ Some e → Unrefused l.providers address options n bytes e

@@ -5,6 +5,7 @@ use Rattle.std.specs.List.{concat}
 use Rattle.std.proofs.lemmas.Bool.Decides.{nat_tests}
 use Rattle.std.proofs.lemmas.List.{length-append, append-nil, append_assoc}
 use Rattle.std.proofs.Common.{add-one}
+use Rattle.xti_base.specs.declared.limits.TheConstants.{MOST_SEND}
 use Rattle.xti_base.specs.declared.limit.Limit.{Limit}
 use Rattle.xti_base.specs.declared.limit.Limit.TheVariants.{At, Infinite, Invalid}
 use Rattle.xti_base.specs.declared.kinds.Prov.{Prov}
@@ -61,7 +62,7 @@ plain false true o s f e h = cc
 plain false false true s f e h = cc
 plain false false false s f e h = refl
 
-under-limit : (t : Limit) (n : ℕ) → has_limit t ≡ true → is_over t n ≡ false → n ≤ 65536
+under-limit : (t : Limit) (n : ℕ) → has_limit t ≡ true → is_over t n ≡ false → n ≤ MOST_SEND
 under-limit (At m) n h e = grind (arith, nat_tests, h, e)
 under-limit Infinite n h e = cc
 under-limit Invalid n h e = cc
@@ -69,7 +70,7 @@ under-limit Invalid n h e = cc
 has-limit : (p : Providers) → valid p ≡ true → has_limit p.ticlts.tsdu ≡ true
 has-limit p v = and-right _ (has_limit p.ticlts.tsdu) (and-left _ (not p.ticlts.same_addr) (and-right _ (valid_datagrams p.ticlts) v))
 
-pub small-datagram : (p : Providers) (prov : Prov) (bytes : List ℕ) → valid p ≡ true → not (has_datagrams prov) ≡ false → is_bad_datagram (profile p prov) bytes ≡ false → length bytes ≤ 65536
+pub small-datagram : (p : Providers) (prov : Prov) (bytes : List ℕ) → valid p ≡ true → not (has_datagrams prov) ≡ false → is_bad_datagram (profile p prov) bytes ≡ false → length bytes ≤ MOST_SEND
 small-datagram p Ticots bytes v d b = cc
 small-datagram p Ticotsord bytes v d b = cc
 small-datagram p Other bytes v d b = cc

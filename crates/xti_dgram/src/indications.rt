@@ -1,21 +1,21 @@
 //! The indications of datagrams and their errors, as frames.
 
-ghost use Rattle.std.specs.Prelude.{◌≡◌, ◌≤◌, ◌^◌, ◌-◌, length, min, true, Ok, IfOk, IsErrOf};
+ghost use Rattle.std.specs.Prelude.{◌≡◌, ◌≤◌, ◌^◌, ◌-◌, length, min, true, Ok, Some, IfOk, IsErrOf};
 ghost use Rattle.std.specs.List.{concat};
+ghost use Rattle.xti_base.specs.declared.limits.TheConstants.{MOST_ADDRESS, MOST_OPTIONS, MOST_SEND};
 ghost use Rattle.tpi_grammar.specs.declared.kind.Kind.TheVariants.{T_UNITDATA_IND, T_UDERROR_IND};
 ghost use Rattle.tpi_prim.specs.Fields.{kind_in};
 ghost use Rattle.xti_model.specs.Endpoint.{address_of};
-ghost use Rattle.xti_model.specs.Calls.Datagrams.{datagram_from, error_to};
+ghost use Rattle.xti_model.specs.Calls.Datagrams.{error_to};
 ghost use Rattle.xti_end.specs.Frames.{datagram_in, error_in};
 ghost use Rattle.xti_end.specs.Held as Held;
+ghost use Rattle.xti_dgram.specs.Sends.{IsDatagram, IsDatagramOf};
 
 use std::alloc::{AllocError, Global};
 use tpi_prim::{EncodeFail, Frame, encode_uderror_ind, encode_unitdata_ind};
 use xti_base::Octets;
+use xti_base::reasons::UNDELIVERABLE;
 use xti_end::Endpoint;
-
-/// The code of a datagram that nobody was there to take.
-const UNDELIVERABLE: u32 = 1;
 
 /// How many bytes the parts have, up to the greatest number.
 pub(crate) fn total(parts: &[Octets]) -> usize
@@ -30,7 +30,7 @@ pub(crate) fn total(parts: &[Octets]) -> usize
 
 /// The parts, joined.
 fn joined(alloc: Global, parts: &[Octets]) -> Result<Vec<u8>, AllocError>
-    requires { length (concat parts.now) ≤ 65536 }
+    requires { length (concat parts.now) ≤ MOST_SEND }
     ensures { IfOk result (λ bytes. bytes.items ≡ concat parts.now) }
 {
     let mut bytes = Vec::with_capacity(alloc, total(parts))?;
@@ -71,11 +71,11 @@ pub(crate) fn datagram(
     parts: &[Octets],
 ) -> Result<Frame, EncodeFail>
     requires open { Held.is_open e.now ≡ true }
-    requires source { length (address_of (Held.parts e.now)) ≤ 64 }
-    requires options { length options.now ≤ 256 }
-    requires data { length (concat parts.now) ≤ 65536 }
+    requires source { length (address_of (Held.parts e.now)) ≤ MOST_ADDRESS }
+    requires options { length options.now ≤ MOST_OPTIONS }
+    requires data { length (concat parts.now) ≤ MOST_SEND }
     ensures kind { IfOk result (λ frame. kind_in frame ≡ T_UNITDATA_IND) }
-    ensures datagram { IfOk result (λ frame. datagram_in frame ≡ datagram_from (Held.parts e.now) options.now (concat parts.now)) }
+    ensures datagram { IfOk result (IsDatagramOf (Some (Held.parts e.now)) options.now parts.now) }
     ensures fits { IsErrOf result EncodeFail.TooBig → ⊥ }
 {
     match parts {
@@ -96,11 +96,11 @@ fn datagram_of(
     options: &[u8],
     bytes: &[u8],
 ) -> Result<Frame, EncodeFail>
-    requires source { length source.now ≤ 64 }
-    requires options { length options.now ≤ 256 }
-    requires data { length bytes.now ≤ 65536 }
+    requires source { length source.now ≤ MOST_ADDRESS }
+    requires options { length options.now ≤ MOST_OPTIONS }
+    requires data { length bytes.now ≤ MOST_SEND }
     ensures kind { IfOk result (λ frame. kind_in frame ≡ T_UNITDATA_IND) }
-    ensures datagram { IfOk result (λ frame. datagram_in frame ≡ record { source = source.now; options = options.now; bytes = bytes.now }) }
+    ensures datagram { IfOk result (λ frame. IsDatagram source.now options.now bytes.now (datagram_in frame)) }
     ensures fits { IsErrOf result EncodeFail.TooBig → ⊥ }
 {
     encode_unitdata_ind(alloc, source, options, bytes)
@@ -112,8 +112,8 @@ pub(crate) fn datagram_error(
     address: &[u8],
     options: &[u8],
 ) -> Result<Frame, AllocError>
-    requires address { length address.now ≤ 64 }
-    requires options { length options.now ≤ 256 }
+    requires address { length address.now ≤ MOST_ADDRESS }
+    requires options { length options.now ≤ MOST_OPTIONS }
     ensures kind { IfOk result (λ frame. kind_in frame ≡ T_UDERROR_IND) }
     ensures error { IfOk result (λ frame. error_in frame ≡ error_to address.now options.now) }
 {

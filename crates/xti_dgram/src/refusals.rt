@@ -1,25 +1,18 @@
 //! What refuses a datagram before its flow is looked at.
 
-ghost use Rattle.std.specs.Prelude.{◌≡◌, ◌^◌, ◌-◌, ℕ, true, None, length, min, option_map};
+ghost use Rattle.std.specs.Prelude.{◌≡◌, ◌^◌, ◌-◌, ℕ, true, min, option_map};
 ghost use Rattle.std.specs.List.{concat};
 ghost use Rattle.xti_model.specs.Arguments.{bad_address, bad_options};
-ghost use Rattle.xti_model.specs.Calls.Datagrams.{is_over, is_bad_datagram, send_rows};
-ghost use Rattle.xti_model.specs.Plan.{first, answers};
+ghost use Rattle.xti_model.specs.Calls.Datagrams.{is_over, is_bad_datagram};
+ghost use Rattle.xti_model.specs.Plan.{answers};
 ghost use Rattle.xti_end.specs.Held as Held;
+ghost use Rattle.xti_dgram.specs.Sends.{refusal_of};
 
 use crate::indications::total;
+use xti_base::limits::{MOST_ADDRESS, MOST_OPTIONS, MOST_PARTS};
 use xti_base::{Errno, Event, Limit, Octets, State, is_option_list};
 use xti_end::{Endpoint, has_datagrams, profile};
 use xti_model::{Profile, Providers, Reply};
-
-/// The most bytes of an address.
-const MOST_ADDRESS: usize = 64;
-
-/// The most bytes of options.
-const MOST_OPTIONS: usize = 256;
-
-/// The most parts of a vector form.
-const MOST_PARTS: usize = 16;
 
 /// Whether the bytes can't be an address.
 fn is_bad_address(address: &[u8]) -> bool
@@ -63,7 +56,7 @@ pub(crate) fn refusal(
     parts: &[Octets],
 ) -> Option<Reply>
     requires { Held.is_open e.now ≡ true }
-    ensures { option_map (λ reply. answers reply) result ≡ first (send_rows p.now address.now options.now (length parts.now) (concat parts.now) None (Held.parts e.now)) }
+    ensures { option_map (λ reply. answers reply) result ≡ refusal_of p.now address.now options.now parts.now e.now }
 {
     let errno = if !has_datagrams(e.prov()) {
         Errno::TNOTSUPPORT

@@ -1,20 +1,18 @@
 //! Sending a datagram, whole or in parts.
 
-ghost use Rattle.std.specs.Prelude.{◌≡◌, ◌≤◌, ◌%◌, true, false, None, IfOk, IsOk, IfSome, IsErrOf, OnOk, OnErr, is_some, length, option_map, option_and_then};
+ghost use Rattle.std.specs.Prelude.{◌≡◌, ◌≤◌, true, IfOk, IfSome, IsErrOf, OnOk, OnErr, is_some, length};
+ghost use Rattle.xti_base.specs.declared.limits.TheConstants.{MOST_ADDRESS, MOST_OPTIONS, MOST_SEND};
 ghost use Rattle.std.specs.List.{concat};
 ghost use Rattle.tpi_grammar.specs.declared.kind.Kind.TheVariants.{T_UNITDATA_IND};
 ghost use Rattle.tpi_prim.specs.Fields.{kind_in};
-ghost use Rattle.xti_model.specs.Calls.Datagrams.{datagram_from, send_changes, send_plan};
-ghost use Rattle.xti_model.specs.Plan.{first, has_effect};
 ghost use Rattle.xti_model.specs.Sending.{takes_datagram};
-ghost use Rattle.xti_model.specs.Step.{step_of};
 ghost use Rattle.xti_model.specs.Switch.{bound};
-ghost use Rattle.xti_model.specs.World.{changed, endpoint, the_switch};
-ghost use Rattle.xti_end.specs.Frames.{datagram_in};
-ghost use Rattle.xti_end.specs.Taken.{taken};
+ghost use Rattle.xti_model.specs.World.{the_switch};
+ghost use Rattle.xti_lent.specs.Answers.{AnswersBy, IsSureBy, StaysBlocked};
 ghost use Rattle.xti_lent.specs.Fit.{AtOwnPlaces, IsFit, SameCells};
 ghost use Rattle.xti_lent.specs.Lending.{cells};
 ghost use Rattle.xti_dgram.specs.Reach.{CanReach, IsHeld};
+ghost use Rattle.xti_dgram.specs.Sends.{number_of, receiver_at, sender, sending, Delivers, IsDatagramOf};
 
 use crate::indications::{datagram, datagram_error};
 use crate::refusals::refusal;
@@ -28,7 +26,7 @@ use xti_model::{Applied, Reply, Spot};
 /// The endpoint that is bound to the address; of several the least descriptor.
 fn receiver(lent: &Lent, prov: Prov, address: &[u8]) -> Option<Fd>
     requires { is_some lent.now.registry ≡ true }
-    ensures { option_map (λ fd. fd.0) result ≡ bound (the_switch lent.now.providers (cells lent.now)) prov address.now }
+    ensures { number_of result ≡ bound (the_switch lent.now.providers (cells lent.now)) prov address.now }
 {
     lent.registry_ref().bound(prov, address, false)
 }
@@ -36,7 +34,7 @@ fn receiver(lent: &Lent, prov: Prov, address: &[u8]) -> Option<Fd>
 /// Whether the receiver takes one more datagram; where nobody is bound it is lost.
 fn takes_datagram(lent: &Lent, to: Option<Fd>) -> bool
     requires { AtOwnPlaces lent.now }
-    ensures { result ≡ takes_datagram (option_and_then (endpoint lent.now.providers (cells lent.now)) (option_map (λ fd. fd.0) to)) }
+    ensures { result ≡ takes_datagram (receiver_at lent.now to) }
 {
     match to {
         None => true,
@@ -50,11 +48,11 @@ fn takes_datagram(lent: &Lent, to: Option<Fd>) -> bool
 /// The T_UNITDATA_IND of a datagram that the open endpoint sends.
 fn indication(lent: &Lent, fd: Fd, options: &[u8], parts: &[Octets]) -> Result<Frame, EncodeFail>
     requires fit { IsFit lent.now }
-    requires open { is_some (endpoint lent.now.providers (cells lent.now) fd.0) ≡ true }
-    requires options { length options.now ≤ 256 }
-    requires data { length (concat parts.now) ≤ 65536 }
+    requires open { is_some (sender lent.now fd.0) ≡ true }
+    requires options { length options.now ≤ MOST_OPTIONS }
+    requires data { length (concat parts.now) ≤ MOST_SEND }
     ensures kind { IfOk result (λ frame. kind_in frame ≡ T_UNITDATA_IND) }
-    ensures datagram { IfOk result (λ frame. IfSome (endpoint lent.now.providers (cells lent.now) fd.0) (λ e. datagram_in frame ≡ datagram_from e options.now (concat parts.now))) }
+    ensures datagram { IfOk result (IsDatagramOf (sender lent.now fd.0) options.now parts.now) }
     ensures fits { IsErrOf result EncodeFail.TooBig → ⊥ }
 {
     match lent.open_endpoint(fd) {
@@ -73,13 +71,13 @@ fn deliver(
     parts: &[Octets],
 ) -> Result<(), AllocError>
     requires fit { IsFit lent.old }
-    requires open { is_some (endpoint lent.old.providers (cells lent.old) fd.0) ≡ true }
+    requires open { is_some (sender lent.old fd.0) ≡ true }
     requires sender { IsHeld lent.old fd.0 }
     requires receiver { IfSome to (λ to. IsHeld lent.old to.0) }
-    requires address { length address.now ≤ 64 }
-    requires options { length options.now ≤ 256 }
-    requires data { length (concat parts.now) ≤ 65536 }
-    ensures ok { OnOk result (IfSome (endpoint lent.old.providers (cells lent.old) fd.0) (λ e. cells lent.new ≡ changed lent.old.providers (cells lent.old) (send_changes fd.0 address.now options.now (concat parts.now) (option_map (λ fd. fd.0) to) e))) }
+    requires address { length address.now ≤ MOST_ADDRESS }
+    requires options { length options.now ≤ MOST_OPTIONS }
+    requires data { length (concat parts.now) ≤ MOST_SEND }
+    ensures ok { OnOk result (Delivers lent.old lent.new fd.0 address.now options.now parts.now to) }
     ensures kept { SameCells lent.old lent.new }
     ensures err { OnErr result (lent.new ≡ lent.old) }
 {
@@ -106,11 +104,11 @@ pub(crate) fn send(
 ) -> Result<Applied, AllocError>
     requires fit { IsFit lent.old }
     requires reach { CanReach lent.old fd.0 address.now }
-    ensures step { IfOk result (λ a. taken a (cells lent.new) ≡ step_of lent.old.providers (cells lent.old) (send_plan lent.old.providers (cells lent.old) fd.0 address.now options.now (length parts.now) (concat parts.now))) }
-    ensures still { IfOk result (λ a. taken a (cells lent.new) ≡ None → lent.new ≡ lent.old) }
+    ensures step { IfOk result (AnswersBy (sending lent.old fd.0 address.now options.now parts.now) lent.old lent.new) }
+    ensures still { IfOk result (StaysBlocked lent.old lent.new) }
     ensures kept { SameCells lent.old lent.new }
     ensures err { OnErr result (lent.new ≡ lent.old) }
-    ensures sure { has_effect (first (send_plan lent.old.providers (cells lent.old) fd.0 address.now options.now (length parts.now) (concat parts.now)).rows) ≡ false → IsOk result }
+    ensures sure { IsSureBy (sending lent.old fd.0 address.now options.now parts.now) result }
 {
     let Some(e) = lent.open_endpoint(fd) else {
         return Ok(refused(lent, fd, Errno::TBADF));

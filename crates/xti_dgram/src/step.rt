@@ -1,11 +1,9 @@
 //! One step.
 
-ghost use Rattle.std.specs.Prelude.{◌≡◌, false, None, IfOk, IsOk, OnErr};
-ghost use Rattle.xti_model.specs.Memory.{may_run_out};
-ghost use Rattle.xti_model.specs.Step.{step};
+ghost use Rattle.std.specs.Prelude.{◌≡◌, IfOk, OnErr};
 ghost use Rattle.xti_model.specs.Touched.{touched};
 ghost use Rattle.xti_model.specs.declared.entry.Go.{Go};
-ghost use Rattle.xti_end.specs.Taken.{taken};
+ghost use Rattle.xti_lent.specs.Answers.{AnswersCall, IsSureOf, StaysBlocked};
 ghost use Rattle.xti_lent.specs.Fit.{AllLent, IsFit, SameCells};
 ghost use Rattle.xti_lent.specs.Lending.{cells};
 ghost use Rattle.xti_dgram.specs.Sends.{IsSend};
@@ -23,11 +21,11 @@ pub fn dgram_step(lent: &mut Lent, call: &Call) -> Result<Applied, AllocError>
     requires call { IsSend call.now }
     requires fit { IsFit lent.old }
     requires lent { AllLent lent.old (touched lent.old.providers (cells lent.old) call.now) }
-    ensures step { IfOk result (λ a. (g : Go) → taken a (cells lent.new) ≡ step lent.old.providers (cells lent.old) call.now g) }
-    ensures still { IfOk result (λ a. taken a (cells lent.new) ≡ None → lent.new ≡ lent.old) }
+    ensures step { IfOk result (λ a. (g : Go) → AnswersCall call.now g lent.old lent.new a) }
+    ensures still { IfOk result (StaysBlocked lent.old lent.new) }
     ensures kept { SameCells lent.old lent.new }
     ensures err { OnErr result (lent.new ≡ lent.old) }
-    ensures sure { (g : Go) → may_run_out lent.old.providers (cells lent.old) call.now g ≡ false → IsOk result }
+    ensures sure { (g : Go) → IsSureOf call.now g lent.old result }
 {
     match call {
         Call::TSndUData {

@@ -1,31 +1,33 @@
 //! What a send makes of lent cells.
 
-ghost use Rattle.std.specs.Prelude.{◌≡◌, ◌∷◌, [], None, OnOk, OnErr, option_map};
+ghost use Rattle.std.specs.Prelude.{◌≡◌, ◌∷◌, [], OnOk, OnErr, option_map};
 ghost use Rattle.tpi_grammar.specs.declared.kind.Kind.TheVariants.{T_UNITDATA_IND, T_UDERROR_IND};
 ghost use Rattle.tpi_prim.specs.Fields.{kind_in};
 ghost use Rattle.xti_model.specs.Spot.{spot_bytes};
-ghost use Rattle.xti_model.specs.World.{changed, at_endpoint};
-ghost use Rattle.xti_model.specs.Calls.Datagrams.{mark_flow, with_datagram, with_error_unmarked};
+ghost use Rattle.xti_model.specs.World.{at_endpoint};
+ghost use Rattle.xti_model.specs.Calls.Datagrams.{mark_flow, with_datagram};
 ghost use Rattle.xti_end.specs.Frames.{datagram_in, error_in};
+ghost use Rattle.xti_lent.specs.Answers.{Changed};
 ghost use Rattle.xti_lent.specs.Fit.{AtOwnPlaces, SameCells};
-ghost use Rattle.xti_lent.specs.Lending.{cells};
 ghost use Rattle.xti_dgram.specs.Reach.{IsHeld};
+ghost use Rattle.xti_dgram.specs.Sends.{failing, giving};
 
 use crate::places;
 use std::alloc::AllocError;
 use tpi_prim::Frame;
 use xti_base::Fd;
-use xti_lent::{Lent, place_of};
+use xti_lent::Lent;
 use xti_model::Spot;
 
 /// Sets the datagram flow mark, or clears it, where the endpoint is open. Takes no memory.
 pub(crate) fn mark_flow(lent: &mut Lent, fd: Fd, to: Option<Spot>)
     requires own { AtOwnPlaces lent.old }
     requires there { IsHeld lent.old fd.0 }
-    ensures cells { cells lent.new ≡ changed lent.old.providers (cells lent.old) (at_endpoint fd.0 (mark_flow (option_map spot_bytes to)) ∷ []) }
+    ensures cells { Changed (at_endpoint fd.0 (mark_flow (option_map spot_bytes to)) ∷ []) lent.old lent.new }
     ensures kept { SameCells lent.old lent.new }
 {
-    places::mark_flow(lent.endpoint(place_of(fd)), fd, to);
+    let p = *lent.providers();
+    places::mark_flow(lent.endpoint(p.place_of(fd)), &p, fd, to);
 }
 
 /// A datagram waits at an endpoint, where that is open; where memory runs out all is as before.
@@ -33,11 +35,12 @@ fn push_datagram(lent: &mut Lent, fd: Fd, frame: Frame) -> Result<(), AllocError
     requires own { AtOwnPlaces lent.old }
     requires there { IsHeld lent.old fd.0 }
     requires kind { kind_in frame ≡ T_UNITDATA_IND }
-    ensures ok { OnOk result (cells lent.new ≡ changed lent.old.providers (cells lent.old) (at_endpoint fd.0 (with_datagram (datagram_in frame)) ∷ [])) }
+    ensures ok { OnOk result (Changed (at_endpoint fd.0 (with_datagram (datagram_in frame)) ∷ []) lent.old lent.new) }
     ensures kept { SameCells lent.old lent.new }
     ensures err { OnErr result (lent.new ≡ lent.old) }
 {
-    places::push_datagram(lent.endpoint(place_of(fd)), fd, frame)
+    let p = *lent.providers();
+    places::push_datagram(lent.endpoint(p.place_of(fd)), &p, fd, frame)
 }
 
 /// A datagram error waits at the sender, where that is open, and its flow mark is cleared; where memory runs out all is as before.
@@ -45,11 +48,12 @@ pub(crate) fn push_error(lent: &mut Lent, fd: Fd, frame: Frame) -> Result<(), Al
     requires own { AtOwnPlaces lent.old }
     requires there { IsHeld lent.old fd.0 }
     requires kind { kind_in frame ≡ T_UDERROR_IND }
-    ensures ok { OnOk result (cells lent.new ≡ changed lent.old.providers (cells lent.old) (at_endpoint fd.0 (with_error_unmarked (error_in frame)) ∷ [])) }
+    ensures ok { OnOk result (Changed (failing fd.0 (error_in frame)) lent.old lent.new) }
     ensures kept { SameCells lent.old lent.new }
     ensures err { OnErr result (lent.new ≡ lent.old) }
 {
-    places::push_error(lent.endpoint(place_of(fd)), fd, frame)
+    let p = *lent.providers();
+    places::push_error(lent.endpoint(p.place_of(fd)), &p, fd, frame)
 }
 
 /// A datagram waits at an endpoint, and the sender's flow mark is cleared; where memory runs out all is as before.
@@ -58,7 +62,7 @@ pub(crate) fn give(lent: &mut Lent, fd: Fd, to: Fd, frame: Frame) -> Result<(), 
     requires sender { IsHeld lent.old fd.0 }
     requires receiver { IsHeld lent.old to.0 }
     requires kind { kind_in frame ≡ T_UNITDATA_IND }
-    ensures ok { OnOk result (cells lent.new ≡ changed lent.old.providers (cells lent.old) (at_endpoint to.0 (with_datagram (datagram_in frame)) ∷ at_endpoint fd.0 (mark_flow None) ∷ [])) }
+    ensures ok { OnOk result (Changed (giving fd.0 to.0 (datagram_in frame)) lent.old lent.new) }
     ensures kept { SameCells lent.old lent.new }
     ensures err { OnErr result (lent.new ≡ lent.old) }
 {

@@ -4,7 +4,7 @@ use Rattle.std.specs.Prelude.{map, is_none, is_some, option_map, remove}
 use Rattle.xti_model.specs.declared.profile.Providers.{Providers}
 use Rattle.xti_model.specs.Cells.{listed}
 use Rattle.xti_model.specs.Touched.{of_some, caller_cells}
-use Rattle.xti_model.proofs.Rising.{rising-listed}
+use Rattle.xti_model.proofs.RisingNumbers.{listed-none}
 use Rattle.xti_model.specs.Endpoint.{Endpoint}
 use Rattle.xti_model.specs.Events.{some_wait}
 use Rattle.xti_model.specs.Calls.Datagrams.{first_of, has_rest, received}
@@ -60,5 +60,5 @@ removed-is (Some e) q l r place h = rw (h, map-removed l.frames place) refl
 
 -- nobody asks an endpoint for a connection
 pub callers-none : (p : Providers) (o : Option Parts) (q : Queue) (l : FrameList) → [] ≡ listed (of_some (body_of o q l) (caller_cells p))
-callers-none p None q l = sym (rising-listed [] tt)
-callers-none p (Some e) q l = sym (rising-listed [] tt)
+callers-none p None q l = sym listed-none
+callers-none p (Some e) q l = sym listed-none

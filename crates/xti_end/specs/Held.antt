@@ -1,10 +1,12 @@
 -- What contracts see of an endpoint: the cell of its place, and how much more it takes with no memory.
-use Rattle.std.specs.Prelude.{◌≡◌, ℕ, Bool, false, ◌==◌, ◌&&◌, List, [], ◌∷◌, Option, Some, None, is_some, unwrap_or, option_map, option_and_then, map}
+use Rattle.std.specs.Prelude.{◌≡◌, ℕ, Bool, false, ◌==◌, ◌&&◌, List, [], ◌∷◌, Option, Some, None, is_some, unwrap_or, option_map, option_and_then, map, remove}
 use Rattle.xti_base.specs.declared.kinds.Prov.TheVariants.{Ticlts}
-use Rattle.xti_model.specs.Profile.{usual}
-use Rattle.xti_model.specs.Endpoint.{Endpoint, Datagram, DatagramError, opened}
+use Rattle.xti_base.specs.declared.kinds.State.TheVariants.{T_UNINIT}
+use Rattle.xti_model.specs.declared.profile.Providers.{Providers}
+use Rattle.xti_model.specs.Endpoint.{Endpoint, Datagram, DatagramError}
+use Rattle.xti_model.specs.Calls.Datagrams.{with_datagram, with_error}
 use Rattle.xti_model.specs.Spot.{spot_bytes}
-use Rattle.xti_model.specs.World.{World, Cell, endpoint_cell, descriptor, closed_places}
+use Rattle.xti_model.specs.World.{World, Cell, endpoint_cell, generation_of, place_of, closed_places}
 use Rattle.xti_queue.specs.Queue.{Queue, frames}
 use Rattle.xti_end.specs.declared.parts.Parts.{Parts}
 use Rattle.xti_end.specs.Frames.{FrameList, datagram_of, error_in}
@@ -27,9 +29,41 @@ alone h = record { number = h.place; cell = cell h } ∷ []
 abbrev pub is_open : Held → Bool
 is_open h = is_some h.body
 
+-- an endpoint of which each part is empty
+abbrev pub empty_endpoint : Endpoint
+empty_endpoint = record {
+  prov = Ticlts;
+  nonblock = false;
+  state = T_UNINIT;
+  address = None;
+  qlen = 0;
+  last_number = 0;
+  pending = [];
+  outstanding = [];
+  disconnects = [];
+  target = None;
+  peer = None;
+  peer_address = None;
+  confirmation = None;
+  normal = [];
+  expedited = [];
+  mid_expedited = false;
+  release = false;
+  datagrams = [];
+  begun = false;
+  datagram_errors = [];
+  unfinished_normal = 0;
+  unfinished_expedited = 0;
+  flow_normal = false;
+  flow_expedited = false;
+  flow_datagram = None;
+  sndbuf = 0;
+  rcvbuf = 0;
+}
+
 -- the open endpoint; of a closed one nothing is meant
 abbrev pub parts_of : Option Endpoint → Endpoint
-parts_of o = unwrap_or o (opened usual.ticlts Ticlts false)
+parts_of o = unwrap_or o empty_endpoint
 
 abbrev pub parts : Held → Endpoint
 parts h = parts_of h.body
@@ -38,12 +72,9 @@ parts h = parts_of h.body
 abbrev pub with_parts : (Endpoint → Endpoint) → Held → Held
 with_parts f h = record h { body = option_map f h.body }
 
--- the descriptor of this place and generation
-abbrev pub descriptor_of : Held → ℕ
-descriptor_of h = descriptor usual h.generation h.place
-
-abbrev pub is_open_as : ℕ → Held → Bool
-is_open_as fd h = is_open h && (fd == descriptor_of h)
+-- the descriptor stands for this place and generation, and an endpoint is open
+abbrev pub is_open_as : Providers → ℕ → Held → Bool
+is_open_as p fd h = is_open h && (h.generation == generation_of p fd) && (h.place == place_of p fd)
 
 -- the datagrams of the endpoint that is open; a closed one has none
 abbrev pub datagrams_at : Option Endpoint → List Datagram
@@ -72,7 +103,7 @@ IsUnused place h = alone h ≡ closed_places place 1
 
 -- the open endpoint that the parts stand for; the parts that no call fills yet are empty
 abbrev pub endpoint_of : Parts → List Datagram → List DatagramError → Endpoint
-endpoint_of e datagrams errors = record (opened usual.ticlts Ticlts false) {
+endpoint_of e datagrams errors = record empty_endpoint {
   prov = e.prov;
   nonblock = e.nonblock;
   state = e.state;
@@ -95,3 +126,14 @@ pub record SameRoom (old new : Held) : Type 0 where
   pub generation : new.generation ≡ old.generation
   pub datagrams : new.spare_datagrams ≡ old.spare_datagrams
   pub datagram_errors : new.spare_datagram_errors ≡ old.spare_datagram_errors
+
+-- a datagram or an error waits after the others; how many more are taken with no memory is said apart
+abbrev pub AddsDatagram : Datagram → Held → Held → Type 0
+AddsDatagram d old new = new ≡ record (with_parts (with_datagram d) old) { spare_datagrams = new.spare_datagrams }
+
+abbrev pub AddsError : DatagramError → Held → Held → Type 0
+AddsError d old new = new ≡ record (with_parts (with_error d) old) { spare_datagram_errors = new.spare_datagram_errors }
+
+-- the error at a place is gone; the others stay in their order
+abbrev pub without_error_at : ℕ → Endpoint → Endpoint
+without_error_at place e = record e { datagram_errors = remove e.datagram_errors place }

@@ -1,5 +1,5 @@
 -- What a step answered, and the world that it left.
-use Rattle.std.specs.Prelude.{◌≡◌, ℕ, List, [], ◌∷◌, Option, Some, None}
+use Rattle.std.specs.Prelude.{◌≡◌, ℕ, false, List, [], ◌∷◌, length, sum, Option, Some, None, Result, IfOk, IsOk}
 use Rattle.xti_model.specs.declared.call.Call.{Call}
 use Rattle.xti_model.specs.declared.call.Call.TheVariants as call
 use Rattle.xti_model.specs.declared.profile.Providers.{Providers}
@@ -8,9 +8,10 @@ use Rattle.xti_model.specs.declared.entry.Applied.TheVariants as applied
 use Rattle.xti_model.specs.declared.entry.Outcome.TheVariants.{Done}
 use Rattle.xti_model.specs.World.{World, place_of, at_endpoint}
 use Rattle.xti_model.specs.Endpoint.{Endpoint}
-use Rattle.xti_model.specs.Plan.{Field, field, first, overflows, plan_of}
-use Rattle.xti_model.specs.Step.{Step, step_by}
+use Rattle.xti_model.specs.Plan.{Plan, Field, field, first, has_effect, overflows, plan_of}
+use Rattle.xti_model.specs.Step.{Step, step_by, step_of}
 use Rattle.xti_model.specs.Calls.Datagrams as Datagrams
+use Rattle.xti_end.specs.Held.{Held, alone, parts}
 
 abbrev pub taken : Applied → World → Option Step
 taken (applied.Step outcome after) w = Some (record { outcome = outcome; after = after; world = w })
@@ -40,3 +41,38 @@ abbrev pub error_step : Providers → World → ℕ → ℕ → ℕ → Endpoint
 error_step p w fd amax omax e =
     step_by p w (plan_of fd e (Datagrams.error_rows amax omax e) (at_endpoint fd Datagrams.without_error ∷ []) (Done (Datagrams.error_reply (Datagrams.first_error e) amax omax)))
     (first (overflows (error_fields amax omax e) ∷ []))
+
+-- the answer, and the cell that is left, are those of the plan's step
+abbrev pub AnswersBy : Providers → Plan → Held → Held → Applied → Type 0
+AnswersBy p plan old new a = taken a (alone new) ≡ step_of p (alone old) plan
+
+-- the answer, if there is one, and the cell that is left are those of this step
+abbrev pub Makes : {E : Type 0} → Option Step → Held → Result Applied E → Type 0
+Makes s new r = IfOk r (λ a. taken a (alone new) ≡ s)
+
+-- where it is blocked, the cell is as before
+abbrev pub StillBlocked : {E : Type 0} → Held → Held → Result Applied E → Type 0
+StillBlocked old new r = IfOk r (λ a. taken a (alone new) ≡ None → new ≡ old)
+
+-- memory does not run out where the plan's first row that holds changes nothing
+abbrev pub IsSureBy : {E : Type 0} → Plan → Result Applied E → Type 0
+IsSureBy plan r = has_effect (first plan.rows) ≡ false → IsOk r
+
+-- the answer, if there is one, is that of the plan
+abbrev pub MakesBy : {E : Type 0} → Providers → Plan → Held → Held → Result Applied E → Type 0
+MakesBy p plan old new r = IfOk r (AnswersBy p plan old new)
+
+-- how a datagram is received, and how an error is
+abbrev pub receiving : Providers → Held → ℕ → ℕ → ℕ → ℕ → ℕ → Plan
+receiving p h fd sizes max amax omax = Datagrams.receive_plan p (alone h) fd sizes max amax omax
+
+-- the same in all these sizes
+abbrev pub receiving_all : Providers → Held → ℕ → List ℕ → ℕ → ℕ → Plan
+receiving_all p h fd sizes amax omax = receiving p h fd (length sizes) (sum sizes) amax omax
+
+abbrev pub receiving_error : Providers → Held → ℕ → ℕ → ℕ → Plan
+receiving_error p h fd amax omax = Datagrams.error_plan p (alone h) fd amax omax
+
+-- the first datagram was received or lost, in however many sizes
+abbrev pub Receives : {E : Type 0} → Providers → ℕ → ℕ → ℕ → ℕ → Held → Held → Result Applied E → Type 0
+Receives p fd max amax omax old new r = IfOk r (λ a. (sizes : ℕ) → taken a (alone new) ≡ receive_step p (alone old) fd sizes max amax omax (parts old))

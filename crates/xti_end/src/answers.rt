@@ -11,11 +11,15 @@ use xti_base::{Errno, Fd, State};
 use xti_model::{Applied, Outcome, Providers, Reply};
 
 /// The state of the endpoint with this descriptor; T_UNINIT where it is not open.
-fn state(e: &Endpoint, _p: &Providers, fd: Fd) -> State
-    requires { place_of _p.now fd.0 ≡ e.now.place }
-    ensures { result ≡ state_of (endpoint _p.now (alone e.now) fd.0) }
+fn state(e: &Endpoint, p: &Providers, fd: Fd) -> State
+    requires { place_of p.now fd.0 ≡ e.now.place }
+    ensures { result ≡ state_of (endpoint p.now (alone e.now) fd.0) }
 {
-    if e.is(fd) { e.state() } else { State::T_UNINIT }
+    if e.is(p, fd) {
+        e.state()
+    } else {
+        State::T_UNINIT
+    }
 }
 
 /// A call that is done.

@@ -1,13 +1,12 @@
 //! The errors of datagrams that wait at an endpoint.
 
-ghost use Rattle.std.specs.Prelude.{◌≡◌, ◌≤◌, ◌<◌, ◌+◌, [], true, Some, length, slice_get, remove, max, OnOk, OnErr, IfSome};
+ghost use Rattle.std.specs.Prelude.{◌≡◌, ◌≤◌, ◌<◌, ◌+◌, [], true, Some, length, slice_get, max, OnOk, OnErr, IfSome};
 ghost use Rattle.std.specs.Option.{option_copied, option_map};
 ghost use Rattle.tpi_grammar.specs.declared.kind.Kind.TheVariants.{T_UDERROR_IND};
 ghost use Rattle.tpi_prim.specs.Fields.{kind_in};
 ghost use Rattle.xti_model.specs.Events.{some_wait};
-ghost use Rattle.xti_model.specs.Calls.Datagrams.{with_error};
 ghost use Rattle.xti_end.specs.Frames.{error_in};
-ghost use Rattle.xti_end.specs.Held.{is_open, parts, with_parts, errors_at};
+ghost use Rattle.xti_end.specs.Held.{is_open, parts, with_parts, errors_at, without_error_at, AddsError};
 
 use crate::endpoint::Endpoint;
 use std::alloc::AllocError;
@@ -27,7 +26,7 @@ impl Endpoint {
         requires { place < length (errors_at self.old.body) }
         ensures error { Some (error_in result) ≡ slice_get (errors_at self.old.body) place }
         ensures kind { kind_in result ≡ T_UDERROR_IND }
-        ensures taken { self.new ≡ with_parts (λ e. record e { datagram_errors = remove e.datagram_errors place }) self.old }
+        ensures taken { self.new ≡ with_parts (without_error_at place) self.old }
     {
         self.datagram_errors.remove(place)
     }
@@ -63,7 +62,7 @@ impl Endpoint {
         requires open { is_open self.old ≡ true }
         requires room { 1 ≤ self.old.spare_datagram_errors }
         requires kind { kind_in frame ≡ T_UDERROR_IND }
-        ensures added { self.new ≡ record (with_parts (with_error (error_in frame)) self.old) { spare_datagram_errors = self.new.spare_datagram_errors } }
+        ensures added { AddsError (error_in frame) self.old self.new }
         ensures spare { self.old.spare_datagram_errors ≤ self.new.spare_datagram_errors + 1 }
     {
         self.datagram_errors.push(frame);

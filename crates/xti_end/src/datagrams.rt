@@ -5,23 +5,21 @@ ghost use Rattle.tpi_grammar.specs.declared.kind.Kind.TheVariants.{T_UNITDATA_IN
 ghost use Rattle.tpi_prim.specs.Fields.{kind_in};
 ghost use Rattle.xti_model.specs.Events.{some_wait};
 ghost use Rattle.xti_model.specs.Sending.{takes_datagram};
-ghost use Rattle.xti_model.specs.Calls.Datagrams.{with_datagram};
 ghost use Rattle.xti_queue.specs.Queue.{frames};
-ghost use Rattle.xti_end.specs.Frames.{datagram_of, datagram_in};
-ghost use Rattle.xti_end.specs.Held.{is_open, parts, with_parts, datagrams_at};
+ghost use Rattle.xti_end.specs.Frames.{datagram_of, datagram_in, AreDatagrams};
+ghost use Rattle.xti_end.specs.Held.{is_open, parts, with_parts, datagrams_at, AddsDatagram};
 
 use crate::endpoint::Endpoint;
 use std::alloc::AllocError;
 use tpi_prim::Frame;
+use xti_base::limits::MOST_DATAGRAMS;
 use xti_queue::ReadQueue;
-
-/// The most datagrams that wait at an endpoint.
-const MOST_DATAGRAMS: usize = 16;
 
 impl Endpoint {
     /// The datagrams that wait, as T_UNITDATA_IND frames. Takes no memory.
     pub fn datagrams(&self) -> &ReadQueue
-        ensures { map datagram_of (frames result.now) ≡ datagrams_at self.now.body }
+        ensures datagrams { map datagram_of (frames result.now) ≡ datagrams_at self.now.body }
+        ensures kind { AreDatagrams result.now.pushed }
     {
         &self.datagrams
     }
@@ -64,7 +62,7 @@ impl Endpoint {
         requires open { is_open self.old ≡ true }
         requires room { 1 ≤ self.old.spare_datagrams }
         requires kind { kind_in frame ≡ T_UNITDATA_IND }
-        ensures added { self.new ≡ record (with_parts (with_datagram (datagram_in frame)) self.old) { spare_datagrams = self.new.spare_datagrams } }
+        ensures added { AddsDatagram (datagram_in frame) self.old self.new }
         ensures spare { self.old.spare_datagrams ≤ self.new.spare_datagrams + 1 }
     {
         self.datagrams.push(frame);

@@ -1,11 +1,11 @@
 //! A place and the endpoint that is open there.
 
-ghost use Rattle.std.specs.Prelude.{◌≡◌, ◌+◌, ◌*◌, None, Some, false, true};
+ghost use Rattle.std.specs.Prelude.{◌≡◌, ◌+◌, ◌<◌, None, Some, false, true, IfSome};
 ghost use Rattle.xti_model.specs.Endpoint.{opened};
-ghost use Rattle.xti_model.specs.Profile.{valid};
 ghost use Rattle.xti_model.specs.Provider.{profile, is_provider};
-ghost use Rattle.xti_model.specs.World.{descriptor};
+ghost use Rattle.xti_model.specs.World.{last_generation};
 ghost use Rattle.xti_end.specs.Held.{is_open, is_open_as};
+ghost use Rattle.xti_end.specs.Unconnected.{IsUnconnected};
 
 use crate::lists::FrameList;
 use crate::parts::Parts;
@@ -43,7 +43,7 @@ impl Model for Endpoint {
       spare_datagram_errors = e.datagram_errors.spare;
     } };
 
-    ghost invariant = { λ e. IsKept e.place e.generation e.body e.datagrams e.datagram_errors };
+    ghost invariant = { λ e. IsKept e.generation e.body e.datagrams e.datagram_errors };
 }
 
 impl MadeWith<Global> for Endpoint {
@@ -73,17 +73,15 @@ impl Endpoint {
         }
     }
 
-    /// An endpoint opens at the closed place, with the descriptor of its place and generation. Takes no memory.
-    pub fn open(&mut self, fd: Fd, prov: Prov, nonblock: bool, p: &Providers)
+    /// An endpoint opens at the closed place, which may not have been closed too often. Takes no memory.
+    pub fn open(&mut self, prov: Prov, nonblock: bool, p: &Providers)
         requires closed { is_open self.old ≡ false }
-        requires descriptor { fd.0 ≡ descriptor p.now self.old.generation self.old.place }
+        requires counted { self.old.generation < last_generation p.now }
         requires provider { is_provider prov ≡ true }
-        requires valid { valid p.now ≡ true }
         ensures { self.new ≡ record self.old { body = Some (opened (profile p.now prov) prov nonblock) } }
     {
         let profile = profile(p, prov);
         self.body = Some(Parts {
-            fd,
             prov,
             nonblock,
             state: State::T_UNBND,
@@ -101,24 +99,10 @@ impl Endpoint {
         requires { is_open self.old ≡ true }
         ensures { self.new ≡ record self.old { generation = self.old.generation + 1; body = None } }
     {
-        self.generation = self.next_generation();
+        self.generation += 1;
         self.body = None;
         self.datagrams.discard_stream();
         self.datagram_errors.clear();
-    }
-
-    /// The place's generation when its open endpoint is closed; it fits, since its descriptor does.
-    fn next_generation(&self) -> u32
-        requires { is_open self.now ≡ true }
-        ensures { result ≡ self.now.generation + 1 }
-    {
-        match &self.body {
-            Some(parts) => {
-                let _descriptor = parts.fd.0;
-                self.generation + 1
-            }
-            None => unreachable!(),
-        }
     }
 
     /// The place.
@@ -142,13 +126,13 @@ impl Endpoint {
         self.body.is_some()
     }
 
-    /// Whether the endpoint is open with this descriptor.
-    pub fn is(&self, fd: Fd) -> bool
-        ensures { result ≡ is_open_as fd.0 self.now }
+    /// Whether the endpoint is open with this descriptor. It has nothing of a connection, since none are made yet.
+    pub fn is(&self, p: &Providers, fd: Fd) -> bool
+        ensures is { result ≡ is_open_as p.now fd.0 self.now }
+        ensures unconnected { IfSome self.now.body IsUnconnected }
     {
-        match &self.body {
-            Some(parts) => parts.fd.0 == fd.0,
-            None => false,
-        }
+        self.body.is_some()
+            && self.generation == p.generation_of(fd)
+            && self.place == p.place_of(fd)
     }
 }

@@ -1,12 +1,12 @@
 //! The calls that touch one cell.
 
-ghost use Rattle.std.specs.Prelude.{◌≡◌, [], true, false, IfOk, IsOk, OnErr, None};
+ghost use Rattle.std.specs.Prelude.{◌≡◌, [], true, false, IsOk, OnErr, None};
 ghost use Rattle.xti_model.specs.Memory.{may_run_out};
-ghost use Rattle.xti_model.specs.Step.{step, step_of};
+ghost use Rattle.xti_model.specs.Step.{step};
 ghost use Rattle.xti_model.specs.World.{place_of};
 ghost use Rattle.xti_model.specs.Calls.Show as Show;
 ghost use Rattle.xti_end.specs.Held.{alone, SameRoom};
-ghost use Rattle.xti_end.specs.Taken.{taken, IsAt};
+ghost use Rattle.xti_end.specs.Taken.{taken, IsAt, AnswersBy, Makes, StillBlocked};
 
 use crate::answers::{done, refused};
 use crate::endpoint::Endpoint;
@@ -20,8 +20,8 @@ impl Endpoint {
     #[tactic(auto, unfolding(xti_model::specs::Step::step, xti_model::specs::Step::plan))]
     pub fn local(&mut self, call: &Call, _go: Go, p: &Providers) -> Result<Applied, AllocError>
         requires { IsAt p.now self.old.place call.now }
-        ensures step { IfOk result (λ a. taken a (alone self.new) ≡ step p.now (alone self.old) call.now _go) }
-        ensures still { IfOk result (λ a. taken a (alone self.new) ≡ None → self.new ≡ self.old) }
+        ensures step { Makes (step p.now (alone self.old) call.now _go) self.new result }
+        ensures still { StillBlocked self.old self.new result }
         ensures room { SameRoom self.old self.new }
         ensures err { OnErr result (self.new ≡ self.old) }
         ensures sure { may_run_out p.now (alone self.old) call.now _go ≡ false → IsOk result }
@@ -50,9 +50,9 @@ impl Endpoint {
     /// t_getstate and t_sync.
     fn getstate(&self, p: &Providers, fd: Fd) -> Applied
         requires { place_of p.now fd.0 ≡ self.now.place }
-        ensures { taken result (alone self.now) ≡ step_of p.now (alone self.now) (Show.state_plan p.now (alone self.now) fd.0) }
+        ensures { AnswersBy p.now (Show.state_plan p.now (alone self.now) fd.0) self.now self.now result }
     {
-        if !self.is(fd) {
+        if !self.is(p, fd) {
             return refused(self, p, fd, Errno::TBADF);
         }
         let state = self.state();
@@ -62,11 +62,11 @@ impl Endpoint {
     /// Sets O_NONBLOCK, or clears it.
     fn set_mode(&mut self, p: &Providers, fd: Fd, nonblock: bool) -> Applied
         requires { place_of p.now fd.0 ≡ self.old.place }
-        ensures step { taken result (alone self.new) ≡ step_of p.now (alone self.old) (Show.mode_plan p.now (alone self.old) fd.0 nonblock) }
+        ensures step { AnswersBy p.now (Show.mode_plan p.now (alone self.old) fd.0 nonblock) self.old self.new result }
         ensures still { taken result (alone self.new) ≡ None → self.new ≡ self.old }
         ensures room { SameRoom self.old self.new }
     {
-        if !self.is(fd) {
+        if !self.is(p, fd) {
             return refused(self, p, fd, Errno::TBADF);
         }
         self.set_nonblock(nonblock);

@@ -1,12 +1,11 @@
 //! The parts of an open endpoint that are replaced as a whole.
 
-use xti_base::{Fd, Octets, Prov, State};
+use xti_base::{Octets, Prov, State};
 use xti_model::Spot;
 
-/// The parts of an open endpoint that writers replace, and the descriptor that it was opened with.
+/// The parts of an open endpoint that writers replace.
 #[derive(Drop)]
 pub(crate) struct Parts {
-    pub(crate) fd: Fd,
     pub(crate) prov: Prov,
     pub(crate) nonblock: bool,
     pub(crate) state: State,

@@ -1,15 +1,13 @@
 //! t_rcvudata and t_rcvvudata.
 
-ghost use Rattle.std.specs.Prelude.{◌≡◌, ℕ, [], true, false, length, sum, take, IfOk, IsOk, OnOk, OnErr, None};
+ghost use Rattle.std.specs.Prelude.{◌≡◌, nat_lt, ℕ, [], true, false, length, sum, take, IfOk, IsOk, OnOk, OnErr, None};
 ghost use Rattle.tpi_grammar.specs.Frame.{AreBytes};
 ghost use Rattle.xti_model.specs.Arguments.{is_too_many};
 ghost use Rattle.xti_model.specs.Events.{some_wait};
-ghost use Rattle.xti_model.specs.Plan.{first, has_effect};
-ghost use Rattle.xti_model.specs.Step.{step_of};
 ghost use Rattle.xti_model.specs.World.{place_of};
 ghost use Rattle.xti_model.specs.Calls.Datagrams as Datagrams;
-ghost use Rattle.xti_end.specs.Held.{alone, is_open, is_open_as, parts, with_parts, SameRoom};
-ghost use Rattle.xti_end.specs.Taken.{taken, receive_step};
+ghost use Rattle.xti_end.specs.Held.{is_open, is_open_as, parts, with_parts, SameRoom};
+ghost use Rattle.xti_end.specs.Taken.{receiving, receiving_all, IsSureBy, MakesBy, Receives, StillBlocked};
 
 use crate::answers::{done, refused};
 use crate::endpoint::Endpoint;
@@ -17,15 +15,16 @@ use crate::fields::{is_too_long, trimmed_copy};
 use crate::providers::has_datagrams;
 use std::alloc::AllocError;
 use tpi_prim::primitive::Part;
+use xti_base::limits::MOST_PARTS;
 use xti_base::{Errno, Event, Fd, Octets, Seq, State};
 use xti_model::{Applied, Providers, Reply};
 
-/// The same bytes, which are numbers under 256.
-fn bytes(bytes: &[u8]) -> &[u8]
-    ensures same { result.now ≡ bytes.now }
+/// Whether there are more bytes than `max`.
+fn is_more(bytes: &[u8], max: usize) -> bool
+    ensures more { result ≡ nat_lt max (length bytes.now) }
     ensures bytes { AreBytes bytes.now }
 {
-    bytes
+    bytes.len() > max
 }
 
 /// Bytes of a datagram, and whether more of it are left.
@@ -67,11 +66,10 @@ impl Endpoint {
     /// What is left of the first datagram's bytes.
     fn rest(&self) -> &[u8]
         requires { is_open self.now ≡ true }
-        ensures rest { result.now ≡ (Datagrams.first_of (parts self.now)).bytes }
-        ensures bytes { AreBytes result.now }
+        ensures { result.now ≡ (Datagrams.first_of (parts self.now)).bytes }
     {
         match self.datagrams.front_rest() {
-            Some(rest) => bytes(rest),
+            Some(rest) => rest,
             None => &[],
         }
     }
@@ -91,12 +89,12 @@ impl Endpoint {
     fn take_bytes(&mut self, max: usize) -> Result<Received, AllocError>
         requires open { is_open self.old ≡ true }
         requires waits { some_wait (parts self.old).datagrams ≡ true }
-        ensures bytes { IfOk result (λ received. received.bytes ≡ take max (Datagrams.first_of (parts self.old)).bytes) }
-        ensures more { IfOk result (λ received. received.more ≡ Datagrams.has_rest max (Datagrams.first_of (parts self.old))) }
+        ensures bytes { IfOk result (λ r. r.bytes ≡ take max (Datagrams.first_of (parts self.old)).bytes) }
+        ensures more { IfOk result (λ r. r.more ≡ Datagrams.has_rest max (Datagrams.first_of (parts self.old))) }
         ensures left { OnOk result (self.new ≡ with_parts (Datagrams.received max) self.old) }
         ensures err { OnErr result (self.new ≡ self.old) }
     {
-        let begun = self.rest().len() > max;
+        let begun = is_more(self.rest(), max);
         let piece = self.datagrams.take(max)?;
         self.set_begun(begun);
         Ok(Received {
@@ -115,10 +113,10 @@ impl Endpoint {
         omax: u32,
     ) -> Result<Applied, AllocError>
         requires place { place_of p.now fd.0 ≡ self.old.place }
-        requires open { is_open_as fd.0 self.old ≡ true }
+        requires open { is_open_as p.now fd.0 self.old ≡ true }
         requires waits { some_wait (parts self.old).datagrams ≡ true }
-        ensures step { IfOk result (λ a. (sizes : ℕ) → taken a (alone self.new) ≡ receive_step p.now (alone self.old) fd.0 sizes max amax omax (parts self.old)) }
-        ensures still { IfOk result (λ a. taken a (alone self.new) ≡ None → self.new ≡ self.old) }
+        ensures step { Receives p.now fd.0 max amax omax self.old self.new result }
+        ensures still { StillBlocked self.old self.new result }
         ensures room { SameRoom self.old self.new }
         ensures err { OnErr result (self.new ≡ self.old) }
     {
@@ -152,13 +150,13 @@ impl Endpoint {
         omax: u32,
     ) -> Result<Applied, AllocError>
         requires { place_of p.now fd.0 ≡ self.old.place }
-        ensures step { IfOk result (λ a. taken a (alone self.new) ≡ step_of p.now (alone self.old) (Datagrams.receive_plan p.now (alone self.old) fd.0 sizes max amax omax)) }
-        ensures still { IfOk result (λ a. taken a (alone self.new) ≡ None → self.new ≡ self.old) }
+        ensures step { MakesBy p.now (receiving p.now self.old fd.0 sizes max amax omax) self.old self.new result }
+        ensures still { StillBlocked self.old self.new result }
         ensures room { SameRoom self.old self.new }
         ensures err { OnErr result (self.new ≡ self.old) }
-        ensures sure { has_effect (first (Datagrams.receive_plan p.now (alone self.old) fd.0 sizes max amax omax).rows) ≡ false → IsOk result }
+        ensures sure { IsSureBy (receiving p.now self.old fd.0 sizes max amax omax) result }
     {
-        if !self.is(fd) {
+        if !self.is(p, fd) {
             return Ok(refused(self, p, fd, Errno::TBADF));
         }
         if !has_datagrams(self.prov()) {
@@ -167,7 +165,7 @@ impl Endpoint {
         if !self.state().is(State::T_IDLE) {
             return Ok(refused(self, p, fd, Errno::TOUTSTATE));
         }
-        if sizes > MOST_SIZES {
+        if sizes > MOST_PARTS {
             return Ok(refused(self, p, fd, Errno::TBADDATA));
         }
         if self.has_datagram_error() {
@@ -193,24 +191,21 @@ impl Endpoint {
         omax: u32,
     ) -> Result<Applied, AllocError>
         requires { place_of p.now fd.0 ≡ self.old.place }
-        ensures step { IfOk result (λ a. taken a (alone self.new) ≡ step_of p.now (alone self.old) (Datagrams.receive_plan p.now (alone self.old) fd.0 (length sizes.now) (sum sizes.now) amax omax)) }
-        ensures still { IfOk result (λ a. taken a (alone self.new) ≡ None → self.new ≡ self.old) }
+        ensures step { MakesBy p.now (receiving_all p.now self.old fd.0 sizes.now amax omax) self.old self.new result }
+        ensures still { StillBlocked self.old self.new result }
         ensures room { SameRoom self.old self.new }
         ensures err { OnErr result (self.new ≡ self.old) }
-        ensures sure { has_effect (first (Datagrams.receive_plan p.now (alone self.old) fd.0 (length sizes.now) (sum sizes.now) amax omax).rows) ≡ false → IsOk result }
+        ensures sure { IsSureBy (receiving_all p.now self.old fd.0 sizes.now amax omax) result }
     {
         self.rcvudata(p, fd, sizes.len(), total(sizes), amax, omax)
     }
 }
 
-/// The most sizes of a vector form.
-const MOST_SIZES: usize = 16;
-
 /// The sum of the sizes, where there are not too many; those are refused whatever their sum is.
 fn total(sizes: &[u32]) -> usize
     ensures { is_too_many (length sizes.now) ≡ false → result ≡ sum sizes.now }
 {
-    if sizes.len() > MOST_SIZES {
+    if sizes.len() > MOST_PARTS {
         return 0;
     }
     let mut total = 0;

@@ -5,13 +5,12 @@ ghost use Rattle.std.specs.List.{list_any};
 ghost use Rattle.tpi_grammar.specs.declared.kind.Kind.TheVariants.{T_UDERROR_IND};
 ghost use Rattle.tpi_prim.specs.Fields.{kind_in};
 ghost use Rattle.xti_model.specs.Events.{some_wait};
-ghost use Rattle.xti_model.specs.Plan.{first, has_effect, is_too_long};
-ghost use Rattle.xti_model.specs.Step.{step_of};
+ghost use Rattle.xti_model.specs.Plan.{is_too_long};
 ghost use Rattle.xti_model.specs.World.{place_of};
 ghost use Rattle.xti_model.specs.Calls.Datagrams as Datagrams;
 ghost use Rattle.xti_end.specs.Frames.{error_in};
 ghost use Rattle.xti_end.specs.Held.{alone, is_open, is_open_as, parts, with_parts, SameRoom};
-ghost use Rattle.xti_end.specs.Taken.{taken, error_fields, error_step};
+ghost use Rattle.xti_end.specs.Taken.{error_fields, error_step, receiving_error, IsSureBy, Makes, MakesBy, StillBlocked};
 
 use crate::answers::{done, refused};
 use crate::endpoint::Endpoint;
@@ -72,7 +71,7 @@ impl Endpoint {
     /// What is told of the first datagram error.
     fn error_reply(&self, amax: u32, omax: u32) -> Result<Reply, AllocError>
         requires { some_wait (parts self.now).datagram_errors ≡ true }
-        ensures { IfOk result (λ reply. reply ≡ Datagrams.error_reply (Datagrams.first_error (parts self.now)) amax omax) }
+        ensures { IfOk result (λ r. r ≡ Datagrams.error_reply (Datagrams.first_error (parts self.now)) amax omax) }
     {
         let frame = self.first_error();
         Ok(Reply::UDErr {
@@ -99,10 +98,10 @@ impl Endpoint {
         omax: u32,
     ) -> Result<Applied, AllocError>
         requires place { place_of p.now fd.0 ≡ self.old.place }
-        requires open { is_open_as fd.0 self.old ≡ true }
+        requires open { is_open_as p.now fd.0 self.old ≡ true }
         requires waits { some_wait (parts self.old).datagram_errors ≡ true }
-        ensures step { IfOk result (λ a. taken a (alone self.new) ≡ error_step p.now (alone self.old) fd.0 amax omax (parts self.old)) }
-        ensures still { IfOk result (λ a. taken a (alone self.new) ≡ None → self.new ≡ self.old) }
+        ensures step { Makes (error_step p.now (alone self.old) fd.0 amax omax (parts self.old)) self.new result }
+        ensures still { StillBlocked self.old self.new result }
         ensures room { SameRoom self.old self.new }
         ensures err { OnErr result (self.new ≡ self.old) }
     {
@@ -124,13 +123,13 @@ impl Endpoint {
         omax: u32,
     ) -> Result<Applied, AllocError>
         requires { place_of p.now fd.0 ≡ self.old.place }
-        ensures step { IfOk result (λ a. taken a (alone self.new) ≡ step_of p.now (alone self.old) (Datagrams.error_plan p.now (alone self.old) fd.0 amax omax)) }
-        ensures still { IfOk result (λ a. taken a (alone self.new) ≡ None → self.new ≡ self.old) }
+        ensures step { MakesBy p.now (receiving_error p.now self.old fd.0 amax omax) self.old self.new result }
+        ensures still { StillBlocked self.old self.new result }
         ensures room { SameRoom self.old self.new }
         ensures err { OnErr result (self.new ≡ self.old) }
-        ensures sure { has_effect (first (Datagrams.error_plan p.now (alone self.old) fd.0 amax omax).rows) ≡ false → IsOk result }
+        ensures sure { IsSureBy (receiving_error p.now self.old fd.0 amax omax) result }
     {
-        if !self.is(fd) {
+        if !self.is(p, fd) {
             return Ok(refused(self, p, fd, Errno::TBADF));
         }
         if !has_datagrams(self.prov()) {

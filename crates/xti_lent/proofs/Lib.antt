@@ -1,4 +1,9 @@
+pub mod Places
 pub mod Lookups
 pub mod Worlds
 pub mod Lendings
 pub mod Open
+pub mod Removals
+pub mod Written
+pub mod Named
+pub mod Agreeing

@@ -4,7 +4,8 @@ use Rattle.std.specs.Prelude.{is_some, option_map, ◌==◌}
 use Rattle.std.specs.List.{position, position_or_len, AllByRecursion}
 use Rattle.std.proofs.lemmas.Bool.{eq-eqb, eqb-true}
 use Rattle.std.proofs.lemmas.Bool.Decides.{nat_tests}
-use Rattle.xti_model.specs.World.{is_among}
+use Rattle.xti_model.specs.declared.profile.Providers.{Providers}
+use Rattle.xti_model.specs.World.{places, is_among}
 use Rattle.xti_end.specs.Held.{Held}
 use Rattle.xti_lent.specs.Lending.{held_in, put_in}
 use Rattle.xti_lent.specs.Kept.{Distinct, IsPlace}
@@ -12,7 +13,7 @@ use Rattle.xti_lent.specs.Kept.{Distinct, IsPlace}
 abbrev pub index : ℕ → List ℕ → ℕ
 index n ms = position_or_len (λ m. eqb m n) ms
 
-one-more : (i : ℕ) → 1 + i ≡ suc i
+pub one-more : (i : ℕ) → 1 + i ≡ suc i
 one-more i = omega arith
 
 has-step : (b : Bool) (i l : ℕ) (h : Held) (o : Option Held) → ltb i l ≡ is_some o → ltb (cond (not b) (1 + i) 0) (suc l) ≡ is_some (cond b (Some h) o)
@@ -28,7 +29,7 @@ at-step : (b : Bool) (i : ℕ) (h d : Held) (hs : List Held) (o : Option Held) �
 at-step true i h d hs o k = refl
 at-step false i h d hs o k = rw (one-more i) (k refl)
 
-within : (b : Bool) (i l : ℕ) → b ≡ false → cond (not b) (1 + i) 0 < suc l → i < l
+pub within : (b : Bool) (i l : ℕ) → b ≡ false → cond (not b) (1 + i) 0 < suc l → i < l
 within true i l e lt = cc
 within false i l e lt = omega arith
 
@@ -46,7 +47,7 @@ put-at n [] hs h e lt = absurd (omega arith)
 put-at n (m ∷ ms) [] h e lt = absurd (omega arith)
 put-at n (m ∷ ms) (x ∷ hs) h e lt = put-step (eqb m n) (index n ms) x h hs (put_in ms hs n h) (λ b. put-at n ms hs h (omega arith) (within (eqb m n) (index n ms) (length ms) b lt))
 
-abbrev place_among : ℕ → List ℕ → Option ℕ
+abbrev pub place_among : ℕ → List ℕ → Option ℕ
 place_among n ms = position (λ m. m == n) ms
 
 -- where a search for the number ends
@@ -55,7 +56,7 @@ pub record Found (n i : ℕ) (ms : List ℕ) (hs : List Held) : Type 0 where
   pub put : (h : Held) → put_in ms hs n h ≡ set hs i h
   pub inside : i < length hs
 
-some_index : (b : Bool) (i j : ℕ) → Some i ≡ cond b (Some j) None → (b ≡ true) × (i ≡ j)
+pub some_index : (b : Bool) (i j : ℕ) → Some i ≡ cond b (Some j) None → (b ≡ true) × (i ≡ j)
 some_index true i j e = (refl, cc)
 some_index false i j e = cc
 
@@ -89,7 +90,7 @@ not-held n (m ∷ ms) (h ∷ hs) e k =
     let r = not-held n ms hs (omega arith) s.1 in
     rw (s.0, r) refl
 
-or-parts : (a b : Bool) → (a || b) ≡ false → (a ≡ false) × (b ≡ false)
+pub or-parts : (a b : Bool) → (a || b) ≡ false → (a ≡ false) × (b ≡ false)
 or-parts true b e = cc
 or-parts false b e = (refl, e)
 
@@ -108,23 +109,9 @@ distinct-push n (m ∷ ms) a d =
     let s = or-parts (eqb m n) (is_among ms n) a in
     (among-push n m ms d.0 (flipped m n s.0), distinct-push n ms s.1 d.1)
 
-pub places-push : (n : ℕ) (ms : List ℕ) → n < 64 → AllByRecursion IsPlace ms → AllByRecursion IsPlace (ms ++ n ∷ [])
-places-push n [] lt a = (lt, tt)
-places-push n (m ∷ ms) lt a = (a.0, places-push n ms lt a.1)
-
-among-front : (n m : ℕ) (ms : List ℕ) → is_among (ms ++ n ∷ []) m ≡ false → is_among ms m ≡ false
-among-front n m [] a = refl
-among-front n m (k ∷ ms) a =
-    let s = or-parts (eqb k m) (is_among (ms ++ n ∷ []) m) a in
-    rw (s.0, among-front n m ms s.1) refl
-
-pub distinct-front : (n : ℕ) (ms : List ℕ) → Distinct (ms ++ n ∷ []) → Distinct ms
-distinct-front n [] d = tt
-distinct-front n (m ∷ ms) d = (among-front n m ms d.0, distinct-front n ms d.1)
-
-pub places-front : (n : ℕ) (ms : List ℕ) → AllByRecursion IsPlace (ms ++ n ∷ []) → AllByRecursion IsPlace ms
-places-front n [] a = tt
-places-front n (m ∷ ms) a = (a.0, places-front n ms a.1)
+pub places-push : (p : Providers) (n : ℕ) (ms : List ℕ) → n < places p → AllByRecursion (IsPlace p) ms → AllByRecursion (IsPlace p) (ms ++ n ∷ [])
+places-push p n [] lt a = (lt, tt)
+places-push p n (m ∷ ms) lt a = (a.0, places-push p n ms lt a.1)
 
 pub some-map : {A B : Type 0} (f : A → B) (o : Option A) → is_some (option_map f o) ≡ is_some o
 some-map f None = refl

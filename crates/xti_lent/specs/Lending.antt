@@ -1,8 +1,8 @@
 -- What contracts see of the cells that a step was lent.
-use Rattle.std.specs.Prelude.{ℕ, ◌==◌, Bool, List, [], ◌∷◌, Option, Some, None, option_map, is_some, if◌then◌else◌}
+use Rattle.std.specs.Prelude.{ℕ, ◌+◌, ◌==◌, Bool, List, [], ◌∷◌, ◌++◌, Option, Some, None, option_map, is_some, if◌then◌else◌}
 use Rattle.std.specs.List.{flat_map}
 use Rattle.xti_model.specs.declared.profile.Providers.{Providers}
-use Rattle.xti_model.specs.World.{World, Cell, switch_cell}
+use Rattle.xti_model.specs.World.{World, Cell, switch_cell, places, switch_number}
 use Rattle.xti_model.specs.Robin.{numbers}
 use Rattle.xti_registry.specs.Known.{Known}
 use Rattle.xti_end.specs.Held.{Held, cell}
@@ -35,9 +35,26 @@ with_held l n h = record l { held = put_in l.numbers l.held n h }
 abbrev pub with_registry : Lending → Known → Lending
 with_registry l k = record l { registry = Some k }
 
+-- without the endpoint under a number; the others stay in their order
+abbrev pub numbers_without : List ℕ → ℕ → List ℕ
+numbers_without [] n = []
+numbers_without (m ∷ ms) n = if m == n then ms else m ∷ numbers_without ms n
+
+abbrev pub held_without : List ℕ → List Held → ℕ → List Held
+held_without [] hs n = hs
+held_without (m ∷ ms) [] n = []
+held_without (m ∷ ms) (h ∷ hs) n = if m == n then hs else h ∷ held_without ms hs n
+
+abbrev pub without_place : Lending → ℕ → Lending
+without_place l n = record l { numbers = numbers_without l.numbers n; held = held_without l.numbers l.held n }
+
+-- one more endpoint under a number
+abbrev pub lending : Lending → ℕ → Held → Lending
+lending l n h = record l { numbers = l.numbers ++ n ∷ []; held = l.held ++ h ∷ [] }
+
 -- the cell with a number, where it is lent: a place's, or the switch's
 abbrev pub cell_lent : Lending → ℕ → Option Cell
-cell_lent l n = if n == 64 then option_map (λ k. switch_cell k.switch) l.registry else option_map cell (held_at l n)
+cell_lent l n = if n == switch_number l.providers then option_map (λ k. switch_cell k.switch) l.registry else option_map cell (held_at l n)
 
 abbrev pub is_lent : Lending → ℕ → Bool
 is_lent l n = is_some (cell_lent l n)
@@ -46,10 +63,10 @@ abbrev pub numbered_cell : ℕ → Option Cell → World
 numbered_cell n None = []
 numbered_cell n (Some c) = record { number = n; cell = c } ∷ []
 
--- cells by rising number, from a number on
-unfoldable pub cells_by : (ℕ → Option Cell) → World
-cells_by at = flat_map (λ n. numbered_cell n (at n)) (numbers 0 65)
+-- cells by rising number: those of the places, and then the switch's
+unfoldable pub cells_by : Providers → (ℕ → Option Cell) → World
+cells_by p at = flat_map (λ n. numbered_cell n (at n)) (numbers 0 (places p + 1))
 
 -- the lent cells
 abbrev pub cells : Lending → World
-cells l = cells_by (cell_lent l)
+cells l = cells_by l.providers (cell_lent l)

@@ -1,34 +1,34 @@
 //! Lent cells.
 
-ghost use Rattle.std.specs.Prelude.{◌≡◌, ◌<◌, true, false, None, Some, [], ◌∷◌, ◌++◌, ◌==◌, ◌%◌, length, is_some, option_map, IfSome, IfNone, position, nat_eq};
+ghost use Rattle.std.specs.Prelude.{◌≡◌, ◌<◌, true, false, None, Some, [], ◌==◌, length, is_some, option_map, IfSome, position, nat_eq};
 ghost use Rattle.std.specs.Borrow.{sem};
 ghost use Rattle.std.specs.Option.{option_copied};
-ghost use Rattle.xti_model.specs.Profile.{valid, usual};
-ghost use Rattle.xti_model.specs.World.{endpoint, place_of};
+ghost use Rattle.xti_base.specs.declared.limits.TheConstants.{MOST_PLACES};
+ghost use Rattle.xti_model.specs.Profile.{valid};
+ghost use Rattle.xti_model.specs.World.{endpoint, place_of, places};
 ghost use Rattle.xti_end.specs.Held.{is_open_as, parts};
+ghost use Rattle.xti_end.specs.Unconnected.{IsUnconnected};
 ghost use Rattle.xti_lent.specs.Fit.{AtOwnPlaces};
 ghost use Rattle.xti_lent.specs.Kept.{Distinct};
-ghost use Rattle.xti_lent.specs.Lending.{held_at, is_lent, cells};
+ghost use Rattle.xti_lent.specs.Lending.{held_at, is_lent, cells, lending, without_place};
 ghost use Rattle.xti_lent.specs.Lends.{LendsEndpoint, LendsRegistry};
 
 use arrayvec::ArrayVec;
 use std::alloc::Global;
 use std::marker::Model;
 use xti_base::Fd;
+use xti_base::limits::MOST_PLACES;
 use xti_end::Endpoint;
 use xti_model::Providers;
 use xti_registry::Registry;
-
-/// How many places there are, and so the most endpoints that can be lent.
-const PLACES: usize = 64;
 
 /// The cells that a step is lent: endpoints, each under the number of its place, and the switch's table.
 #[derive(Drop)]
 pub struct Lent {
     alloc: Global,
     providers: Providers,
-    numbers: ArrayVec<u32, PLACES>,
-    endpoints: ArrayVec<Endpoint, PLACES, Global>,
+    numbers: ArrayVec<u32, MOST_PLACES>,
+    endpoints: ArrayVec<Endpoint, MOST_PLACES, Global>,
     registry: Option<Registry>,
 }
 
@@ -70,11 +70,11 @@ impl Lent {
 
     /// Lends an endpoint under the number of its place. There must be room, and none may be lent under it. Takes no memory.
     pub fn lend(&mut self, place: u32, e: Endpoint)
-        requires place { place < 64 }
+        requires place { place < places self.old.providers }
         requires own { e.place ≡ place }
         requires apart { held_at self.old place ≡ None }
-        requires room { length self.old.numbers < 64 }
-        ensures { self.new ≡ record self.old { numbers = self.old.numbers ++ place ∷ []; held = self.old.held ++ e ∷ [] } }
+        requires room { length self.old.numbers < MOST_PLACES }
+        ensures { self.new ≡ lending self.old place e }
     {
         self.numbers.push(place);
         self.endpoints.push(e);
@@ -88,14 +88,30 @@ impl Lent {
         self.registry = Some(r);
     }
 
-    /// Takes back the endpoint that was lent last, with its place; `None` exactly where none is lent. Takes no memory.
-    pub fn take_last(&mut self) -> Option<(u32, Endpoint)>
-        ensures some { IfSome result (λ last. self.old ≡ record self.new { numbers = self.new.numbers ++ last.0 ∷ []; held = self.new.held ++ last.1 ∷ [] }) }
-        ensures none { IfNone result ((self.new ≡ self.old) × (self.old.held ≡ [])) }
+    /// The places whose endpoints are lent, in the order in which they were.
+    pub fn places(&self) -> &[u32]
+        ensures { result.now ≡ self.now.numbers }
     {
-        let place = self.numbers.pop()?;
-        let e = self.endpoints.pop()?;
-        Some((place, e))
+        self.numbers.as_slice()
+    }
+
+    /// The place of a descriptor, which is the number of its cell.
+    pub fn place_of(&self, fd: Fd) -> u32
+        ensures place { result ≡ place_of self.now.providers fd.0 }
+        ensures bound { result < places self.now.providers }
+    {
+        self.providers.place_of(fd)
+    }
+
+    /// Takes back the endpoint that is lent under this number; `None` exactly where none is. The others stay lent in their order.
+    /// Takes no memory.
+    pub fn take_back(&mut self, place: u32) -> Option<Endpoint>
+        ensures endpoint { result ≡ held_at self.old place }
+        ensures left { self.new ≡ without_place self.old place }
+    {
+        let i = index_of(self.numbers.as_slice(), place)?;
+        self.numbers.remove(i);
+        Some(self.endpoints.remove(i))
     }
 
     /// Takes the switch's table back; `None` exactly where it is not lent. Takes no memory.
@@ -106,11 +122,11 @@ impl Lent {
         self.registry.take()
     }
 
-    /// Whether the cell with this number is lent: that of a place, or under 64 that of the switch.
+    /// Whether the cell with this number is lent: that of a place, or that of the switch.
     pub fn has(&self, cell: u32) -> bool
         ensures { result ≡ is_lent self.now cell }
     {
-        if cell == 64 {
+        if cell == self.providers.switch_number() {
             self.registry.is_some()
         } else {
             index_of(self.numbers.as_slice(), cell).is_some()
@@ -140,11 +156,16 @@ impl Lent {
     pub fn open_endpoint(&self, fd: Fd) -> Option<&Endpoint>
         requires { AtOwnPlaces self.now }
         ensures endpoint { option_map parts (option_copied result) ≡ endpoint self.now.providers (cells self.now) fd.0 }
-        ensures open { IfSome result (λ e. is_open_as fd.0 e.now ≡ true) }
-        ensures held { IfSome result (λ e. held_at self.now (fd.0 % 64) ≡ Some e.now) }
+        ensures open { IfSome result (λ e. is_open_as self.now.providers fd.0 e.now ≡ true) }
+        ensures held { IfSome result (λ e. held_at self.now (place_of self.now.providers fd.0) ≡ Some e.now) }
+        ensures unconnected { IfSome result (λ e. IfSome e.now.body IsUnconnected) }
     {
-        let e = self.find(place_of(fd))?;
-        if e.is(fd) { Some(e) } else { None }
+        let e = self.find(self.place_of(fd))?;
+        if e.is(&self.providers, fd) {
+            Some(e)
+        } else {
+            None
+        }
     }
 
     /// The same to be changed.
@@ -160,6 +181,13 @@ impl Lent {
             },
             None => unreachable!(),
         }
+    }
+
+    /// The switch's table; `None` exactly where it is not lent.
+    pub fn find_registry(&self) -> Option<&Registry>
+        ensures { option_copied result ≡ self.now.registry }
+    {
+        self.registry.as_ref()
     }
 
     /// The switch's table, which must be lent.
@@ -189,13 +217,6 @@ impl Lent {
     pub fn alloc(&self) -> Global {
         self.alloc
     }
-}
-
-/// The number of a descriptor's cell.
-pub fn place_of(fd: Fd) -> u32
-    ensures { result ≡ place_of usual fd.0 }
-{
-    fd.0 % 64
 }
 
 /// Where a number stands among numbers of which none stands twice. If all places are lent in their order, each stands at its own.

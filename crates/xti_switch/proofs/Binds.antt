@@ -2,6 +2,7 @@
 use Rattle.std.proofs.Common.{◌≡◌, ℕ, Bool, true, false, cond, ltb, ◌||◌, List, [], ◌∷◌, length, filter, map, Option, Some, None, refl}
 use Rattle.std.specs.Prelude.{is_some}
 use Rattle.std.specs.List.{list_any}
+use Rattle.xti_base.specs.declared.limits.TheConstants.{MOST_ADDRESS}
 use Rattle.xti_base.specs.declared.errno.Errno.TheVariants.{TADDRBUSY}
 use Rattle.xti_base.specs.declared.kinds.Prov.{Prov}
 use Rattle.xti_base.specs.declared.kinds.State.TheVariants.{T_UNBND}
@@ -9,14 +10,17 @@ use Rattle.xti_model.specs.declared.profile.Providers.{Providers}
 use Rattle.xti_model.specs.declared.entry.Outcome.TheVariants.{Done}
 use Rattle.xti_model.specs.declared.entry.Reply.TheVariants.{Refused}
 use Rattle.xti_model.specs.Endpoint.{Endpoint}
-use Rattle.xti_model.specs.World.{World, Switch, Binding, endpoint, the_switch}
+use Rattle.xti_model.specs.World.{World, Switch, Binding, endpoint, the_switch, changed}
 use Rattle.xti_model.specs.Switch.{chosen, less, least, give_address}
 use Rattle.xti_model.specs.Events.{is_state}
 use Rattle.xti_model.specs.Plan.{field, is_too_long, Refusal, loses, first, has_effect}
-use Rattle.xti_model.specs.Step.{made, step_of, step_by}
+use Rattle.xti_model.specs.Step.{Step, made, step_of, step_by}
 use Rattle.xti_model.specs.Calls.Bind as Bind
 use Rattle.xti_registry.specs.Known.{Known}
 use Rattle.xti_switch.specs.Taken.{bound}
+
+abbrev pub bound_step : Providers → World → ℕ → Prov → List ℕ → ℕ → ℕ → Step
+bound_step p w fd prov address qlen amax = made p fd (Done (bound address qlen amax)) (changed p w (Bind.changes fd prov address qlen))
 
 some-less : (n : ℕ) (o : Option ℕ) → is_some (less n o) ≡ true
 some-less n None = refl
@@ -36,12 +40,12 @@ abbrev lost : Bool → Option Refusal
 lost b = cond b (Some loses) None
 
 either : (p : Providers) (w : World) (fd : ℕ) (address : List ℕ) (qlen amax : ℕ) (e : Endpoint) (b : Bool) → is_too_long (field (chosen (the_switch p w) e.prov address) amax) ≡ b
-    → step_by p w (Bind.plan_in (the_switch p w) fd address qlen amax e) (lost (list_any is_too_long (field (chosen (the_switch p w) e.prov address) amax ∷ []))) ≡ Some (bound p w fd e.prov (chosen (the_switch p w) e.prov address) (Bind.queue e.prov qlen) amax)
+    → step_by p w (Bind.plan_in (the_switch p w) fd address qlen amax e) (lost (list_any is_too_long (field (chosen (the_switch p w) e.prov address) amax ∷ []))) ≡ Some (bound_step p w fd e.prov (chosen (the_switch p w) e.prov address) (Bind.queue e.prov qlen) amax)
 either p w fd address qlen amax e true t = rw t refl
 either p w fd address qlen amax e false t = rw t refl
 
-pub bind-free : (p : Providers) (w : World) (fd : ℕ) (address : List ℕ) (qlen amax : ℕ) (e : Endpoint) → endpoint p w fd ≡ Some e → is_state (T_UNBND ∷ []) e ≡ true → ltb 64 (length address) ≡ false → Bind.is_busy (the_switch p w) e.prov address qlen ≡ false
-    → step_of p w (Bind.plan p w fd address qlen amax) ≡ Some (bound p w fd e.prov (chosen (the_switch p w) e.prov address) (Bind.queue e.prov qlen) amax)
+pub bind-free : (p : Providers) (w : World) (fd : ℕ) (address : List ℕ) (qlen amax : ℕ) (e : Endpoint) → endpoint p w fd ≡ Some e → is_state (T_UNBND ∷ []) e ≡ true → ltb MOST_ADDRESS (length address) ≡ false → Bind.is_busy (the_switch p w) e.prov address qlen ≡ false
+    → step_of p w (Bind.plan p w fd address qlen amax) ≡ Some (bound_step p w fd e.prov (chosen (the_switch p w) e.prov address) (Bind.queue e.prov qlen) amax)
 bind-free p w fd address qlen amax e o s l b = rw (o, s, l, b) (either p w fd address qlen amax e _ refl)
 
 lost-effect : (b : Bool) → has_effect (lost b) ≡ true
@@ -49,11 +53,11 @@ lost-effect true = refl
 lost-effect false = refl
 
 -- it has an effect, whether or not its caller takes the address
-pub bind-effect : (p : Providers) (w : World) (fd : ℕ) (address : List ℕ) (qlen amax : ℕ) (e : Endpoint) → endpoint p w fd ≡ Some e → is_state (T_UNBND ∷ []) e ≡ true → ltb 64 (length address) ≡ false → Bind.is_busy (the_switch p w) e.prov address qlen ≡ false
+pub bind-effect : (p : Providers) (w : World) (fd : ℕ) (address : List ℕ) (qlen amax : ℕ) (e : Endpoint) → endpoint p w fd ≡ Some e → is_state (T_UNBND ∷ []) e ≡ true → ltb MOST_ADDRESS (length address) ≡ false → Bind.is_busy (the_switch p w) e.prov address qlen ≡ false
     → has_effect (first (Bind.plan p w fd address qlen amax).rows) ≡ true
 bind-effect p w fd address qlen amax e o s l b = rw (o, s, l, b) (lost-effect _)
 
-pub bind-busy : (p : Providers) (w : World) (fd : ℕ) (address : List ℕ) (qlen amax : ℕ) (e : Endpoint) → endpoint p w fd ≡ Some e → is_state (T_UNBND ∷ []) e ≡ true → ltb 64 (length address) ≡ false → Bind.is_busy (the_switch p w) e.prov address qlen ≡ true
+pub bind-busy : (p : Providers) (w : World) (fd : ℕ) (address : List ℕ) (qlen amax : ℕ) (e : Endpoint) → endpoint p w fd ≡ Some e → is_state (T_UNBND ∷ []) e ≡ true → ltb MOST_ADDRESS (length address) ≡ false → Bind.is_busy (the_switch p w) e.prov address qlen ≡ true
     → step_of p w (Bind.plan p w fd address qlen amax) ≡ Some (made p fd (Done (Refused TADDRBUSY)) w)
 bind-busy p w fd address qlen amax e o s l b = rw (o, s, l, b, o) refl
 

@@ -1,4 +1,3 @@
-pub mod Writes
 pub mod Openings
 pub mod Touches
 pub mod Binds

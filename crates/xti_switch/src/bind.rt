@@ -1,21 +1,18 @@
 //! t_bind.
 
-ghost use Rattle.std.specs.Prelude.{◌≡◌, true, false, None, Some, is_some, IfOk, IsOk, OnOk, OnErr};
-ghost use Rattle.xti_model.specs.World.{changed, the_switch};
+ghost use Rattle.std.specs.Prelude.{◌≡◌, true, is_some, IfOk, OnOk, OnErr};
 ghost use Rattle.xti_model.specs.Switch.{chosen, has_listener};
-ghost use Rattle.xti_model.specs.Plan.{first, has_effect};
-ghost use Rattle.xti_model.specs.Step.{step_of};
 ghost use Rattle.xti_model.specs.Calls.Bind as Bind;
 ghost use Rattle.xti_end.specs.Held.{is_open, with_parts};
-ghost use Rattle.xti_end.specs.Taken.{taken};
-ghost use Rattle.xti_lent.specs.Lending.{cells};
+ghost use Rattle.xti_lent.specs.Answers.{AnswersBy, Changed, IsSureBy, StaysBlocked};
 ghost use Rattle.xti_lent.specs.Fit.{IsFit, SameCells};
-ghost use Rattle.xti_switch.specs.Taken.{IsOpen, bound};
+ghost use Rattle.xti_switch.specs.Taken.{binding, IsBound, IsOpen};
 
 use std::alloc::{AllocError, Global};
+use xti_base::limits::{MOST_ADDRESS, MOST_QUEUE};
 use xti_base::{Errno, Fd, Octets, Prov, State};
 use xti_end::{Endpoint, has_datagrams, is_too_long, trimmed_copy};
-use xti_lent::{Lent, done, overflow, place_of, refused};
+use xti_lent::{Lent, done, overflow, refused};
 use xti_model::{Applied, Reply};
 use xti_registry::Registry;
 
@@ -28,11 +25,11 @@ pub(crate) fn bind(
 ) -> Result<Applied, AllocError>
     requires fit { IsFit lent.old }
     requires switch { is_some lent.old.registry ≡ true }
-    ensures step { IfOk result (λ a. taken a (cells lent.new) ≡ step_of lent.old.providers (cells lent.old) (Bind.plan lent.old.providers (cells lent.old) fd.0 addr.now qlen amax)) }
-    ensures still { IfOk result (λ a. taken a (cells lent.new) ≡ None → lent.new ≡ lent.old) }
+    ensures step { IfOk result (AnswersBy (binding lent.old fd.0 addr.now qlen amax) lent.old lent.new) }
+    ensures still { IfOk result (StaysBlocked lent.old lent.new) }
     ensures kept { SameCells lent.old lent.new }
     ensures err { OnErr result (lent.new ≡ lent.old) }
-    ensures sure { has_effect (first (Bind.plan lent.old.providers (cells lent.old) fd.0 addr.now qlen amax).rows) ≡ false → IsOk result }
+    ensures sure { IsSureBy (binding lent.old fd.0 addr.now qlen amax) result }
 {
     let (prov, state) = match lent.open_endpoint(fd) {
         None => return Ok(refused(lent, fd, Errno::TBADF)),
@@ -41,7 +38,7 @@ pub(crate) fn bind(
     if !state.is(State::T_UNBND) {
         return Ok(refused(lent, fd, Errno::TOUTSTATE));
     }
-    if addr.len() > 64 {
+    if addr.len() > MOST_ADDRESS {
         return Ok(refused(lent, fd, Errno::TBADADDR));
     }
     if is_busy(lent.registry_ref(), prov, addr, qlen) {
@@ -74,7 +71,11 @@ fn has_listener(registry: &Registry, prov: Prov, addr: &[u8]) -> bool
 fn queue(prov: Prov, qlen: u32) -> u32
     ensures { result ≡ Bind.queue prov qlen }
 {
-    if has_datagrams(prov) { 0 } else { qlen.min(8) }
+    if has_datagrams(prov) {
+        0
+    } else {
+        qlen.min(MOST_QUEUE)
+    }
 }
 
 /// A copy of the address, or the provider's choice where it is empty.
@@ -99,7 +100,7 @@ fn bind_to(
     requires fit { IsFit lent.old }
     requires switch { is_some lent.old.registry ≡ true }
     requires open { IsOpen lent.old fd.0 }
-    ensures step { IfOk result (λ a. taken a (cells lent.new) ≡ Some (bound lent.old.providers (cells lent.old) fd.0 prov address qlen amax)) }
+    ensures step { IfOk result (IsBound lent.old lent.new fd.0 prov address qlen amax) }
     ensures kept { SameCells lent.old lent.new }
     ensures err { OnErr result (lent.new ≡ lent.old) }
 {
@@ -117,14 +118,15 @@ fn give(lent: &mut Lent, fd: Fd, prov: Prov, address: Octets, qlen: u32) -> Resu
     requires fit { IsFit lent.old }
     requires switch { is_some lent.old.registry ≡ true }
     requires open { IsOpen lent.old fd.0 }
-    ensures ok { OnOk result (cells lent.new ≡ changed lent.old.providers (cells lent.old) (Bind.changes fd.0 prov address qlen)) }
+    ensures ok { OnOk result (Changed (Bind.changes fd.0 prov address qlen) lent.old lent.new) }
     ensures kept { SameCells lent.old lent.new }
     ensures err { OnErr result (lent.new ≡ lent.old) }
 {
     let known = address.copy()?;
     lent.registry().reserve()?;
     lent.registry().put(prov, known, fd, qlen > 0);
-    bind_endpoint(lent.endpoint(place_of(fd)), address, qlen);
+    let place = lent.place_of(fd);
+    bind_endpoint(lent.endpoint(place), address, qlen);
     Ok(())
 }
 

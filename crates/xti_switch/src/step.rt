@@ -1,12 +1,10 @@
 //! One step of a call that changes the switch.
 
-ghost use Rattle.std.specs.Prelude.{◌≡◌, true, false, None, IfOk, IsOk, OnErr};
+ghost use Rattle.std.specs.Prelude.{◌≡◌, true, IfOk, OnErr};
 ghost use Rattle.xti_model.specs.declared.entry.Go.{Go};
 ghost use Rattle.xti_model.specs.Built.{is_built};
-ghost use Rattle.xti_model.specs.Memory.{may_run_out};
-ghost use Rattle.xti_model.specs.Step.{step};
 ghost use Rattle.xti_model.specs.Touched.{touched};
-ghost use Rattle.xti_end.specs.Taken.{taken};
+ghost use Rattle.xti_lent.specs.Answers.{AnswersCall, IsSureOf, StaysBlocked};
 ghost use Rattle.xti_lent.specs.Lending.{cells};
 ghost use Rattle.xti_lent.specs.Fit.{IsFit, AllLent, SameCells};
 ghost use Rattle.xti_switch.specs.Calls.{changes_switch};
@@ -27,11 +25,11 @@ pub fn switch_step(lent: &mut Lent, call: &Call) -> Result<Applied, AllocError>
     requires built { is_built call.now ≡ true }
     requires fit { IsFit lent.old }
     requires lent { AllLent lent.old (touched lent.old.providers (cells lent.old) call.now) }
-    ensures step { IfOk result (λ a. (g : Go) → taken a (cells lent.new) ≡ step lent.old.providers (cells lent.old) call.now g) }
-    ensures still { IfOk result (λ a. taken a (cells lent.new) ≡ None → lent.new ≡ lent.old) }
+    ensures step { IfOk result (λ a. (g : Go) → AnswersCall call.now g lent.old lent.new a) }
+    ensures still { IfOk result (StaysBlocked lent.old lent.new) }
     ensures kept { SameCells lent.old lent.new }
     ensures err { OnErr result (lent.new ≡ lent.old) }
-    ensures sure { (g : Go) → may_run_out lent.old.providers (cells lent.old) call.now g ≡ false → IsOk result }
+    ensures sure { (g : Go) → IsSureOf call.now g lent.old result }
 {
     match call {
         Call::TOpen { prov, nonblock } => Ok(open(lent, *prov, *nonblock)),

@@ -1,6 +1,12 @@
-use Rattle.std.proofs.Common.{◌∙◌, ◌%◌}
-use Rattle.xti_dgram.proofs.Written.{still-held}
+use Rattle.std.proofs.Common.{◌∙◌, ◌≡◌, sym, subst, true}
+use Rattle.std.specs.Prelude.{is_some}
+use Rattle.xti_model.specs.declared.profile.Providers.{Providers}
+use Rattle.xti_model.specs.World.{place_of}
+use Rattle.xti_lent.specs.Lending.{held_at}
+use Rattle.xti_lent.proofs.Written.{still-held}
 use Rattle.xti_dgram.proofs.writes.give.Goals as goal
 
 pub mark_flow-requires-clause-there : goal.mark_flow-requires-clause-there
-mark_flow-requires-clause-there c = still-held c.args.lent.now c.push_datagram.new.lent (c.args.fd.0 % 64) c.push_datagram.ensures.kept ∙ c.requires.sender
+mark_flow-requires-clause-there c =
+    subst (λ (q : Providers). is_some (held_at c.push_datagram.new.lent (place_of q c.args.fd.0)) ≡ true) (sym c.push_datagram.ensures.kept.providers)
+    (still-held c.args.lent.now c.push_datagram.new.lent (place_of c.args.lent.now.providers c.args.fd.0) c.push_datagram.ensures.kept ∙ c.requires.sender)
