@@ -3,7 +3,6 @@
 
 mod calls;
 mod journal;
-mod recorder;
 mod replies;
 #[cfg(test)]
 mod tests;
@@ -11,6 +10,5 @@ mod words;
 mod writer;
 
 pub use journal::{write_entry, write_journal};
-pub use recorder::Recorder;
 pub use writer::JournalWriter;
 pub use xti_model::{Entries, Entry, Journal, StallLine, Stalls};
