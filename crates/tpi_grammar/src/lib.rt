@@ -10,6 +10,3 @@ mod word;
 pub use kind::{Kind, Slot};
 pub use laws::{frames_law, kinds_law, one_spelling, reading_law};
 pub use measure::{Measure, measure_frame};
-
-#[cfg(test)]
-mod tests;

@@ -8,7 +8,7 @@ ghost use Rattle.tpi_grammar.specs.Frame.{text, AreBytes, IsFilled, spelling, wo
 ghost use Rattle.tpi_prim.specs.Primitive.{filled, Spells};
 ghost use Rattle.tpi_prim.specs.Fields.{primitive_in};
 ghost use Rattle.tpi_prim.specs.declared.primitive.Prim.TheVariants.{T_UNITDATA_IND, T_UDERROR_IND};
-ghost use Rattle.tpi_prim.specs.Lent.{value_of, values_of, filled_by, HasShape, IsTooBig};
+ghost use Rattle.tpi_prim.specs.Lent.{value_of, values_of, parts_size, filled_by, front_of, HasShape, IsTooBig};
 
 use crate::frames::{Frame, FrameBytes, INLINE};
 use crate::primitive::Prim;
@@ -215,7 +215,7 @@ impl Lent<'_> {
     fn head(&self, control: u32) -> Front
         requires small { control_size (filled_by self.now) ≤ 1024 }
         requires data { length self.now.user.now ≤ 65536 }
-        ensures { result.items ≡ be control ++ be (length self.now.user.now) ++ be (row_of self.now.kind).number ++ words (head (row_of self.now.kind).slots) (values_of self.now.fields) }
+        ensures { result.items ≡ front_of control self.now }
     {
         let mut out = Front::new();
         put_word(&mut out, control);
@@ -247,7 +247,7 @@ fn part_of<'a>(field: &Field<'a>) -> &'a [u8]
 /// What is left of a room when the parts are in it; `None` where they don't fit.
 #[inline(always)]
 fn room_left(room: usize, fields: &[Field<'_>; 3]) -> Option<usize>
-    ensures { SomeIff result (length (parts (values_of fields.now)) ≤ room) (room - length (parts (values_of fields.now))) }
+    ensures { SomeIff result (parts_size fields.now ≤ room) (room - parts_size fields.now) }
 {
     let [first, second, third] = fields;
     let room = room.checked_sub(part_of(first).len())?;
@@ -299,7 +299,7 @@ fn put_field(out: &mut Front, place: u32, field: &Field<'_>) -> u32
 #[inline(always)]
 fn put_words(out: &mut Front, place: u32, fields: &[Field<'_>; 3])
     requires room { array_vec_len out.old + 24 ≤ 64 }
-    requires parts { place + length (parts (values_of fields.now)) < 2 ^ 32 }
+    requires parts { place + parts_size fields.now < 2 ^ 32 }
     ensures { out.new.items ≡ out.old.items ++ words place (values_of fields.now) }
 {
     let [first, second, third] = fields;
@@ -323,7 +323,7 @@ fn put_bytes(out: &mut Front, bytes: &[u8])
 /// Writes the parts of the fields, for which there is room.
 #[inline(always)]
 fn put_parts(out: &mut Front, fields: &[Field<'_>; 3])
-    requires { array_vec_len out.old + length (parts (values_of fields.now)) ≤ 64 }
+    requires { array_vec_len out.old + parts_size fields.now ≤ 64 }
     ensures items { out.new.items ≡ out.old.items ++ parts (values_of fields.now) }
 {
     let [first, second, third] = fields;

@@ -2,8 +2,7 @@
 
 ghost use Rattle.std.specs.Prelude.{◌≡◌, ◌++◌, OnOk, IfOk, codes};
 ghost use Rattle.std.specs.List.{flat_map};
-ghost use Rattle.xti_base.specs.Kinds.{state_name};
-ghost use Rattle.xti_journal.specs.JournalText.{profile_text, provider_text, first_line, head_text, outcome_text, entry_text, entries_text, stall_text, end_text, journal_text};
+ghost use Rattle.xti_journal.specs.JournalText.{profile_text, provider_text, first_line, head_text, answer_text, entry_text, entries_text, stall_text, end_text, journal_text};
 
 use crate::calls::put_act;
 use crate::replies::put_outcome;
@@ -52,7 +51,7 @@ pub(crate) fn put_head(out: &mut Vec<u8>, p: &Providers) -> Result<(), AllocErro
 
 // What a call answered and the state of its endpoint, after an arrow, to the end of the line.
 fn put_answer(out: &mut Vec<u8>, outcome: &Outcome, after: State) -> Result<(), AllocError>
-    ensures { OnOk result (out.new.items ≡ out.old.items ++ codes " => " ++ (outcome_text outcome.now ++ codes " " ++ state_name after) ++ codes "\n") }
+    ensures { OnOk result (out.new.items ≡ out.old.items ++ codes " => " ++ answer_text outcome.now after ++ codes "\n") }
 {
     put_outcome(out, outcome)?;
     put_state(out, after)

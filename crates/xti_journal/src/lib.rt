@@ -4,8 +4,6 @@
 mod calls;
 mod journal;
 mod replies;
-#[cfg(test)]
-mod tests;
 mod words;
 mod writer;
 

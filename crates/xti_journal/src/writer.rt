@@ -1,10 +1,8 @@
 //! The text of a journal, written while its entries come.
 
-ghost use Rattle.std.specs.Prelude.{◌≡◌, ◌++◌, ◌∷◌, [], List, OnOk, OnErr, IfOk};
-ghost use Rattle.xti_model.specs.declared.entry.Entry.{Entry};
-ghost use Rattle.xti_model.specs.declared.script.Journal.{Journal};
-ghost use Rattle.xti_journal.specs.JournalText.{head_text, journal_text};
-ghost use Rattle.xti_journal.specs.Writing.{Written, Took};
+ghost use Rattle.std.specs.Prelude.{◌≡◌, [], OnOk, OnErr, IfOk};
+ghost use Rattle.xti_journal.specs.JournalText.{head_text};
+ghost use Rattle.xti_journal.specs.Writing.{TookOne, IsWhole};
 
 use crate::journal::{put_end, put_entry, put_head, put_stalls};
 use std::alloc::AllocError;
@@ -42,7 +40,7 @@ impl JournalWriter {
 
     /// Writes the line of the next entry; `Err` is out of memory, and nothing is left of the journal then.
     pub fn add(&mut self, entry: &Entry) -> Result<(), AllocError>
-        ensures one_more { OnOk result ((first : Written) (past : List Entry) → Took first past self.old → Took first (past ++ entry.now ∷ []) self.new) }
+        ensures one_more { OnOk result (TookOne self.old entry.now self.new) }
         ensures emptied { OnErr result (self.new ≡ ([], 0)) }
     {
         let added = self.put_next(entry);
@@ -56,7 +54,7 @@ impl JournalWriter {
     // The line of the next entry, after which an error leaves a part of it.
     #[inline(always)]
     fn put_next(&mut self, entry: &Entry) -> Result<(), AllocError>
-        ensures { OnOk result ((first : Written) (past : List Entry) → Took first past self.old → Took first (past ++ entry.now ∷ []) self.new) }
+        ensures { OnOk result (TookOne self.old entry.now self.new) }
     {
         // So many entries would find no memory for their lines.
         let Some(count) = self.count.checked_add(1) else {
@@ -70,7 +68,7 @@ impl JournalWriter {
     /// The whole text, after whose entries the stall lines stand; `Err` is out of memory.
     #[tactic(auto, unfolding(crate::specs::JournalText::journal_text))]
     pub fn end(self, stalls: &Stalls) -> Result<Octets, AllocError>
-        ensures { IfOk result (λ text. (j : Journal) → Took (head_text j.providers, 0) j.entries self → stalls.now ≡ j.stalls → text ≡ journal_text j) }
+        ensures { IfOk result (λ text. IsWhole self stalls.now text) }
     {
         let JournalWriter { mut text, count } = self;
         put_stalls(&mut text, stalls.as_slice())?;
