@@ -4,6 +4,7 @@ use Rattle.std.specs.Int.{w32, to_be_bytes}
 use Rattle.std.specs.List.{AllByRecursion, list_any}
 use Rattle.tpi_grammar.specs.Form.{Form, done, byte, Outcome, scan}
 use Rattle.tpi_grammar.specs.Word.{meets, word, after_head}
+use Rattle.tpi_grammar.specs.declared.kind.TheConstants.{MOST_CONTROL, MOST_DATA}
 use Rattle.tpi_grammar.specs.declared.word.Range.{Range}
 
 -- what stands after PRIM_type: a word up to a greatest value; or a part, by two words, its length and its offset
@@ -30,24 +31,24 @@ row n ss d = record { number = n; slots = ss; most_data = d }
 -- the primitives that may be sent as frames, by rising numbers
 unfoldable pub table : List Row
 table =
-    row 0 (part ∷ part ∷ []) 65536
-    ∷ row 1 (any ∷ part ∷ any ∷ []) 65536
-    ∷ row 2 (any ∷ []) 65536
-    ∷ row 3 (flag ∷ []) 65536
-    ∷ row 4 (flag ∷ []) 65536
+    row 0 (part ∷ part ∷ []) MOST_DATA
+    ∷ row 1 (any ∷ part ∷ any ∷ []) MOST_DATA
+    ∷ row 2 (any ∷ []) MOST_DATA
+    ∷ row 3 (flag ∷ []) MOST_DATA
+    ∷ row 4 (flag ∷ []) MOST_DATA
     ∷ row 6 (part ∷ any ∷ []) 0
     ∷ row 7 [] 0
-    ∷ row 8 (part ∷ part ∷ []) 65536
+    ∷ row 8 (part ∷ part ∷ []) MOST_DATA
     ∷ row 10 [] 0
-    ∷ row 11 (part ∷ part ∷ any ∷ []) 65536
-    ∷ row 12 (part ∷ part ∷ []) 65536
-    ∷ row 13 (any ∷ any ∷ []) 65536
-    ∷ row 14 (flag ∷ []) 65536
-    ∷ row 15 (flag ∷ []) 65536
+    ∷ row 11 (part ∷ part ∷ any ∷ []) MOST_DATA
+    ∷ row 12 (part ∷ part ∷ []) MOST_DATA
+    ∷ row 13 (any ∷ any ∷ []) MOST_DATA
+    ∷ row 14 (flag ∷ []) MOST_DATA
+    ∷ row 15 (flag ∷ []) MOST_DATA
     ∷ row 17 (part ∷ any ∷ []) 0
     ∷ row 18 (any ∷ any ∷ any ∷ []) 0
     ∷ row 19 (any ∷ []) 0
-    ∷ row 20 (part ∷ part ∷ []) 65536
+    ∷ row 20 (part ∷ part ∷ []) MOST_DATA
     ∷ row 21 (part ∷ part ∷ any ∷ []) 0
     ∷ row 23 [] 0
     ∷ []
@@ -121,7 +122,7 @@ pub record IsFilled (f : Filled) : Type 0 where
   pub values : Fit f.row.slots f.values
   pub user : AreBytes f.user
   pub room : length f.user ≤ f.row.most_data
-  pub control : control_size f ≤ 1024
+  pub control : control_size f ≤ MOST_CONTROL
 
 -- the length of the control part, that of the user data, the control part, and the user data
 abbrev pub spelling : Filled → List ℕ
@@ -173,7 +174,7 @@ form_of size count (Some r) = row_form size count r
 
 -- the lengths of the control part that a row may have
 abbrev pub size_range : Row → Range
-size_range r = if has_part r.slots then record { low = head r.slots; high = 1024 } else exactly (head r.slots)
+size_range r = if has_part r.slots then record { low = head r.slots; high = MOST_CONTROL } else exactly (head r.slots)
 
 -- the lengths of the user data that a row may have
 abbrev pub data_range : Row → Range

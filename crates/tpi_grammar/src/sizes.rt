@@ -6,7 +6,7 @@ ghost use Rattle.tpi_grammar.specs.Word.{meets, viable};
 ghost use Rattle.tpi_grammar.specs.Frame.{table, size_range, data_range, number_range, has_part, is_part, part_range, rows_of_size, rows_of_lengths, row_of_number, may_count, may_number};
 ghost use Rattle.tpi_grammar.specs.Kinds.{row_of, slot_view, slots_view};
 
-use crate::kind::{Kind, Slot, kinds};
+use crate::kind::{Kind, MOST_CONTROL, Slot, kinds};
 use crate::word::{Choice, Range, Within, between, meets_range};
 
 fn is_part(slot: Slot) -> bool
@@ -46,7 +46,10 @@ fn size_range(kind: Kind) -> Range
 {
     let low = kind.head();
     if has_part(kind.slots()) {
-        Range { low, high: 1024 }
+        Range {
+            low,
+            high: MOST_CONTROL,
+        }
     } else {
         Range { low, high: low }
     }

@@ -1,6 +1,7 @@
 -- A primitive whose fields are lent, and which primitives get no frame.
 use Rattle.std.specs.Prelude.{◌<◌, ◌≤◌, ◌⊎◌, ℕ, List, [], ◌∷◌, ◌++◌, length, flat_map}
 use Rattle.tpi_grammar.specs.Frame.{Slot, upto, part, Value, num, text, Filled, parts, words, head, be, control_size}
+use Rattle.tpi_grammar.specs.declared.kind.TheConstants.{MOST_CONTROL, MOST_DATA}
 use Rattle.tpi_grammar.specs.Kinds.{row_of}
 use Rattle.tpi_prim.specs.Primitive.{of_kind}
 use Rattle.tpi_prim.specs.declared.encoding.Field.{Field}
@@ -33,6 +34,6 @@ HasShape (upto m ∷ ss) (num n ∷ vs) = (n ≤ m) × HasShape ss vs
 HasShape (part ∷ ss) (text bs ∷ vs) = HasShape ss vs
 HasShape _ _ = ⊥
 
--- the control part is over 1,024 bytes, or the user data over 65,536
+-- the control part or the user data are over their limits
 abbrev pub IsTooBig : Filled → Type 0
-IsTooBig f = (1024 < control_size f) ⊎ (65536 < length f.user)
+IsTooBig f = (MOST_CONTROL < control_size f) ⊎ (MOST_DATA < length f.user)
