@@ -2,6 +2,7 @@
 
 ghost use Rattle.std.specs.Prelude.{◌≡◌, ◌≤◌, ◌<◌, ◌+◌, ◌-◌, ◌++◌, [], ◌∷◌, ℕ, List, true, false, if◌then◌else◌, length, take, drop, vec_len, vec_capacity, IfOk, IfSome, IfNone, OnErr};
 ghost use Rattle.std.specs.VecDeque.{deque_len, deque_capacity};
+ghost use Rattle.tpi_grammar.specs.declared.kind.TheConstants.{MOST_DATA};
 ghost use Rattle.tpi_grammar.specs.Frame.{AreBytes};
 ghost use Rattle.tpi_prim.specs.Primitive.{user_of};
 ghost use Rattle.tpi_prim.specs.Fields.{kind_in, primitive_in};
@@ -21,18 +22,9 @@ pub(crate) fn rest_of(frame: &Frame, taken: usize) -> &[u8]
     requires { taken ≤ length (user_of (primitive_in frame.now)) }
     ensures rest { result.now ≡ drop taken (user_of (primitive_in frame.now)) }
     ensures bytes { AreBytes result.now }
-    ensures most { taken + length result.now ≤ 65536 }
+    ensures most { taken + length result.now ≤ MOST_DATA }
 {
-    &user_data(frame)[taken..]
-}
-
-fn user_data(frame: &Frame) -> &[u8]
-    ensures user { result.now ≡ user_of (primitive_in frame.now) }
-    ensures bytes { AreBytes result.now }
-    ensures most { length result.now ≤ 65536 }
-{
-    let _bytes = frame.bytes();
-    frame.user()
+    &frame.user()[taken..]
 }
 
 /// Whether a message ends after a frame.
