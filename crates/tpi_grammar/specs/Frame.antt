@@ -1,9 +1,10 @@
 -- Frames of TPI: the table of the primitives, how a frame is encoded, and the form in which it is read.
-use Rattle.std.specs.Prelude.{◌≡◌, ◌≤◌, ◌<◌, ◌+◌, ◌⊎◌, ℕ, suc, zero, Bool, true, false, List, [], ◌∷◌, ◌++◌, length, map, filter, Option, Some, None, flat_map, nat_lt, nat_eq, ◌-◌, if◌then◌else◌}
+use Rattle.std.specs.Prelude.{◌≡◌, ◌≤◌, ◌<◌, ◌+◌, ◌⊎◌, ℕ, suc, zero, Bool, true, false, List, [], ◌∷◌, ◌++◌, length, map, filter, Option, Some, None, flat_map, nat_lt, nat_eq, ◌-◌, ◌&&◌, drop, if◌then◌else◌}
 use Rattle.std.specs.Int.{w32, to_be_bytes}
 use Rattle.std.specs.List.{AllByRecursion, list_any}
-use Rattle.tpi_grammar.specs.Form.{Form, done, byte}
-use Rattle.tpi_grammar.specs.Word.{meets, word}
+use Rattle.tpi_grammar.specs.Form.{Form, done, byte, Outcome, scan}
+use Rattle.tpi_grammar.specs.Word.{meets, word, after_head}
+use Rattle.tpi_grammar.specs.declared.kind.TheConstants.{MOST_CONTROL, MOST_DATA}
 use Rattle.tpi_grammar.specs.declared.word.Range.{Range}
 
 -- what stands after PRIM_type: a word up to a greatest value; or a part, by two words, its length and its offset
@@ -30,24 +31,24 @@ row n ss d = record { number = n; slots = ss; most_data = d }
 -- the primitives that may be sent as frames, by rising numbers
 unfoldable pub table : List Row
 table =
-    row 0 (part ∷ part ∷ []) 65536
-    ∷ row 1 (any ∷ part ∷ any ∷ []) 65536
-    ∷ row 2 (any ∷ []) 65536
-    ∷ row 3 (flag ∷ []) 65536
-    ∷ row 4 (flag ∷ []) 65536
+    row 0 (part ∷ part ∷ []) MOST_DATA
+    ∷ row 1 (any ∷ part ∷ any ∷ []) MOST_DATA
+    ∷ row 2 (any ∷ []) MOST_DATA
+    ∷ row 3 (flag ∷ []) MOST_DATA
+    ∷ row 4 (flag ∷ []) MOST_DATA
     ∷ row 6 (part ∷ any ∷ []) 0
     ∷ row 7 [] 0
-    ∷ row 8 (part ∷ part ∷ []) 65536
+    ∷ row 8 (part ∷ part ∷ []) MOST_DATA
     ∷ row 10 [] 0
-    ∷ row 11 (part ∷ part ∷ any ∷ []) 65536
-    ∷ row 12 (part ∷ part ∷ []) 65536
-    ∷ row 13 (any ∷ any ∷ []) 65536
-    ∷ row 14 (flag ∷ []) 65536
-    ∷ row 15 (flag ∷ []) 65536
+    ∷ row 11 (part ∷ part ∷ any ∷ []) MOST_DATA
+    ∷ row 12 (part ∷ part ∷ []) MOST_DATA
+    ∷ row 13 (any ∷ any ∷ []) MOST_DATA
+    ∷ row 14 (flag ∷ []) MOST_DATA
+    ∷ row 15 (flag ∷ []) MOST_DATA
     ∷ row 17 (part ∷ any ∷ []) 0
     ∷ row 18 (any ∷ any ∷ any ∷ []) 0
     ∷ row 19 (any ∷ []) 0
-    ∷ row 20 (part ∷ part ∷ []) 65536
+    ∷ row 20 (part ∷ part ∷ []) MOST_DATA
     ∷ row 21 (part ∷ part ∷ any ∷ []) 0
     ∷ row 23 [] 0
     ∷ []
@@ -121,7 +122,7 @@ pub record IsFilled (f : Filled) : Type 0 where
   pub values : Fit f.row.slots f.values
   pub user : AreBytes f.user
   pub room : length f.user ≤ f.row.most_data
-  pub control : control_size f ≤ 1024
+  pub control : control_size f ≤ MOST_CONTROL
 
 -- the length of the control part, that of the user data, the control part, and the user data
 abbrev pub spelling : Filled → List ℕ
@@ -173,7 +174,7 @@ form_of size count (Some r) = row_form size count r
 
 -- the lengths of the control part that a row may have
 abbrev pub size_range : Row → Range
-size_range r = if has_part r.slots then record { low = head r.slots; high = 1024 } else exactly (head r.slots)
+size_range r = if has_part r.slots then record { low = head r.slots; high = MOST_CONTROL } else exactly (head r.slots)
 
 -- the lengths of the user data that a row may have
 abbrev pub data_range : Row → Range
@@ -194,6 +195,34 @@ chosen range next rows = word (map range rows) (λ n. next n (left range n rows)
 abbrev pub number_form : ℕ → ℕ → List Row → Form
 number_form size count = chosen number_range (λ _ rs. form_of size count (first_row rs))
 
+-- the length of the user data, and then PRIM_type, where these rows may have the length of the control part
+abbrev pub count_form : ℕ → List Row → Form
+count_form size = chosen data_range (λ count. number_form size count)
+
 -- the two lengths, and then PRIM_type
 unfoldable pub frame : Form
 frame = chosen size_range (λ size. chosen data_range (λ count. number_form size count)) table
+
+-- the rows whose control part may have this length
+abbrev pub rows_of_size : ℕ → List Row
+rows_of_size size = left size_range size table
+
+-- those whose user data may have this length too
+abbrev pub rows_of_lengths : ℕ → ℕ → List Row
+rows_of_lengths size count = left data_range count (rows_of_size size)
+
+-- the one of them with this PRIM_type
+abbrev pub row_of_number : ℕ → ℕ → ℕ → Option Row
+row_of_number size count number = first_row (left number_range number (rows_of_lengths size count))
+
+-- whether the control part may have this length, and the user data one of the `unit` lengths from x * unit on
+abbrev pub may_count : ℕ → ℕ → ℕ → Row → Bool
+may_count size unit x r = meets 1 size (size_range r) && meets unit x (data_range r)
+
+-- whether both may have these lengths, and PRIM_type is one of the `unit` numbers from x * unit on
+abbrev pub may_number : ℕ → ℕ → ℕ → ℕ → Row → Bool
+may_number size count unit x r = may_count size 1 count r && meets unit x (number_range r)
+
+-- how a frame with these first three words is read after them
+abbrev pub scan_behind : ℕ → ℕ → Row → List ℕ → Outcome
+scan_behind size count r bs = after_head (scan (row_form size count r) (drop 12 bs))

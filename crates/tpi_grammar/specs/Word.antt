@@ -1,5 +1,5 @@
 -- A word: four bytes, high byte first, whose value lies in one of some ranges.
-use Rattle.std.specs.Prelude.{◌+◌, ◌*◌, ℕ, Bool, ◌&&◌, List, nat_lt, nat_le}
+use Rattle.std.specs.Prelude.{◌≡◌, ◌+◌, ◌*◌, ℕ, Bool, ◌&&◌, List, drop, nat_lt, nat_le}
 use Rattle.std.specs.List.{list_any}
 use Rattle.tpi_grammar.specs.Form.{Form, byte, Outcome, short, bad, later, scan}
 use Rattle.tpi_grammar.specs.declared.word.Range.{Range}
@@ -39,3 +39,7 @@ abbrev pub goes : WordRead → (ℕ → Form) → List ℕ → Outcome
 goes (Value v) next rest = after_word (scan (next v) rest)
 goes Short next rest = short
 goes (Bad at) next rest = bad at
+
+-- reading a word in the ranges from the start of these bytes comes to this, whatever follows it
+abbrev pub ReadsWord : List Range → List ℕ → WordRead → Type 0
+ReadsWord rs bs read = (next : ℕ → Form) → scan (word rs next) bs ≡ goes read next (drop 4 bs)

@@ -4,6 +4,12 @@ ghost use Rattle.std.specs.Prelude.{◌≡◌, map, IfSome, IfNone};
 ghost use Rattle.tpi_grammar.specs.Frame.{table, head};
 ghost use Rattle.tpi_grammar.specs.Kinds.{row_of, slots_view};
 
+/// The most bytes of a control part.
+pub const MOST_CONTROL: u32 = 1024;
+
+/// The most bytes of user data in a frame.
+pub const MOST_DATA: u32 = 65_536;
+
 /// What stands after PRIM_type.
 #[derive(Debug, Clone, Copy, PartialEq, Eq)]
 pub enum Slot {
@@ -217,7 +223,7 @@ impl Kind {
             | Kind::T_DISCON_IND
             | Kind::T_DATA_IND
             | Kind::T_EXDATA_IND
-            | Kind::T_UNITDATA_IND => 65536,
+            | Kind::T_UNITDATA_IND => MOST_DATA,
             Kind::T_BIND_REQ
             | Kind::T_UNBIND_REQ
             | Kind::T_ORDREL_REQ

@@ -30,8 +30,10 @@ pub fn one_spelling()
 /// Frames one after the other are read one by one, and in one way. Where the next one is bad or cut, there the whole is
 /// wrong first, and nowhere else.
 pub fn frames_law()
-    ensures bad_frame { (front rest : List ℕ) (at : ℕ) → IsFrames front → MeansFrame rest (bad at) → IsFirstWrong (front ++ rest) (length front + at) }
-    ensures cut_frame { (front rest : List ℕ) → IsFrames front → MeansFrame rest short → rest ≢ [] → IsFirstWrong (front ++ rest) (length (front ++ rest)) }
+    ensures bad_frame { (front rest : List ℕ) (at : ℕ) → IsFrames front → MeansFrame rest (bad at) →
+        IsFirstWrong (front ++ rest) (length front + at) }
+    ensures cut_frame { (front rest : List ℕ) → IsFrames front → MeansFrame rest short → rest ≢ [] →
+        IsFirstWrong (front ++ rest) (length (front ++ rest)) }
     ensures one_more { (front last : List ℕ) → IsFrames front → IsFrame last → IsFrames (front ++ last) }
     ensures one_reading { (fs gs : List Filled) → AreFilled fs → AreFilled gs → spellings fs ≡ spellings gs → fs ≡ gs }
     ensures never_both { (bs : List ℕ) (at : ℕ) → IsFirstWrong bs at → IsFrames bs → ⊥ }

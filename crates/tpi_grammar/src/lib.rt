@@ -7,9 +7,6 @@ mod measure;
 mod sizes;
 mod word;
 
-pub use kind::{Kind, Slot};
+pub use kind::{Kind, MOST_CONTROL, MOST_DATA, Slot};
 pub use laws::{frames_law, kinds_law, one_spelling, reading_law};
 pub use measure::{Measure, measure_frame};
-
-#[cfg(test)]
-mod tests;

@@ -1,9 +1,9 @@
 //! How much of an input is a frame.
 
 ghost use Rattle.std.specs.Prelude.{◌≡◌, ◌≤◌, ◌<◌, ◌+◌, ◌^◌, ℕ, [], ◌∷◌, length, drop, option_map, IfSome};
-ghost use Rattle.tpi_grammar.specs.Form.{Form, scan};
-ghost use Rattle.tpi_grammar.specs.Word.{after_word as later_word, after_head, goes, word};
-ghost use Rattle.tpi_grammar.specs.Frame.{table, left, size_range, data_range, offset, part_range, slots_form, row_form, form_of, first_row, number_range, number_form, chosen, tail, frame};
+ghost use Rattle.tpi_grammar.specs.Form.{scan};
+ghost use Rattle.tpi_grammar.specs.Word.{after_word as later_word, ReadsWord};
+ghost use Rattle.tpi_grammar.specs.Frame.{offset, part_range, slots_form, form_of, number_form, count_form, tail, frame, rows_of_size, rows_of_lengths, row_of_number, scan_behind};
 ghost use Rattle.tpi_grammar.specs.Kinds.{row_of, slots_view};
 ghost use Rattle.tpi_grammar.specs.Measured.{MeansFrame, outcome_of};
 
@@ -42,7 +42,7 @@ struct Head {
 /// The two lengths and PRIM_type, read at once; `None` if less than twelve bytes are there, or no frame begins with them.
 fn read_head(input: &[u8]) -> Option<Head>
     ensures long { IfSome result (λ _. 12 ≤ length input.now) }
-    ensures scans { IfSome result (λ h. scan frame input.now ≡ after_head (scan (row_form h.size h.count (row_of h.kind)) (drop 12 input.now))) }
+    ensures scans { IfSome result (λ h. scan frame input.now ≡ scan_behind h.size h.count (row_of h.kind) input.now) }
 {
     let size = front_word(input)?;
     let count = front_word(&input[4..])?;
@@ -68,7 +68,7 @@ fn scan_frame(input: &[u8]) -> Measure
 /// Reads what stands after the first three words.
 fn measure_behind(head: Head, input: &[u8]) -> Measure
     requires { 12 ≤ length input.now }
-    ensures { outcome_of result ≡ after_head (scan (row_form head.size head.count (row_of head.kind)) (drop 12 input.now)) }
+    ensures { outcome_of result ≡ scan_behind head.size head.count (row_of head.kind) input.now }
 {
     let behind = &input[12..];
     let body = measure_body(Some(head.kind), head.size, head.count, behind);
@@ -104,7 +104,7 @@ fn after_word(rest: Measure, len: usize) -> Measure
 }
 
 fn after_size(size: u32, bytes: &[u8]) -> Measure
-    ensures scans { outcome_of result ≡ scan (chosen data_range (λ count. number_form size count) (left size_range size table)) bytes.now }
+    ensures scans { outcome_of result ≡ scan (count_form size (rows_of_size size)) bytes.now }
     ensures within { (n : ℕ) → result ≡ Measure.Whole n → n ≤ length bytes.now }
     ensures at { (n : ℕ) → result ≡ Measure.Bad n → n ≤ length bytes.now }
 {
@@ -119,7 +119,7 @@ fn after_size(size: u32, bytes: &[u8]) -> Measure
 }
 
 fn after_count(size: u32, count: u32, bytes: &[u8]) -> Measure
-    ensures scans { outcome_of result ≡ scan (number_form size count (left data_range count (left size_range size table))) bytes.now }
+    ensures scans { outcome_of result ≡ scan (number_form size count (rows_of_lengths size count)) bytes.now }
     ensures within { (n : ℕ) → result ≡ Measure.Whole n → n ≤ length bytes.now }
     ensures at { (n : ℕ) → result ≡ Measure.Bad n → n ≤ length bytes.now }
 {
@@ -134,7 +134,7 @@ fn after_count(size: u32, count: u32, bytes: &[u8]) -> Measure
 }
 
 fn after_number(size: u32, count: u32, number: u32, bytes: &[u8]) -> Measure
-    ensures scans { outcome_of result ≡ scan (form_of size count (first_row (left number_range number (left data_range count (left size_range size table))))) bytes.now }
+    ensures scans { outcome_of result ≡ scan (form_of size count (row_of_number size count number)) bytes.now }
     ensures within { (n : ℕ) → result ≡ Measure.Whole n → n ≤ length bytes.now }
     ensures at { (n : ℕ) → result ≡ Measure.Bad n → n ≤ length bytes.now }
 {
@@ -198,7 +198,7 @@ fn measure_slots(slots: &[Slot], place: u32, left: u32, total: u64, bytes: &[u8]
 
 /// Reads the length of a part, where so many bytes are left for it and the parts after it.
 fn read_length(bytes: &[u8], others: &[Slot], left: u32) -> WordRead
-    ensures scans { (next : ℕ → Form) → scan (word (part_range (slots_view others.now) left ∷ []) next) bytes.now ≡ goes result next (drop 4 bytes.now) }
+    ensures scans { ReadsWord (part_range (slots_view others.now) left ∷ []) bytes.now result }
     ensures long { (v : ℕ) → result ≡ WordRead.Value v → 4 ≤ length bytes.now }
     ensures small { (v : ℕ) → result ≡ WordRead.Value v → v ≤ left }
     ensures at { (n : ℕ) → result ≡ WordRead.Bad n → n < length bytes.now }

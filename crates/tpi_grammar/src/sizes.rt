@@ -1,12 +1,12 @@
 //! The two lengths at the start of a frame, and which primitives may have them.
 
-ghost use Rattle.std.specs.Prelude.{◌≡◌, ◌≤◌, ◌&&◌, List, [], ◌∷◌, find, map, option_map};
+ghost use Rattle.std.specs.Prelude.{◌≡◌, ◌≤◌, find, map, option_map};
 ghost use Rattle.std.specs.List.{list_any};
 ghost use Rattle.tpi_grammar.specs.Word.{meets, viable};
-ghost use Rattle.tpi_grammar.specs.Frame.{table, left, size_range, data_range, number_range, has_part, is_part, part_range, first_row};
+ghost use Rattle.tpi_grammar.specs.Frame.{table, size_range, data_range, number_range, has_part, is_part, part_range, rows_of_size, rows_of_lengths, row_of_number, may_count, may_number};
 ghost use Rattle.tpi_grammar.specs.Kinds.{row_of, slot_view, slots_view};
 
-use crate::kind::{Kind, Slot, kinds};
+use crate::kind::{Kind, MOST_CONTROL, Slot, kinds};
 use crate::word::{Choice, Range, Within, between, meets_range};
 
 fn is_part(slot: Slot) -> bool
@@ -46,7 +46,10 @@ fn size_range(kind: Kind) -> Range
 {
     let low = kind.head();
     if has_part(kind.slots()) {
-        Range { low, high: 1024 }
+        Range {
+            low,
+            high: MOST_CONTROL,
+        }
     } else {
         Range { low, high: low }
     }
@@ -140,14 +143,14 @@ impl Choice for Counts {
 
 fn any_count(size: u32, unit: u64, x: u32) -> bool
     requires { unit ≤ 16777216 }
-    ensures { result ≡ viable (map data_range (left size_range size table)) unit x }
+    ensures { result ≡ viable (map data_range (rows_of_size size)) unit x }
 {
     some_count(kinds(), size, unit, x)
 }
 
 fn some_count(kinds: &[Kind], size: u32, unit: u64, x: u32) -> bool
     requires { unit ≤ 16777216 }
-    ensures { result ≡ list_any (λ k. meets 1 size (size_range (row_of k)) && meets unit x (data_range (row_of k))) kinds.now }
+    ensures { result ≡ list_any (λ k. may_count size unit x (row_of k)) kinds.now }
 {
     kinds.iter().any(|kind| may_count(*kind, size, unit, x))
 }
@@ -155,7 +158,7 @@ fn some_count(kinds: &[Kind], size: u32, unit: u64, x: u32) -> bool
 /// Whether the control part may have this length, and the user data one of the `unit` lengths from `x * unit` on.
 pub(crate) fn may_count(kind: Kind, size: u32, unit: u64, x: u32) -> bool
     requires { unit ≤ 16777216 }
-    ensures { result ≡ (meets 1 size (size_range (row_of kind)) && meets unit x (data_range (row_of kind))) }
+    ensures { result ≡ may_count size unit x (row_of kind) }
 {
     fits_size(kind, size) && meets_range(unit, x, data_range(kind))
 }
@@ -180,14 +183,14 @@ impl Choice for PrimTypes {
 
 fn any_number(size: u32, count: u32, unit: u64, x: u32) -> bool
     requires { unit ≤ 16777216 }
-    ensures { result ≡ viable (map number_range (left data_range count (left size_range size table))) unit x }
+    ensures { result ≡ viable (map number_range (rows_of_lengths size count)) unit x }
 {
     some_number(kinds(), size, count, unit, x)
 }
 
 fn some_number(kinds: &[Kind], size: u32, count: u32, unit: u64, x: u32) -> bool
     requires { unit ≤ 16777216 }
-    ensures { result ≡ list_any (λ k. (meets 1 size (size_range (row_of k)) && meets 1 count (data_range (row_of k))) && meets unit x (number_range (row_of k))) kinds.now }
+    ensures { result ≡ list_any (λ k. may_number size count unit x (row_of k)) kinds.now }
 {
     kinds
         .iter()
@@ -196,19 +199,19 @@ fn some_number(kinds: &[Kind], size: u32, count: u32, unit: u64, x: u32) -> bool
 
 fn may_number(kind: Kind, size: u32, count: u32, unit: u64, x: u32) -> bool
     requires { unit ≤ 16777216 }
-    ensures { result ≡ ((meets 1 size (size_range (row_of kind)) && meets 1 count (data_range (row_of kind))) && meets unit x (number_range (row_of kind))) }
+    ensures { result ≡ may_number size count unit x (row_of kind) }
 {
     fits_size(kind, size) && fits_count(kind, count) && meets_range(unit, x, number_range(kind))
 }
 
 fn fits_all(kind: Kind, size: u32, count: u32, number: u32) -> bool
-    ensures { result ≡ ((meets 1 size (size_range (row_of kind)) && meets 1 count (data_range (row_of kind))) && meets 1 number (number_range (row_of kind))) }
+    ensures { result ≡ may_number size count 1 number (row_of kind) }
 {
     fits_size(kind, size) && fits_count(kind, count) && fits_number(kind, number)
 }
 
 fn first_kind(kinds: &[Kind], size: u32, count: u32, number: u32) -> Option<Kind>
-    ensures { result ≡ find (λ k. (meets 1 size (size_range (row_of k)) && meets 1 count (data_range (row_of k))) && meets 1 number (number_range (row_of k))) kinds.now }
+    ensures { result ≡ find (λ k. may_number size count 1 number (row_of k)) kinds.now }
 {
     kinds
         .iter()
@@ -218,7 +221,7 @@ fn first_kind(kinds: &[Kind], size: u32, count: u32, number: u32) -> Option<Kind
 
 /// The primitive with this value of PRIM_type, if it may have these lengths.
 pub(crate) fn kind_of(size: u32, count: u32, number: u32) -> Option<Kind>
-    ensures { option_map row_of result ≡ first_row (left number_range number (left data_range count (left size_range size table))) }
+    ensures { option_map row_of result ≡ row_of_number size count number }
 {
     first_kind(kinds(), size, count, number)
 }

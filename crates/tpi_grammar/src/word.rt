@@ -1,9 +1,8 @@
 //! Reading a word whose value lies in one of some ranges.
 
 ghost use Rattle.std.specs.Prelude.{◌≡◌, ◌≤◌, ◌<◌, ℕ, List, [], ◌∷◌, ◌++◌, length, drop, true, IfSome};
-ghost use Rattle.tpi_grammar.specs.Form.{Form, scan};
 ghost use Rattle.tpi_grammar.specs.Frame.{be};
-ghost use Rattle.tpi_grammar.specs.Word.{goes, meets, viable, word};
+ghost use Rattle.tpi_grammar.specs.Word.{meets, viable, ReadsWord};
 
 /// The numbers from `low` to `high`.
 #[derive(Debug, Clone, Copy, PartialEq, Eq)]
@@ -74,7 +73,7 @@ pub(crate) fn front_word(bytes: &[u8]) -> Option<u32>
 
 /// Reads a word in the ranges at the start of the bytes: at once if its value is in them, and else byte by byte.
 pub(crate) fn read_word<C: Choice>(bytes: &[u8], choice: &C) -> WordRead
-    ensures scans { (next : ℕ → Form) → scan (word (C.ranges choice.now) next) bytes.now ≡ goes result next (drop 4 bytes.now) }
+    ensures scans { ReadsWord (C.ranges choice.now) bytes.now result }
     ensures long { (v : ℕ) → result ≡ WordRead.Value v → 4 ≤ length bytes.now }
     ensures met { (v : ℕ) → result ≡ WordRead.Value v → viable (C.ranges choice.now) 1 v ≡ true }
     ensures at { (n : ℕ) → result ≡ WordRead.Bad n → n < length bytes.now }
@@ -90,7 +89,7 @@ pub(crate) fn read_word<C: Choice>(bytes: &[u8], choice: &C) -> WordRead
 /// Reads a word in the ranges byte by byte.
 #[tactic(auto, unfolding(crate::specs::Word::word))]
 fn read_bytes<C: Choice>(bytes: &[u8], choice: &C) -> WordRead
-    ensures scans { (next : ℕ → Form) → scan (word (C.ranges choice.now) next) bytes.now ≡ goes result next (drop 4 bytes.now) }
+    ensures scans { ReadsWord (C.ranges choice.now) bytes.now result }
     ensures long { (v : ℕ) → result ≡ WordRead.Value v → 4 ≤ length bytes.now }
     ensures met { (v : ℕ) → result ≡ WordRead.Value v → viable (C.ranges choice.now) 1 v ≡ true }
     ensures at { (n : ℕ) → result ≡ WordRead.Bad n → n < length bytes.now }

@@ -1,11 +1,12 @@
 -- What is read from a frame is what it encodes.
-use Rattle.std.proofs.Common.{◌≡◌, ◌≤◌, ◌<◌, ◌+◌, ℕ, suc, zero, Bool, true, false, List, [], ◌∷◌, ◌++◌, length, take, drop, map, length-append, append_assoc, nat_eq, not, cond, refl, sym, ◌∙◌, ap, arith, subst, inl, inr}
+use Rattle.std.proofs.Common.{◌≡◌, ◌≤◌, ◌<◌, ◌+◌, ℕ, suc, zero, Bool, true, false, List, [], ◌∷◌, ◌++◌, length, take, drop, map, length-append, append_assoc, nat_eq, not, cond, refl, sym, ◌∙◌, ap, arith, subst, inl, inr, lit≤}
 use Rattle.std.proofs.Math.Seq.{drop-append_seam, take-append_seam}
 use Rattle.std.specs.Int.{w32, from_be_bytes}
 use Rattle.std.specs.List.{AllByRecursion}
 use Rattle.std.specs.Prelude.{Result, Ok, Err, IfOk, OnOk}
 use Rattle.std.proofs.lemmas.Nat.{from_be_bytes-to_be_bytes_4}
-use Rattle.tpi_grammar.specs.Frame.{Row, Slot, upto, part, Value, num, text, Filled, IsFilled, IsIn, Fit, table, spelling, be, words, parts, offset, head, slots_size, control_size}
+use Rattle.tpi_grammar.specs.declared.kind.TheConstants.{MOST_DATA}
+use Rattle.tpi_grammar.specs.Frame.{AreBytes, Row, Slot, upto, part, Value, num, text, Filled, IsFilled, IsIn, Fit, table, spelling, be, words, parts, offset, head, slots_size, control_size}
 use Rattle.tpi_grammar.specs.Kinds.{row_of}
 use Rattle.tpi_grammar.specs.Measured.{IsFrame}
 use Rattle.tpi_grammar.proofs.Finished.{IsSlot, table_is}
@@ -353,6 +354,20 @@ each_filled f good =
 
 pub user_is : (bs : List ℕ) → IsFrame bs → user_of (primitive_in bs) ≡ user_in bs
 user_is bs frame = let f = is_spelled bs frame in ap (λ (x : Filled). x.user) (primitive_is bs f) ∙ sym f.read.user
+
+most_of : (k : Kind) → (row_of k).most_data ≤ MOST_DATA
+most_of kind.T_CONN_REQ = lit≤ tt
+most_of _ = lit≤ tt
+
+pub user_bytes : (f : List ℕ) → IsFrame f → AreBytes (user_of (primitive_in f))
+user_bytes f frame = (spelled_by f frame).good.user
+
+pub user_most : (f : List ℕ) → IsFrame f → length (user_of (primitive_in f)) ≤ MOST_DATA
+user_most f frame =
+    let s = is_spelled f frame in
+    let room : length (filled (primitive_in f)).user ≤ (filled (primitive_in f)).row.most_data = (spelled_by f frame).good.room in
+    let row : (filled (primitive_in f)).row.most_data ≡ (row_of s.kind).most_data = ap (λ g. g.row.most_data) (primitive_is f s) in
+    omega (arith, room, row, most_of s.kind)
 
 pub kind_of-primitive_in : (bs : List ℕ) → kind_of (primitive_in bs) ≡ kind_in bs
 unfolding primitive_in

@@ -1,6 +1,8 @@
 -- A primitive whose fields are lent, and which primitives get no frame.
-use Rattle.std.specs.Prelude.{◌<◌, ◌≤◌, ◌⊎◌, List, [], ◌∷◌, length, flat_map}
-use Rattle.tpi_grammar.specs.Frame.{Slot, upto, part, Value, num, text, Filled, control_size}
+use Rattle.std.specs.Prelude.{◌<◌, ◌≤◌, ◌⊎◌, ℕ, List, [], ◌∷◌, ◌++◌, length, flat_map}
+use Rattle.tpi_grammar.specs.Frame.{Slot, upto, part, Value, num, text, Filled, parts, words, head, be, control_size}
+use Rattle.tpi_grammar.specs.declared.kind.TheConstants.{MOST_CONTROL, MOST_DATA}
+use Rattle.tpi_grammar.specs.Kinds.{row_of}
 use Rattle.tpi_prim.specs.Primitive.{of_kind}
 use Rattle.tpi_prim.specs.declared.encoding.Field.{Field}
 use Rattle.tpi_prim.specs.declared.encoding.Field.TheVariants.{Number, Bytes, Nothing}
@@ -14,8 +16,16 @@ value_of Nothing = []
 abbrev pub values_of : List Field → List Value
 values_of = flat_map value_of
 
+-- how many bytes the parts have
+abbrev pub parts_size : List Field → ℕ
+parts_size fields = length (parts (values_of fields))
+
 abbrev pub filled_by : Lent → Filled
 filled_by lent = of_kind lent.kind (values_of lent.fields) lent.user.now
+
+-- what stands before the parts, with this length of the control part: the two lengths, PRIM_type and the words
+abbrev pub front_of : ℕ → Lent → List ℕ
+front_of control lent = be control ++ be (length lent.user.now) ++ be (row_of lent.kind).number ++ words (head (row_of lent.kind).slots) (values_of lent.fields)
 
 -- a number or a part at each slot, and numbers within theirs
 abbrev pub HasShape : List Slot → List Value → Type 0
@@ -24,6 +34,6 @@ HasShape (upto m ∷ ss) (num n ∷ vs) = (n ≤ m) × HasShape ss vs
 HasShape (part ∷ ss) (text bs ∷ vs) = HasShape ss vs
 HasShape _ _ = ⊥
 
--- the control part is over 1,024 bytes, or the user data over 65,536
+-- the control part or the user data are over their limits
 abbrev pub IsTooBig : Filled → Type 0
-IsTooBig f = (1024 < control_size f) ⊎ (65536 < length f.user)
+IsTooBig f = (MOST_CONTROL < control_size f) ⊎ (MOST_DATA < length f.user)

@@ -31,7 +31,8 @@ pub enum Decoded {
 /// Reads a primitive from the start of the input. Memory is taken only for the fields of a whole frame.
 pub fn decode(alloc: Global, input: &[u8]) -> Decoded
     ensures means { MeansDecoded input.now result }
-    ensures back { (p : Prim) (rest : List ℕ) → IsFilled (filled p) → input.now ≡ spelling (filled p) ++ rest → GivesBack p result }
+    ensures back { (p : Prim) (rest : List ℕ) → IsFilled (filled p) →
+        input.now ≡ spelling (filled p) ++ rest → GivesBack p result }
 {
     match measure_frame(input) {
         Measure::Short => Decoded::Short,

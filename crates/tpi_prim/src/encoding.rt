@@ -3,12 +3,13 @@
 ghost use Rattle.std.specs.Prelude.{◌≡◌, ◌≤◌, ◌<◌, ◌+◌, ◌-◌, ◌*◌, ◌^◌, [], ◌∷◌, ◌++◌, ◌↔◌, length, IfOk, IfErr, OnOk, IsErrOf};
 ghost use Rattle.std.specs.Option.{SomeIff};
 ghost use Rattle.arrayvec.specs.ArrayVec.{array_vec_len};
+ghost use Rattle.tpi_grammar.specs.declared.kind.TheConstants.{MOST_CONTROL, MOST_DATA};
 ghost use Rattle.tpi_grammar.specs.Kinds.{row_of};
 ghost use Rattle.tpi_grammar.specs.Frame.{text, AreBytes, IsFilled, spelling, words, parts, offset, head, control_size, be};
 ghost use Rattle.tpi_prim.specs.Primitive.{filled, Spells};
 ghost use Rattle.tpi_prim.specs.Fields.{primitive_in};
 ghost use Rattle.tpi_prim.specs.declared.primitive.Prim.TheVariants.{T_UNITDATA_IND, T_UDERROR_IND};
-ghost use Rattle.tpi_prim.specs.Lent.{value_of, values_of, filled_by, HasShape, IsTooBig};
+ghost use Rattle.tpi_prim.specs.Lent.{value_of, values_of, parts_size, filled_by, front_of, HasShape, IsTooBig};
 
 use crate::frames::{Frame, FrameBytes, INLINE};
 use crate::primitive::Prim;
@@ -16,7 +17,7 @@ use arrayvec::ArrayVec;
 use bytes::Bytes;
 use std::alloc::{AllocError, AllocFailed, Global};
 use thiserror::Error;
-use tpi_grammar::Kind;
+use tpi_grammar::{Kind, MOST_CONTROL, MOST_DATA};
 
 /// Why a primitive gets no frame.
 #[derive(Debug, Drop, Clone, Copy, PartialEq, Eq, Error)]
@@ -126,7 +127,7 @@ impl Lent<'_> {
     fn of(prim: &Prim) -> Lent<'_>
         ensures same { filled_by result ≡ filled prim.now }
         ensures shape { HasShape (row_of result.kind).slots (values_of result.fields) }
-        ensures room { length result.user.now ≤ 65536 → length result.user.now ≤ (row_of result.kind).most_data }
+        ensures room { length result.user.now ≤ MOST_DATA → length result.user.now ≤ (row_of result.kind).most_data }
     {
         Lent {
             kind: prim.kind(),
@@ -140,13 +141,13 @@ impl Lent<'_> {
     #[inline(always)]
     fn frame(&self, alloc: Global) -> Result<Frame, EncodeFail>
         requires shape { HasShape (row_of self.now.kind).slots (values_of self.now.fields) }
-        requires room { length self.now.user.now ≤ 65536 → length self.now.user.now ≤ (row_of self.now.kind).most_data }
+        requires room { length self.now.user.now ≤ MOST_DATA → length self.now.user.now ≤ (row_of self.now.kind).most_data }
         ensures spelled { IfOk result (λ frame. frame ≡ spelling (filled_by self.now)) }
         ensures filled { OnOk result (IsFilled (filled_by self.now)) }
         ensures too_big { IsErrOf result EncodeFail.TooBig ↔ IsTooBig (filled_by self.now) }
     {
         let control = self.control_len().ok_or(EncodeFail::TooBig)?;
-        if self.user.len() > 65536 {
+        if self.user.len() > MOST_DATA as usize {
             return Err(EncodeFail::TooBig);
         }
         let frame = self.encode(alloc, control)?;
@@ -155,10 +156,10 @@ impl Lent<'_> {
 
     /// How long the control part is; `None` over 1,024 bytes.
     fn control_len(&self) -> Option<u32>
-        ensures { SomeIff result (control_size (filled_by self.now) ≤ 1024) (control_size (filled_by self.now)) }
+        ensures { SomeIff result (control_size (filled_by self.now) ≤ MOST_CONTROL) (control_size (filled_by self.now)) }
     {
-        let left = room_left(1024 - self.kind.head() as usize, &self.fields)?;
-        Some(1024 - left as u32)
+        let left = room_left(MOST_CONTROL as usize - self.kind.head() as usize, &self.fields)?;
+        Some(MOST_CONTROL - left as u32)
     }
 
     #[inline(always)]
@@ -166,25 +167,15 @@ impl Lent<'_> {
         requires shape { HasShape (row_of self.now.kind).slots (values_of self.now.fields) }
         requires data { length self.now.user.now ≤ (row_of self.now.kind).most_data }
         requires control { control ≡ control_size (filled_by self.now) }
-        requires small { control ≤ 1024 }
+        requires small { control ≤ MOST_CONTROL }
         ensures spelled { IfOk result (λ frame. frame ≡ spelling (filled_by self.now)) }
         ensures filled { OnOk result (IsFilled (filled_by self.now)) }
         ensures memory { IfErr result (λ e. e ≡ EncodeFail.OutOfMemory) }
     {
-        self.are_bytes();
         let len = 8 + control as usize + self.user.len();
         let mut out = FrameBytes::with_capacity(alloc, len)?;
         self.write(&mut out, control)?;
         Ok(Frame::of(out))
-    }
-
-    /// The parts and the user data are numbers under 256.
-    fn are_bytes(&self)
-        ensures parts { AreBytes (parts (values_of self.now.fields)) }
-        ensures user { AreBytes self.now.user.now }
-    {
-        are_bytes_in(&self.fields);
-        let _user = bytes(self.user);
     }
 
     /// Writes the frame: a short one in one go.
@@ -192,10 +183,12 @@ impl Lent<'_> {
     #[tactic(auto, using(crate::proofs::Words::head_length))]
     fn write(&self, out: &mut FrameBytes, control: u32) -> Result<(), AllocError>
         requires shape { HasShape (row_of self.now.kind).slots (values_of self.now.fields) }
-        requires data { length self.now.user.now ≤ 65536 }
+        requires data { length self.now.user.now ≤ MOST_DATA }
         requires control { control ≡ control_size (filled_by self.now) }
-        requires small { control ≤ 1024 }
-        ensures { OnOk result (out.new.items ≡ out.old.items ++ spelling (filled_by self.now)) }
+        requires small { control ≤ MOST_CONTROL }
+        ensures items { OnOk result (out.new.items ≡ out.old.items ++ spelling (filled_by self.now)) }
+        ensures part_bytes { OnOk result (AreBytes (parts (values_of self.now.fields))) }
+        ensures user_bytes { OnOk result (AreBytes self.now.user.now) }
     {
         let mut front = self.head(control);
         if 8 + control as usize + self.user.len() <= INLINE {
@@ -213,9 +206,9 @@ impl Lent<'_> {
     /// The two lengths, PRIM_type and the words, which stand before the parts.
     #[inline(always)]
     fn head(&self, control: u32) -> Front
-        requires small { control_size (filled_by self.now) ≤ 1024 }
-        requires data { length self.now.user.now ≤ 65536 }
-        ensures { result.items ≡ be control ++ be (length self.now.user.now) ++ be (row_of self.now.kind).number ++ words (head (row_of self.now.kind).slots) (values_of self.now.fields) }
+        requires small { control_size (filled_by self.now) ≤ MOST_CONTROL }
+        requires data { length self.now.user.now ≤ MOST_DATA }
+        ensures { result.items ≡ front_of control self.now }
     {
         let mut out = Front::new();
         put_word(&mut out, control);
@@ -226,20 +219,11 @@ impl Lent<'_> {
     }
 }
 
-/// The same bytes, which are numbers under 256.
-fn bytes(bytes: &[u8]) -> &[u8]
-    ensures same { result.now ≡ bytes.now }
-    ensures bytes { AreBytes bytes.now }
-{
-    bytes
-}
-
 fn part_of<'a>(field: &Field<'a>) -> &'a [u8]
-    ensures part { result.now ≡ parts (value_of field.now) }
-    ensures bytes { AreBytes result.now }
+    ensures { result.now ≡ parts (value_of field.now) }
 {
     match field {
-        Field::Bytes(part) => bytes(part),
+        Field::Bytes(part) => part,
         _ => &[],
     }
 }
@@ -247,7 +231,7 @@ fn part_of<'a>(field: &Field<'a>) -> &'a [u8]
 /// What is left of a room when the parts are in it; `None` where they don't fit.
 #[inline(always)]
 fn room_left(room: usize, fields: &[Field<'_>; 3]) -> Option<usize>
-    ensures { SomeIff result (length (parts (values_of fields.now)) ≤ room) (room - length (parts (values_of fields.now))) }
+    ensures { SomeIff result (parts_size fields.now ≤ room) (room - parts_size fields.now) }
 {
     let [first, second, third] = fields;
     let room = room.checked_sub(part_of(first).len())?;
@@ -299,7 +283,7 @@ fn put_field(out: &mut Front, place: u32, field: &Field<'_>) -> u32
 #[inline(always)]
 fn put_words(out: &mut Front, place: u32, fields: &[Field<'_>; 3])
     requires room { array_vec_len out.old + 24 ≤ 64 }
-    requires parts { place + length (parts (values_of fields.now)) < 2 ^ 32 }
+    requires parts { place + parts_size fields.now < 2 ^ 32 }
     ensures { out.new.items ≡ out.old.items ++ words place (values_of fields.now) }
 {
     let [first, second, third] = fields;
@@ -314,6 +298,7 @@ fn put_bytes(out: &mut Front, bytes: &[u8])
     requires { array_vec_len out.old + length bytes.now ≤ 64 }
     ensures items { out.new.items ≡ out.old.items ++ bytes.now }
     ensures len { array_vec_len out.new ≡ array_vec_len out.old + length bytes.now }
+    ensures bytes { AreBytes bytes.now }
 {
     if !bytes.is_empty() {
         out.try_extend_from_slice(bytes).unwrap();
@@ -322,9 +307,11 @@ fn put_bytes(out: &mut Front, bytes: &[u8])
 
 /// Writes the parts of the fields, for which there is room.
 #[inline(always)]
+#[tactic(auto, using(crate::proofs::Words::bytes_three))]
 fn put_parts(out: &mut Front, fields: &[Field<'_>; 3])
-    requires { array_vec_len out.old + length (parts (values_of fields.now)) ≤ 64 }
+    requires { array_vec_len out.old + parts_size fields.now ≤ 64 }
     ensures items { out.new.items ≡ out.old.items ++ parts (values_of fields.now) }
+    ensures bytes { AreBytes (parts (values_of fields.now)) }
 {
     let [first, second, third] = fields;
     put_bytes(out, part_of(first));
@@ -332,20 +319,10 @@ fn put_parts(out: &mut Front, fields: &[Field<'_>; 3])
     put_bytes(out, part_of(third));
 }
 
-/// The parts of the fields are numbers under 256.
-#[tactic(auto, using(crate::proofs::Words::bytes_three))]
-fn are_bytes_in(fields: &[Field<'_>; 3])
-    ensures { AreBytes (parts (values_of fields.now)) }
-{
-    let [first, second, third] = fields;
-    let _first = part_of(first);
-    let _second = part_of(second);
-    let _third = part_of(third);
-}
-
 /// Writes bytes into a frame that may be long.
 fn put_long(out: &mut FrameBytes, bytes: &[u8]) -> Result<(), AllocError>
-    ensures { OnOk result (out.new.items ≡ out.old.items ++ bytes.now) }
+    ensures items { OnOk result (out.new.items ≡ out.old.items ++ bytes.now) }
+    ensures bytes { AreBytes bytes.now }
 {
     if bytes.is_empty() {
         return Ok(());
@@ -354,9 +331,10 @@ fn put_long(out: &mut FrameBytes, bytes: &[u8]) -> Result<(), AllocError>
 }
 
 /// Writes the parts of the fields into a frame that may be long.
-#[tactic(auto, using(crate::proofs::Words::parts_three))]
+#[tactic(auto, using(crate::proofs::Words::parts_three, crate::proofs::Words::bytes_three))]
 fn put_long_parts(out: &mut FrameBytes, fields: &[Field<'_>; 3]) -> Result<(), AllocError>
-    ensures { OnOk result (out.new.items ≡ out.old.items ++ parts (values_of fields.now)) }
+    ensures items { OnOk result (out.new.items ≡ out.old.items ++ parts (values_of fields.now)) }
+    ensures bytes { OnOk result (AreBytes (parts (values_of fields.now))) }
 {
     let [first, second, third] = fields;
     put_long(out, part_of(first))?;
@@ -470,7 +448,7 @@ fn part(bytes: &Bytes) -> Field<'_>
 
 fn user_of(prim: &Prim) -> &[u8]
     ensures user { result.now ≡ (filled prim.now).user }
-    ensures room { length result.now ≤ 65536 → length result.now ≤ (filled prim.now).row.most_data }
+    ensures room { length result.now ≤ MOST_DATA → length result.now ≤ (filled prim.now).row.most_data }
 {
     match prim {
         Prim::T_CONN_REQ { user, .. }

@@ -3,6 +3,8 @@
 ghost use Rattle.std.specs.Prelude.{◌≡◌, ◌≤◌, ◌+◌, length, take, drop, IsTrue, Some};
 ghost use Rattle.std.specs.Int.{w32, from_be_bytes};
 ghost use Rattle.std.specs.Option.{option_copied};
+ghost use Rattle.tpi_grammar.specs.declared.kind.TheConstants.{MOST_DATA};
+ghost use Rattle.tpi_grammar.specs.Frame.{AreBytes};
 ghost use Rattle.tpi_grammar.specs.Kinds.{row_of};
 ghost use Rattle.tpi_grammar.specs.Measured.{IsFrame};
 ghost use Rattle.tpi_prim.specs.Primitive.{more_of, seq_of, reason_of, part_of, user_of, has_more, has_seq, has_reason, has_part};
@@ -93,7 +95,9 @@ impl Frame {
 
     /// The user data; none where the primitive has no place for them.
     pub fn user(&self) -> &[u8]
-        ensures { user_of (primitive_in self.now) ≡ result.now }
+        ensures value { user_of (primitive_in self.now) ≡ result.now }
+        ensures bytes { AreBytes result.now }
+        ensures most { length result.now ≤ MOST_DATA }
     {
         user_at(self.bytes())
     }

@@ -16,6 +16,3 @@ pub use laws::{pieces_law, primitives_law};
 pub use prims::Prims;
 pub use reading::{FeedFail, FrameReader};
 pub use tpi_grammar::Kind;
-
-#[cfg(test)]
-mod tests;

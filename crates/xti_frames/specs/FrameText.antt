@@ -27,6 +27,14 @@ part_field key part = octets_word key part
 abbrev pub user_field : List ℕ → List ℕ
 user_field user = part_field (codes " data=") user
 
+-- a name, MORE_flag and the user data
+abbrev pub flagged_text : List ℕ → Bool → List ℕ → List ℕ
+flagged_text name more user = name_word name ++ flag_field (codes " MORE_flag=") more ++ user_field user
+
+-- a name, an address after its key, and the options
+abbrev pub parts_text : List ℕ → List ℕ → List ℕ → List ℕ → List ℕ
+parts_text name key address opt = name_word name ++ part_field key address ++ part_field (codes " OPT=") opt
+
 abbrev pub frame_text : Prim → List ℕ
 frame_text (T_CONN_REQ dest opt user) = name_word (codes "T_CONN_REQ") ++ part_field (codes " DEST=") dest ++ part_field (codes " OPT=") opt ++ user_field user
 frame_text (T_CONN_RES acceptor_id opt seq_number user) = name_word (codes "T_CONN_RES") ++ number_field (codes " ACCEPTOR_id=") acceptor_id ++ part_field (codes " OPT=") opt ++ number_field (codes " SEQ_number=") seq_number ++ user_field user

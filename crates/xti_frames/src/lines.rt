@@ -1,7 +1,7 @@
 //! The line of one primitive.
 
-ghost use Rattle.std.specs.Prelude.{◌≡◌, ◌++◌, OnOk, IsTrue, codes};
-ghost use Rattle.xti_frames.specs.FrameText.{name_word, number_field, flag_field, part_field, user_field, frame_text, frame_line, is_of_connection, is_of_data, is_of_binding};
+ghost use Rattle.std.specs.Prelude.{◌≡◌, ◌++◌, OnOk, IsTrue};
+ghost use Rattle.xti_frames.specs.FrameText.{name_word, number_field, flag_field, part_field, user_field, flagged_text, parts_text, frame_text, frame_line, is_of_connection, is_of_data, is_of_binding};
 
 use bytes::Bytes;
 use std::alloc::AllocError;
@@ -45,7 +45,7 @@ fn put_user(out: &mut Vec<u8>, user: &Bytes) -> Result<(), AllocError>
 
 // The name, MORE_flag and the user data.
 fn put_flagged(out: &mut Vec<u8>, name: &str, more: bool, user: &Bytes) -> Result<(), AllocError>
-    ensures { OnOk result (out.new.items ≡ out.old.items ++ (name_word name.now ++ flag_field (codes " MORE_flag=") more ++ user_field user.now)) }
+    ensures { OnOk result (out.new.items ≡ out.old.items ++ flagged_text name.now more user.now) }
 {
     put_name(out, name)?;
     put_flag(out, " MORE_flag=", more)?;
@@ -60,7 +60,7 @@ fn put_parts(
     address: &Bytes,
     opt: &Bytes,
 ) -> Result<(), AllocError>
-    ensures { OnOk result (out.new.items ≡ out.old.items ++ (name_word name.now ++ part_field key.now address.now ++ part_field (codes " OPT=") opt.now)) }
+    ensures { OnOk result (out.new.items ≡ out.old.items ++ parts_text name.now key.now address.now opt.now) }
 {
     put_name(out, name)?;
     put_part(out, key, address)?;

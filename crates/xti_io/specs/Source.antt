@@ -10,6 +10,14 @@ Gives (Some bytes) now front = (rest : List ℕ) × (now ≡ Some rest) × (byte
 abbrev pub GivesUpTo : ℕ → Option (List ℕ) → Option (List ℕ) → Type 0
 GivesUpTo most before now = (front : List ℕ) × (length front ≤ most) × Gives before now front
 
+-- so many bytes went from it
+abbrev pub GivesCount : ℕ → Option (List ℕ) → Option (List ℕ) → Type 0
+GivesCount count before now = (front : List ℕ) × (length front ≡ count) × Gives before now front
+
+-- at least one byte went from it
+abbrev pub GivesSome : Option (List ℕ) → Option (List ℕ) → Type 0
+GivesSome before now = (front : List ℕ) × (0 < length front) × Gives before now front
+
 -- nothing is left
 abbrev pub IsAtEnd : Option (List ℕ) → Type 0
 IsAtEnd None = Unit {0}

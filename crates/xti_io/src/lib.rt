@@ -6,8 +6,6 @@ mod sink;
 mod source;
 mod standard;
 mod sure;
-#[cfg(test)]
-mod tests;
 mod turns;
 
 pub use memory::{MemSink, MemSource};

@@ -5,6 +5,7 @@ use Rattle.std.specs.Prelude.{ℕ, ◌+◌, Bool, List, [], ◌∷◌, ◌++◌,
 use Rattle.std.specs.List.{flat_map}
 use Rattle.xti_text.specs.Words.{number_word, signed_word, octets_word}
 use Rattle.xti_base.specs.declared.kinds.Event.{Event}
+use Rattle.xti_base.specs.declared.kinds.State.{State}
 use Rattle.xti_base.specs.declared.limit.Limit.{Limit}
 use Rattle.xti_base.specs.declared.limit.Info.{Info}
 use Rattle.xti_base.specs.Errno.{errno_name}
@@ -45,6 +46,14 @@ parts_word key (p ∷ ps) = octets_word key p ++ flat_map (octets_word (codes ",
 abbrev pub sizes_word : List ℕ → List ℕ → List ℕ
 sizes_word key [] = key ++ codes "none"
 sizes_word key (n ∷ ns) = number_word key n ++ flat_map (number_word (codes ",")) ns
+
+-- the address and the options of a call
+abbrev pub address_words : List ℕ → List ℕ → List ℕ
+address_words addr opt = octets_word (codes " addr=") addr ++ octets_word (codes " opt=") opt
+
+-- the most bytes that the caller takes of address and options
+abbrev pub address_limits : ℕ → ℕ → List ℕ
+address_limits amax omax = number_word (codes " amax=") amax ++ number_word (codes " omax=") omax
 
 -- the most bytes that the caller takes of address, options and data
 abbrev pub most_words : ℕ → ℕ → ℕ → List ℕ
@@ -100,6 +109,10 @@ sizes_text i = limit_word (codes " ") i.addr ++ limit_word (codes " ") i.options
 abbrev pub info_text : Info → List ℕ
 info_text i = sizes_text i ++ limit_word (codes " ") i.connect ++ limit_word (codes " ") i.discon ++ number_word (codes " ") (service_number i.servtype) ++ number_word (codes " ") i.flags
 
+-- the data of a datagram, and its flags
+abbrev pub data_text : List ℕ → ℕ → List ℕ
+data_text bytes flags = octets_word (codes " ") bytes ++ number_word (codes " ") flags
+
 abbrev pub reply_text : Reply → List ℕ
 reply_text Plain = codes "ok"
 reply_text (Opened fd) = number_word (codes "ok ") fd.0
@@ -139,12 +152,12 @@ unfoldable pub head_text : Providers → List ℕ
 head_text p = first_line ++ provider_text (codes "ticots") p.ticots ++ provider_text (codes "ticotsord") p.ticotsord ++ provider_text (codes "ticlts") p.ticlts
 
 -- what the call answered, and the state of its endpoint
-abbrev pub answer_text : Entry → List ℕ
-answer_text e = outcome_text e.outcome ++ codes " " ++ state_name e.after
+abbrev pub answer_text : Outcome → State → List ℕ
+answer_text outcome after = outcome_text outcome ++ codes " " ++ state_name after
 
 -- the entry with this number
 unfoldable pub entry_text : ℕ → Entry → List ℕ
-entry_text n e = decimal n ++ number_word (codes " ") e.worker ++ codes " " ++ act_text e.act ++ codes " => " ++ answer_text e ++ codes "\n"
+entry_text n e = decimal n ++ number_word (codes " ") e.worker ++ codes " " ++ act_text e.act ++ codes " => " ++ answer_text e.outcome e.after ++ codes "\n"
 
 -- entries, numbered from n
 abbrev pub entries_text : ℕ → List Entry → List ℕ

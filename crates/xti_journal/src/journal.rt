@@ -2,16 +2,14 @@
 
 ghost use Rattle.std.specs.Prelude.{◌≡◌, ◌++◌, OnOk, IfOk, codes};
 ghost use Rattle.std.specs.List.{flat_map};
-ghost use Rattle.xti_base.specs.Kinds.{state_name};
-ghost use Rattle.xti_model.specs.declared.entry.Act.TheVariants as act;
-ghost use Rattle.xti_journal.specs.JournalText.{profile_text, provider_text, first_line, head_text, outcome_text, entry_text, entries_text, stall_text, end_text, journal_text};
+ghost use Rattle.xti_journal.specs.JournalText.{profile_text, provider_text, first_line, head_text, answer_text, entry_text, entries_text, stall_text, end_text, journal_text};
 
-use crate::calls::{put_act, put_call};
+use crate::calls::put_act;
 use crate::replies::put_outcome;
 use crate::words::{put_bit, put_limit, put_state};
 use std::alloc::{AllocError, Global};
 use xti_base::{Octets, State};
-use xti_model::{Call, Entry, Journal, Outcome, Profile, Providers, StallLine};
+use xti_model::{Entry, Journal, Outcome, Profile, Providers, StallLine};
 use xti_text::{put_number, put_text};
 
 fn put_profile(out: &mut Vec<u8>, p: &Profile) -> Result<(), AllocError>
@@ -53,39 +51,20 @@ pub(crate) fn put_head(out: &mut Vec<u8>, p: &Providers) -> Result<(), AllocErro
 
 // What a call answered and the state of its endpoint, after an arrow, to the end of the line.
 fn put_answer(out: &mut Vec<u8>, outcome: &Outcome, after: State) -> Result<(), AllocError>
-    ensures { OnOk result (out.new.items ≡ out.old.items ++ codes " => " ++ (outcome_text outcome.now ++ codes " " ++ state_name after) ++ codes "\n") }
+    ensures { OnOk result (out.new.items ≡ out.old.items ++ codes " => " ++ answer_text outcome.now after ++ codes "\n") }
 {
     put_outcome(out, outcome)?;
     put_state(out, after)
 }
 
 #[tactic(auto, unfolding(crate::specs::JournalText::entry_text))]
-fn put_entry(out: &mut Vec<u8>, n: u64, e: &Entry) -> Result<(), AllocError>
+pub(crate) fn put_entry(out: &mut Vec<u8>, n: u64, e: &Entry) -> Result<(), AllocError>
     ensures { OnOk result (out.new.items ≡ out.old.items ++ entry_text n e.now) }
 {
     put_number(out, "", n)?;
     put_number(out, " ", e.worker as u64)?;
     put_act(out, &e.act)?;
     put_answer(out, &e.outcome, e.after)
-}
-
-// The line of a call that a worker has begun.
-#[inline(never)]
-#[tactic(auto, unfolding(crate::specs::JournalText::entry_text))]
-pub(crate) fn put_begun(
-    out: &mut Vec<u8>,
-    n: u64,
-    worker: u32,
-    call: &Call,
-    outcome: &Outcome,
-    after: State,
-) -> Result<(), AllocError>
-    ensures { OnOk result (out.new.items ≡ out.old.items ++ entry_text n (record { worker = worker; act = act.Begin call.now; outcome = outcome.now; after = after })) }
-{
-    put_number(out, "", n)?;
-    put_number(out, " ", worker as u64)?;
-    put_call(out, call)?;
-    put_answer(out, outcome, after)
 }
 
 fn put_entries(out: &mut Vec<u8>, entries: &[Entry]) -> Result<(), AllocError>

@@ -3,14 +3,10 @@
 
 mod calls;
 mod journal;
-mod recorder;
 mod replies;
-#[cfg(test)]
-mod tests;
 mod words;
 mod writer;
 
 pub use journal::{write_entry, write_journal};
-pub use recorder::Recorder;
 pub use writer::JournalWriter;
 pub use xti_model::{Entries, Entry, Journal, StallLine, Stalls};

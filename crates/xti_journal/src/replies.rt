@@ -1,8 +1,7 @@
 //! What calls answered, each after an arrow.
 
 ghost use Rattle.std.specs.Prelude.{◌≡◌, ◌++◌, OnOk, IsTrue, codes};
-ghost use Rattle.xti_text.specs.Words.{number_word, octets_word};
-ghost use Rattle.xti_journal.specs.JournalText.{event_text, sizes_text, info_text, reply_text, outcome_text};
+ghost use Rattle.xti_journal.specs.JournalText.{event_text, sizes_text, info_text, data_text, reply_text, outcome_text};
 ghost use Rattle.xti_model.specs.Families.{is_connection_news, is_received, is_error};
 
 use crate::words::{put_limit, put_pairs};
@@ -73,7 +72,7 @@ fn put_connection_news(out: &mut Vec<u8>, reply: &Reply) -> Result<(), AllocErro
 // The data of a datagram, and its flags.
 #[inline(never)]
 fn put_data(out: &mut Vec<u8>, bytes: &Octets, flags: u32) -> Result<(), AllocError>
-    ensures { OnOk result (out.new.items ≡ out.old.items ++ octets_word (codes " ") bytes.now ++ number_word (codes " ") flags) }
+    ensures { OnOk result (out.new.items ≡ out.old.items ++ data_text bytes.now flags) }
 {
     put_pairs(out, " x:", bytes)?;
     put_number(out, " ", flags as u64)

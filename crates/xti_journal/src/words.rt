@@ -3,8 +3,8 @@
 ghost use Rattle.std.specs.Prelude.{◌≡◌, ◌++◌, OnOk, codes};
 ghost use Rattle.std.specs.List.{flat_map};
 ghost use Rattle.xti_base.specs.Kinds.{state_name};
-ghost use Rattle.xti_text.specs.Words.{number_word, hex_pair, octets_word};
-ghost use Rattle.xti_journal.specs.JournalText.{bit_word, mode_word, limit_word, parts_word, sizes_word, most_words};
+ghost use Rattle.xti_text.specs.Words.{hex_pair};
+ghost use Rattle.xti_journal.specs.JournalText.{bit_word, mode_word, limit_word, parts_word, sizes_word, address_words, address_limits, most_words};
 
 use std::alloc::AllocError;
 use xti_base::{Limit, Octets, State};
@@ -71,7 +71,7 @@ pub(crate) fn put_sizes(out: &mut Vec<u8>, sizes: &[u32]) -> Result<(), AllocErr
 // The most bytes that the caller takes of address and options.
 #[inline(never)]
 pub(crate) fn put_address_limits(out: &mut Vec<u8>, amax: u32, omax: u32) -> Result<(), AllocError>
-    ensures { OnOk result (out.new.items ≡ out.old.items ++ number_word (codes " amax=") amax ++ number_word (codes " omax=") omax) }
+    ensures { OnOk result (out.new.items ≡ out.old.items ++ address_limits amax omax) }
 {
     put_number(out, " amax=", amax as u64)?;
     put_number(out, " omax=", omax as u64)
@@ -84,7 +84,7 @@ pub(crate) fn put_address_and_options(
     addr: &Octets,
     opt: &Octets,
 ) -> Result<(), AllocError>
-    ensures { OnOk result (out.new.items ≡ out.old.items ++ octets_word (codes " addr=") addr.now ++ octets_word (codes " opt=") opt.now) }
+    ensures { OnOk result (out.new.items ≡ out.old.items ++ address_words addr.now opt.now) }
 {
     put_pairs(out, " addr=x:", addr)?;
     put_pairs(out, " opt=x:", opt)

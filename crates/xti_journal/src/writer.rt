@@ -1,17 +1,14 @@
 //! The text of a journal, written while its entries come.
 
-ghost use Rattle.std.specs.Prelude.{◌≡◌, ◌++◌, ◌∷◌, [], List, OnOk, IfOk};
-ghost use Rattle.xti_model.specs.declared.entry.Entry.{Entry};
-ghost use Rattle.xti_model.specs.declared.script.Journal.{Journal};
-ghost use Rattle.xti_journal.specs.JournalText.{head_text, journal_text};
-ghost use Rattle.xti_journal.specs.Writing.{Took};
+ghost use Rattle.std.specs.Prelude.{◌≡◌, [], OnOk, OnErr, IfOk};
+ghost use Rattle.xti_journal.specs.JournalText.{head_text};
+ghost use Rattle.xti_journal.specs.Writing.{TookOne, IsWhole};
 
-use crate::journal::{put_begun, put_end, put_head, put_stalls};
-use crate::recorder::Recorder;
+use crate::journal::{put_end, put_entry, put_head, put_stalls};
 use std::alloc::AllocError;
 use std::marker::Model;
-use xti_base::{Octets, State};
-use xti_model::{Call, Outcome, Providers, Stalls};
+use xti_base::Octets;
+use xti_model::{Entry, Providers, Stalls};
 
 /// A journal's text up to its last entry so far. Contracts see the text, and how many entries it has.
 #[derive(Drop)]
@@ -41,36 +38,41 @@ impl JournalWriter {
         })
     }
 
+    /// Writes the line of the next entry; `Err` is out of memory, and nothing is left of the journal then.
+    pub fn add(&mut self, entry: &Entry) -> Result<(), AllocError>
+        ensures one_more { OnOk result (TookOne self.old entry.now self.new) }
+        ensures emptied { OnErr result (self.new ≡ ([], 0)) }
+    {
+        let added = self.put_next(entry);
+        if added.is_err() {
+            self.text.clear();
+            self.count = 0;
+        }
+        added
+    }
+
+    // The line of the next entry, after which an error leaves a part of it.
+    #[inline(always)]
+    fn put_next(&mut self, entry: &Entry) -> Result<(), AllocError>
+        ensures { OnOk result (TookOne self.old entry.now self.new) }
+    {
+        // So many entries would find no memory for their lines.
+        let Some(count) = self.count.checked_add(1) else {
+            return Err(AllocError);
+        };
+        put_entry(&mut self.text, count, entry)?;
+        self.count = count;
+        Ok(())
+    }
+
     /// The whole text, after whose entries the stall lines stand; `Err` is out of memory.
     #[tactic(auto, unfolding(crate::specs::JournalText::journal_text))]
     pub fn end(self, stalls: &Stalls) -> Result<Octets, AllocError>
-        ensures { IfOk result (λ text. (j : Journal) → Took (head_text j.providers, 0) j.entries self → stalls.now ≡ j.stalls → text ≡ journal_text j) }
+        ensures { IfOk result (λ text. IsWhole self stalls.now text) }
     {
         let JournalWriter { mut text, count } = self;
         put_stalls(&mut text, stalls.as_slice())?;
         put_end(&mut text, count)?;
         Ok(Octets::from_vec(text))
-    }
-}
-
-impl Recorder for JournalWriter {
-    ghost took = { Took };
-
-    // Where it is called for, a call and its answer aren't copied before their line is written.
-    #[inline(always)]
-    fn begun(
-        &mut self,
-        worker: u32,
-        call: Call,
-        outcome: Outcome,
-        after: State,
-    ) -> Result<(), AllocError> {
-        // So many entries would find no memory for their lines.
-        let Some(count) = self.count.checked_add(1) else {
-            return Err(AllocError);
-        };
-        put_begun(&mut self.text, count, worker, &call, &outcome, after)?;
-        self.count = count;
-        Ok(())
     }
 }

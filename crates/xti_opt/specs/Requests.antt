@@ -1,17 +1,41 @@
 -- Requests for options, in bytes.
-use Rattle.std.specs.Prelude.{◌≡◌, ◌&&◌, ℕ, Bool, true, List}
+use Rattle.std.specs.Prelude.{◌≡◌, ◌++◌, ◌&&◌, ℕ, Bool, true, false, List}
 use Rattle.xti_base.specs.declared.options.Opt.{Opt}
-use Rattle.xti_base.specs.Options.{begins_option, front_option, behind_option, is_option_list, the_options}
-use Rattle.xti_base.specs.Negotiation.{Answer, is_one_level}
+use Rattle.xti_base.specs.Options.{word_bytes, begins_option, front_option, behind_option, is_option_list, the_options, option_bytes, options_bytes}
+use Rattle.xti_base.specs.Negotiation.{Settings, Negotiated, Answer, is_action, is_one_level, negotiate}
 use Rattle.xti_opt.specs.declared.first.First.{First}
 
 -- a list of options of one level
 abbrev pub is_request : List ℕ → Bool
 is_request bytes = is_option_list bytes && is_one_level (the_options bytes)
 
+-- the action is one, and the bytes are no list of options of one level
+abbrev pub IsBadRequest : ℕ → List ℕ → Type 0
+IsBadRequest action bytes = (is_action action ≡ true) × (is_request bytes ≡ false)
+
+-- the action is one, and two of the options have different levels
+abbrev pub HasTwoLevels : ℕ → List Opt → Type 0
+HasTwoLevels action options = (is_action action ≡ true) × (is_one_level options ≡ false)
+
+-- the options of a request, negotiated
+abbrev pub negotiated_request : Settings → ℕ → List ℕ → Negotiated
+negotiated_request s action bytes = negotiate s action (the_options bytes)
+
+-- the options that answer a request, in bytes
+abbrev pub answered_bytes : Settings → ℕ → List ℕ → List ℕ
+answered_bytes s action bytes = options_bytes (negotiated_request s action bytes).options
+
 -- the option of this level and name, answered
 abbrev pub told : ℕ → ℕ → Answer → Opt
 told level name a = record { level = level; name = name; status = a.result; value = a.value }
+
+-- the same in bytes
+abbrev pub told_bytes : ℕ → ℕ → Answer → List ℕ
+told_bytes level name a = option_bytes (told level name a)
+
+-- the four words before an option's value
+abbrev pub header_bytes : ℕ → ℕ → ℕ → ℕ → List ℕ
+header_bytes length level name status = word_bytes length ++ word_bytes level ++ word_bytes name ++ word_bytes status
 
 -- the first option of the bytes, and the bytes after it
 pub record IsFirst (bytes : List ℕ) (first : First) : Type 0 where

@@ -28,6 +28,10 @@ abbrev pub with_size : Side → ℕ → Settings → Settings
 with_size sending n s = record s { sndbuf = n }
 with_size receiving n s = record s { rcvbuf = n }
 
+-- this size for each of the four
+abbrev pub all_sizes : ℕ → Settings
+all_sizes n = record { sndbuf = n; rcvbuf = n; start_sndbuf = n; start_rcvbuf = n }
+
 -- an option of XTI_GENERIC with this name, status and value, and the options for a buffer and for a low-water mark
 abbrev pub generic : ℕ → ℕ → List ℕ → Opt
 generic name status value = record { level = xti_generic; name = name; status = status; value = value }

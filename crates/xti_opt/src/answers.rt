@@ -6,10 +6,10 @@ ghost use Rattle.xti_base.specs.Negotiation.{only_asks, asked_size, buffer_answe
 ghost use Rattle.xti_opt.specs.Answers.{answer_of, meaning_of, meaning_at};
 
 use crate::numbers::{
-    LOW_WATER_MARK, MOST_ROOM, T_CHECK, T_CURRENT, T_FAILURE, T_NEGOTIATE, T_NOTSUPPORT,
-    T_PARTSUCCESS, T_READONLY, T_SUCCESS, XTI_GENERIC, XTI_RCVBUF, XTI_RCVLOWAT, XTI_SNDBUF,
-    XTI_SNDLOWAT,
+    LOW_WATER_MARK, T_CHECK, T_CURRENT, T_FAILURE, T_NEGOTIATE, T_NOTSUPPORT, T_PARTSUCCESS, T_READONLY,
+    T_SUCCESS, XTI_GENERIC, XTI_RCVBUF, XTI_RCVLOWAT, XTI_SNDBUF, XTI_SNDLOWAT,
 };
+use xti_base::limits::MOST_SIZE;
 
 /// What an option is about.
 #[derive(Clone, Copy)]
@@ -132,8 +132,8 @@ fn asked_size(current: u32, value: &[u8]) -> Answer
     }
     match u32::from_be_bytes([value[0], value[1], value[2], value[3]]) {
         0 => Answer::telling(T_FAILURE, current),
-        size if size <= MOST_ROOM => Answer::setting(T_SUCCESS, size),
-        _ => Answer::setting(T_PARTSUCCESS, MOST_ROOM),
+        size if size <= MOST_SIZE => Answer::setting(T_SUCCESS, size),
+        _ => Answer::setting(T_PARTSUCCESS, MOST_SIZE),
     }
 }
 

@@ -2,10 +2,11 @@
 //! The functions do nothing; their contracts are the statements.
 
 ghost use Rattle.std.specs.Prelude.{◌≡◌, ◌≢◌, ◌<◌, ◌≤◌, ◌^◌, ℕ, List, [], ◌∷◌, ◌++◌, ◌⊎◌, All, Any, Some, map, length, false};
+ghost use Rattle.xti_base.specs.declared.limits.TheConstants.{MOST_SIZE};
 ghost use Rattle.xti_base.specs.declared.options.Opt.{Opt};
 ghost use Rattle.xti_base.specs.Options.{word_bytes, read_options, is_option_list, options_bytes, IsOption, IsFirstWrongOption};
 ghost use Rattle.xti_base.specs.Negotiation.{Settings, negotiate, only_asks, badness, worse, xti_generic, t_negotiate, t_check, t_default, t_current, t_success, t_failure, t_partsuccess, t_readonly, t_notsupport};
-ghost use Rattle.xti_opt.specs.Table.{Side, generic, buffer, mark, size, start_size, with_size, answers, IsUnknownName, place_of};
+ghost use Rattle.xti_opt.specs.Table.{Side, all_sizes, generic, buffer, mark, size, start_size, with_size, answers, IsUnknownName, place_of};
 
 /// Reading what was written gives the options back, and writing what was read gives the bytes back.
 pub fn round_trips()
@@ -35,12 +36,12 @@ pub fn negotiation_table()
     // The buffers. A size up to 65,536 is set, and a larger one is set to that.
     ensures buffer_asked { (s : Settings) (side : Side) (status : ℕ) →
         negotiate s t_check (buffer side status [] ∷ []) ≡ answers s (buffer side status []) t_success [] }
-    ensures size_fits { (s : Settings) (side : Side) (status n : ℕ) → 0 < n → n ≤ 65536 →
+    ensures size_fits { (s : Settings) (side : Side) (status n : ℕ) → 0 < n → n ≤ MOST_SIZE →
         negotiate s t_negotiate (buffer side status (word_bytes n) ∷ []) ≡
         answers (with_size side n s) (buffer side status (word_bytes n)) t_success (word_bytes n) }
-    ensures size_over { (s : Settings) (side : Side) (status n : ℕ) → 65536 < n → n < 2 ^ 32 →
+    ensures size_over { (s : Settings) (side : Side) (status n : ℕ) → MOST_SIZE < n → n < 2 ^ 32 →
         negotiate s t_negotiate (buffer side status (word_bytes n) ∷ []) ≡
-        answers (with_size side 65536 s) (buffer side status (word_bytes n)) t_partsuccess (word_bytes 65536) }
+        answers (with_size side MOST_SIZE s) (buffer side status (word_bytes n)) t_partsuccess (word_bytes MOST_SIZE) }
     ensures size_zero { (s : Settings) (side : Side) (status : ℕ) →
         negotiate s t_negotiate (buffer side status (word_bytes 0) ∷ []) ≡
         answers s (buffer side status (word_bytes 0)) t_failure (word_bytes (size side s)) }
@@ -90,19 +91,20 @@ pub fn negotiation_order()
     ensures among { (s : Settings) (action : ℕ) (os : List Opt) →
         let all = negotiate s action os in
         (all.result ≡ t_success) ⊎ Any (λ o. o.status ≡ all.result) all.options }
-    ensures rising { map badness (t_success ∷ t_partsuccess ∷ t_failure ∷ t_readonly ∷ t_notsupport ∷ []) ≡ 0 ∷ 1 ∷ 2 ∷ 3 ∷ 4 ∷ [] }
+    ensures rising {
+        map badness (t_success ∷ t_partsuccess ∷ t_failure ∷ t_readonly ∷ t_notsupport ∷ []) ≡ 0 ∷ 1 ∷ 2 ∷ 3 ∷ 4 ∷ [] }
 {}
 
 /// The receive size 70,000 and a low-water mark of 5, negotiated from buffers of 16,384: the size becomes 65,536, which
 /// is a part of what was asked, the mark stays 1, and the worse of the two results is that it is read only.
 pub fn worked_negotiation()
-    ensures answered { let s : Settings = record { sndbuf = 16384; rcvbuf = 16384; start_sndbuf = 16384; start_rcvbuf = 16384 } in
+    ensures answered { let s : Settings = all_sizes 16384 in
         negotiate s t_negotiate (generic 4098 0 (word_bytes 70000) ∷ generic 4099 0 (word_bytes 5) ∷ []) ≡ record {
-          settings = record s { rcvbuf = 65536 };
-          options = generic 4098 256 (word_bytes 65536) ∷ generic 4099 512 (word_bytes 1) ∷ [];
+          settings = record s { rcvbuf = MOST_SIZE };
+          options = generic 4098 256 (word_bytes MOST_SIZE) ∷ generic 4099 512 (word_bytes 1) ∷ [];
           result = 512;
         } }
-    ensures bytes { options_bytes (generic 4098 256 (word_bytes 65536) ∷ generic 4099 512 (word_bytes 1) ∷ []) ≡
+    ensures bytes { options_bytes (generic 4098 256 (word_bytes MOST_SIZE) ∷ generic 4099 512 (word_bytes 1) ∷ []) ≡
         0 ∷ 0 ∷ 0 ∷ 20 ∷ 0 ∷ 0 ∷ 255 ∷ 255 ∷ 0 ∷ 0 ∷ 16 ∷ 2 ∷ 0 ∷ 0 ∷ 1 ∷ 0 ∷ 0 ∷ 1 ∷ 0 ∷ 0 ∷
         0 ∷ 0 ∷ 0 ∷ 20 ∷ 0 ∷ 0 ∷ 255 ∷ 255 ∷ 0 ∷ 0 ∷ 16 ∷ 3 ∷ 0 ∷ 0 ∷ 2 ∷ 0 ∷ 0 ∷ 0 ∷ 0 ∷ 1 ∷ [] }
 {}

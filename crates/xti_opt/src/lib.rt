@@ -23,8 +23,5 @@ pub use settings::Settings;
 pub use writing::write_options;
 pub use xti_base::Opt;
 
-#[cfg(test)]
-mod tests;
-
 /// Options, in order.
 pub type OptList = xti_base::Items<Opt>;

@@ -4,6 +4,7 @@ ghost use Rattle.std.specs.Prelude.{◌≡◌, ◌↔◌, All, false, true, IfOk
 ghost use Rattle.std.specs.List.{list_all};
 ghost use Rattle.xti_base.specs.Negotiation.{answered, has_level, is_action, is_one_level, negotiate};
 ghost use Rattle.xti_opt.specs.Answers.{answer_of};
+ghost use Rattle.xti_opt.specs.Requests.{HasTwoLevels};
 ghost use Rattle.xti_opt.specs.Written.{IsWritable};
 
 use crate::OptList;
@@ -59,7 +60,7 @@ pub fn negotiate(
 
     // An action that is none is told before two levels are.
     ensures bad_flag { IsErrOf result OptFail.BadFlag ↔ (is_action action ≡ false) }
-    ensures bad_option { IsErrOf result OptFail.BadOption ↔ ((is_action action ≡ true) × (is_one_level list.now ≡ false)) }
+    ensures bad_option { IsErrOf result OptFail.BadOption ↔ HasTwoLevels action list.now }
 {
     if !is_action(action) {
         return Err(OptFail::BadFlag);

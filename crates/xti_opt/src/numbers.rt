@@ -42,8 +42,5 @@ pub const T_READONLY: u32 = 512;
 /// The result of an option that isn't known.
 pub const T_NOTSUPPORT: u32 = 1024;
 
-/// The largest size of a buffer.
-pub(crate) const MOST_ROOM: u32 = 65536;
-
 /// The value of every low-water mark.
 pub(crate) const LOW_WATER_MARK: u32 = 1;

@@ -1,10 +1,10 @@
 //! Negotiating options in bytes, as a call of t_optmgmt gives them. None of this takes memory.
 
 ghost use Rattle.std.specs.Prelude.{◌≡◌, ◌≤◌, ◌+◌, ◌++◌, ◌&&◌, ◌↔◌, false, true, length, IfOk, OnOk, OnErr, IsErrOf};
-ghost use Rattle.xti_base.specs.Options.{word_bytes, is_option_list, the_options, option_bytes, options_bytes};
-ghost use Rattle.xti_base.specs.Negotiation.{Settings as AnySettings, is_action, is_one_level, negotiate, answer_meant};
+ghost use Rattle.xti_base.specs.Options.{word_bytes, is_option_list, the_options};
+ghost use Rattle.xti_base.specs.Negotiation.{Settings as AnySettings, is_action, is_one_level, answer_meant};
 ghost use Rattle.xti_opt.specs.Answers.{answer_of, meaning_at};
-ghost use Rattle.xti_opt.specs.Requests.{is_request, told};
+ghost use Rattle.xti_opt.specs.Requests.{is_request, IsBadRequest, negotiated_request, answered_bytes, told_bytes, header_bytes};
 
 use crate::answers::{Answer, Subject, only_asks, worse};
 use crate::first::split_first;
@@ -29,9 +29,9 @@ pub enum OptRefusal {
 /// Errors: `BadFlag` exactly where there is no such action; else `BadOption` exactly where the bytes are no list of
 /// options, or two of the options have different levels.
 pub fn answer_size(action: u32, request: &[u8]) -> Result<usize, OptRefusal>
-    ensures size { IfOk result (λ size. (s : AnySettings) → size ≡ length (options_bytes (negotiate s action (the_options request.now)).options)) }
+    ensures size { IfOk result (λ size. (s : AnySettings) → size ≡ length (answered_bytes s action request.now)) }
     ensures bad_flag { IsErrOf result OptRefusal.BadFlag ↔ (is_action action ≡ false) }
-    ensures bad_option { IsErrOf result OptRefusal.BadOption ↔ ((is_action action ≡ true) × (is_request request.now ≡ false)) }
+    ensures bad_option { IsErrOf result OptRefusal.BadOption ↔ IsBadRequest action request.now }
 {
     look_at(action, request)?;
     let mut size = 0;
@@ -54,17 +54,17 @@ pub fn negotiate_bytes(
     room: &mut Room,
 ) -> Result<u32, OptRefusal>
     requires space { (is_action action && is_request request.now) ≡ true →
-        length (options_bytes (negotiate settings.old action (the_options request.now)).options) ≤ room.old.spare }
-    ensures bytes { OnOk result (room.new.bytes ≡ room.old.bytes ++ options_bytes (negotiate settings.old action (the_options request.now)).options) }
-    ensures overall { IfOk result (λ overall. overall ≡ (negotiate settings.old action (the_options request.now)).result) }
-    ensures settings { OnOk result (settings.new ≡ (negotiate settings.old action (the_options request.now)).settings) }
+        length (answered_bytes settings.old action request.now) ≤ room.old.spare }
+    ensures bytes { OnOk result (room.new.bytes ≡ room.old.bytes ++ answered_bytes settings.old action request.now) }
+    ensures overall { IfOk result (λ overall. overall ≡ (negotiated_request settings.old action request.now).result) }
+    ensures settings { OnOk result (settings.new ≡ (negotiated_request settings.old action request.now).settings) }
     ensures spare { room.old.spare + length room.old.bytes ≤ room.new.spare + length room.new.bytes }
     ensures err { OnErr result (settings.new ≡ settings.old) }
     ensures err_room { OnErr result (room.new ≡ room.old) }
 
     // An action that is none is told before a wrong list is.
     ensures bad_flag { IsErrOf result OptRefusal.BadFlag ↔ (is_action action ≡ false) }
-    ensures bad_option { IsErrOf result OptRefusal.BadOption ↔ ((is_action action ≡ true) × (is_request request.now ≡ false)) }
+    ensures bad_option { IsErrOf result OptRefusal.BadOption ↔ IsBadRequest action request.now }
 {
     look_at(action, request)?;
     let mut overall = T_SUCCESS;
@@ -82,7 +82,7 @@ pub fn negotiate_bytes(
 fn look_at(action: u32, request: &[u8]) -> Result<(), OptRefusal>
     ensures fine { OnOk result ((is_action action ≡ true) × (is_request request.now ≡ true)) }
     ensures bad_flag { IsErrOf result OptRefusal.BadFlag ↔ (is_action action ≡ false) }
-    ensures bad_option { IsErrOf result OptRefusal.BadOption ↔ ((is_action action ≡ true) × (is_request request.now ≡ false)) }
+    ensures bad_option { IsErrOf result OptRefusal.BadOption ↔ IsBadRequest action request.now }
 {
     if !is_action(action) {
         return Err(OptRefusal::BadFlag);
@@ -114,7 +114,7 @@ fn is_one_level(request: &[u8]) -> bool
 
 /// How many bytes the answer to this option takes.
 fn size_of_answer(action: u32, level: u32, name: u32, value: &[u8]) -> usize
-    ensures size { (s : AnySettings) → result ≡ length (option_bytes (told level name (answer_meant s action value.now (meaning_at level name)))) }
+    ensures size { (s : AnySettings) → result ≡ length (told_bytes level name (answer_meant s action value.now (meaning_at level name))) }
     ensures bound { result ≤ 20 }
 {
     match Subject::of(level, name) {
@@ -126,9 +126,9 @@ fn size_of_answer(action: u32, level: u32, name: u32, value: &[u8]) -> usize
 
 /// Adds the answer to the option of this level and name.
 fn write_answer(room: &mut Room, level: u32, name: u32, answer: Answer)
-    requires { length (option_bytes (told level name (answer_of answer))) ≤ room.old.spare }
-    ensures bytes { room.new.bytes ≡ room.old.bytes ++ option_bytes (told level name (answer_of answer)) }
-    ensures spare { room.old.spare ≤ room.new.spare + length (option_bytes (told level name (answer_of answer))) }
+    requires { length (told_bytes level name (answer_of answer)) ≤ room.old.spare }
+    ensures bytes { room.new.bytes ≡ room.old.bytes ++ told_bytes level name (answer_of answer) }
+    ensures spare { room.old.spare ≤ room.new.spare + length (told_bytes level name (answer_of answer)) }
 {
     match answer.value {
         Some(word) => {
@@ -141,7 +141,7 @@ fn write_answer(room: &mut Room, level: u32, name: u32, answer: Answer)
 
 fn write_header(room: &mut Room, length: u32, level: u32, name: u32, status: u32)
     requires { 16 ≤ room.old.spare }
-    ensures bytes { room.new.bytes ≡ room.old.bytes ++ (word_bytes length ++ word_bytes level ++ word_bytes name ++ word_bytes status) }
+    ensures bytes { room.new.bytes ≡ room.old.bytes ++ header_bytes length level name status }
     ensures spare { room.old.spare ≤ room.new.spare + 16 }
 {
     write_word(room, length);

@@ -100,20 +100,6 @@ ends_left f n = ends_with_user (primitive_in f) (drop n (user_of (primitive_in f
 pub kind_left : (f : List ℕ) (n : ℕ) → kind_of (without n (primitive_in f)) ≡ kind_in f
 kind_left f n = kind_with_user (primitive_in f) (drop n (user_of (primitive_in f))) ∙ kind_of-primitive_in f
 
-most_of : (k : Kind) → (row_of k).most_data ≤ 65536
-most_of kind.T_CONN_REQ = lit≤ tt
-most_of _ = lit≤ tt
-
-pub user_bytes : (f : List ℕ) → IsFrame f → AreBytes (user_of (primitive_in f))
-user_bytes f frame = (spelled_by f frame).good.user
-
-pub user_most : (f : List ℕ) → IsFrame f → length (user_of (primitive_in f)) ≤ 65536
-user_most f frame =
-    let s = is_spelled f frame in
-    let room : length (filled (primitive_in f)).user ≤ (filled (primitive_in f)).row.most_data = (spelled_by f frame).good.room in
-    let row : (filled (primitive_in f)).row.most_data ≡ (row_of s.kind).most_data = ap (λ g. g.row.most_data) (primitive_is f s) in
-    omega (arith, room, row, most_of s.kind)
-
 -- ---- frames
 
 all_as_read : (fs : List (List ℕ)) → begun 0 fs ≡ map primitive_in fs

@@ -1,6 +1,7 @@
 -- What stays true of a queue.
 use Rattle.std.specs.Prelude.{◌≡◌, ◌≤◌, ◌<◌, ◌+◌, ◌*◌, ◌^◌, ℕ, true, List, [], ◌∷◌, length}
 use Rattle.std.specs.List.{AllByRecursion}
+use Rattle.tpi_grammar.specs.declared.kind.TheConstants.{MOST_DATA}
 use Rattle.tpi_prim.specs.Primitive.{user_of}
 use Rattle.tpi_prim.specs.Fields.{kind_in, primitive_in}
 use Rattle.xti_model.specs.Symbols.{bytes_waiting, ends_waiting}
@@ -21,5 +22,5 @@ pub record IsKept (held : List (List ℕ)) (taken byte_count end_count spare cap
   pub within : IsWithin taken held
   pub bytes : byte_count ≡ bytes_waiting (symbols_of_all (begun taken held))
   pub ends : end_count ≡ ends_waiting (symbols_of_all (begun taken held))
-  pub counted : byte_count + end_count + 65537 * spare < 2 ^ 64
+  pub counted : byte_count + end_count + (MOST_DATA + 1) * spare < 2 ^ 64
   pub room : length held + spare ≤ capacity

@@ -2,13 +2,14 @@
 
 ghost use Rattle.std.specs.Prelude.{◌≡◌, ◌≤◌, ◌<◌, ◌+◌, ◌-◌, ◌++◌, [], ◌∷◌, ℕ, List, true, false, if◌then◌else◌, length, take, drop, vec_len, vec_capacity, IfOk, IfSome, IfNone, OnErr};
 ghost use Rattle.std.specs.VecDeque.{deque_len, deque_capacity};
+ghost use Rattle.tpi_grammar.specs.declared.kind.TheConstants.{MOST_DATA};
 ghost use Rattle.tpi_grammar.specs.Frame.{AreBytes};
 ghost use Rattle.tpi_prim.specs.Primitive.{user_of};
 ghost use Rattle.tpi_prim.specs.Fields.{kind_in, primitive_in};
 ghost use Rattle.xti_model.specs.Symbols as waiting;
 ghost use Rattle.xti_queue.specs.Indications.{can_wait, ends_message, begun, left_behind};
 ghost use Rattle.xti_queue.specs.Kept.{AllWait, IsWithin};
-ghost use Rattle.xti_queue.specs.Front.{symbols_in, StopsAt, IsTakenFrom};
+ghost use Rattle.xti_queue.specs.Front.{symbols_in, in_line, left_of, StopsAt, IsTakenFrom};
 
 use crate::queue::Piece;
 use std::alloc::{AllocError, Global};
@@ -21,18 +22,9 @@ pub(crate) fn rest_of(frame: &Frame, taken: usize) -> &[u8]
     requires { taken ≤ length (user_of (primitive_in frame.now)) }
     ensures rest { result.now ≡ drop taken (user_of (primitive_in frame.now)) }
     ensures bytes { AreBytes result.now }
-    ensures most { taken + length result.now ≤ 65536 }
+    ensures most { taken + length result.now ≤ MOST_DATA }
 {
-    &user_data(frame)[taken..]
-}
-
-fn user_data(frame: &Frame) -> &[u8]
-    ensures user { result.now ≡ user_of (primitive_in frame.now) }
-    ensures bytes { AreBytes result.now }
-    ensures most { length result.now ≤ 65536 }
-{
-    let _bytes = frame.bytes();
-    frame.user()
+    &frame.user()[taken..]
 }
 
 /// Whether a message ends after a frame.
@@ -91,12 +83,16 @@ fn take_front(
     requires within { IsWithin taken.old held.old.items }
     requires most { vec_len bytes.old ≤ max }
     requires are_bytes { AreBytes bytes.old.items }
-    requires room { length (waiting.front max (bytes.old.items ++ symbols_in taken.old held.old.items)) ≤ vec_capacity bytes.old }
-    ensures ended { result ≡ Step.Ended → bytes.old.items ++ symbols_in taken.old held.old.items ≡ bytes.new.items ++ 256 ∷ symbols_in taken.new held.new.items }
-    ensures other { (result ≡ Step.Ended → ⊥) → bytes.old.items ++ symbols_in taken.old held.old.items ≡ bytes.new.items ++ symbols_in taken.new held.new.items }
+    requires room { length (waiting.front max (in_line bytes.old.items taken.old held.old.items)) ≤ vec_capacity bytes.old }
+    ensures ended { result ≡ Step.Ended → in_line bytes.old.items taken.old held.old.items ≡
+        bytes.new.items ++ waiting.end_of_message ∷ symbols_in taken.new held.new.items }
+    ensures other { (result ≡ Step.Ended → ⊥) →
+        in_line bytes.old.items taken.old held.old.items ≡ in_line bytes.new.items taken.new held.new.items }
     ensures stops { result ≡ Step.Stopped → StopsAt (vec_len bytes.new) (symbols_in taken.new held.new.items) max }
-    ensures left { (result ≡ Step.More → ⊥) → left_behind (max - vec_len bytes.old) (begun taken.old held.old.items) ≡ begun taken.new held.new.items }
-    ensures goes_on { result ≡ Step.More → left_behind (max - vec_len bytes.old) (begun taken.old held.old.items) ≡ left_behind (max - vec_len bytes.new) (begun taken.new held.new.items) }
+    ensures left { (result ≡ Step.More → ⊥) →
+        left_of max (vec_len bytes.old) taken.old held.old.items ≡ begun taken.new held.new.items }
+    ensures goes_on { result ≡ Step.More → left_of max (vec_len bytes.old) taken.old held.old.items ≡
+        left_of max (vec_len bytes.new) taken.new held.new.items }
     ensures falls { result ≡ Step.More → deque_len held.new < deque_len held.old }
     ensures wait { AllWait held.new.items }
     ensures within { IsWithin taken.new held.new.items }
@@ -129,7 +125,8 @@ fn take_run(held: &mut VecDeque<Frame>, taken: &mut usize, bytes: &mut Vec<u8>, 
     requires within { IsWithin taken.old held.old.items }
     requires empty { bytes.old.items ≡ [] }
     requires room { length (waiting.front max (symbols_in taken.old held.old.items)) ≤ vec_capacity bytes.old }
-    ensures moved { symbols_in taken.old held.old.items ≡ waiting.piece bytes.new.items result ++ symbols_in taken.new held.new.items }
+    ensures moved { symbols_in taken.old held.old.items ≡
+        in_line (waiting.piece bytes.new.items result) taken.new held.new.items }
     ensures stops { result ≡ false → StopsAt (vec_len bytes.new) (symbols_in taken.new held.new.items) max }
     ensures left { left_behind max (begun taken.old held.old.items) ≡ begun taken.new held.new.items }
     ensures wait { AllWait held.new.items }
@@ -159,7 +156,8 @@ fn take_first(
 ) -> Result<Option<Piece>, AllocError>
     requires wait { AllWait held.old.items }
     requires within { IsWithin taken.old held.old.items }
-    ensures piece { IfOk result (λ some. IfSome some (λ p. IsTakenFrom max taken.old held.old.items taken.new held.new.items p.bytes p.ended)) }
+    ensures piece { IfOk result (λ some. IfSome some (λ p.
+        IsTakenFrom max taken.old held.old.items taken.new held.new.items p.bytes p.ended)) }
     ensures none { IfOk result (λ some. IfNone some ((held.new ≡ held.old) × (taken.new ≡ taken.old))) }
     ensures err { OnErr result ((held.new ≡ held.old) × (taken.new ≡ taken.old)) }
     ensures capacity { deque_capacity held.new ≡ deque_capacity held.old }
@@ -194,7 +192,8 @@ pub(crate) fn take_piece(
 ) -> Result<Piece, AllocError>
     requires wait { AllWait held.old.items }
     requires within { IsWithin taken.old held.old.items }
-    ensures piece { IfOk result (λ p. IsTakenFrom max taken.old held.old.items taken.new held.new.items p.bytes p.ended) }
+    ensures piece { IfOk result (λ p.
+        IsTakenFrom max taken.old held.old.items taken.new held.new.items p.bytes p.ended) }
     ensures err { OnErr result ((held.new ≡ held.old) × (taken.new ≡ taken.old)) }
     ensures capacity { deque_capacity held.new ≡ deque_capacity held.old }
 {

@@ -5,6 +5,3 @@ mod front;
 mod queue;
 
 pub use queue::{Piece, ReadQueue};
-
-#[cfg(test)]
-mod tests;

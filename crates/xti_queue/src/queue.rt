@@ -12,11 +12,12 @@ use crate::front::{ends, rest_of, take_piece};
 use std::alloc::{AllocError, Global};
 use std::collections::VecDeque;
 use std::marker::Model;
+use tpi_grammar::MOST_DATA;
 use tpi_prim::{Frame, Kind};
 use xti_base::Octets;
 
 /// The most symbols of one frame: the bytes of its user data, and an end.
-const MOST_SYMBOLS: usize = 65_537;
+const MOST_SYMBOLS: usize = MOST_DATA as usize + 1;
 
 /// Encoded T_DATA_IND, T_EXDATA_IND and T_UNITDATA_IND that wait to be received, seen as a list of symbols: their bytes, and an
 /// end after each frame whose MORE_flag is 0 and after each datagram.

@@ -8,7 +8,7 @@ use Rattle.tpi_prim.proofs.encoding.Lent.encode.Goals.{In_ok-write}
 good : (c : In_ok-write) → IsFilled (filled_by c.args.self.now)
 good c =
     let lent = c.args.self.now in
-    is_filled lent.kind (values_of lent.fields) lent.user.now c.requires.shape c.are_bytes.ensures.parts c.are_bytes.ensures.user c.requires.data
+    is_filled lent.kind (values_of lent.fields) lent.user.now c.requires.shape c.in_ok-write.ensures.part_bytes c.in_ok-write.ensures.user_bytes c.requires.data
     (rw (← c.requires.control) c.requires.small)
 
 pub of-requires : goal.of-requires
