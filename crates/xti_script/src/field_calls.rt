@@ -1,223 +1,80 @@
 //! Reading the calls of an endpoint from their fields.
 
-ghost use Rattle.std.specs.Prelude.{◌≡◌, ◌≤◌, [], IfOk};
+ghost use Rattle.std.specs.Prelude.{◌≡◌};
 ghost use Rattle.xti_script.specs.Calls.{form};
-ghost use Rattle.xti_script.specs.Grammar.{last_worker};
-ghost use Rattle.xti_script.specs.Reading.{fields_of, with_values, with_call};
+ghost use Rattle.xti_script.specs.Reading.{fields_of, with_values};
+ghost use Rattle.xti_script.specs.Unread.{unread, Makes, MakesBefore};
 
-use crate::draft::{Added, Draft};
-use crate::fields::{Form, read_bytes, read_number, read_parts, read_sizes};
-use crate::verbs::{Verb, call_alone, form};
+use crate::fields::{FieldFail, Fields};
+use crate::verbs::{Verb, form};
 use crate::words::Words;
-use xti_model::{Line, Name, NamedCall};
+use std::alloc::Global;
+use xti_model::{Name, NamedCall};
 
-/// Adds the bind whose fields are the words; false where they are none.
-#[tactic(auto, unfolding(crate::specs::Reading::extended, crate::specs::Calls::call_with))]
-fn read_bind(draft: &mut Draft, worker: u32, fd: Name, words: &mut Words) -> Added
-    requires { worker ≤ last_worker }
-    ensures { IfOk result (λ added. (added, draft.new) ≡ with_call draft.old worker (with_values Verb.Bind fd (fields_of (form Verb.Bind) words.old))) }
-{
-    let Form::Three(addr, qlen, amax) = form(Verb::Bind) else {
-        unreachable!()
-    };
-    let Some(addr) = read_bytes(draft.alloc(), addr, words)? else {
-        return Ok(false);
-    };
-    let Some(qlen) = read_number(qlen, words) else {
-        return Ok(false);
-    };
-    let Some(amax) = read_number(amax, words) else {
-        return Ok(false);
-    };
-    if !words.is_empty() {
-        return Ok(false);
-    }
-    let call = NamedCall::TBind {
-        fd,
-        addr,
-        qlen,
-        amax,
-    };
-    draft.add(Line { worker, call })
-}
-
-/// Adds the send.
-#[tactic(auto, unfolding(crate::specs::Reading::extended, crate::specs::Calls::call_with))]
-fn read_send(draft: &mut Draft, worker: u32, fd: Name, words: &mut Words) -> Added
-    requires { worker ≤ last_worker }
-    ensures { IfOk result (λ added. (added, draft.new) ≡ with_call draft.old worker (with_values Verb.SndUData fd (fields_of (form Verb.SndUData) words.old))) }
-{
-    let Form::Three(addr, opt, bytes) = form(Verb::SndUData) else {
-        unreachable!()
-    };
-    let Some(addr) = read_bytes(draft.alloc(), addr, words)? else {
-        return Ok(false);
-    };
-    let Some(opt) = read_bytes(draft.alloc(), opt, words)? else {
-        return Ok(false);
-    };
-    let Some(bytes) = read_bytes(draft.alloc(), bytes, words)? else {
-        return Ok(false);
-    };
-    if !words.is_empty() {
-        return Ok(false);
-    }
-    let call = NamedCall::TSndUData {
-        fd,
-        addr,
-        opt,
-        bytes,
-    };
-    draft.add(Line { worker, call })
-}
-
-/// Adds the send of parts.
-#[tactic(auto, unfolding(crate::specs::Reading::extended, crate::specs::Calls::call_with))]
-fn read_send_parts(draft: &mut Draft, worker: u32, fd: Name, words: &mut Words) -> Added
-    requires { worker ≤ last_worker }
-    ensures { IfOk result (λ added. (added, draft.new) ≡ with_call draft.old worker (with_values Verb.SndVUData fd (fields_of (form Verb.SndVUData) words.old))) }
-{
-    let Form::Three(addr, opt, parts) = form(Verb::SndVUData) else {
-        unreachable!()
-    };
-    let Some(addr) = read_bytes(draft.alloc(), addr, words)? else {
-        return Ok(false);
-    };
-    let Some(opt) = read_bytes(draft.alloc(), opt, words)? else {
-        return Ok(false);
-    };
-    let Some(parts) = read_parts(draft.alloc(), parts, words)? else {
-        return Ok(false);
-    };
-    if !words.is_empty() {
-        return Ok(false);
-    }
-    let call = NamedCall::TSndVUData {
-        fd,
-        addr,
-        opt,
-        parts,
-    };
-    draft.add(Line { worker, call })
-}
-
-/// Adds the receive.
-#[tactic(auto, unfolding(crate::specs::Reading::extended, crate::specs::Calls::call_with))]
-fn read_receive(draft: &mut Draft, worker: u32, fd: Name, words: &mut Words) -> Added
-    requires { worker ≤ last_worker }
-    ensures { IfOk result (λ added. (added, draft.new) ≡ with_call draft.old worker (with_values Verb.RcvUData fd (fields_of (form Verb.RcvUData) words.old))) }
-{
-    let Form::Three(max, amax, omax) = form(Verb::RcvUData) else {
-        unreachable!()
-    };
-    let Some(max) = read_number(max, words) else {
-        return Ok(false);
-    };
-    let Some(amax) = read_number(amax, words) else {
-        return Ok(false);
-    };
-    let Some(omax) = read_number(omax, words) else {
-        return Ok(false);
-    };
-    if !words.is_empty() {
-        return Ok(false);
-    }
-    let call = NamedCall::TRcvUData {
-        fd,
-        max,
-        amax,
-        omax,
-    };
-    draft.add(Line { worker, call })
-}
-
-/// Adds the receive of parts.
-#[tactic(auto, unfolding(crate::specs::Reading::extended, crate::specs::Calls::call_with))]
-fn read_receive_parts(draft: &mut Draft, worker: u32, fd: Name, words: &mut Words) -> Added
-    requires { worker ≤ last_worker }
-    ensures { IfOk result (λ added. (added, draft.new) ≡ with_call draft.old worker (with_values Verb.RcvVUData fd (fields_of (form Verb.RcvVUData) words.old))) }
-{
-    let Form::Three(sizes, amax, omax) = form(Verb::RcvVUData) else {
-        unreachable!()
-    };
-    let Some(sizes) = read_sizes(draft.alloc(), sizes, words)? else {
-        return Ok(false);
-    };
-    let Some(amax) = read_number(amax, words) else {
-        return Ok(false);
-    };
-    let Some(omax) = read_number(omax, words) else {
-        return Ok(false);
-    };
-    if !words.is_empty() {
-        return Ok(false);
-    }
-    let call = NamedCall::TRcvVUData {
-        fd,
-        sizes,
-        amax,
-        omax,
-    };
-    draft.add(Line { worker, call })
-}
-
-/// Adds the receive of an error.
-#[tactic(auto, unfolding(crate::specs::Reading::extended, crate::specs::Calls::call_with))]
-fn read_receive_error(draft: &mut Draft, worker: u32, fd: Name, words: &mut Words) -> Added
-    requires { worker ≤ last_worker }
-    ensures { IfOk result (λ added. (added, draft.new) ≡ with_call draft.old worker (with_values Verb.RcvUDErr fd (fields_of (form Verb.RcvUDErr) words.old))) }
-{
-    let Form::Two(amax, omax) = form(Verb::RcvUDErr) else {
-        unreachable!()
-    };
-    let Some(amax) = read_number(amax, words) else {
-        return Ok(false);
-    };
-    let Some(omax) = read_number(omax, words) else {
-        return Ok(false);
-    };
-    if !words.is_empty() {
-        return Ok(false);
-    }
-    let call = NamedCall::TRcvUDErr { fd, amax, omax };
-    draft.add(Line { worker, call })
-}
-
-/// Adds the call that has no fields; false where it has some or a word is left.
-#[tactic(auto, unfolding(crate::specs::Reading::extended))]
-fn read_alone(draft: &mut Draft, worker: u32, verb: Verb, fd: Name, words: &Words) -> Added
-    requires { worker ≤ last_worker }
-    ensures { IfOk result (λ added. (added, draft.new) ≡ with_call draft.old worker (with_values verb fd (fields_of [] words.now))) }
-{
-    if !words.is_empty() {
-        return Ok(false);
-    }
-    match call_alone(verb, fd) {
-        Some(call) => draft.add(Line { worker, call }),
-        None => Ok(false),
-    }
-}
-
-/// Adds the call of the endpoint whose fields are the words; false where they are not its fields.
-pub(crate) fn read_fields(
-    draft: &mut Draft,
-    worker: u32,
-    verb: Verb,
-    fd: Name,
-    words: &mut Words,
-) -> Added
-    requires { worker ≤ last_worker }
-    ensures { IfOk result (λ added. (added, draft.new) ≡ with_call draft.old worker (with_values verb fd (fields_of (form verb) words.old))) }
+/// The call of the endpoint, with the values of its fields.
+#[tactic(auto, unfolding(crate::specs::Fields::field, crate::specs::Calls::form_of, crate::specs::Calls::call_with))]
+fn call_with(verb: Verb, fd: Name, fields: &mut Fields) -> Result<NamedCall, FieldFail>
+    requires { fields.old.keys.now ≡ form verb }
+    ensures { MakesBefore (with_values verb fd (unread fields.old)) fields.new result }
 {
     match verb {
-        Verb::Bind => read_bind(draft, worker, fd, words),
-        Verb::SndUData => read_send(draft, worker, fd, words),
-        Verb::SndVUData => read_send_parts(draft, worker, fd, words),
-        Verb::RcvUData => read_receive(draft, worker, fd, words),
-        Verb::RcvVUData => read_receive_parts(draft, worker, fd, words),
-        Verb::RcvUDErr => read_receive_error(draft, worker, fd, words),
-        Verb::Close | Verb::Unbind | Verb::Look | Verb::GetState | Verb::Sync => {
-            read_alone(draft, worker, verb, fd, words)
-        }
+        Verb::Close => Ok(NamedCall::TClose { fd }),
+        Verb::Unbind => Ok(NamedCall::TUnbind { fd }),
+        Verb::Bind => Ok(NamedCall::TBind {
+            fd,
+            addr: fields.bytes()?,
+            qlen: fields.number()?,
+            amax: fields.number()?,
+        }),
+        Verb::SndUData => Ok(NamedCall::TSndUData {
+            fd,
+            addr: fields.bytes()?,
+            opt: fields.bytes()?,
+            bytes: fields.bytes()?,
+        }),
+        Verb::SndVUData => Ok(NamedCall::TSndVUData {
+            fd,
+            addr: fields.bytes()?,
+            opt: fields.bytes()?,
+            parts: fields.parts()?,
+        }),
+        Verb::RcvUData => Ok(NamedCall::TRcvUData {
+            fd,
+            max: fields.number()?,
+            amax: fields.number()?,
+            omax: fields.number()?,
+        }),
+        Verb::RcvVUData => Ok(NamedCall::TRcvVUData {
+            fd,
+            sizes: fields.sizes()?,
+            amax: fields.number()?,
+            omax: fields.number()?,
+        }),
+        Verb::RcvUDErr => Ok(NamedCall::TRcvUDErr {
+            fd,
+            amax: fields.number()?,
+            omax: fields.number()?,
+        }),
+        Verb::Look => Ok(NamedCall::TLookAt { fd }),
+        Verb::GetState => Ok(NamedCall::TGetState { fd }),
+        Verb::Sync => Ok(NamedCall::TSync { fd }),
+    }
+}
+
+/// The call of the endpoint whose fields the words are.
+pub(crate) fn read_fields(
+    alloc: Global,
+    verb: Verb,
+    fd: Name,
+    words: Words,
+) -> Result<NamedCall, FieldFail>
+    ensures { Makes (with_values verb fd (fields_of (form verb) words.entry)) result }
+{
+    let mut fields = Fields::new(alloc, form(verb), words);
+    let call = call_with(verb, fd, &mut fields)?;
+    if fields.is_empty() {
+        Ok(call)
+    } else {
+        Err(FieldFail::Wrong)
     }
 }

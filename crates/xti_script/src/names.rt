@@ -7,10 +7,8 @@ ghost use Rattle.xti_script.specs.Known.{is_own};
 
 use std::alloc::{AllocError, Global};
 use std::collections::BTreeSet;
+use xti_base::limits::WORKERS;
 use xti_model::{Line, NamedCall};
-
-/// How many workers there are.
-const WORKERS: usize = 33;
 
 /// A set of names.
 pub(crate) type TextSet = BTreeSet<Vec<u8>>;
@@ -49,7 +47,7 @@ fn add_at(alloc: Global, sets: &mut [TextSet], place: usize, text: &[u8]) -> Res
 
 /// A set without names for each worker.
 pub(crate) fn empty_sets(alloc: Global) -> Result<Vec<TextSet>, AllocError>
-    ensures workers { IfOk result (λ sets. length sets.items ≡ 33) }
+    ensures workers { IfOk result (λ sets. length sets.items ≡ WORKERS) }
     ensures empty { IfOk result (λ sets. (at : ℕ) (other : List ℕ) → has_at sets.items at other ≡ false) }
 {
     let mut sets = Vec::with_capacity(alloc, WORKERS)?;
