@@ -1,6 +1,7 @@
 -- Fields that are read one after the other, and the call that their values make.
-use Rattle.std.specs.Prelude.{◌≡◌, ℕ, List, [], ◌∷◌, Option, Some, None, Result, Ok, Err}
+use Rattle.std.specs.Prelude.{◌≡◌, ℕ, Bool, false, List, [], ◌∷◌, Option, Some, None, Result, Ok, Err}
 use Rattle.xti_model.specs.declared.script.NamedCall.{NamedCall}
+use Rattle.xti_model.specs.declared.script.Line.{Line}
 use Rattle.xti_script.specs.Kinds.{Kind}
 use Rattle.xti_script.specs.FieldValue.{Value}
 use Rattle.xti_script.specs.FieldValue.{Value as value}
@@ -39,14 +40,8 @@ alone call None = None
 alone call (Some []) = Some call
 alone call (Some (value ∷ values)) = None
 
--- the call, or that there is none
-abbrev pub Makes : Option NamedCall → Result NamedCall FieldFail → Type 0
-Makes call (Ok made) = call ≡ Some made
-Makes call (Err Wrong) = call ≡ None
-Makes call (Err OutOfMemory) = Unit {0}
-
--- the call, where the fields that are not read yet are none, or that there is none
-abbrev pub MakesBefore : Option NamedCall → Fields → Result NamedCall FieldFail → Type 0
-MakesBefore call others (Ok made) = (call ≡ alone made (unread others)) × (others.keys.now ≡ [])
-MakesBefore call others (Err Wrong) = call ≡ None
-MakesBefore call others (Err OutOfMemory) = Unit {0}
+-- whether a line was added, and the lines with it; none where a field is wrong
+abbrev pub AddsUnlessWrong : Result Bool FieldFail → List Line → Bool × List Line → Type 0
+AddsUnlessWrong (Ok added) lines outcome = (added, lines) ≡ outcome
+AddsUnlessWrong (Err Wrong) lines outcome = (false, lines) ≡ outcome
+AddsUnlessWrong (Err OutOfMemory) lines outcome = Unit {0}

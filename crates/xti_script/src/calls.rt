@@ -3,6 +3,7 @@
 ghost use Rattle.std.specs.Prelude.{◌≡◌, ◌≤◌, IfOk, IfSome, Some};
 ghost use Rattle.std.specs.Option.{option_copied};
 ghost use Rattle.xti_script.specs.Texts.{words_of};
+ghost use Rattle.xti_script.specs.Gives.{Adds};
 ghost use Rattle.xti_script.specs.Reading.{mode_of, open_mode, provider_of, open_of, set_mode_of, with_fields, call_of, worker_of, with_call, longer, line_of};
 
 use crate::draft::{Added, Draft};
@@ -56,7 +57,7 @@ fn provider_of(word: &[u8]) -> Option<Prov>
 #[tactic(auto, unfolding(crate::specs::Reading::open_of, crate::specs::Reading::extended))]
 fn read_open(draft: &mut Draft, worker: u32, mut words: Words) -> Added
     requires { worker ≤ LAST_WORKER }
-    ensures { IfOk result (λ added. (added, draft.new) ≡ with_call draft.old worker (open_of draft.old worker words.entry)) }
+    ensures { Adds result draft.new (with_call draft.old worker (open_of draft.old worker words.entry)) }
 {
     let (Some(name), Some(prov)) = (words.next(), words.next()) else {
         return Ok(false);
@@ -82,7 +83,7 @@ fn read_open(draft: &mut Draft, worker: u32, mut words: Words) -> Added
 #[tactic(auto, unfolding(crate::specs::Reading::set_mode_of, crate::specs::Reading::extended))]
 fn read_set_mode(draft: &mut Draft, worker: u32, mut words: Words) -> Added
     requires { worker ≤ LAST_WORKER }
-    ensures { IfOk result (λ added. (added, draft.new) ≡ with_call draft.old worker (set_mode_of draft.old worker words.entry)) }
+    ensures { Adds result draft.new (with_call draft.old worker (set_mode_of draft.old worker words.entry)) }
 {
     let (Some(fd), Some(mode)) = (words.next(), words.next()) else {
         return Ok(false);
@@ -98,10 +99,10 @@ fn read_set_mode(draft: &mut Draft, worker: u32, mut words: Words) -> Added
     draft.add(Line { worker, call })
 }
 
-#[tactic(auto, unfolding(crate::specs::Reading::with_fields, crate::specs::Reading::extended))]
+#[tactic(auto, unfolding(crate::specs::Reading::with_fields))]
 fn read_with_fields(draft: &mut Draft, worker: u32, verb: Option<Verb>, mut words: Words) -> Added
     requires { worker ≤ LAST_WORKER }
-    ensures { IfOk result (λ added. (added, draft.new) ≡ with_call draft.old worker (with_fields draft.old worker verb words.entry)) }
+    ensures { Adds result draft.new (with_call draft.old worker (with_fields draft.old worker verb words.entry)) }
 {
     let (Some(verb), Some(name)) = (verb, words.next()) else {
         return Ok(false);
@@ -110,8 +111,8 @@ fn read_with_fields(draft: &mut Draft, worker: u32, verb: Option<Verb>, mut word
         return Ok(false);
     }
     let fd = Name::copy_of(draft.alloc(), name)?;
-    match read_fields(draft.alloc(), verb, fd, words) {
-        Ok(call) => draft.add(Line { worker, call }),
+    match read_fields(draft, worker, verb, fd, words) {
+        Ok(added) => Ok(added),
         Err(FieldFail::Wrong) => Ok(false),
         Err(FieldFail::OutOfMemory) => Err(AllocError),
     }
@@ -120,7 +121,7 @@ fn read_with_fields(draft: &mut Draft, worker: u32, verb: Option<Verb>, mut word
 #[tactic(auto, unfolding(crate::specs::Reading::call_of))]
 fn read_call(draft: &mut Draft, worker: u32, mut words: Words) -> Added
     requires { worker ≤ LAST_WORKER }
-    ensures { IfOk result (λ added. (added, draft.new) ≡ with_call draft.old worker (call_of draft.old worker words.entry)) }
+    ensures { Adds result draft.new (with_call draft.old worker (call_of draft.old worker words.entry)) }
 {
     let Some(word) = words.next() else {
         return Ok(false);
@@ -147,7 +148,7 @@ fn worker_of(word: &[u8]) -> Option<u32>
 /// Adds the line that the text gives after the others; false where it gives none.
 #[tactic(auto, unfolding(crate::specs::Reading::any_line_of, crate::specs::Reading::line_of))]
 pub(crate) fn read_line(draft: &mut Draft, text: &[u8]) -> Added
-    ensures { IfOk result (λ added. (added, draft.new) ≡ longer draft.old (line_of draft.old (words_of text.now))) }
+    ensures { Adds result draft.new (longer draft.old (line_of draft.old (words_of text.now))) }
 {
     let mut words = Words::of(text);
     let Some(word) = words.next() else {

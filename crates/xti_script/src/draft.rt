@@ -1,11 +1,10 @@
 //! The lines that are read so far, and what they say together.
 
-ghost use Rattle.std.specs.Prelude.{◌≡◌, ◌≤◌, ◌<◌, ◌+◌, ◌||◌, ◌++◌, ◌∷◌, [], ℕ, List, length, IfOk, IfSome, IfNone, OnErr};
+ghost use Rattle.std.specs.Prelude.{◌≡◌, ◌≤◌, ◌<◌, ◌+◌, ◌++◌, ◌∷◌, [], length, IfOk, IfSome, IfNone, OnErr};
 ghost use Rattle.std.specs.List.{concat};
 ghost use Rattle.xti_model.specs.Work.{argument_bytes};
 ghost use Rattle.xti_script.specs.Grammar.{is_defined};
-ghost use Rattle.xti_script.specs.TextSets.{has_at};
-ghost use Rattle.xti_script.specs.Known.{is_own};
+ghost use Rattle.xti_script.specs.Known.{TakesName};
 ghost use Rattle.xti_script.specs.Reading.{less, room_after, extended};
 
 use crate::names::{TextSet, add_name, empty_sets, is_defined};
@@ -117,7 +116,7 @@ fn admit(
 ) -> Result<Option<usize>, AllocError>
     requires { line.now.worker < length names.old }
     ensures room { IfOk result (λ room. room ≡ room_after count left line.now.call) }
-    ensures some { IfOk result (λ room. IfSome room (λ _. (worker : ℕ) (name : List ℕ) → has_at names.new worker name ≡ (has_at names.old worker name || is_own worker name line.now))) }
+    ensures some { IfOk result (λ room. IfSome room (λ _. TakesName line.now names.old names.new)) }
     ensures none { IfOk result (λ room. IfNone room (names.new ≡ names.old)) }
     ensures err { OnErr result (names.new ≡ names.old) }
 {
@@ -138,7 +137,7 @@ fn add_line(
 ) -> Result<Option<usize>, AllocError>
     requires { line.worker < length names.old }
     ensures room { IfOk result (λ room. room ≡ room_after (length lines.old.items) left line.call) }
-    ensures some { IfOk result (λ room. IfSome room (λ _. (worker : ℕ) (name : List ℕ) → has_at names.new worker name ≡ (has_at names.old worker name || is_own worker name line))) }
+    ensures some { IfOk result (λ room. IfSome room (λ _. TakesName line names.old names.new)) }
     ensures more { IfOk result (λ room. IfSome room (λ _. lines.new.items ≡ lines.old.items ++ line ∷ [])) }
     ensures none { IfOk result (λ room. IfNone room (names.new ≡ names.old)) }
     ensures same { IfOk result (λ room. IfNone room (lines.new.items ≡ lines.old.items)) }

@@ -143,6 +143,7 @@ impl<'a> Fields<'a> {
     }
 
     /// Takes the next key, and the word with it where the field is written: what is after the key, or `None`.
+    #[inline(always)]
     fn next(&mut self) -> (Key, Option<&'a [u8]>)
         requires { 0 < length self.old.keys.now }
         ensures keys { self.old.keys.now ≡ result.0 ∷ self.new.keys.now }
@@ -155,6 +156,7 @@ impl<'a> Fields<'a> {
     }
 
     /// The bytes of the next field.
+    #[inline(always)]
     #[tactic(auto, unfolding(crate::specs::Fields::field))]
     pub(crate) fn bytes(&mut self) -> Result<Octets, FieldFail>
         requires { NextIs kind.Bytes self.old.keys.now }
@@ -172,6 +174,7 @@ impl<'a> Fields<'a> {
     }
 
     /// The number of the next field.
+    #[inline(always)]
     #[tactic(auto, unfolding(crate::specs::Fields::field))]
     pub(crate) fn number(&mut self) -> Result<u32, FieldFail>
         requires { NextIs kind.Number self.old.keys.now }
