@@ -4,6 +4,7 @@ use Rattle.std.specs.Prelude.{codes, nat_eq, option_map, length}
 use Rattle.std.specs.List.{concat, list_all, starts_with}
 use Rattle.std.proofs.lemmas.Bool.{and_parts, leb-true, eqb-true}
 use Rattle.std.proofs.lemmas.List.Elements.{All-nil, All-cons, All-append}
+use Rattle.xti_base.specs.declared.limits.TheConstants.{MOST_SEND, MOST_ADDRESS, MOST_OPTIONS}
 use Rattle.xti_model.specs.declared.script.NamedCall.{NamedCall}
 use Rattle.xti_model.specs.declared.script.NamedCall.TheVariants as call
 use Rattle.xti_model.specs.declared.script.NamedCall.TheVariants.{TOpen, SetMode}
@@ -18,10 +19,11 @@ use Rattle.xti_script.specs.declared.fields.Key.{Key}
 use Rattle.xti_script.specs.declared.fields.Key.TheVariants as key
 use Rattle.xti_script.specs.declared.verbs.Verb.{Verb}
 use Rattle.xti_script.specs.declared.verbs.Verb.TheVariants.{Close, Unbind, Bind, SndUData, SndVUData, RcvUData, RcvVUData, RcvUDErr, Look, GetState, Sync}
+use Rattle.xti_script.specs.declared.values.TheConstants.{MOST_PIECES}
 use Rattle.xti_script.specs.Texts.{pieces_of, is_lower, is_upper, is_digit, is_text_byte, is_plain_text}
 use Rattle.xti_script.specs.Values.{number_in, hex_digit, hex_pair, hex_bytes, plain_bytes, onto, bytes_in, each_in, list_in, value_in}
-use Rattle.xti_script.specs.Fields.{kind_of, usual_value, AreFields}
-use Rattle.xti_script.specs.Calls.{alone, bind_with, send_with, send_parts_with, receive_with, receive_parts_with, receive_error_with, call_with}
+use Rattle.xti_script.specs.Fields.{field, kind_of, usual_value, AreFields}
+use Rattle.xti_script.specs.Calls.{call_with}
 use Rattle.xti_script.specs.Grammar.{IsCall, AreLines, HasText}
 
 -- ---- words
@@ -119,7 +121,7 @@ each-bytes (word ∷ words) parts h =
 
 part-bytes : (word : List ℕ) (parts : List (List ℕ)) → list_in bytes_in word ≡ Some parts → AreBytes (concat parts)
 unfolding list_in
-part-bytes word parts h = go (leb (length (pieces_of 44 word)) 32) h
+part-bytes word parts h = go (leb (length (pieces_of 44 word)) MOST_PIECES) h
   where
     go : (b : Bool) → cond b (each_in bytes_in (pieces_of 44 word)) None ≡ Some parts → AreBytes (concat parts)
     go true h = each-bytes (pieces_of 44 word) parts h
@@ -148,15 +150,16 @@ written-bytes kind.Parts text v h = mapped Parts (list_in bytes_in text) v (part
 written-bytes kind.Sizes text v h = mapped Sizes (list_in number_in text) v (λ n i. tt) h
 
 usual-bytes : (k : Key) (v : Value) → usual_value k ≡ Some v → IsOfBytes v
+unfolding field
 usual-bytes key.Addr v h = subst IsOfBytes (some-is (Bytes []) v h) (All-nil (λ b. b < 256))
 usual-bytes key.Opt v h = subst IsOfBytes (some-is (Bytes []) v h) (All-nil (λ b. b < 256))
 usual-bytes key.Data v h = absurd (none-is v h)
 usual-bytes key.Parts v h = absurd (none-is v h)
 usual-bytes key.Sizes v h = absurd (none-is v h)
 usual-bytes key.Qlen v h = subst IsOfBytes (some-is (Number 0) v h) tt
-usual-bytes key.Max v h = subst IsOfBytes (some-is (Number 65536) v h) tt
-usual-bytes key.Amax v h = subst IsOfBytes (some-is (Number 64) v h) tt
-usual-bytes key.Omax v h = subst IsOfBytes (some-is (Number 256) v h) tt
+usual-bytes key.Max v h = subst IsOfBytes (some-is (Number MOST_SEND) v h) tt
+usual-bytes key.Amax v h = subst IsOfBytes (some-is (Number MOST_ADDRESS) v h) tt
+usual-bytes key.Omax v h = subst IsOfBytes (some-is (Number MOST_OPTIONS) v h) tt
 
 -- the values of any fields
 field-bytes : (keys : List Key) (values : List Value) (words : List (List ℕ)) → AreFields keys values words → AllOfBytes values
@@ -173,47 +176,20 @@ field-bytes (k ∷ ks) (v ∷ vs) (word ∷ words) (inr h) = (usual-bytes k v h.
 same : (c d : NamedCall) → HasByteArguments c → Some c ≡ Some d → HasByteArguments d
 same c d h e = subst HasByteArguments (some-is c d e) h
 
-alone-bytes : (c d : NamedCall) (values : List Value) → HasByteArguments c → alone c values ≡ Some d → HasByteArguments d
-alone-bytes c d [] h e = same c d h e
-alone-bytes c d (v ∷ vs) h e = absurd (none-is d e)
-
-bind-bytes : (fd : List ℕ) (values : List Value) (d : NamedCall) → AllOfBytes values → bind_with fd values ≡ Some d → HasByteArguments d
-bind-bytes fd (Bytes a ∷ Number b ∷ Number c ∷ []) d h e = same (call.TBind fd a b c) d h.0 e
-bind-bytes fd other d h e = absurd (none-is d e)
-
-send-bytes : (fd : List ℕ) (values : List Value) (d : NamedCall) → AllOfBytes values → send_with fd values ≡ Some d → HasByteArguments d
-send-bytes fd (Bytes a ∷ Bytes b ∷ Bytes c ∷ []) d h e = same (call.TSndUData fd a b c) d (h.0, h.1.0, h.1.1.0) e
-send-bytes fd other d h e = absurd (none-is d e)
-
-send_parts-bytes : (fd : List ℕ) (values : List Value) (d : NamedCall) → AllOfBytes values → send_parts_with fd values ≡ Some d → HasByteArguments d
-send_parts-bytes fd (Bytes a ∷ Bytes b ∷ Parts c ∷ []) d h e = same (call.TSndVUData fd a b c) d (h.0, h.1.0, h.1.1.0) e
-send_parts-bytes fd other d h e = absurd (none-is d e)
-
-receive-bytes : (fd : List ℕ) (values : List Value) (d : NamedCall) → receive_with fd values ≡ Some d → HasByteArguments d
-receive-bytes fd (Number a ∷ Number b ∷ Number c ∷ []) d e = same (call.TRcvUData fd a b c) d tt e
-receive-bytes fd other d e = absurd (none-is d e)
-
-receive_parts-bytes : (fd : List ℕ) (values : List Value) (d : NamedCall) → receive_parts_with fd values ≡ Some d → HasByteArguments d
-receive_parts-bytes fd (Sizes a ∷ Number b ∷ Number c ∷ []) d e = same (call.TRcvVUData fd a b c) d tt e
-receive_parts-bytes fd other d e = absurd (none-is d e)
-
-receive_error-bytes : (fd : List ℕ) (values : List Value) (d : NamedCall) → receive_error_with fd values ≡ Some d → HasByteArguments d
-receive_error-bytes fd (Number a ∷ Number b ∷ []) d e = same (call.TRcvUDErr fd a b) d tt e
-receive_error-bytes fd other d e = absurd (none-is d e)
-
 call-bytes : (verb : Verb) (fd : List ℕ) (values : List Value) (d : NamedCall) → AllOfBytes values → call_with verb fd values ≡ Some d → HasByteArguments d
 unfolding call_with
-call-bytes Close fd values d h e = alone-bytes (call.TClose fd) d values tt e
-call-bytes Unbind fd values d h e = alone-bytes (call.TUnbind fd) d values tt e
-call-bytes Bind fd values d h e = bind-bytes fd values d h e
-call-bytes SndUData fd values d h e = send-bytes fd values d h e
-call-bytes SndVUData fd values d h e = send_parts-bytes fd values d h e
-call-bytes RcvUData fd values d h e = receive-bytes fd values d e
-call-bytes RcvVUData fd values d h e = receive_parts-bytes fd values d e
-call-bytes RcvUDErr fd values d h e = receive_error-bytes fd values d e
-call-bytes Look fd values d h e = alone-bytes (call.TLookAt fd) d values tt e
-call-bytes GetState fd values d h e = alone-bytes (call.TGetState fd) d values tt e
-call-bytes Sync fd values d h e = alone-bytes (call.TSync fd) d values tt e
+call-bytes Close fd [] d h e = same (call.TClose fd) d tt e
+call-bytes Unbind fd [] d h e = same (call.TUnbind fd) d tt e
+call-bytes Bind fd (Bytes a ∷ Number b ∷ Number c ∷ []) d h e = same (call.TBind fd a b c) d h.0 e
+call-bytes SndUData fd (Bytes a ∷ Bytes b ∷ Bytes c ∷ []) d h e = same (call.TSndUData fd a b c) d (h.0, h.1.0, h.1.1.0) e
+call-bytes SndVUData fd (Bytes a ∷ Bytes b ∷ Parts c ∷ []) d h e = same (call.TSndVUData fd a b c) d (h.0, h.1.0, h.1.1.0) e
+call-bytes RcvUData fd (Number a ∷ Number b ∷ Number c ∷ []) d h e = same (call.TRcvUData fd a b c) d tt e
+call-bytes RcvVUData fd (Sizes a ∷ Number b ∷ Number c ∷ []) d h e = same (call.TRcvVUData fd a b c) d tt e
+call-bytes RcvUDErr fd (Number a ∷ Number b ∷ []) d h e = same (call.TRcvUDErr fd a b) d tt e
+call-bytes Look fd [] d h e = same (call.TLookAt fd) d tt e
+call-bytes GetState fd [] d h e = same (call.TGetState fd) d tt e
+call-bytes Sync fd [] d h e = same (call.TSync fd) d tt e
+call-bytes verb fd values d h e = absurd (none-is d e)
 
 argument-bytes : (earlier : List Line) (worker : ℕ) (c : NamedCall) (words : List (List ℕ)) → IsCall earlier worker c words → HasByteArguments c
 argument-bytes earlier worker (TOpen name prov nonblock) words h = tt

@@ -21,8 +21,9 @@ use Rattle.xti_script.specs.declared.verbs.Verb.{Verb}
 use Rattle.xti_script.specs.declared.verbs.Verb.TheVariants.{Close, Unbind, Bind, SndUData, SndVUData, RcvUData, RcvVUData, RcvUDErr, Look, GetState, Sync}
 use Rattle.xti_script.specs.Texts.{words_of, is_name}
 use Rattle.xti_script.specs.Values.{number_in}
-use Rattle.xti_script.specs.Calls.{verb_word, form, alone, bind_with, send_with, send_parts_with, receive_with, receive_parts_with, receive_error_with, call_with}
-use Rattle.xti_script.specs.Grammar.{IsOpen, IsMode, IsSetMode, IsCallWithFields, IsCall, IsLine, AreLines, mode_word, is_defined, most_lines, most_bytes, last_worker}
+use Rattle.xti_script.specs.Calls.{form_of, verb_word, form, call_with}
+use Rattle.xti_base.specs.declared.limits.TheConstants.{MOST_LINES, MOST_ARGUMENT_BYTES, LAST_WORKER}
+use Rattle.xti_script.specs.Grammar.{IsOpen, IsMode, IsSetMode, IsCallWithFields, IsCall, IsLine, AreLines, mode_word, is_defined}
 use Rattle.xti_script.specs.Reading.{fields_of, verbs, verb_of, mode_of, open_mode, provider_of, open_with, can_define, open_of, set_mode_with, set_mode_of, with_values, with_fields, call_of, small, worker_of, by_worker, call_by, any_line_of, has_room, within, line_of, behind, lines_from}
 use Rattle.xti_script.proofs.FieldLaws.{forms_are_apart, fields_are, are_fields}
 
@@ -153,47 +154,20 @@ pub record IsMade (c : NamedCall) : Type 0 where
 same : (c d : NamedCall) → IsMade c → Some c ≡ Some d → IsMade d
 same c d h e = let s : c ≡ d = cc in subst IsMade s h
 
-alone_made : (c : NamedCall) (values : List Value) (d : NamedCall) → IsMade c → alone c values ≡ Some d → IsMade d
-alone_made c [] d h e = same c d h e
-alone_made c (v ∷ vs) d h e = absurd cc
-
-bind_made : (fd : List ℕ) (values : List Value) (d : NamedCall) → bind_with fd values ≡ Some d → IsMade d
-bind_made fd (Bytes a ∷ Number b ∷ Number c ∷ []) d e = same (call.TBind fd a b c) d (record { fields = refl; built = refl }) e
-bind_made fd other d e = absurd cc
-
-send_made : (fd : List ℕ) (values : List Value) (d : NamedCall) → send_with fd values ≡ Some d → IsMade d
-send_made fd (Bytes a ∷ Bytes b ∷ Bytes c ∷ []) d e = same (call.TSndUData fd a b c) d (record { fields = refl; built = refl }) e
-send_made fd other d e = absurd cc
-
-send_parts_made : (fd : List ℕ) (values : List Value) (d : NamedCall) → send_parts_with fd values ≡ Some d → IsMade d
-send_parts_made fd (Bytes a ∷ Bytes b ∷ Parts c ∷ []) d e = same (call.TSndVUData fd a b c) d (record { fields = refl; built = refl }) e
-send_parts_made fd other d e = absurd cc
-
-receive_made : (fd : List ℕ) (values : List Value) (d : NamedCall) → receive_with fd values ≡ Some d → IsMade d
-receive_made fd (Number a ∷ Number b ∷ Number c ∷ []) d e = same (call.TRcvUData fd a b c) d (record { fields = refl; built = refl }) e
-receive_made fd other d e = absurd cc
-
-receive_parts_made : (fd : List ℕ) (values : List Value) (d : NamedCall) → receive_parts_with fd values ≡ Some d → IsMade d
-receive_parts_made fd (Sizes a ∷ Number b ∷ Number c ∷ []) d e = same (call.TRcvVUData fd a b c) d (record { fields = refl; built = refl }) e
-receive_parts_made fd other d e = absurd cc
-
-receive_error_made : (fd : List ℕ) (values : List Value) (d : NamedCall) → receive_error_with fd values ≡ Some d → IsMade d
-receive_error_made fd (Number a ∷ Number b ∷ []) d e = same (call.TRcvUDErr fd a b) d (record { fields = refl; built = refl }) e
-receive_error_made fd other d e = absurd cc
-
 pub made : (verb : Verb) (fd : List ℕ) (values : List Value) (d : NamedCall) → call_with verb fd values ≡ Some d → IsMade d
 unfolding call_with
-made Close fd values d e = alone_made (call.TClose fd) values d (record { fields = refl; built = refl }) e
-made Unbind fd values d e = alone_made (call.TUnbind fd) values d (record { fields = refl; built = refl }) e
-made Bind fd values d e = bind_made fd values d e
-made SndUData fd values d e = send_made fd values d e
-made SndVUData fd values d e = send_parts_made fd values d e
-made RcvUData fd values d e = receive_made fd values d e
-made RcvVUData fd values d e = receive_parts_made fd values d e
-made RcvUDErr fd values d e = receive_error_made fd values d e
-made Look fd values d e = alone_made (call.TLookAt fd) values d (record { fields = refl; built = refl }) e
-made GetState fd values d e = alone_made (call.TGetState fd) values d (record { fields = refl; built = refl }) e
-made Sync fd values d e = alone_made (call.TSync fd) values d (record { fields = refl; built = refl }) e
+made Close fd [] d e = same (call.TClose fd) d (record { fields = refl; built = refl }) e
+made Unbind fd [] d e = same (call.TUnbind fd) d (record { fields = refl; built = refl }) e
+made Bind fd (Bytes a ∷ Number b ∷ Number c ∷ []) d e = same (call.TBind fd a b c) d (record { fields = refl; built = refl }) e
+made SndUData fd (Bytes a ∷ Bytes b ∷ Bytes c ∷ []) d e = same (call.TSndUData fd a b c) d (record { fields = refl; built = refl }) e
+made SndVUData fd (Bytes a ∷ Bytes b ∷ Parts c ∷ []) d e = same (call.TSndVUData fd a b c) d (record { fields = refl; built = refl }) e
+made RcvUData fd (Number a ∷ Number b ∷ Number c ∷ []) d e = same (call.TRcvUData fd a b c) d (record { fields = refl; built = refl }) e
+made RcvVUData fd (Sizes a ∷ Number b ∷ Number c ∷ []) d e = same (call.TRcvVUData fd a b c) d (record { fields = refl; built = refl }) e
+made RcvUDErr fd (Number a ∷ Number b ∷ []) d e = same (call.TRcvUDErr fd a b) d (record { fields = refl; built = refl }) e
+made Look fd [] d e = same (call.TLookAt fd) d (record { fields = refl; built = refl }) e
+made GetState fd [] d e = same (call.TGetState fd) d (record { fields = refl; built = refl }) e
+made Sync fd [] d e = same (call.TSync fd) d (record { fields = refl; built = refl }) e
+made verb fd values d e = absurd cc
 
 call_by_fields : (earlier : List Line) (worker : ℕ) (c : NamedCall) (words : List (List ℕ)) → has_fields c ≡ true → IsCallWithFields earlier worker c words → IsCall earlier worker c words
 call_by_fields earlier worker (TOpen name prov nonblock) words f h = absurd cc
@@ -215,7 +189,7 @@ unfolding verb_of
 verb_is word v e = found_is word verbs v e
 
 is_verb : (v : Verb) → verb_of (verb_word v) ≡ Some v
-unfolding verb_of verb_word
+unfolding verb_of form_of
 is_verb Close = refl
 is_verb Unbind = refl
 is_verb Bind = refl
@@ -229,7 +203,7 @@ is_verb GetState = refl
 is_verb Sync = refl
 
 no_other_word : (v : Verb) → (bytes_eq (verb_word v) (codes "open") ≡ false) × (bytes_eq (verb_word v) (codes "mode") ≡ false)
-unfolding verb_word
+unfolding form_of
 no_other_word Close = (refl, refl)
 no_other_word Unbind = (refl, refl)
 no_other_word Bind = (refl, refl)
@@ -318,24 +292,24 @@ by_is earlier worker words (Some c) line q e =
     let s : record { worker = worker; call = c } ≡ line = cc in
     subst (IsBy earlier worker words) s (record { worker_is = refl; call = call_is earlier worker words c q })
 
-small_is : (o : Option ℕ) (worker : ℕ) → small o ≡ Some worker → (o ≡ Some worker) × (worker ≤ last_worker)
+small_is : (o : Option ℕ) (worker : ℕ) → small o ≡ Some worker → (o ≡ Some worker) × (worker ≤ LAST_WORKER)
 small_is None worker e = absurd cc
 small_is (Some n) worker e =
-    let t = cond_some (leb n last_worker) n worker e in
-    (ap (λ (x : ℕ). Some x) t.1, subst (λ (x : ℕ). x ≤ last_worker) t.1 (leb-true _ _ t.0))
+    let t = cond_some (leb n LAST_WORKER) n worker e in
+    (ap (λ (x : ℕ). Some x) t.1, subst (λ (x : ℕ). x ≤ LAST_WORKER) t.1 (leb-true _ _ t.0))
 
 numbered : (earlier : List Line) (text number : List ℕ) (words : List (List ℕ)) (o : Option ℕ) (line : Line) → words_of text ≡ number ∷ words → worker_of number ≡ o → call_by earlier o words ≡ Some line → has_room earlier line ≡ true → IsLine earlier line text
 numbered earlier text number words None line split q e room = absurd cc
 numbered earlier text number words (Some worker) line split q e room =
     let s = small_is (number_in number) worker q in
     let b = by_is earlier worker words (call_of earlier worker words) line refl e in
-    let r = and_parts (ltb (length earlier) most_lines) (leb (script_bytes earlier + argument_bytes line.call) most_bytes) room in
+    let r = and_parts (ltb (length earlier) MOST_LINES) (leb (script_bytes earlier + argument_bytes line.call) MOST_ARGUMENT_BYTES) room in
     record {
       number = number;
       words = words;
       split = split;
       worker = s.0 ∙ ap (λ (x : ℕ). Some x) (sym b.worker_is);
-      is_worker = subst (λ (x : ℕ). x ≤ last_worker) (sym b.worker_is) s.1;
+      is_worker = subst (λ (x : ℕ). x ≤ LAST_WORKER) (sym b.worker_is) s.1;
       call = b.call;
       few_lines = ltb-true _ _ r.0;
       few_bytes = leb-true _ _ r.1;
@@ -355,9 +329,9 @@ line_is earlier text line e =
 pub is_line : (earlier : List Line) (text : List ℕ) (line : Line) → IsLine earlier line text → line_of earlier (words_of text) ≡ Some line
 unfolding line_of any_line_of
 is_line earlier text line h =
-    let few : ltb (length earlier) most_lines ≡ true = lt-ltb _ _ h.few_lines in
-    let bytes : leb (script_bytes earlier + argument_bytes line.call) most_bytes ≡ true = le-leb _ _ h.few_bytes in
-    let worker : leb line.worker last_worker ≡ true = le-leb _ _ h.is_worker in
+    let few : ltb (length earlier) MOST_LINES ≡ true = lt-ltb _ _ h.few_lines in
+    let bytes : leb (script_bytes earlier + argument_bytes line.call) MOST_ARGUMENT_BYTES ≡ true = le-leb _ _ h.few_bytes in
+    let worker : leb line.worker LAST_WORKER ≡ true = le-leb _ _ h.is_worker in
     let number : number_in h.number ≡ Some line.worker = h.worker in
     let call : call_of earlier line.worker h.words ≡ Some line.call = is_call earlier line.worker line.call h.words h.call in
     let by : worker_of h.number ≡ Some line.worker = rw (number, worker) refl in

@@ -11,8 +11,8 @@ use Rattle.xti_script.specs.declared.fields.Key.{Key}
 use Rattle.xti_script.specs.declared.verbs.Verb.{Verb}
 use Rattle.xti_script.specs.declared.verbs.Verb.TheVariants.{Close, Unbind, Bind, SndUData, SndVUData, RcvUData, RcvVUData, RcvUDErr, Look, GetState, Sync}
 use Rattle.xti_script.specs.Values.{value_in, onto}
-use Rattle.xti_script.specs.Fields.{key_word, kind_of, usual_value, IsWritten, AreFields}
-use Rattle.xti_script.specs.Calls.{form}
+use Rattle.xti_script.specs.Fields.{field, key_word, kind_of, usual_value, IsWritten, AreFields}
+use Rattle.xti_script.specs.Calls.{form_of, form}
 use Rattle.xti_script.specs.Reading.{written_value, fields_of}
 
 -- ---- keys that are apart
@@ -31,7 +31,7 @@ are_apart [] = true
 are_apart (key ∷ keys) = is_apart keys key && are_apart keys
 
 pub forms_are_apart : (verb : Verb) → are_apart (form verb) ≡ true
-unfolding key_word
+unfolding field form_of
 forms_are_apart Close = refl
 forms_are_apart Unbind = refl
 forms_are_apart Bind = refl

@@ -11,7 +11,8 @@ use Rattle.xti_model.specs.declared.script.Script.{Script}
 use Rattle.xti_model.specs.Built.{is_built_named}
 use Rattle.xti_model.specs.Robin.{most_steps}
 use Rattle.xti_model.specs.Work.{argument_bytes, script_bytes}
-use Rattle.xti_script.specs.Grammar.{IsCall, AreLines, HasText, most_lines, most_bytes, last_worker}
+use Rattle.xti_base.specs.declared.limits.TheConstants.{MOST_LINES, MOST_ARGUMENT_BYTES, LAST_WORKER}
+use Rattle.xti_script.specs.Grammar.{IsCall, AreLines, HasText}
 use Rattle.xti_script.proofs.CallLaws.{made, regroup}
 
 call_is_built : (earlier : List Line) (worker : ℕ) (c : NamedCall) (words : List (List ℕ)) → IsCall earlier worker c words → is_built_named c ≡ true
@@ -23,7 +24,7 @@ abbrev is_built_line : Line → Bool
 is_built_line line = is_built_named line.call
 
 abbrev has_worker : Line → Bool
-has_worker line = leb line.worker last_worker
+has_worker line = leb line.worker LAST_WORKER
 
 lines_are_built : (earlier lines : List Line) (texts : List (List ℕ)) → AreLines earlier lines texts → list_all is_built_line lines ≡ true
 lines_are_built earlier [] texts h = refl
@@ -36,7 +37,7 @@ lines_have_workers : (earlier lines : List Line) (texts : List (List ℕ)) → A
 lines_have_workers earlier [] texts h = refl
 lines_have_workers earlier (line ∷ lines) [] h = absurd h
 lines_have_workers earlier (line ∷ lines) (text ∷ texts) h =
-    let one : leb line.worker last_worker ≡ true = le-leb _ _ h.0.is_worker in
+    let one : leb line.worker LAST_WORKER ≡ true = le-leb _ _ h.0.is_worker in
     rw (one, lines_have_workers (earlier ++ line ∷ []) lines texts h.1) refl
 
 pub script_is_built : (s : Script) → HasText s → list_all is_built_line s.lines ≡ true
@@ -46,8 +47,8 @@ pub script_has_workers : (s : Script) → HasText s → list_all has_worker s.li
 script_has_workers s h = lines_have_workers [] s.lines h.1.texts h.1.lines
 
 record AreSmall (lines : List Line) : Type 0 where
-  few : length lines ≤ most_lines
-  bytes : script_bytes lines ≤ most_bytes
+  few : length lines ≤ MOST_LINES
+  bytes : script_bytes lines ≤ MOST_ARGUMENT_BYTES
 
 lines_are_small : (earlier lines : List Line) (texts : List (List ℕ)) → AreLines earlier lines texts → AreSmall earlier → AreSmall (earlier ++ lines)
 lines_are_small earlier [] texts h small = rw append-nil small

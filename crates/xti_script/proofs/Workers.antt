@@ -11,7 +11,8 @@ use Rattle.xti_model.specs.declared.script.NamedCall.{NamedCall}
 use Rattle.xti_model.specs.declared.script.Line.{Line}
 use Rattle.xti_model.specs.Resolve.{opens}
 use Rattle.xti_model.specs.Work.{argument_bytes, script_bytes}
-use Rattle.xti_script.specs.Grammar.{defines, is_defined, most_lines, most_bytes}
+use Rattle.xti_base.specs.declared.limits.TheConstants.{MOST_LINES, MOST_ARGUMENT_BYTES}
+use Rattle.xti_script.specs.Grammar.{defines, is_defined}
 use Rattle.xti_script.specs.TextSets.{TextSet, has, has_at}
 use Rattle.xti_script.specs.Known.{is_own, Knows}
 use Rattle.xti_script.specs.Reading.{less, room_after, extended}
@@ -153,15 +154,15 @@ less_fails left n o e s = by_test (leb n left) refl (sym e ∙ s)
     by_test false t r = leb-false _ _ t
 
 record Room (count left : ℕ) (call : NamedCall) (more : ℕ) : Type 0 where
-  few : count < most_lines
+  few : count < MOST_LINES
   fits : argument_bytes call ≤ left
   rest : more ≡ left - argument_bytes call
 
 room_is : (count left : ℕ) (call : NamedCall) (more : ℕ) (o : Option ℕ) → o ≡ room_after count left call → o ≡ Some more → Room count left call more
 unfolding room_after
-room_is count left call more o e s = by_test (ltb count most_lines) refl (sym e ∙ s)
+room_is count left call more o e s = by_test (ltb count MOST_LINES) refl (sym e ∙ s)
   where
-    by_test : (t : Bool) → ltb count most_lines ≡ t → cond t (less left (argument_bytes call)) None ≡ Some more → Room count left call more
+    by_test : (t : Bool) → ltb count MOST_LINES ≡ t → cond t (less left (argument_bytes call)) None ≡ Some more → Room count left call more
     by_test false t r = absurd cc
     by_test true t r =
         let l = less_is left (argument_bytes call) more (less left (argument_bytes call)) refl r in
@@ -190,22 +191,22 @@ pub line_added : (lines now more_lines : List Line) (names : List TextSet) (left
 unfolding extended
 line_added lines now more_lines names left more line o k v m e s =
     let t = room_is (length lines) left line.call more o e s in
-    let count : ltb (length lines) most_lines ≡ true = lt-ltb _ _ t.few in
-    let size : leb (script_bytes lines + argument_bytes line.call) most_bytes ≡ true = le-leb _ _ (fits_in most_bytes left (script_bytes lines) (argument_bytes line.call) k.bytes t.fits) in
+    let count : ltb (length lines) MOST_LINES ≡ true = lt-ltb _ _ t.few in
+    let size : leb (script_bytes lines + argument_bytes line.call) MOST_ARGUMENT_BYTES ≡ true = le-leb _ _ (fits_in MOST_ARGUMENT_BYTES left (script_bytes lines) (argument_bytes line.call) k.bytes t.fits) in
     rw (← v, m) (rw (count, size) refl)
 
 pub line_refused : (lines now more_lines : List Line) (names : List TextSet) (left : ℕ) (line : Line) (o : Option ℕ) → Knows lines names left → lines ≡ now → more_lines ≡ lines → o ≡ room_after (length lines) left line.call → o ≡ None → (false, more_lines) ≡ extended now line
 unfolding extended room_after
-line_refused lines now more_lines names left line o k v m e s = rw (← v, m) (by_test (ltb (length lines) most_lines) refl (sym e ∙ s))
+line_refused lines now more_lines names left line o k v m e s = rw (← v, m) (by_test (ltb (length lines) MOST_LINES) refl (sym e ∙ s))
   where
     nothing : Option ℕ
     nothing = None
 
-    by_test : (t : Bool) → ltb (length lines) most_lines ≡ t → cond t (less left (argument_bytes line.call)) None ≡ nothing → (false, lines) ≡ extended lines line
+    by_test : (t : Bool) → ltb (length lines) MOST_LINES ≡ t → cond t (less left (argument_bytes line.call)) None ≡ nothing → (false, lines) ≡ extended lines line
     by_test false t r = rw t refl
     by_test true t r =
         let over : left < argument_bytes line.call = less_fails left (argument_bytes line.call) (less left (argument_bytes line.call)) refl r in
-        let size : leb (script_bytes lines + argument_bytes line.call) most_bytes ≡ false = test_no (script_bytes lines + argument_bytes line.call) most_bytes (leb (script_bytes lines + argument_bytes line.call) most_bytes) refl (is_over most_bytes left (script_bytes lines) (argument_bytes line.call) k.bytes over) in
+        let size : leb (script_bytes lines + argument_bytes line.call) MOST_ARGUMENT_BYTES ≡ false = test_no (script_bytes lines + argument_bytes line.call) MOST_ARGUMENT_BYTES (leb (script_bytes lines + argument_bytes line.call) MOST_ARGUMENT_BYTES) refl (is_over MOST_ARGUMENT_BYTES left (script_bytes lines) (argument_bytes line.call) k.bytes over) in
         rw size (rw and_no refl)
 
 pub knows_more : (lines more_lines : List Line) (line : Line) (old new : List TextSet) (left more : ℕ) (o : Option ℕ) → Knows lines old left → more_lines ≡ lines ++ line ∷ [] → o ≡ room_after (length lines) left line.call → o ≡ Some more
@@ -213,7 +214,7 @@ pub knows_more : (lines more_lines : List Line) (line : Line) (old new : List Te
 knows_more lines more_lines line old new left more o k m e s w names =
     let t = room_is (length lines) left line.call more o e s in
     let sum : script_bytes (lines ++ line ∷ []) ≡ script_bytes lines + (0 + argument_bytes line.call) = sum_by-append (λ (l : Line). argument_bytes l.call) lines (line ∷ []) in
-    let bytes : more + script_bytes (lines ++ line ∷ []) ≡ most_bytes = ap (λ (n : ℕ). more + n) sum ∙ leaves most_bytes left (script_bytes lines) (argument_bytes line.call) more k.bytes t.fits t.rest in
+    let bytes : more + script_bytes (lines ++ line ∷ []) ≡ MOST_ARGUMENT_BYTES = ap (λ (n : ℕ). more + n) sum ∙ leaves MOST_ARGUMENT_BYTES left (script_bytes lines) (argument_bytes line.call) more k.bytes t.fits t.rest in
     rw m (record { workers = w ∙ k.workers; own = own_of_more lines line old new k.own names; bytes = bytes })
 
 -- the names as a slice of the whole writes them back

@@ -9,72 +9,42 @@ use Rattle.xti_script.specs.declared.fields.Key.TheVariants as key
 use Rattle.xti_script.specs.declared.verbs.Verb.{Verb}
 use Rattle.xti_script.specs.declared.verbs.Verb.TheVariants.{Close, Unbind, Bind, SndUData, SndVUData, RcvUData, RcvVUData, RcvUDErr, Look, GetState, Sync}
 
-unfoldable pub verb_word : Verb → List ℕ
-verb_word Close = codes "close"
-verb_word Unbind = codes "unbind"
-verb_word Bind = codes "bind"
-verb_word SndUData = codes "sndudata"
-verb_word SndVUData = codes "sndvudata"
-verb_word RcvUData = codes "rcvudata"
-verb_word RcvVUData = codes "rcvvudata"
-verb_word RcvUDErr = codes "rcvuderr"
-verb_word Look = codes "look"
-verb_word GetState = codes "getstate"
-verb_word Sync = codes "sync"
+-- the form of a call: its word, and the keys of its fields in their order
+pub record Form : Type 0 where
+  pub word : List ℕ
+  pub keys : List Key
 
--- the fields of the call, in their order
+-- the table of calls
+unfoldable pub form_of : Verb → Form
+form_of Close = record { word = codes "close"; keys = [] }
+form_of Unbind = record { word = codes "unbind"; keys = [] }
+form_of Bind = record { word = codes "bind"; keys = key.Addr ∷ key.Qlen ∷ key.Amax ∷ [] }
+form_of SndUData = record { word = codes "sndudata"; keys = key.Addr ∷ key.Opt ∷ key.Data ∷ [] }
+form_of SndVUData = record { word = codes "sndvudata"; keys = key.Addr ∷ key.Opt ∷ key.Parts ∷ [] }
+form_of RcvUData = record { word = codes "rcvudata"; keys = key.Max ∷ key.Amax ∷ key.Omax ∷ [] }
+form_of RcvVUData = record { word = codes "rcvvudata"; keys = key.Sizes ∷ key.Amax ∷ key.Omax ∷ [] }
+form_of RcvUDErr = record { word = codes "rcvuderr"; keys = key.Amax ∷ key.Omax ∷ [] }
+form_of Look = record { word = codes "look"; keys = [] }
+form_of GetState = record { word = codes "getstate"; keys = [] }
+form_of Sync = record { word = codes "sync"; keys = [] }
+
+abbrev pub verb_word : Verb → List ℕ
+verb_word verb = (form_of verb).word
+
 abbrev pub form : Verb → List Key
-form Close = []
-form Unbind = []
-form Bind = key.Addr ∷ key.Qlen ∷ key.Amax ∷ []
-form SndUData = key.Addr ∷ key.Opt ∷ key.Data ∷ []
-form SndVUData = key.Addr ∷ key.Opt ∷ key.Parts ∷ []
-form RcvUData = key.Max ∷ key.Amax ∷ key.Omax ∷ []
-form RcvVUData = key.Sizes ∷ key.Amax ∷ key.Omax ∷ []
-form RcvUDErr = key.Amax ∷ key.Omax ∷ []
-form Look = []
-form GetState = []
-form Sync = []
+form verb = (form_of verb).keys
 
--- the calls from the values of their fields
-abbrev pub alone : NamedCall → List Value → Option NamedCall
-alone c [] = Some c
-alone c (value ∷ values) = None
-
-abbrev pub bind_with : List ℕ → List Value → Option NamedCall
-bind_with fd (Bytes addr ∷ Number qlen ∷ Number amax ∷ []) = Some (call.TBind fd addr qlen amax)
-bind_with fd other = None
-
-abbrev pub send_with : List ℕ → List Value → Option NamedCall
-send_with fd (Bytes addr ∷ Bytes opt ∷ Bytes bytes ∷ []) = Some (call.TSndUData fd addr opt bytes)
-send_with fd other = None
-
-abbrev pub send_parts_with : List ℕ → List Value → Option NamedCall
-send_parts_with fd (Bytes addr ∷ Bytes opt ∷ Parts parts ∷ []) = Some (call.TSndVUData fd addr opt parts)
-send_parts_with fd other = None
-
-abbrev pub receive_with : List ℕ → List Value → Option NamedCall
-receive_with fd (Number max ∷ Number amax ∷ Number omax ∷ []) = Some (call.TRcvUData fd max amax omax)
-receive_with fd other = None
-
-abbrev pub receive_parts_with : List ℕ → List Value → Option NamedCall
-receive_parts_with fd (Sizes sizes ∷ Number amax ∷ Number omax ∷ []) = Some (call.TRcvVUData fd sizes amax omax)
-receive_parts_with fd other = None
-
-abbrev pub receive_error_with : List ℕ → List Value → Option NamedCall
-receive_error_with fd (Number amax ∷ Number omax ∷ []) = Some (call.TRcvUDErr fd amax omax)
-receive_error_with fd other = None
-
--- the call of the endpoint with these values
+-- the call of the endpoint with the values of its fields
 unfoldable pub call_with : Verb → List ℕ → List Value → Option NamedCall
-call_with Close fd values = alone (call.TClose fd) values
-call_with Unbind fd values = alone (call.TUnbind fd) values
-call_with Bind fd values = bind_with fd values
-call_with SndUData fd values = send_with fd values
-call_with SndVUData fd values = send_parts_with fd values
-call_with RcvUData fd values = receive_with fd values
-call_with RcvVUData fd values = receive_parts_with fd values
-call_with RcvUDErr fd values = receive_error_with fd values
-call_with Look fd values = alone (call.TLookAt fd) values
-call_with GetState fd values = alone (call.TGetState fd) values
-call_with Sync fd values = alone (call.TSync fd) values
+call_with Close fd [] = Some (call.TClose fd)
+call_with Unbind fd [] = Some (call.TUnbind fd)
+call_with Bind fd (Bytes addr ∷ Number qlen ∷ Number amax ∷ []) = Some (call.TBind fd addr qlen amax)
+call_with SndUData fd (Bytes addr ∷ Bytes opt ∷ Bytes bytes ∷ []) = Some (call.TSndUData fd addr opt bytes)
+call_with SndVUData fd (Bytes addr ∷ Bytes opt ∷ Parts parts ∷ []) = Some (call.TSndVUData fd addr opt parts)
+call_with RcvUData fd (Number max ∷ Number amax ∷ Number omax ∷ []) = Some (call.TRcvUData fd max amax omax)
+call_with RcvVUData fd (Sizes sizes ∷ Number amax ∷ Number omax ∷ []) = Some (call.TRcvVUData fd sizes amax omax)
+call_with RcvUDErr fd (Number amax ∷ Number omax ∷ []) = Some (call.TRcvUDErr fd amax omax)
+call_with Look fd [] = Some (call.TLookAt fd)
+call_with GetState fd [] = Some (call.TGetState fd)
+call_with Sync fd [] = Some (call.TSync fd)
+call_with verb fd values = None

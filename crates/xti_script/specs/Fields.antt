@@ -1,5 +1,6 @@
 -- The fields of calls: words `key=value` in a fixed order, of which those with a usual value may be left out.
 use Rattle.std.specs.Prelude.{◌≡◌, ℕ, List, [], ◌∷◌, ◌++◌, codes, ◌⊎◌, Option, Some, None}
+use Rattle.xti_base.specs.declared.limits.TheConstants.{MOST_SEND, MOST_ADDRESS, MOST_OPTIONS}
 use Rattle.xti_script.specs.Kinds.{Kind}
 use Rattle.xti_script.specs.Kinds.{Kind as kind}
 use Rattle.xti_script.specs.FieldValue.{Value}
@@ -8,40 +9,32 @@ use Rattle.xti_script.specs.declared.fields.Key.{Key}
 use Rattle.xti_script.specs.declared.fields.Key.TheVariants.{Addr, Opt, Data, Parts, Sizes, Qlen, Max, Amax, Omax}
 use Rattle.xti_script.specs.Values.{value_in}
 
--- the key, with its sign
-unfoldable pub key_word : Key → List ℕ
-key_word Addr = codes "addr="
-key_word Opt = codes "opt="
-key_word Data = codes "data="
-key_word Parts = codes "parts="
-key_word Sizes = codes "sizes="
-key_word Qlen = codes "qlen="
-key_word Max = codes "max="
-key_word Amax = codes "amax="
-key_word Omax = codes "omax="
+-- a field: its key with the sign, the kind of its value, and the value where it is left out; none where it must stand
+pub record Field : Type 0 where
+  pub word : List ℕ
+  pub kind : Kind
+  pub usual : Option Value
+
+-- the table of fields
+unfoldable pub field : Key → Field
+field Addr = record { word = codes "addr="; kind = kind.Bytes; usual = Some (value.Bytes []) }
+field Opt = record { word = codes "opt="; kind = kind.Bytes; usual = Some (value.Bytes []) }
+field Data = record { word = codes "data="; kind = kind.Bytes; usual = None }
+field Parts = record { word = codes "parts="; kind = kind.Parts; usual = None }
+field Sizes = record { word = codes "sizes="; kind = kind.Sizes; usual = None }
+field Qlen = record { word = codes "qlen="; kind = kind.Number; usual = Some (value.Number 0) }
+field Max = record { word = codes "max="; kind = kind.Number; usual = Some (value.Number MOST_SEND) }
+field Amax = record { word = codes "amax="; kind = kind.Number; usual = Some (value.Number MOST_ADDRESS) }
+field Omax = record { word = codes "omax="; kind = kind.Number; usual = Some (value.Number MOST_OPTIONS) }
+
+abbrev pub key_word : Key → List ℕ
+key_word key = (field key).word
 
 abbrev pub kind_of : Key → Kind
-kind_of Addr = kind.Bytes
-kind_of Opt = kind.Bytes
-kind_of Data = kind.Bytes
-kind_of Parts = kind.Parts
-kind_of Sizes = kind.Sizes
-kind_of Qlen = kind.Number
-kind_of Max = kind.Number
-kind_of Amax = kind.Number
-kind_of Omax = kind.Number
+kind_of key = (field key).kind
 
--- the usual value; none where the field must stand
 abbrev pub usual_value : Key → Option Value
-usual_value Addr = Some (value.Bytes [])
-usual_value Opt = Some (value.Bytes [])
-usual_value Data = None
-usual_value Parts = None
-usual_value Sizes = None
-usual_value Qlen = Some (value.Number 0)
-usual_value Max = Some (value.Number 65536)
-usual_value Amax = Some (value.Number 64)
-usual_value Omax = Some (value.Number 256)
+usual_value key = (field key).usual
 
 -- the word is the field with this value
 pub record IsWritten (key : Key) (value : Value) (word : List ℕ) : Type 0 where

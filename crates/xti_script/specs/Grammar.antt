@@ -1,6 +1,7 @@
 -- The form of scripts, as a relation between a script and its text. A line is judged after the earlier lines.
 use Rattle.std.specs.Prelude.{◌≡◌, ℕ, ◌+◌, ◌==◌, ◌≤◌, ◌<◌, Bool, true, false, ◌&&◌, ◌||◌, ◌⊎◌, List, [], ◌∷◌, ◌++◌, length, codes, Some}
 use Rattle.std.specs.List.{list_any}
+use Rattle.xti_base.specs.declared.limits.TheConstants.{LAST_WORKER, MOST_LINES, MOST_ARGUMENT_BYTES}
 use Rattle.xti_base.specs.declared.kinds.Prov.{Prov}
 use Rattle.xti_base.specs.Kinds.{prov_name}
 use Rattle.xti_model.specs.declared.script.NamedCall.{NamedCall}
@@ -17,18 +18,6 @@ use Rattle.xti_script.specs.Texts.{lines_of, words_of, is_name}
 use Rattle.xti_script.specs.Values.{number_in}
 use Rattle.xti_script.specs.Fields.{AreFields}
 use Rattle.xti_script.specs.Calls.{verb_word, form, call_with}
-
--- the most call lines of a script
-abbrev pub most_lines : ℕ
-most_lines = 100000
-
--- the most bytes of all addresses, options and data of a script
-abbrev pub most_bytes : ℕ
-most_bytes = 4194304
-
--- workers are 0 to 32
-abbrev pub last_worker : ℕ
-last_worker = 32
 
 -- whether the line defines the name for the worker: it is the worker's own, or one of worker 0
 abbrev pub defines : ℕ → List ℕ → Line → Bool
@@ -82,10 +71,10 @@ pub record IsLine (earlier : List Line) (line : Line) (text : List ℕ) : Type 0
   pub words : List (List ℕ)
   pub split : words_of text ≡ number ∷ words
   pub worker : number_in number ≡ Some line.worker
-  pub is_worker : line.worker ≤ last_worker
+  pub is_worker : line.worker ≤ LAST_WORKER
   pub call : IsCall earlier line.worker line.call words
-  pub few_lines : length earlier < most_lines
-  pub few_bytes : script_bytes earlier + argument_bytes line.call ≤ most_bytes
+  pub few_lines : length earlier < MOST_LINES
+  pub few_bytes : script_bytes earlier + argument_bytes line.call ≤ MOST_ARGUMENT_BYTES
 
 -- the lines after the first
 abbrev pub AreLines : List Line → List Line → List (List ℕ) → Type 0

@@ -4,7 +4,7 @@ pub mod Kinds
 pub mod FieldValue
 pub mod Values
 pub mod Numbers
-pub mod Listed
+pub mod Unread
 pub mod Fields
 pub mod Calls
 pub mod Grammar

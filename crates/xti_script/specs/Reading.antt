@@ -17,7 +17,8 @@ use Rattle.xti_script.specs.Texts.{words_of, is_name}
 use Rattle.xti_script.specs.Values.{value_in, number_in, onto}
 use Rattle.xti_script.specs.Fields.{key_word, kind_of, usual_value}
 use Rattle.xti_script.specs.Calls.{verb_word, form, call_with}
-use Rattle.xti_script.specs.Grammar.{most_lines, most_bytes, last_worker, is_defined}
+use Rattle.xti_base.specs.declared.limits.TheConstants.{LAST_WORKER, MOST_LINES, MOST_ARGUMENT_BYTES}
+use Rattle.xti_script.specs.Grammar.{is_defined}
 
 -- what slices hold
 abbrev pub views : List (Bor (List ℕ)) → List (List ℕ)
@@ -105,7 +106,7 @@ call_of earlier worker (word ∷ words) =
 
 abbrev pub small : Option ℕ → Option ℕ
 small None = None
-small (Some number) = if nat_le number last_worker then Some number else None
+small (Some number) = if nat_le number LAST_WORKER then Some number else None
 
 abbrev pub worker_of : List ℕ → Option ℕ
 worker_of word = small (number_in word)
@@ -129,11 +130,11 @@ less left n = if nat_le n left then Some (left - n) else None
 
 -- what is left of so many bytes after a call after so many lines
 unfoldable pub room_after : ℕ → ℕ → NamedCall → Option ℕ
-room_after count left call = if nat_lt count most_lines then less left (argument_bytes call) else None
+room_after count left call = if nat_lt count MOST_LINES then less left (argument_bytes call) else None
 
 -- whether the limits allow one more line
 abbrev pub has_room : List Line → Line → Bool
-has_room earlier line = nat_lt (length earlier) most_lines && nat_le (script_bytes earlier + argument_bytes line.call) most_bytes
+has_room earlier line = nat_lt (length earlier) MOST_LINES && nat_le (script_bytes earlier + argument_bytes line.call) MOST_ARGUMENT_BYTES
 
 abbrev pub within : List Line → Option Line → Option Line
 within earlier None = None

@@ -1,9 +1,10 @@
 -- Sets of texts, and lists of them.
-use Rattle.std.specs.Prelude.{ℕ, Bool, false, List, Vec, slice_get, Option, Some, None}
+use Rattle.std.specs.Prelude.{◌≡◌, ℕ, ◌==◌, Bool, false, ◌&&◌, ◌||◌, List, Vec, slice_get, Option, Some, None}
 use Rattle.std.specs.declared.alloc.Global.{Global}
 use Rattle.std.specs.BTreeSet.{BTreeSet, contains_by}
 use Rattle.std.specs.Cmp.Lexicographic.{slice_cmp}
 use Rattle.std.specs.Ordering.{nat_cmp}
+use Rattle.std.specs.Str.{bytes_eq}
 
 -- a set of texts
 abbrev pub TextSet : Type 0
@@ -20,3 +21,11 @@ has_in (Some texts) bytes = has texts bytes
 -- whether the set at this place has the text
 abbrev pub has_at : List TextSet → ℕ → List ℕ → Bool
 has_at sets place bytes = has_in (slice_get sets place) bytes
+
+-- the new set has the texts of the old one and this text
+abbrev pub HasMore : List ℕ → TextSet → TextSet → Type 0
+HasMore text old new = (other : List ℕ) → has new other ≡ (has old other || bytes_eq text other)
+
+-- the set at this place has one more text, and the others are the same
+abbrev pub HasMoreAt : ℕ → List ℕ → List TextSet → List TextSet → Type 0
+HasMoreAt place text old new = (at : ℕ) (other : List ℕ) → has_at new at other ≡ (has_at old at other || ((place == at) && bytes_eq text other))

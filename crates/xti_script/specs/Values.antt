@@ -5,6 +5,7 @@ use Rattle.xti_script.specs.Kinds.{Kind}
 use Rattle.xti_script.specs.Kinds.{Kind as kind}
 use Rattle.xti_script.specs.FieldValue.{Value}
 use Rattle.xti_script.specs.FieldValue.{Value as value}
+use Rattle.xti_script.specs.declared.values.TheConstants.{MOST_PIECES}
 use Rattle.xti_script.specs.Texts.{pieces_of, is_digit, is_plain_text}
 
 -- the number of the digits, after a number
@@ -60,9 +61,9 @@ abbrev pub each_in : {A : Type 0} → (List ℕ → Option A) → List (List ℕ
 each_in in_piece [] = Some []
 each_in in_piece (piece ∷ pieces) = onto (in_piece piece) (each_in in_piece pieces)
 
--- 1 to 32, separated by commas
+-- one or more, separated by commas, within the limit
 unfoldable pub list_in : {A : Type 0} → (List ℕ → Option A) → List ℕ → Option (List A)
-list_in in_piece word = if nat_le (length (pieces_of 44 word)) 32 then each_in in_piece (pieces_of 44 word) else None
+list_in in_piece word = if nat_le (length (pieces_of 44 word)) MOST_PIECES then each_in in_piece (pieces_of 44 word) else None
 
 -- what a text stands for as this kind of value
 abbrev pub value_in : Kind → List ℕ → Option Value

@@ -3,20 +3,20 @@
 ghost use Rattle.std.specs.Prelude.{◌≡◌, ◌≤◌, IfOk, IfSome, Some};
 ghost use Rattle.std.specs.Option.{option_copied};
 ghost use Rattle.xti_script.specs.Texts.{words_of};
-ghost use Rattle.xti_script.specs.Grammar.{last_worker};
+ghost use Rattle.xti_script.specs.Gives.{Adds};
 ghost use Rattle.xti_script.specs.Reading.{mode_of, open_mode, provider_of, open_of, set_mode_of, with_fields, call_of, worker_of, with_call, longer, line_of};
 
 use crate::draft::{Added, Draft};
 use crate::field_calls::read_fields;
+use crate::fields::FieldFail;
 use crate::texts::is_name;
 use crate::values::number_in;
 use crate::verbs::{Verb, verb_of};
 use crate::words::Words;
+use std::alloc::AllocError;
 use xti_base::Prov;
+use xti_base::limits::LAST_WORKER;
 use xti_model::{Line, Name, NamedCall};
-
-/// The greatest number of a worker.
-const LAST_WORKER: u32 = 32;
 
 #[tactic(auto, unfolding(crate::specs::Reading::mode_of))]
 fn mode_of(word: &[u8]) -> Option<bool>
@@ -31,8 +31,8 @@ fn mode_of(word: &[u8]) -> Option<bool>
     }
 }
 
-fn open_mode(words: &mut Words) -> Option<bool>
-    ensures { result ≡ open_mode words.old }
+fn open_mode(mut words: Words) -> Option<bool>
+    ensures { result ≡ open_mode words.entry }
 {
     match words.next() {
         None => Some(false),
@@ -55,9 +55,9 @@ fn provider_of(word: &[u8]) -> Option<Prov>
 }
 
 #[tactic(auto, unfolding(crate::specs::Reading::open_of, crate::specs::Reading::extended))]
-fn read_open(draft: &mut Draft, worker: u32, words: &mut Words) -> Added
-    requires { worker ≤ last_worker }
-    ensures { IfOk result (λ added. (added, draft.new) ≡ with_call draft.old worker (open_of draft.old worker words.old)) }
+fn read_open(draft: &mut Draft, worker: u32, mut words: Words) -> Added
+    requires { worker ≤ LAST_WORKER }
+    ensures { Adds result draft.new (with_call draft.old worker (open_of draft.old worker words.entry)) }
 {
     let (Some(name), Some(prov)) = (words.next(), words.next()) else {
         return Ok(false);
@@ -81,9 +81,9 @@ fn read_open(draft: &mut Draft, worker: u32, words: &mut Words) -> Added
 }
 
 #[tactic(auto, unfolding(crate::specs::Reading::set_mode_of, crate::specs::Reading::extended))]
-fn read_set_mode(draft: &mut Draft, worker: u32, words: &mut Words) -> Added
-    requires { worker ≤ last_worker }
-    ensures { IfOk result (λ added. (added, draft.new) ≡ with_call draft.old worker (set_mode_of draft.old worker words.old)) }
+fn read_set_mode(draft: &mut Draft, worker: u32, mut words: Words) -> Added
+    requires { worker ≤ LAST_WORKER }
+    ensures { Adds result draft.new (with_call draft.old worker (set_mode_of draft.old worker words.entry)) }
 {
     let (Some(fd), Some(mode)) = (words.next(), words.next()) else {
         return Ok(false);
@@ -100,9 +100,9 @@ fn read_set_mode(draft: &mut Draft, worker: u32, words: &mut Words) -> Added
 }
 
 #[tactic(auto, unfolding(crate::specs::Reading::with_fields))]
-fn read_with_fields(draft: &mut Draft, worker: u32, verb: Option<Verb>, words: &mut Words) -> Added
-    requires { worker ≤ last_worker }
-    ensures { IfOk result (λ added. (added, draft.new) ≡ with_call draft.old worker (with_fields draft.old worker verb words.old)) }
+fn read_with_fields(draft: &mut Draft, worker: u32, verb: Option<Verb>, mut words: Words) -> Added
+    requires { worker ≤ LAST_WORKER }
+    ensures { Adds result draft.new (with_call draft.old worker (with_fields draft.old worker verb words.entry)) }
 {
     let (Some(verb), Some(name)) = (verb, words.next()) else {
         return Ok(false);
@@ -111,13 +111,17 @@ fn read_with_fields(draft: &mut Draft, worker: u32, verb: Option<Verb>, words: &
         return Ok(false);
     }
     let fd = Name::copy_of(draft.alloc(), name)?;
-    read_fields(draft, worker, verb, fd, words)
+    match read_fields(draft, worker, verb, fd, words) {
+        Ok(added) => Ok(added),
+        Err(FieldFail::Wrong) => Ok(false),
+        Err(FieldFail::OutOfMemory) => Err(AllocError),
+    }
 }
 
 #[tactic(auto, unfolding(crate::specs::Reading::call_of))]
-fn read_call(draft: &mut Draft, worker: u32, words: &mut Words) -> Added
-    requires { worker ≤ last_worker }
-    ensures { IfOk result (λ added. (added, draft.new) ≡ with_call draft.old worker (call_of draft.old worker words.old)) }
+fn read_call(draft: &mut Draft, worker: u32, mut words: Words) -> Added
+    requires { worker ≤ LAST_WORKER }
+    ensures { Adds result draft.new (with_call draft.old worker (call_of draft.old worker words.entry)) }
 {
     let Some(word) = words.next() else {
         return Ok(false);
@@ -133,7 +137,7 @@ fn read_call(draft: &mut Draft, worker: u32, words: &mut Words) -> Added
 
 fn worker_of(word: &[u8]) -> Option<u32>
     ensures value { result ≡ worker_of word.now }
-    ensures worker { IfSome result (λ worker. worker ≤ last_worker) }
+    ensures worker { IfSome result (λ worker. worker ≤ LAST_WORKER) }
 {
     match number_in(word) {
         Some(number) if number <= LAST_WORKER => Some(number),
@@ -144,14 +148,14 @@ fn worker_of(word: &[u8]) -> Option<u32>
 /// Adds the line that the text gives after the others; false where it gives none.
 #[tactic(auto, unfolding(crate::specs::Reading::any_line_of, crate::specs::Reading::line_of))]
 pub(crate) fn read_line(draft: &mut Draft, text: &[u8]) -> Added
-    ensures { IfOk result (λ added. (added, draft.new) ≡ longer draft.old (line_of draft.old (words_of text.now))) }
+    ensures { Adds result draft.new (longer draft.old (line_of draft.old (words_of text.now))) }
 {
     let mut words = Words::of(text);
     let Some(word) = words.next() else {
         return Ok(false);
     };
     match worker_of(word) {
-        Some(worker) => read_call(draft, worker, &mut words),
+        Some(worker) => read_call(draft, worker, words),
         None => Ok(false),
     }
 }

@@ -1,23 +1,18 @@
 //! The lines that are read so far, and what they say together.
 
-ghost use Rattle.std.specs.Prelude.{◌≡◌, ◌≤◌, ◌<◌, ◌+◌, ◌||◌, ◌++◌, ◌∷◌, [], ℕ, List, length, IfOk, IfSome, IfNone, OnErr};
+ghost use Rattle.std.specs.Prelude.{◌≡◌, ◌≤◌, ◌<◌, ◌+◌, ◌++◌, ◌∷◌, [], length, IfOk, IfSome, IfNone, OnErr};
 ghost use Rattle.std.specs.List.{concat};
 ghost use Rattle.xti_model.specs.Work.{argument_bytes};
-ghost use Rattle.xti_script.specs.Grammar.{last_worker, is_defined};
-ghost use Rattle.xti_script.specs.TextSets.{has_at};
-ghost use Rattle.xti_script.specs.Known.{is_own};
+ghost use Rattle.xti_script.specs.Grammar.{is_defined};
+ghost use Rattle.xti_script.specs.Known.{TakesName};
 ghost use Rattle.xti_script.specs.Reading.{less, room_after, extended};
 
 use crate::names::{TextSet, add_name, empty_sets, is_defined};
 use std::alloc::{AllocError, Global};
 use std::marker::Model;
 use xti_base::Octets;
+use xti_base::limits::{LAST_WORKER, MOST_ARGUMENT_BYTES, MOST_LINES};
 use xti_model::{Line, Lines, NamedCall};
-
-/// The most call lines of a script.
-const MOST_LINES: usize = 100_000;
-/// The most bytes of all addresses, options and data of a script.
-const MOST_BYTES: usize = 4_194_304;
 
 fn less(left: usize, n: usize) -> Option<usize>
     ensures { result ≡ less left n }
@@ -121,7 +116,7 @@ fn admit(
 ) -> Result<Option<usize>, AllocError>
     requires { line.now.worker < length names.old }
     ensures room { IfOk result (λ room. room ≡ room_after count left line.now.call) }
-    ensures some { IfOk result (λ room. IfSome room (λ _. (worker : ℕ) (name : List ℕ) → has_at names.new worker name ≡ (has_at names.old worker name || is_own worker name line.now))) }
+    ensures some { IfOk result (λ room. IfSome room (λ _. TakesName line.now names.old names.new)) }
     ensures none { IfOk result (λ room. IfNone room (names.new ≡ names.old)) }
     ensures err { OnErr result (names.new ≡ names.old) }
 {
@@ -142,7 +137,7 @@ fn add_line(
 ) -> Result<Option<usize>, AllocError>
     requires { line.worker < length names.old }
     ensures room { IfOk result (λ room. room ≡ room_after (length lines.old.items) left line.call) }
-    ensures some { IfOk result (λ room. IfSome room (λ _. (worker : ℕ) (name : List ℕ) → has_at names.new worker name ≡ (has_at names.old worker name || is_own worker name line))) }
+    ensures some { IfOk result (λ room. IfSome room (λ _. TakesName line names.old names.new)) }
     ensures more { IfOk result (λ room. IfSome room (λ _. lines.new.items ≡ lines.old.items ++ line ∷ [])) }
     ensures none { IfOk result (λ room. IfNone room (names.new ≡ names.old)) }
     ensures same { IfOk result (λ room. IfNone room (lines.new.items ≡ lines.old.items)) }
@@ -195,13 +190,13 @@ impl Draft {
         Ok(Draft {
             names: empty_sets(alloc)?,
             lines: Vec::new(alloc),
-            left: MOST_BYTES,
+            left: MOST_ARGUMENT_BYTES,
         })
     }
 
     /// Adds a line; false where a limit is in the way. The lines are as before then, and where memory runs out.
     pub(crate) fn add(&mut self, line: Line) -> Added
-        requires { line.worker ≤ last_worker }
+        requires { line.worker ≤ LAST_WORKER }
         ensures ok { IfOk result (λ added. (added, self.new) ≡ extended self.old line) }
         ensures err { OnErr result (self.new ≡ self.old) }
     {

@@ -1,223 +1,120 @@
 //! Reading the calls of an endpoint from their fields.
 
-ghost use Rattle.std.specs.Prelude.{◌≡◌, ◌≤◌, [], IfOk};
+ghost use Rattle.std.specs.Prelude.{◌≡◌, ◌≤◌, []};
 ghost use Rattle.xti_script.specs.Calls.{form};
-ghost use Rattle.xti_script.specs.Grammar.{last_worker};
 ghost use Rattle.xti_script.specs.Reading.{fields_of, with_values, with_call};
+ghost use Rattle.xti_script.specs.Unread.{unread, alone, AddsUnlessWrong};
 
-use crate::draft::{Added, Draft};
-use crate::fields::{Form, read_bytes, read_number, read_parts, read_sizes};
-use crate::verbs::{Verb, call_alone, form};
+use crate::draft::Draft;
+use crate::fields::{FieldFail, Fields};
+use crate::verbs::{Verb, form};
 use crate::words::Words;
+use xti_base::limits::LAST_WORKER;
 use xti_model::{Line, Name, NamedCall};
 
-/// Adds the bind whose fields are the words; false where they are none.
-#[tactic(auto, unfolding(crate::specs::Reading::extended, crate::specs::Calls::call_with))]
-fn read_bind(draft: &mut Draft, worker: u32, fd: Name, words: &mut Words) -> Added
-    requires { worker ≤ last_worker }
-    ensures { IfOk result (λ added. (added, draft.new) ≡ with_call draft.old worker (with_values Verb.Bind fd (fields_of (form Verb.Bind) words.old))) }
-{
-    let Form::Three(addr, qlen, amax) = form(Verb::Bind) else {
-        unreachable!()
-    };
-    let Some(addr) = read_bytes(draft.alloc(), addr, words)? else {
-        return Ok(false);
-    };
-    let Some(qlen) = read_number(qlen, words) else {
-        return Ok(false);
-    };
-    let Some(amax) = read_number(amax, words) else {
-        return Ok(false);
-    };
-    if !words.is_empty() {
-        return Ok(false);
-    }
-    let call = NamedCall::TBind {
-        fd,
-        addr,
-        qlen,
-        amax,
-    };
-    draft.add(Line { worker, call })
-}
+/// Whether a line was added, or why not.
+type AddedCall = Result<bool, FieldFail>;
 
-/// Adds the send.
-#[tactic(auto, unfolding(crate::specs::Reading::extended, crate::specs::Calls::call_with))]
-fn read_send(draft: &mut Draft, worker: u32, fd: Name, words: &mut Words) -> Added
-    requires { worker ≤ last_worker }
-    ensures { IfOk result (λ added. (added, draft.new) ≡ with_call draft.old worker (with_values Verb.SndUData fd (fields_of (form Verb.SndUData) words.old))) }
-{
-    let Form::Three(addr, opt, bytes) = form(Verb::SndUData) else {
-        unreachable!()
-    };
-    let Some(addr) = read_bytes(draft.alloc(), addr, words)? else {
-        return Ok(false);
-    };
-    let Some(opt) = read_bytes(draft.alloc(), opt, words)? else {
-        return Ok(false);
-    };
-    let Some(bytes) = read_bytes(draft.alloc(), bytes, words)? else {
-        return Ok(false);
-    };
-    if !words.is_empty() {
-        return Ok(false);
-    }
-    let call = NamedCall::TSndUData {
-        fd,
-        addr,
-        opt,
-        bytes,
-    };
-    draft.add(Line { worker, call })
-}
-
-/// Adds the send of parts.
-#[tactic(auto, unfolding(crate::specs::Reading::extended, crate::specs::Calls::call_with))]
-fn read_send_parts(draft: &mut Draft, worker: u32, fd: Name, words: &mut Words) -> Added
-    requires { worker ≤ last_worker }
-    ensures { IfOk result (λ added. (added, draft.new) ≡ with_call draft.old worker (with_values Verb.SndVUData fd (fields_of (form Verb.SndVUData) words.old))) }
-{
-    let Form::Three(addr, opt, parts) = form(Verb::SndVUData) else {
-        unreachable!()
-    };
-    let Some(addr) = read_bytes(draft.alloc(), addr, words)? else {
-        return Ok(false);
-    };
-    let Some(opt) = read_bytes(draft.alloc(), opt, words)? else {
-        return Ok(false);
-    };
-    let Some(parts) = read_parts(draft.alloc(), parts, words)? else {
-        return Ok(false);
-    };
-    if !words.is_empty() {
-        return Ok(false);
-    }
-    let call = NamedCall::TSndVUData {
-        fd,
-        addr,
-        opt,
-        parts,
-    };
-    draft.add(Line { worker, call })
-}
-
-/// Adds the receive.
-#[tactic(auto, unfolding(crate::specs::Reading::extended, crate::specs::Calls::call_with))]
-fn read_receive(draft: &mut Draft, worker: u32, fd: Name, words: &mut Words) -> Added
-    requires { worker ≤ last_worker }
-    ensures { IfOk result (λ added. (added, draft.new) ≡ with_call draft.old worker (with_values Verb.RcvUData fd (fields_of (form Verb.RcvUData) words.old))) }
-{
-    let Form::Three(max, amax, omax) = form(Verb::RcvUData) else {
-        unreachable!()
-    };
-    let Some(max) = read_number(max, words) else {
-        return Ok(false);
-    };
-    let Some(amax) = read_number(amax, words) else {
-        return Ok(false);
-    };
-    let Some(omax) = read_number(omax, words) else {
-        return Ok(false);
-    };
-    if !words.is_empty() {
-        return Ok(false);
-    }
-    let call = NamedCall::TRcvUData {
-        fd,
-        max,
-        amax,
-        omax,
-    };
-    draft.add(Line { worker, call })
-}
-
-/// Adds the receive of parts.
-#[tactic(auto, unfolding(crate::specs::Reading::extended, crate::specs::Calls::call_with))]
-fn read_receive_parts(draft: &mut Draft, worker: u32, fd: Name, words: &mut Words) -> Added
-    requires { worker ≤ last_worker }
-    ensures { IfOk result (λ added. (added, draft.new) ≡ with_call draft.old worker (with_values Verb.RcvVUData fd (fields_of (form Verb.RcvVUData) words.old))) }
-{
-    let Form::Three(sizes, amax, omax) = form(Verb::RcvVUData) else {
-        unreachable!()
-    };
-    let Some(sizes) = read_sizes(draft.alloc(), sizes, words)? else {
-        return Ok(false);
-    };
-    let Some(amax) = read_number(amax, words) else {
-        return Ok(false);
-    };
-    let Some(omax) = read_number(omax, words) else {
-        return Ok(false);
-    };
-    if !words.is_empty() {
-        return Ok(false);
-    }
-    let call = NamedCall::TRcvVUData {
-        fd,
-        sizes,
-        amax,
-        omax,
-    };
-    draft.add(Line { worker, call })
-}
-
-/// Adds the receive of an error.
-#[tactic(auto, unfolding(crate::specs::Reading::extended, crate::specs::Calls::call_with))]
-fn read_receive_error(draft: &mut Draft, worker: u32, fd: Name, words: &mut Words) -> Added
-    requires { worker ≤ last_worker }
-    ensures { IfOk result (λ added. (added, draft.new) ≡ with_call draft.old worker (with_values Verb.RcvUDErr fd (fields_of (form Verb.RcvUDErr) words.old))) }
-{
-    let Form::Two(amax, omax) = form(Verb::RcvUDErr) else {
-        unreachable!()
-    };
-    let Some(amax) = read_number(amax, words) else {
-        return Ok(false);
-    };
-    let Some(omax) = read_number(omax, words) else {
-        return Ok(false);
-    };
-    if !words.is_empty() {
-        return Ok(false);
-    }
-    let call = NamedCall::TRcvUDErr { fd, amax, omax };
-    draft.add(Line { worker, call })
-}
-
-/// Adds the call that has no fields; false where it has some or a word is left.
+/// Adds the call, where no word is left after its fields.
+#[inline(always)]
 #[tactic(auto, unfolding(crate::specs::Reading::extended))]
-fn read_alone(draft: &mut Draft, worker: u32, verb: Verb, fd: Name, words: &Words) -> Added
-    requires { worker ≤ last_worker }
-    ensures { IfOk result (λ added. (added, draft.new) ≡ with_call draft.old worker (with_values verb fd (fields_of [] words.now))) }
+fn add_call(draft: &mut Draft, worker: u32, call: NamedCall, fields: &Fields) -> AddedCall
+    requires worker { worker ≤ LAST_WORKER }
+    requires all { fields.now.keys.now ≡ [] }
+    ensures { AddsUnlessWrong result draft.new (with_call draft.old worker (alone call (unread fields.now))) }
 {
-    if !words.is_empty() {
-        return Ok(false);
+    if !fields.is_empty() {
+        return Err(FieldFail::Wrong);
     }
-    match call_alone(verb, fd) {
-        Some(call) => draft.add(Line { worker, call }),
-        None => Ok(false),
+    Ok(draft.add(Line { worker, call })?)
+}
+
+/// Adds the call of the endpoint with the values of these fields.
+#[tactic(auto, unfolding(crate::specs::Fields::field, crate::specs::Calls::form_of, crate::specs::Calls::call_with))]
+fn read_call(
+    draft: &mut Draft,
+    worker: u32,
+    verb: Verb,
+    fd: Name,
+    fields: &mut Fields,
+) -> AddedCall
+    requires worker { worker ≤ LAST_WORKER }
+    requires keys { fields.old.keys.now ≡ form verb }
+    ensures { AddsUnlessWrong result draft.new (with_call draft.old worker (with_values verb fd (unread fields.old))) }
+{
+    match verb {
+        Verb::Close => add_call(draft, worker, NamedCall::TClose { fd }, fields),
+        Verb::Unbind => add_call(draft, worker, NamedCall::TUnbind { fd }, fields),
+        Verb::Bind => {
+            let call = NamedCall::TBind {
+                fd,
+                addr: fields.bytes()?,
+                qlen: fields.number()?,
+                amax: fields.number()?,
+            };
+            add_call(draft, worker, call, fields)
+        }
+        Verb::SndUData => {
+            let call = NamedCall::TSndUData {
+                fd,
+                addr: fields.bytes()?,
+                opt: fields.bytes()?,
+                bytes: fields.bytes()?,
+            };
+            add_call(draft, worker, call, fields)
+        }
+        Verb::SndVUData => {
+            let call = NamedCall::TSndVUData {
+                fd,
+                addr: fields.bytes()?,
+                opt: fields.bytes()?,
+                parts: fields.parts()?,
+            };
+            add_call(draft, worker, call, fields)
+        }
+        Verb::RcvUData => {
+            let call = NamedCall::TRcvUData {
+                fd,
+                max: fields.number()?,
+                amax: fields.number()?,
+                omax: fields.number()?,
+            };
+            add_call(draft, worker, call, fields)
+        }
+        Verb::RcvVUData => {
+            let call = NamedCall::TRcvVUData {
+                fd,
+                sizes: fields.sizes()?,
+                amax: fields.number()?,
+                omax: fields.number()?,
+            };
+            add_call(draft, worker, call, fields)
+        }
+        Verb::RcvUDErr => {
+            let call = NamedCall::TRcvUDErr {
+                fd,
+                amax: fields.number()?,
+                omax: fields.number()?,
+            };
+            add_call(draft, worker, call, fields)
+        }
+        Verb::Look => add_call(draft, worker, NamedCall::TLookAt { fd }, fields),
+        Verb::GetState => add_call(draft, worker, NamedCall::TGetState { fd }, fields),
+        Verb::Sync => add_call(draft, worker, NamedCall::TSync { fd }, fields),
     }
 }
 
-/// Adds the call of the endpoint whose fields are the words; false where they are not its fields.
+/// Adds the call of the endpoint whose fields the words are.
 pub(crate) fn read_fields(
     draft: &mut Draft,
     worker: u32,
     verb: Verb,
     fd: Name,
-    words: &mut Words,
-) -> Added
-    requires { worker ≤ last_worker }
-    ensures { IfOk result (λ added. (added, draft.new) ≡ with_call draft.old worker (with_values verb fd (fields_of (form verb) words.old))) }
+    words: Words,
+) -> AddedCall
+    requires { worker ≤ LAST_WORKER }
+    ensures { AddsUnlessWrong result draft.new (with_call draft.old worker (with_values verb fd (fields_of (form verb) words.entry))) }
 {
-    match verb {
-        Verb::Bind => read_bind(draft, worker, fd, words),
-        Verb::SndUData => read_send(draft, worker, fd, words),
-        Verb::SndVUData => read_send_parts(draft, worker, fd, words),
-        Verb::RcvUData => read_receive(draft, worker, fd, words),
-        Verb::RcvVUData => read_receive_parts(draft, worker, fd, words),
-        Verb::RcvUDErr => read_receive_error(draft, worker, fd, words),
-        Verb::Close | Verb::Unbind | Verb::Look | Verb::GetState | Verb::Sync => {
-            read_alone(draft, worker, verb, fd, words)
-        }
-    }
+    let mut fields = Fields::new(draft.alloc(), form(verb), words);
+    read_call(draft, worker, verb, fd, &mut fields)
 }

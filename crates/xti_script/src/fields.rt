@@ -1,16 +1,18 @@
 //! The fields of calls: words `key=value` in a fixed order, of which those with a usual value may be left out.
 
-ghost use Rattle.std.specs.Prelude.{◌≡◌, IfOk, option_map};
+ghost use Rattle.std.specs.Prelude.{◌≡◌, ◌<◌, ◌==◌, ◌∷◌, option_map, drop, length};
 ghost use Rattle.std.specs.Option.{option_copied};
-ghost use Rattle.xti_script.specs.Kinds.{Kind as kind};
 ghost use Rattle.xti_script.specs.FieldValue.{Value as value};
-ghost use Rattle.xti_script.specs.Listed.{usual_is};
-ghost use Rattle.xti_script.specs.Fields.{key_word, kind_of, usual_value};
-ghost use Rattle.xti_script.specs.Reading.{behind_key, written_value, field_value, field_rest};
+ghost use Rattle.xti_script.specs.Fields.{key_word, usual_value};
+ghost use Rattle.xti_script.specs.Reading.{behind_key, written_value, field_value, field_rest, fields_of};
+ghost use Rattle.xti_script.specs.Unread.{usual_is, unread, NextIs, Reads};
+ghost use Rattle.xti_script.specs.Kinds.{Kind as kind};
+ghost use Rattle.xti_script.specs.declared.fields.FieldFail.TheVariants.{OutOfMemory};
 
 use crate::values::{bytes_in, number_in, parts_in, sizes_in};
 use crate::words::Words;
 use std::alloc::{AllocError, Global};
+use xti_base::limits::{MOST_ADDRESS, MOST_OPTIONS, MOST_SEND};
 use xti_base::{Octets, Parts, Sizes};
 
 /// The keys of fields.
@@ -36,17 +38,16 @@ pub(crate) enum Key {
     Omax,
 }
 
-/// The keys of a call's fields, in their order.
+/// The value of a field that is left out.
 #[derive(Clone, Copy, Debug, PartialEq, Eq)]
-pub(crate) enum Form {
-    /// No fields.
+enum Usual {
+    /// No bytes.
     Empty,
-    Two(Key, Key),
-    Three(Key, Key, Key),
+    Number(u32),
 }
 
 /// The key as it is written, with its sign.
-#[tactic(auto, unfolding(crate::specs::Fields::key_word))]
+#[tactic(auto, unfolding(crate::specs::Fields::field))]
 fn key_word(key: Key) -> &'static [u8]
     ensures { result.now ≡ key_word key }
 {
@@ -63,15 +64,8 @@ fn key_word(key: Key) -> &'static [u8]
     }
 }
 
-/// The value of a field that is left out.
-#[derive(Clone, Copy, Debug, PartialEq, Eq)]
-enum Usual {
-    /// No bytes.
-    Empty,
-    Number(u32),
-}
-
 /// The value of a field that is left out; `None` where it must stand.
+#[tactic(auto, unfolding(crate::specs::Fields::field))]
 fn usual_value(key: Key) -> Option<Usual>
     ensures { option_map usual_is result ≡ usual_value key }
 {
@@ -79,9 +73,25 @@ fn usual_value(key: Key) -> Option<Usual>
         Key::Addr | Key::Opt => Some(Usual::Empty),
         Key::Data | Key::Parts | Key::Sizes => None,
         Key::Qlen => Some(Usual::Number(0)),
-        Key::Max => Some(Usual::Number(65536)),
-        Key::Amax => Some(Usual::Number(64)),
-        Key::Omax => Some(Usual::Number(256)),
+        Key::Max => Some(Usual::Number(MOST_SEND as u32)),
+        Key::Amax => Some(Usual::Number(MOST_ADDRESS as u32)),
+        Key::Omax => Some(Usual::Number(MOST_OPTIONS as u32)),
+    }
+}
+
+/// Why a field is not read.
+#[derive(Clone, Copy, Debug, PartialEq, Eq)]
+pub(crate) enum FieldFail {
+    /// It is wrong, or missing.
+    Wrong,
+    OutOfMemory,
+}
+
+impl From<AllocError> for FieldFail {
+    ghost from_gives = { λ _ e. e ≡ OutOfMemory };
+
+    fn from(_e: AllocError) -> FieldFail {
+        FieldFail::OutOfMemory
     }
 }
 
@@ -105,68 +115,105 @@ fn field_text<'a>(key: Key, words: &mut Words<'a>) -> Option<&'a [u8]>
     Some(text)
 }
 
-/// The bytes of the field with this key, whose word is taken where it is written.
-pub(crate) fn read_bytes(
+/// The fields of a call that are not read yet.
+#[derive(Drop)]
+pub(crate) struct Fields<'a> {
+    /// Where their values are allocated.
     alloc: Global,
-    key: Key,
-    words: &mut Words,
-) -> Result<Option<Octets>, AllocError>
-    requires { kind_of key ≡ kind.Bytes }
-    ensures value { IfOk result (λ bytes. option_map value.Bytes bytes ≡ field_value key words.old) }
-    ensures rest { words.new ≡ field_rest key words.old }
-{
-    match field_text(key, words) {
-        Some(text) => bytes_in(alloc, text),
-        None => match usual_value(key) {
-            Some(Usual::Empty) => Ok(Some(Octets::new(alloc))),
-            _ => Ok(None),
-        },
-    }
+    /// Their keys.
+    keys: &'static [Key],
+    /// The words that are left for them.
+    words: Words<'a>,
 }
 
-/// The number of the field with this key, whose word is taken where it is written.
-pub(crate) fn read_number(key: Key, words: &mut Words) -> Option<u32>
-    requires { kind_of key ≡ kind.Number }
-    ensures value { option_map value.Number result ≡ field_value key words.old }
-    ensures rest { words.new ≡ field_rest key words.old }
-{
-    match field_text(key, words) {
-        Some(text) => number_in(text),
-        None => match usual_value(key) {
-            Some(Usual::Number(number)) => Some(number),
-            _ => None,
-        },
+impl<'a> Fields<'a> {
+    /// The fields with these keys, which the words are to be.
+    pub(crate) fn new(alloc: Global, keys: &'static [Key], words: Words<'a>) -> Fields<'a>
+        ensures keys { result.keys.now ≡ keys.now }
+        ensures words { result.words ≡ words.entry }
+    {
+        Fields { alloc, keys, words }
     }
-}
 
-/// The parts of the field, whose word is taken where it is written.
-pub(crate) fn read_parts(
-    alloc: Global,
-    key: Key,
-    words: &mut Words,
-) -> Result<Option<Parts>, AllocError>
-    requires { kind_of key ≡ kind.Parts }
-    ensures value { IfOk result (λ parts. option_map value.Parts parts ≡ field_value key words.old) }
-    ensures rest { words.new ≡ field_rest key words.old }
-{
-    match field_text(key, words) {
-        Some(text) => parts_in(alloc, text),
-        None => Ok(None),
+    /// Whether no word is left.
+    pub(crate) fn is_empty(&self) -> bool
+        ensures { result ≡ (length self.now.words == 0) }
+    {
+        self.words.is_empty()
     }
-}
 
-/// The sizes of the field, whose word is taken where it is written.
-pub(crate) fn read_sizes(
-    alloc: Global,
-    key: Key,
-    words: &mut Words,
-) -> Result<Option<Sizes>, AllocError>
-    requires { kind_of key ≡ kind.Sizes }
-    ensures value { IfOk result (λ sizes. option_map value.Sizes sizes ≡ field_value key words.old) }
-    ensures rest { words.new ≡ field_rest key words.old }
-{
-    match field_text(key, words) {
-        Some(text) => sizes_in(alloc, text),
-        None => Ok(None),
+    /// Takes the next key, and the word with it where the field is written: what is after the key, or `None`.
+    #[inline(always)]
+    fn next(&mut self) -> (Key, Option<&'a [u8]>)
+        requires { 0 < length self.old.keys.now }
+        ensures keys { self.old.keys.now ≡ result.0 ∷ self.new.keys.now }
+        ensures text { written_value result.0 (option_copied result.1) ≡ field_value result.0 self.old.words }
+        ensures rest { self.new.words ≡ field_rest result.0 self.old.words }
+    {
+        let key = self.keys[0];
+        self.keys = &self.keys[1..];
+        (key, field_text(key, &mut self.words))
+    }
+
+    /// The bytes of the next field.
+    #[inline(always)]
+    #[tactic(auto, unfolding(crate::specs::Fields::field))]
+    pub(crate) fn bytes(&mut self) -> Result<Octets, FieldFail>
+        requires { NextIs kind.Bytes self.old.keys.now }
+        ensures keys { self.new.keys.now ≡ drop 1 self.old.keys.now }
+        ensures value { Reads value.Bytes (unread self.old) (unread self.new) result }
+    {
+        let (key, text) = self.next();
+        match text {
+            Some(text) => bytes_in(self.alloc, text)?.ok_or(FieldFail::Wrong),
+            None => match usual_value(key) {
+                Some(Usual::Empty) => Ok(Octets::new(self.alloc)),
+                _ => Err(FieldFail::Wrong),
+            },
+        }
+    }
+
+    /// The number of the next field.
+    #[inline(always)]
+    #[tactic(auto, unfolding(crate::specs::Fields::field))]
+    pub(crate) fn number(&mut self) -> Result<u32, FieldFail>
+        requires { NextIs kind.Number self.old.keys.now }
+        ensures keys { self.new.keys.now ≡ drop 1 self.old.keys.now }
+        ensures value { Reads value.Number (unread self.old) (unread self.new) result }
+    {
+        let (key, text) = self.next();
+        match text {
+            Some(text) => number_in(text).ok_or(FieldFail::Wrong),
+            None => match usual_value(key) {
+                Some(Usual::Number(number)) => Ok(number),
+                _ => Err(FieldFail::Wrong),
+            },
+        }
+    }
+
+    /// The parts of the next field, which has no usual value.
+    #[tactic(auto, unfolding(crate::specs::Fields::field))]
+    pub(crate) fn parts(&mut self) -> Result<Parts, FieldFail>
+        requires { NextIs kind.Parts self.old.keys.now }
+        ensures keys { self.new.keys.now ≡ drop 1 self.old.keys.now }
+        ensures value { Reads value.Parts (unread self.old) (unread self.new) result }
+    {
+        match self.next() {
+            (_, Some(text)) => parts_in(self.alloc, text)?.ok_or(FieldFail::Wrong),
+            (_, None) => Err(FieldFail::Wrong),
+        }
+    }
+
+    /// The sizes of the next field, which has no usual value.
+    #[tactic(auto, unfolding(crate::specs::Fields::field))]
+    pub(crate) fn sizes(&mut self) -> Result<Sizes, FieldFail>
+        requires { NextIs kind.Sizes self.old.keys.now }
+        ensures keys { self.new.keys.now ≡ drop 1 self.old.keys.now }
+        ensures value { Reads value.Sizes (unread self.old) (unread self.new) result }
+    {
+        match self.next() {
+            (_, Some(text)) => sizes_in(self.alloc, text)?.ok_or(FieldFail::Wrong),
+            (_, None) => Err(FieldFail::Wrong),
+        }
     }
 }

@@ -2,18 +2,24 @@
 
 ghost use Rattle.std.specs.Prelude.{◌≡◌, ◌≤◌, ◌+◌, ℕ, true, List, nat_le, length};
 ghost use Rattle.std.specs.List.{list_all};
+ghost use Rattle.xti_base.specs.declared.limits.TheConstants.{LAST_WORKER};
 ghost use Rattle.xti_model.specs.Built.{is_built_named};
 ghost use Rattle.xti_model.specs.Profile.{usual};
 ghost use Rattle.xti_model.specs.Robin.{most_steps};
 ghost use Rattle.xti_model.specs.SentBytes.{AllHaveByteArguments, LinesSendBytes};
 ghost use Rattle.xti_model.specs.Work.{script_bytes};
 ghost use Rattle.xti_model.specs.declared.script.Script.{Script};
-ghost use Rattle.xti_script.specs.Grammar.{last_worker, IsScript, HasText};
+ghost use Rattle.xti_script.specs.Grammar.{IsScript, HasText};
 ghost use Rattle.xti_script.specs.Refused.{IsRefusedAt};
 
 /// A text is a script, or is refused at a line, and never both.
 pub fn never_both()
     ensures { (text : List ℕ) (s : Script) (n : ℕ) → IsScript s text → IsRefusedAt text n → ⊥ }
+{}
+
+/// A text is that of one script.
+pub fn one_script()
+    ensures { (text : List ℕ) (s t : Script) → IsScript s text → IsScript t text → s ≡ t }
 {}
 
 /// Each call of a script that has a text is one that is built, and the providers have their usual values.
@@ -24,7 +30,7 @@ pub fn scripts_are_built()
 
 /// Each worker of a script that has a text is one of 0 to 32.
 pub fn scripts_have_workers()
-    ensures { (s : Script) → HasText s → list_all (λ line. nat_le line.worker last_worker) s.lines ≡ true }
+    ensures { (s : Script) → HasText s → list_all (λ line. nat_le line.worker LAST_WORKER) s.lines ≡ true }
 {}
 
 /// A script that has a text has no more lines and bytes of arguments than the bound on steps.

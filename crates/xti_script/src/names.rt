@@ -1,22 +1,19 @@
 //! The names that each worker's lines define.
 
-ghost use Rattle.std.specs.Prelude.{◌≡◌, ◌<◌, ◌||◌, ◌&&◌, ◌==◌, ℕ, false, List, length, IfOk, OnOk, OnErr};
-ghost use Rattle.std.specs.Str.{bytes_eq};
-ghost use Rattle.xti_script.specs.TextSets.{has, has_at};
-ghost use Rattle.xti_script.specs.Known.{is_own};
+ghost use Rattle.std.specs.Prelude.{◌≡◌, ◌<◌, ◌||◌, ℕ, false, List, length, IfOk, OnOk, OnErr};
+ghost use Rattle.xti_script.specs.TextSets.{has_at, HasMore, HasMoreAt};
+ghost use Rattle.xti_script.specs.Known.{TakesName};
 
 use std::alloc::{AllocError, Global};
 use std::collections::BTreeSet;
+use xti_base::limits::WORKERS;
 use xti_model::{Line, NamedCall};
-
-/// How many workers there are.
-const WORKERS: usize = 33;
 
 /// A set of names.
 pub(crate) type TextSet = BTreeSet<Vec<u8>>;
 
 fn add_text(alloc: Global, texts: &mut TextSet, text: &[u8]) -> Result<(), AllocError>
-    ensures ok { OnOk result ((other : List ℕ) → has texts.new other ≡ (has texts.old other || bytes_eq text.now other)) }
+    ensures ok { OnOk result (HasMore text.now texts.old texts.new) }
     ensures err { OnErr result (texts.new ≡ texts.old) }
 {
     texts.insert(Vec::from_slice(alloc, text)?)?;
@@ -41,7 +38,7 @@ pub(crate) fn is_defined(sets: &[TextSet], worker: u32, name: &[u8]) -> bool
 
 fn add_at(alloc: Global, sets: &mut [TextSet], place: usize, text: &[u8]) -> Result<(), AllocError>
     requires { place < length sets.old }
-    ensures ok { OnOk result ((at : ℕ) (other : List ℕ) → has_at sets.new at other ≡ (has_at sets.old at other || ((place == at) && bytes_eq text.now other))) }
+    ensures ok { OnOk result (HasMoreAt place text.now sets.old sets.new) }
     ensures err { OnErr result (sets.new ≡ sets.old) }
 {
     add_text(alloc, &mut sets[place], text)
@@ -49,7 +46,7 @@ fn add_at(alloc: Global, sets: &mut [TextSet], place: usize, text: &[u8]) -> Res
 
 /// A set without names for each worker.
 pub(crate) fn empty_sets(alloc: Global) -> Result<Vec<TextSet>, AllocError>
-    ensures workers { IfOk result (λ sets. length sets.items ≡ 33) }
+    ensures workers { IfOk result (λ sets. length sets.items ≡ WORKERS) }
     ensures empty { IfOk result (λ sets. (at : ℕ) (other : List ℕ) → has_at sets.items at other ≡ false) }
 {
     let mut sets = Vec::with_capacity(alloc, WORKERS)?;
@@ -62,7 +59,7 @@ pub(crate) fn empty_sets(alloc: Global) -> Result<Vec<TextSet>, AllocError>
 /// Adds the name that the line defines; where memory runs out the names are as before.
 pub(crate) fn add_name(alloc: Global, sets: &mut [TextSet], line: &Line) -> Result<(), AllocError>
     requires { line.now.worker < length sets.old }
-    ensures ok { OnOk result ((worker : ℕ) (name : List ℕ) → has_at sets.new worker name ≡ (has_at sets.old worker name || is_own worker name line.now)) }
+    ensures ok { OnOk result (TakesName line.now sets.old sets.new) }
     ensures err { OnErr result (sets.new ≡ sets.old) }
 {
     match &line.call {

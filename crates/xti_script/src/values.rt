@@ -11,7 +11,7 @@ use std::alloc::{AllocError, Global};
 use xti_base::{Octets, Parts, Sizes};
 
 /// The most parts or sizes of a word.
-const MOST_PIECES: usize = 32;
+pub const MOST_PIECES: usize = 32;
 
 fn with_digit(number: u32, c: u8) -> Option<u32>
     ensures { result ≡ with_digit number c }

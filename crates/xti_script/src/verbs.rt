@@ -1,12 +1,10 @@
 //! The calls of one endpoint: their words and their fields.
 
-ghost use Rattle.std.specs.Prelude.{◌≡◌, []};
-ghost use Rattle.xti_script.specs.Calls.{form, call_with};
+ghost use Rattle.std.specs.Prelude.{◌≡◌};
+ghost use Rattle.xti_script.specs.Calls.{form};
 ghost use Rattle.xti_script.specs.Reading.{verb_of};
-ghost use Rattle.xti_script.specs.Listed.{keys_of};
 
-use crate::fields::{Form, Key};
-use xti_model::{Name, NamedCall};
+use crate::fields::Key;
 
 /// The calls of one endpoint that have fields alone.
 #[derive(Clone, Copy, Debug, PartialEq, Eq)]
@@ -25,7 +23,7 @@ pub(crate) enum Verb {
 }
 
 /// What a word calls.
-#[tactic(auto, unfolding(crate::specs::Reading::verb_of, crate::specs::Calls::verb_word))]
+#[tactic(auto, unfolding(crate::specs::Reading::verb_of, crate::specs::Calls::form_of))]
 pub(crate) fn verb_of(word: &[u8]) -> Option<Verb>
     ensures { result ≡ verb_of word.now }
 {
@@ -56,32 +54,18 @@ pub(crate) fn verb_of(word: &[u8]) -> Option<Verb>
     }
 }
 
-/// The fields of the call, in their order.
-pub(crate) fn form(verb: Verb) -> Form
-    ensures { keys_of result ≡ form verb }
+/// The keys of the call's fields, in their order.
+#[tactic(auto, unfolding(crate::specs::Calls::form_of))]
+pub(crate) fn form(verb: Verb) -> &'static [Key]
+    ensures { result.now ≡ form verb }
 {
     match verb {
-        Verb::Close | Verb::Unbind | Verb::Look | Verb::GetState | Verb::Sync => Form::Empty,
-        Verb::Bind => Form::Three(Key::Addr, Key::Qlen, Key::Amax),
-        Verb::SndUData => Form::Three(Key::Addr, Key::Opt, Key::Data),
-        Verb::SndVUData => Form::Three(Key::Addr, Key::Opt, Key::Parts),
-        Verb::RcvUData => Form::Three(Key::Max, Key::Amax, Key::Omax),
-        Verb::RcvVUData => Form::Three(Key::Sizes, Key::Amax, Key::Omax),
-        Verb::RcvUDErr => Form::Two(Key::Amax, Key::Omax),
-    }
-}
-
-/// The call without fields; `None` where the call has fields.
-#[tactic(auto, unfolding(crate::specs::Calls::call_with))]
-pub(crate) fn call_alone(verb: Verb, fd: Name) -> Option<NamedCall>
-    ensures { result ≡ call_with verb fd [] }
-{
-    match verb {
-        Verb::Close => Some(NamedCall::TClose { fd }),
-        Verb::Unbind => Some(NamedCall::TUnbind { fd }),
-        Verb::Look => Some(NamedCall::TLookAt { fd }),
-        Verb::GetState => Some(NamedCall::TGetState { fd }),
-        Verb::Sync => Some(NamedCall::TSync { fd }),
-        _ => None,
+        Verb::Close | Verb::Unbind | Verb::Look | Verb::GetState | Verb::Sync => &[],
+        Verb::Bind => &[Key::Addr, Key::Qlen, Key::Amax],
+        Verb::SndUData => &[Key::Addr, Key::Opt, Key::Data],
+        Verb::SndVUData => &[Key::Addr, Key::Opt, Key::Parts],
+        Verb::RcvUData => &[Key::Max, Key::Amax, Key::Omax],
+        Verb::RcvVUData => &[Key::Sizes, Key::Amax, Key::Omax],
+        Verb::RcvUDErr => &[Key::Amax, Key::Omax],
     }
 }
