@@ -1,5 +1,5 @@
 -- Entries of addresses, and the links between them.
-use Rattle.std.specs.Prelude.{◌≡◌, ◌≢◌, ◌<◌, ◌==◌, ℕ, Bool, true, false, List, Contains, [], Option, Some, None, length, map, slice_index_or}
+use Rattle.std.specs.Prelude.{◌≡◌, ◌≢◌, ◌<◌, ◌==◌, ℕ, Bool, true, false, List, Contains, filter, not, [], Option, Some, None, length, map, slice_index_or}
 use Rattle.slab.specs.Slab.{get, ContainsKey}
 use Rattle.xti_base.specs.declared.kinds.Prov.TheVariants.{Other}
 use Rattle.xti_model.specs.World.{Binding}
@@ -63,6 +63,10 @@ has_descriptor fd (Some e) = e.binding.fd == fd
 -- whether the entry under a key is the descriptor's
 abbrev pub is_of : Addresses → ℕ → ℕ → Bool
 is_of a fd key = has_descriptor fd (get a.entries key)
+
+-- the keys of the order whose entries are not the descriptor's
+abbrev pub keys_without : Addresses → ℕ → List ℕ
+keys_without a fd = filter (λ key. not (is_of a fd key)) a.order.items
 
 -- a key of the order, under which the entry is the descriptor's
 pub record IsKeyOf (a : Addresses) (fd key : ℕ) : Type 0 where

@@ -3,12 +3,12 @@ use Rattle.std.specs.Prelude.{◌+◌, ◌-◌, ◌*◌, ◌%◌, ◌^◌, ℕ, 
 use Rattle.xti_base.specs.Kinds.{prov_number}
 use Rattle.xti_base.specs.declared.kinds.Prov.{Prov}
 use Rattle.xti_model.specs.World.{Binding}
-use Rattle.xti_registry.specs.declared.binding.TheConstants.{CHAINS, MIXED}
+use Rattle.xti_registry.specs.declared.binding.TheConstants.{CHAINS, FACTOR, MIXED}
 
 -- a word with further bytes mixed in
 abbrev pub mixed : ℕ → List ℕ → ℕ
 mixed word [] = word
-mixed word (b ∷ bs) = mixed (((word * 31) % 2 ^ 32 + b) % 2 ^ 32) bs
+mixed word (b ∷ bs) = mixed (((word * FACTOR) % 2 ^ 32 + b) % 2 ^ 32) bs
 
 -- the word of a provider's address: of the last bytes, in which addresses differ mostly
 abbrev pub word_of : Prov → List ℕ → ℕ

@@ -2,10 +2,10 @@
 
 ghost use Rattle.std.specs.Prelude.{◌≡◌, ◌≢◌, ◌≤◌, ◌<◌, ◌+◌, ◌++◌, ◌∷◌, [], ℕ, not, ◌==◌, Some, None, if◌then◌else◌, length, map, filter, replicate, position, vec_capacity, IfOk, OnOk, IfSome, IfNone};
 ghost use Rattle.slab.specs.Slab.{get, ContainsKey, slab_len};
-ghost use Rattle.xti_model.specs.Switch.{less, least};
+ghost use Rattle.xti_model.specs.Switch.{less};
 ghost use Rattle.xti_registry.specs.Chains.{IsChained, HasRoom};
-ghost use Rattle.xti_registry.specs.Known.{is_asked};
-ghost use Rattle.xti_registry.specs.Links.{IsLink, IsRelinked, IsLedBy, binding_at, IsKeyOf, bindings_of, is_of};
+ghost use Rattle.xti_registry.specs.Known.{bound_at, is_asked, switch_with};
+ghost use Rattle.xti_registry.specs.Links.{IsLink, IsRelinked, IsLedBy, binding_at, IsKeyOf, bindings_of, is_of, keys_without};
 ghost use Rattle.xti_registry.specs.Word.{word_of};
 
 use crate::binding::{Binding, CHAINS, chain_of, word_of};
@@ -87,7 +87,7 @@ impl Addresses {
     /// The least descriptor that is bound to the address, or that listens there.
     pub(crate) fn least_at(&self, prov: Prov, address: &[u8], listening: bool) -> Option<u32>
         requires { IsChained self.now }
-        ensures { result ≡ least (map (λ b. b.fd) (filter (is_asked prov address.now listening) (bindings_of self.now))) }
+        ensures { result ≡ bound_at (switch_with (bindings_of self.now)) prov address.now listening }
     {
         let word = word_of(prov, address);
         let mut least = None;
@@ -200,7 +200,7 @@ impl Addresses {
     /// The first key of the descriptor.
     fn key_of(&self, fd: Fd) -> Option<usize>
         ensures found { IfSome result (λ key. IsKeyOf self.now fd.0 key) }
-        ensures none { IfNone result (filter (λ key. not (is_of self.now fd.0 key)) self.now.order.items ≡ self.now.order.items) }
+        ensures none { IfNone result (keys_without self.now fd.0 ≡ self.now.order.items) }
     {
         let place = self.place_of(fd)?;
         Some(self.order[place])

@@ -13,6 +13,9 @@ pub(crate) const CHAINS: usize = 64;
 /// How many bytes of an address its word is made of.
 const MIXED: usize = 8;
 
+/// What a word is multiplied by before a byte is added, so that numbers of two digits fall apart.
+const FACTOR: u32 = 9;
+
 /// An address that an endpoint is bound to, with the address's word.
 #[derive(Drop)]
 pub(crate) struct Binding {
@@ -42,7 +45,7 @@ pub(crate) fn word_of(prov: Prov, address: &[u8]) -> u32
     let mut word = prov as u32;
     let end = &address[address.len().saturating_sub(MIXED)..];
     for byte in end {
-        word = word.wrapping_mul(31).wrapping_add(*byte as u32);
+        word = word.wrapping_mul(FACTOR).wrapping_add(*byte as u32);
     }
     word
 }

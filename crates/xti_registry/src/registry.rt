@@ -1,11 +1,12 @@
 //! The switch's table.
 
-ghost use Rattle.std.specs.Prelude.{◌≡◌, ◌≤◌, ◌<◌, ◌+◌, true, false, IfOk, OnOk, OnErr, IfSome, IsOk, length, max, option_map, position};
-ghost use Rattle.xti_model.specs.Switch.{free_address, free_place, give_address, give_up_address, is_free, mark_closed, mark_open, numbered_address, place_at};
+ghost use Rattle.std.specs.Prelude.{◌≡◌, ◌≤◌, ◌<◌, ◌+◌, [], true, false, IfOk, OnOk, OnErr, IfSome, IsOk, length, max, option_map, position};
+ghost use Rattle.xti_model.specs.Switch.{chosen, free_place, give_address, give_up_address, is_free, mark_closed, mark_open, numbered_address, place_at};
 ghost use Rattle.xti_model.specs.World.{descriptor, opening_switch, places};
 ghost use Rattle.xti_registry.specs.Known.{bound_at, switch_with};
 ghost use Rattle.xti_registry.specs.Chains.{IsChained};
 ghost use Rattle.xti_registry.specs.Links.{bindings_of};
+ghost use Rattle.xti_registry.specs.declared.registry.TheConstants.{LONGEST};
 
 use crate::addresses::Addresses;
 use crate::binding::Binding;
@@ -73,7 +74,7 @@ fn numbered_address(n: usize) -> ArrayVec<u8, LONGEST>
 /// The first number from 0 on whose address no endpoint of the provider is bound to.
 fn free_number(addresses: &Addresses, prov: Prov) -> usize
     requires { IsChained addresses.now }
-    ensures { free_address (switch_with (bindings_of addresses.now)) prov 0 (length (bindings_of addresses.now)) ≡ numbered_address result }
+    ensures { chosen (switch_with (bindings_of addresses.now)) prov [] ≡ numbered_address result }
 {
     for n in 0..addresses.len() {
         let address = numbered_address(n);
@@ -117,9 +118,9 @@ impl Registry {
 
     /// The first address `#n` that no endpoint of the provider is bound to. Only the address itself takes memory.
     pub fn free_address(&self, alloc: Global, prov: Prov) -> Result<Octets, AllocError>
-        ensures address { IfOk result (λ address. address ≡ free_address self.now.switch prov 0 (length self.now.switch.bindings)) }
-        ensures short { IfOk result (λ address. length address ≤ 21) }
-        ensures sure { length (free_address self.now.switch prov 0 (length self.now.switch.bindings)) ≤ 16 → IsOk result }
+        ensures address { IfOk result (λ address. address ≡ chosen self.now.switch prov []) }
+        ensures short { IfOk result (λ address. length address ≤ LONGEST) }
+        ensures sure { length (chosen self.now.switch prov []) ≤ 16 → IsOk result }
     {
         let n = free_number(&self.addresses, prov);
         Octets::copy_of(alloc, numbered_address(n).as_slice())
