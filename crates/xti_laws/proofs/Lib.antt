@@ -1,7 +1,7 @@
 pub mod Only
 pub mod Local
 pub mod Others
-mod Touched
+pub mod Touched
 mod ChangeKinds
 mod KeptCells
 pub mod ChangedEndpoints
