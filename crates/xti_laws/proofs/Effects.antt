@@ -13,8 +13,8 @@ use Rattle.xti_model.specs.Step.{step_of, step_by, made}
 use Rattle.xti_model.specs.History.{left_by}
 use Rattle.xti_model.specs.Calls.Close as Close
 use Rattle.xti_laws.specs.States.{ocnt_of}
-use Rattle.xti_laws.proofs.Steady.{Standing, stands, standing, Steady, Sets, names-steady, taken_back-steady, given_up-steady}
-use Rattle.xti_laws.proofs.View.{endpoint-same, endpoint-other, closed-same, closed-other, switch-other, changed-append}
+use Rattle.xti_laws.proofs.SteadyUpdates.{Standing, stands, standing, Steady, Sets, names-steady, taken_back-steady, given_up-steady}
+use Rattle.xti_laws.proofs.ChangedEndpoints.{endpoint-same, endpoint-other, closed-same, closed-other, switch-other, changed-append}
 
 abbrev pub standing_in : Providers → World → ℕ → Option Standing
 standing_in p w x = option_map standing (endpoint p w x)

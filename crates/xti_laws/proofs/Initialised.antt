@@ -14,8 +14,8 @@ use Rattle.xti_model.specs.History.{after}
 use Rattle.xti_laws.specs.Laws.{AllCells, Keeps}
 use Rattle.xti_laws.specs.States.{is_initialised, is_initialised_cell}
 use Rattle.xti_laws.specs.Updates.{Update, updates, updates_peer, opens, closes, switches, binds, unbinds, is_asked, is_asking, is_turned_away, confirms, listens, loses_indication, binds_like, responds, is_accepted, marks_flow, sends, gets_symbols, reads, breaks, takes_back, is_given_up, is_rejected, idles, reads_disconnect, is_released, releases, reads_release, marks_datagram, gets_datagram, gets_error, reads_datagram, drops_datagram, reads_error, is_shown, changes_mode, changes_settings}
-use Rattle.xti_laws.proofs.Kept.{after_from-kept}
-use Rattle.xti_laws.proofs.Steady.{after_sndrel, after_rcvrel, after_rcvdis, after_last, mark_flow-steady, sent-steady, symbols-steady, received-steady, taken_back-steady, given_up-steady, bound_like-steady, datagram-steady, shown-steady, send_release-sets, receive_release-sets, disconnect-state}
+use Rattle.xti_laws.proofs.KeptCells.{after_from-kept}
+use Rattle.xti_laws.proofs.SteadyUpdates.{after_sndrel, after_rcvrel, after_rcvdis, after_last, mark_flow-steady, sent-steady, symbols-steady, received-steady, taken_back-steady, given_up-steady, bound_like-steady, datagram-steady, shown-steady, send_release-sets, receive_release-sets, disconnect-state}
 
 abbrev Begun : State → Type 0
 Begun s = not (same_state s T_UNINIT) ≡ true

@@ -10,7 +10,7 @@ use Rattle.xti_model.specs.World.{World, Cell, Switch, endpoint_cell, switch_cel
 use Rattle.xti_model.specs.History.{after}
 use Rattle.xti_laws.specs.Laws.{AllCells, Keeps, KnowsNoMore}
 use Rattle.xti_laws.specs.Updates.{SwitchUpdate, updates, updates_peer, opens, closes, switches, gives_address, gives_up_address, marks_open, forgets}
-use Rattle.xti_laws.proofs.Kept.{after_from-kept}
+use Rattle.xti_laws.proofs.KeptCells.{after_from-kept}
 
 abbrev Few : Cell → Type 0
 Few cell = nat_le (length (switch_in cell).places) 64 ≡ true

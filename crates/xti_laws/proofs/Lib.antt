@@ -1,25 +1,25 @@
 pub mod Only
 pub mod Local
 pub mod Others
-mod Touched
-mod Changes
-mod Kept
-pub mod View
-mod Steady
+pub mod Touched
+mod ChangeKinds
+mod KeptCells
+pub mod ChangedEndpoints
+mod SteadyUpdates
 pub mod Effects
 mod TableRows
-pub mod Rows
-mod Taken
+pub mod ClearedRows
+mod FollowsTable
 pub mod Opening
 mod StatesOfConnections
-mod Leaving
+mod LeavingPlans
 mod OtherStates
 pub mod TableWalk
 mod Initialised
 pub mod TouchedAgain
 pub mod TouchedCells
 mod KnownPlaces
-mod Blocking
-mod Waiting
-mod Arguments
+mod BlockingRows
+mod WaitingForWants
+mod GoodArguments
 mod histories

@@ -19,8 +19,8 @@ use Rattle.xti_model.specs.Sound.{ThereAgrees, CellAgrees}
 use Rattle.xti_model.specs.StateTable.{by_open}
 use Rattle.xti_model.specs.Calls.Open as Open
 use Rattle.xti_laws.specs.States.{told, next, OpensWhereItAgrees}
-use Rattle.xti_laws.proofs.Taken.{FollowsIf}
-use Rattle.xti_laws.proofs.View.{cell_at-same, cell_at-other, recell, switch-other}
+use Rattle.xti_laws.proofs.FollowsTable.{FollowsIf}
+use Rattle.xti_laws.proofs.ChangedEndpoints.{cell_at-same, cell_at-other, recell, switch-other}
 
 -- where no row of an open refuses, a place opens
 open-some : (b : Bool) (o : Option ℕ) → has_effect (first (refuses (not b) TBADNAME ∷ refuses (is_none o) TSYSERR ∷ [])) ≡ true → if_provider b o ≡ None → ⊥

@@ -28,7 +28,7 @@ use Rattle.xti_model.specs.Calls.Show as Show
 use Rattle.xti_laws.specs.States.{state_at, ocnt_of, is_responding, KeepsEveryState, KeepsOtherStates}
 use Rattle.xti_laws.specs.Counts.{ocnt_at, KeepsEveryCount, KeepsOtherCounts}
 use Rattle.xti_laws.proofs.Effects.{AllLeave, elsewhere, steady, in_switch, linked-leave, append-leave, step-any, step-refused}
-use Rattle.xti_laws.proofs.Leaving.{leaves-state, leaves-count, PlanLeaves, both, one, on_open-leave, close-leave, request-leave, accept-leave, snddis-leave, datagram-leave, send-leave}
+use Rattle.xti_laws.proofs.LeavingPlans.{leaves-state, leaves-count, PlanLeaves, both, one, on_open-leave, close-leave, request-leave, accept-leave, snddis-leave, datagram-leave, send-leave}
 use Rattle.xti_laws.proofs.Opening.{open-others}
 use Rattle.xti_laws.proofs.StatesOfConnections.{passed-count}
 use Rattle.xti_laws.proofs.TableWalk.{told-fd}

@@ -17,11 +17,11 @@ use Rattle.xti_model.specs.Calls.Disconnect as Disconnect
 use Rattle.xti_model.specs.Calls.Release as Release
 use Rattle.xti_laws.specs.States.{state_at, ocnt_of}
 use Rattle.xti_laws.specs.Counts.{OldestIsOutstanding}
-use Rattle.xti_laws.proofs.Steady.{Standing, stands, standing, moved, found-some, found-again, length-without, disconnect-count, bound_like-steady, after_sndrel, after_rcvrel, send_release-sets, receive_release-sets, disconnect-state}
+use Rattle.xti_laws.proofs.SteadyUpdates.{Standing, stands, standing, moved, found-some, found-again, length-without, disconnect-count, bound_like-steady, after_sndrel, after_rcvrel, send_release-sets, receive_release-sets, disconnect-state}
 use Rattle.xti_laws.proofs.Effects.{standing_in, closed, told-state, told-count, AllLeave, elsewhere, steady, in_switch, append-leave, leaves, puts, puts-first, sets-after, linked-leave, break-leave}
 use Rattle.xti_laws.proofs.TableRows.{connect-row, confirm-row, listen-row, passed-row, snddis-row, rcvdis-row, sndrel-row, rcvrel-row, reject-row, accept_there-row, accept_here-row}
-use Rattle.xti_laws.proofs.Taken.{Taken, TakenIf, own, leads_to}
-use Rattle.xti_laws.proofs.Rows.{Cleared, un-not}
+use Rattle.xti_laws.proofs.FollowsTable.{Taken, TakenIf, own, leads_to}
+use Rattle.xti_laws.proofs.ClearedRows.{Cleared, un-not}
 
 here : (p : Providers) (w : World) (fd : ℕ) (e : Endpoint) → endpoint p w fd ≡ Some e → standing_in p w fd ≡ Some (standing e)
 here p w fd e o = ap (option_map standing) o

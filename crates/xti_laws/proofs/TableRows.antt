@@ -9,7 +9,7 @@ use Rattle.xti_base.specs.declared.kinds.State.TheVariants.{T_UNINIT, T_UNBND, T
 use Rattle.xti_model.specs.Events.{sending, receiving, connected_or_asking}
 use Rattle.xti_model.specs.StateTable.{Move, by_bind, by_unbind, by_connect, by_rcvconnect, by_listen, by_accept_here, by_accept_there, passed, by_snd, by_rcv, by_snddis, by_rcvdis, by_sndrel, by_rcvrel, by_datagram, by_show, by_close, is_in_table}
 use Rattle.xti_laws.specs.Counts.{count_after}
-use Rattle.xti_laws.proofs.Steady.{Standing, stands, after_sndrel, after_rcvrel, after_last, after_rcvdis, count_rcvdis}
+use Rattle.xti_laws.proofs.SteadyUpdates.{Standing, stands, after_sndrel, after_rcvrel, after_last, after_rcvdis, count_rcvdis}
 
 abbrev pub In : State → List State → Type 0
 In s states = list_any (same_state s) states ≡ true

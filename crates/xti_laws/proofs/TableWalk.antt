@@ -29,13 +29,13 @@ use Rattle.xti_model.specs.Calls.Show as Show
 use Rattle.xti_model.specs.StateTable.{move_of, by_close, by_bind, by_unbind, by_connect, by_rcvconnect, by_listen, by_accept_here, by_accept_there, by_snd, by_rcv, by_snddis, by_rcvdis, by_sndrel, by_rcvrel, by_datagram, by_show, passed, is_in_table}
 use Rattle.xti_laws.specs.States.{state_at, ocnt_of, told, TakesByTheTable, PassesByTheTable}
 use Rattle.xti_laws.specs.Counts.{TakesOutstanding, CountsByTheTable}
-use Rattle.xti_laws.proofs.Steady.{received-steady, datagram-steady, shown-steady}
+use Rattle.xti_laws.proofs.SteadyUpdates.{received-steady, datagram-steady, shown-steady}
 use Rattle.xti_laws.proofs.Effects.{AllLeave, steady, in_switch, closed-state, open-effect}
 use Rattle.xti_laws.proofs.TableRows.{bind-row, unbind-row, snd-row, rcv-row, datagram-row, show-row, close-row}
-use Rattle.xti_laws.proofs.Taken.{Taken, FollowsIf, take, take-later, own, stay, leads_to}
-use Rattle.xti_laws.proofs.Rows.{Cleared, cleared, un-not}
+use Rattle.xti_laws.proofs.FollowsTable.{Taken, FollowsIf, take, take-later, own, stay, leads_to}
+use Rattle.xti_laws.proofs.ClearedRows.{Cleared, cleared, un-not}
 use Rattle.xti_laws.proofs.StatesOfConnections.{confirm-taken, listen-taken, request-taken, send_release-taken, receive_release-taken, receive_disconnect-taken, send_disconnect-taken, accept-taken, passed-taken}
-use Rattle.xti_laws.proofs.Leaving.{send_to-leave, datagram-leave}
+use Rattle.xti_laws.proofs.LeavingPlans.{send_to-leave, datagram-leave}
 use Rattle.xti_laws.proofs.Opening.{open-takes}
 
 -- the law at a descriptor

@@ -30,6 +30,10 @@ HasNamed p t w c = Within t (named p w c)
 abbrev pub Enough : Providers → List ℕ → World → Call → Type 0
 Enough p t w c = Within t (touched p (only t w) c)
 
+-- a call names the same on these cells alone as in the world
+abbrev pub NamesSame : Providers → List ℕ → World → Call → Type 0
+NamesSame p t w c = named p (only t w) c ≡ named p w c
+
 -- a call touches the same on these cells alone as in the world
 abbrev pub TouchesSame : Providers → List ℕ → World → Call → Type 0
 TouchesSame p t w c = touched p (only t w) c ≡ touched p w c

@@ -14,7 +14,7 @@ ghost use Rattle.xti_laws.specs.Updates.{PlanKinds};
 ghost use Rattle.xti_laws.specs.States.{TakesByTheTable, PassesByTheTable, KeepsEveryState, KeepsOtherStates, AllInitialised};
 ghost use Rattle.xti_laws.specs.Counts.{CountsByTheTable, KeepsEveryCount, KeepsOtherCounts};
 ghost use Rattle.xti_laws.specs.Waiting.{BlockedAsWanted, BlockedHasGoodArguments};
-ghost use Rattle.xti_laws.specs.Laws.{HasNamed, Enough, TouchesSame, SameIfTold, SameSteps, LeavesOthers, Keeps, Passes, PassesAfterAny, KnowsNoMore};
+ghost use Rattle.xti_laws.specs.Laws.{HasNamed, Enough, NamesSame, TouchesSame, SameIfTold, SameSteps, LeavesOthers, Keeps, Passes, PassesAfterAny, KnowsNoMore};
 
 /// A step is settled by the cells that its call names, and leaves all others as they are.
 ///
@@ -41,10 +41,11 @@ pub fn touched_cells_settle_a_step()
 
 /// Some cells of a world are enough for a call, where all that it touches on them alone is among them.
 ///
-/// `names`: the call then touches just what it touches in the whole world. `reads`: a step on them is the step of that
-/// world, as on the touched cells. `changes`: all other cells stay. Of every call, and of any cells.
+/// `names`, `touches`: the call then names and touches just what it does in the whole world. `reads`: a step on them is
+/// the step of that world, as on the touched cells. `changes`: all other cells stay. Of every call, and of any cells.
 pub fn some_cells_are_enough()
-    ensures names { (p : Providers) (t : List ℕ) (w : World) (c : Call) → Enough p t w c → TouchesSame p t w c }
+    ensures names { (p : Providers) (t : List ℕ) (w : World) (c : Call) → Enough p t w c → NamesSame p t w c }
+    ensures touches { (p : Providers) (t : List ℕ) (w : World) (c : Call) → Enough p t w c → TouchesSame p t w c }
     ensures reads { (p : Providers) (t : List ℕ) (w : World) (c : Call) → Enough p t w c → SameSteps p t w c }
     ensures changes { (p : Providers) (t : List ℕ) (w : World) (c : Call) → Enough p t w c → LeavesOthers p t w c }
 {}

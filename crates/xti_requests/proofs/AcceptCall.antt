@@ -13,17 +13,17 @@ use Rattle.xti_model.specs.Switch.{give_address}
 use Rattle.xti_model.specs.Events.{is_state}
 use Rattle.xti_model.specs.Step.{Step, step_of}
 use Rattle.xti_model.specs.Calls.Listen as Listen
-use Rattle.xti_laws.proofs.View.{changed-append}
+use Rattle.xti_laws.proofs.ChangedEndpoints.{changed-append}
 use Rattle.xti_requests.specs.Requests.{SoundRequests, AskingCaller, SoundLinksExcept, SoundLinks}
-use Rattle.xti_requests.proofs.Keeping.{AllKeep, keeps}
-use Rattle.xti_requests.proofs.Ways.{some-is, none-is, not-both, flip}
-use Rattle.xti_laws.proofs.Rows.{Cleared}
+use Rattle.xti_requests.proofs.KeptEndpoints.{AllKeep, keeps}
+use Rattle.xti_requests.proofs.StepWays.{some-is, none-is, not-both, flip}
+use Rattle.xti_laws.proofs.ClearedRows.{Cleared}
 use Rattle.xti_requests.proofs.AcceptEnds.{no-disconnect, no-disconnects, asks, not_resfd, not_fd, listens}
 use Rattle.xti_requests.proofs.OneChange.{one_world, one-same, one-other, hush, rests-again, just}
 use Rattle.xti_requests.proofs.EndpointUpdates.{Idle, idle-state, good-plain, alike-pending, asks-not, target-none}
 use Rattle.xti_requests.proofs.RequestUpdates.{move-stands, accepted-good, none-outstanding}
 use Rattle.xti_requests.proofs.UnseenChanges.{AllRest, rests_at, rests_switch, rest-sound, bound_like-unseen}
-use Rattle.xti_requests.proofs.Calls.{Kept, plain, on-open, out-removes, found-number}
+use Rattle.xti_requests.proofs.CallsKeepLinks.{Kept, plain, on-open, out-removes, found-number}
 
 abbrev IdleStill : Option Endpoint → Type 0
 IdleStill None = Unit {0}

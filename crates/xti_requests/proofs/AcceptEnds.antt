@@ -14,8 +14,8 @@ use Rattle.xti_model.specs.World.{World, endpoint}
 use Rattle.xti_model.specs.Events.{is_state}
 use Rattle.xti_model.specs.Calls.Listen as Listen
 use Rattle.xti_requests.specs.Requests.{is_connected, disconnects_with, AskingCaller, SoundLinks}
-use Rattle.xti_requests.proofs.Ways.{some-is, not-both}
-use Rattle.xti_laws.proofs.Rows.{Cleared, un-not}
+use Rattle.xti_requests.proofs.StepWays.{some-is, not-both}
+use Rattle.xti_laws.proofs.ClearedRows.{Cleared, un-not}
 use Rattle.std.specs.Prelude.{find}
 use Rattle.xti_base.specs.declared.kinds.Event.TheVariants.{T_DISCONNECT, T_LISTEN}
 use Rattle.xti_model.specs.Events.{looked, is_here, looks_connecting, some_wait}

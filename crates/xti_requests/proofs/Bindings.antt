@@ -8,10 +8,10 @@ use Rattle.xti_model.specs.declared.profile.Providers.{Providers}
 use Rattle.xti_model.specs.Endpoint.{Endpoint}
 use Rattle.xti_model.specs.World.{World, Numbered, Cell, Change, Switch, Binding, endpoint_cell, switch_cell, at_endpoint, at_switch, opens_place, closes_endpoint, change, changed, cell_at, change_endpoint, change_switch, open_cell, close_cell, endpoint, the_switch, switch_in, switch_or_empty, switch_number, place_of, generation_of, empty_switch}
 use Rattle.xti_model.specs.Switch.{listener, least, less, is_listening, give_address, give_up_address, mark_open}
-use Rattle.xti_laws.proofs.View.{recell, cell_at-same, cell_at-other}
+use Rattle.xti_laws.proofs.ChangedEndpoints.{recell, cell_at-same, cell_at-other}
 use Rattle.xti_requests.specs.Requests.{IsOpenOf, AllOpen, BoundToOpen}
-use Rattle.xti_requests.proofs.Keeping.{Keep, keeps}
-use Rattle.xti_requests.proofs.Ways.{some-is, none-is, not-both}
+use Rattle.xti_requests.proofs.KeptEndpoints.{Keep, keeps}
+use Rattle.xti_requests.proofs.StepWays.{some-is, none-is, not-both}
 use Rattle.xti_requests.proofs.AcceptEnds.{same-prov}
 
 -- an endpoint of the provider is open there

@@ -21,7 +21,7 @@ use Rattle.xti_model.specs.Calls.Release as Release
 use Rattle.xti_model.specs.Calls.Disconnect as Disconnect
 use Rattle.xti_requests.specs.Requests.{is_connected, indications_with, disconnects_with, SoundRequests}
 use Rattle.xti_model.specs.Calls.Disconnect.{is_asked}
-use Rattle.xti_requests.proofs.Ways.{none-is, not-both}
+use Rattle.xti_requests.proofs.StepWays.{none-is, not-both}
 use Rattle.xti_requests.proofs.AcceptEnds.{not-asked}
 use Rattle.xti_requests.proofs.OneChange.{Alike}
 

@@ -8,7 +8,7 @@ use Rattle.xti_model.specs.World.{World, Numbered, endpoint_cell, switch_cell, o
 use Rattle.xti_model.specs.Step.{Step, step}
 use Rattle.xti_model.specs.History.{Going, doing, step_going, step_at, left_by, after_from}
 use Rattle.xti_requests.specs.Requests.{SoundLinks, BoundToOpen}
-use Rattle.xti_requests.proofs.Ways.{none-is}
+use Rattle.xti_requests.proofs.StepWays.{none-is}
 use Rattle.xti_requests.proofs.Steps.{sound-step, bound-step}
 
 -- what holds of every world

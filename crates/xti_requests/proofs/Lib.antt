@@ -1,7 +1,7 @@
-pub mod Keeping
-pub mod Ways
+pub mod KeptEndpoints
+pub mod StepWays
 pub mod AcceptEnds
-pub mod Counting
+pub mod IndicationNumbers
 pub mod OneChange
 pub mod EndpointUpdates
 pub mod ListenerUpdates
@@ -9,7 +9,7 @@ pub mod RequestUpdates
 pub mod SeveralCells
 pub mod OpeningAndClosing
 pub mod UnseenChanges
-pub mod Calls
+pub mod CallsKeepLinks
 pub mod AcceptCall
 pub mod Bindings
 pub mod Steps

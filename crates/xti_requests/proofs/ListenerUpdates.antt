@@ -10,8 +10,8 @@ use Rattle.xti_model.specs.Events.{is_state, some_wait}
 use Rattle.xti_model.specs.Calls.Listen as Listen
 use Rattle.xti_requests.specs.Requests.{is_connected, indications_with, disconnects_with, SoundRequests, Stands}
 use Rattle.xti_model.specs.Calls.Disconnect.{is_asked}
-use Rattle.xti_requests.proofs.Ways.{some-is, none-is, not-both}
-use Rattle.xti_requests.proofs.Counting.{count-append, find-none, find-some, none-count, find-left, find-right, find-without, count-without, count-taken, length-taken, count-smaller, count-cons}
+use Rattle.xti_requests.proofs.StepWays.{some-is, none-is, not-both}
+use Rattle.xti_requests.proofs.IndicationNumbers.{count-append, find-none, find-some, none-count, find-left, find-right, find-without, count-without, count-taken, length-taken, count-smaller, count-cons}
 use Rattle.xti_requests.proofs.OneChange.{Alike}
 use Rattle.xti_requests.proofs.EndpointUpdates.{Both, asks-not, target-none}
 

@@ -11,7 +11,7 @@ use Rattle.xti_model.specs.Events.{some_wait}
 use Rattle.xti_model.specs.Calls.Disconnect.{disconnect_or, oldest}
 use Rattle.xti_laws.specs.Counts.{OldestIsOutstanding, TakesOutstanding}
 use Rattle.xti_requests.specs.Requests.{SoundLinks, SoundRequests, indications_with, disconnects_with}
-use Rattle.xti_requests.proofs.Counting.{none-count}
+use Rattle.xti_requests.proofs.IndicationNumbers.{none-count}
 
 counted-first : (d : Disconnect) (ds : List Disconnect) → 1 ≤ disconnects_with d.number (d ∷ ds)
 counted-first d ds = let e : disconnects_with d.number (d ∷ ds) ≡ 1 + disconnects_with d.number ds = ap (λ b. cond b 1 0 + disconnects_with d.number ds) (eq-eqb d.number d.number refl) in omega (arith, e)

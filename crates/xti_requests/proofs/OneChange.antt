@@ -6,10 +6,10 @@ use Rattle.xti_base.specs.declared.kinds.Prov.{Prov}
 use Rattle.xti_model.specs.declared.profile.Providers.{Providers}
 use Rattle.xti_model.specs.Endpoint.{Endpoint, Indication, Target, find_number}
 use Rattle.xti_model.specs.World.{World, Switch, at_endpoint, at_switch, changed, endpoint}
-use Rattle.xti_laws.proofs.View.{endpoint-same, endpoint-other, switch-other}
+use Rattle.xti_laws.proofs.ChangedEndpoints.{endpoint-same, endpoint-other, switch-other}
 use Rattle.xti_requests.specs.Requests.{indications_with, disconnects_with, SoundRequests, Stands, request_to, AskingCaller, AskedListener, SoundLinksExcept, nobody, SoundLinks}
-use Rattle.xti_requests.proofs.Ways.{some-is, none-is, not-both}
-use Rattle.xti_requests.proofs.Counting.{find-some}
+use Rattle.xti_requests.proofs.StepWays.{some-is, none-is, not-both}
+use Rattle.xti_requests.proofs.IndicationNumbers.{find-some}
 
 -- An endpoint whose target and whose requests stay as they are.
 pub record Alike (e e' : Endpoint) : Type 0 where

@@ -8,10 +8,10 @@ use Rattle.xti_model.specs.declared.profile.Providers.{Providers}
 use Rattle.xti_model.specs.Endpoint.{Endpoint, Indication, Target, find_number, opened}
 use Rattle.xti_model.specs.World.{World, opens_place, closes_endpoint, changed, endpoint}
 use Rattle.xti_model.specs.Calls.Close as Close
-use Rattle.xti_laws.proofs.View.{endpoint-same, closed-same, closed-other}
+use Rattle.xti_laws.proofs.ChangedEndpoints.{endpoint-same, closed-same, closed-other}
 use Rattle.xti_requests.specs.Requests.{disconnects_with, SoundRequests, Stands, request_to, AskingCaller, AskedListener, SoundLinks}
-use Rattle.xti_requests.proofs.Keeping.{keeps}
-use Rattle.xti_requests.proofs.Ways.{some-is, none-is, not-both}
+use Rattle.xti_requests.proofs.KeptEndpoints.{keeps}
+use Rattle.xti_requests.proofs.StepWays.{some-is, none-is, not-both}
 use Rattle.xti_requests.proofs.OneChange.{one_world, one-same, one-other, one-cases}
 use Rattle.xti_requests.proofs.EndpointUpdates.{good-opened}
 use Rattle.xti_requests.proofs.SeveralCells.{Leaving, IsIn, GivenUp, given-up}

@@ -12,8 +12,8 @@ use Rattle.xti_model.specs.Calls.Listen as Listen
 use Rattle.xti_model.specs.Calls.Disconnect as Disconnect
 use Rattle.xti_requests.specs.Requests.{is_connected, indications_with, disconnects_with, SoundRequests, Stands}
 use Rattle.xti_model.specs.Calls.Disconnect.{is_asked}
-use Rattle.xti_requests.proofs.Ways.{some-is, none-is, not-both}
-use Rattle.xti_requests.proofs.Counting.{count-append, cut-append, find-none, find-some, find-left, find-right, find-without, count-taken, count-smaller}
+use Rattle.xti_requests.proofs.StepWays.{some-is, none-is, not-both}
+use Rattle.xti_requests.proofs.IndicationNumbers.{count-append, cut-append, find-none, find-some, find-left, find-right, find-without, count-taken, count-smaller}
 use Rattle.xti_requests.proofs.EndpointUpdates.{Idle, only-idle, good-plain, asks-not, target-none}
 use Rattle.xti_requests.proofs.ListenerUpdates.{asked-hears}
 

@@ -14,7 +14,7 @@ use Rattle.xti_model.specs.Calls.Connect as Connect
 use Rattle.xti_model.specs.Calls.Close as Close
 use Rattle.xti_requests.specs.Requests.{disconnects_with, SoundRequests, Stands, request_to, AskingCaller, AskedListener, SoundLinksExcept, SoundLinks}
 use Rattle.xti_model.specs.Calls.Disconnect.{is_asked}
-use Rattle.xti_requests.proofs.Ways.{some-is, none-is, not-both, flip}
+use Rattle.xti_requests.proofs.StepWays.{some-is, none-is, not-both, flip}
 use Rattle.xti_requests.proofs.OneChange.{one_world, one-same, one-other, one-cases, just}
 use Rattle.xti_requests.proofs.EndpointUpdates.{Idle, only-idle, good-plain, asks-not, target-none}
 use Rattle.xti_requests.proofs.RequestUpdates.{asked-good, asked-on, asked-new, asked-back, asking-good, move-stands}

@@ -30,17 +30,17 @@ use Rattle.xti_model.specs.Calls.Disconnect as Disconnect
 use Rattle.xti_model.specs.Calls.Release as Release
 use Rattle.xti_model.specs.Calls.Datagrams as Datagrams
 use Rattle.xti_model.specs.Calls.Show as Show
-use Rattle.xti_laws.proofs.View.{changed-append}
+use Rattle.xti_laws.proofs.ChangedEndpoints.{changed-append}
 use Rattle.xti_laws.proofs.Effects.{step-any}
 use Rattle.xti_requests.specs.Requests.{SoundLinks, nobody, BoundToOpen}
-use Rattle.xti_requests.proofs.Keeping.{keeps}
-use Rattle.xti_laws.proofs.Rows.{un-not}
+use Rattle.xti_requests.proofs.KeptEndpoints.{keeps}
+use Rattle.xti_laws.proofs.ClearedRows.{un-not}
 use Rattle.xti_requests.proofs.AcceptEnds.{no-disconnect}
 use Rattle.xti_requests.proofs.EndpointUpdates.{both-turned_away}
 use Rattle.xti_requests.proofs.SeveralCells.{request-sound}
 use Rattle.xti_requests.proofs.AcceptEnds.{no-disconnects}
 use Rattle.xti_requests.proofs.UnseenChanges.{AllRest, rests_at, bound_like-unseen, datagram-unseen, shown-unseen, own-hush}
-use Rattle.xti_requests.proofs.Calls.{Kept, plain, resting, on-open, open-call, bind-call, unbind-call, confirm-call, listen-call, rcv-call, rcvrel-call, rcvdis-call, send-call, sndrel-call, close-call, snddis-call}
+use Rattle.xti_requests.proofs.CallsKeepLinks.{Kept, plain, resting, on-open, open-call, bind-call, unbind-call, confirm-call, listen-call, rcv-call, rcvrel-call, rcvdis-call, send-call, sndrel-call, close-call, snddis-call}
 use Rattle.xti_requests.proofs.AcceptCall.{accept-call}
 use Rattle.xti_requests.proofs.Bindings.{HasProv, KeepsProv, tidy_at, tidy_switch, tidy_opens, AllTidy, tidied, switched, gives-up, marks, gives, closed-bound, Found, listener-found}
 

@@ -13,10 +13,10 @@ use Rattle.xti_model.specs.Calls.Send as Send
 use Rattle.xti_model.specs.Calls.Listen as Listen
 use Rattle.xti_model.specs.Calls.Datagrams as Datagrams
 use Rattle.xti_model.specs.Calls.Show as Show
-use Rattle.xti_laws.proofs.View.{changed-append}
+use Rattle.xti_laws.proofs.ChangedEndpoints.{changed-append}
 use Rattle.xti_requests.specs.Requests.{disconnects_with, SoundRequests, Stands, request_to, AskingCaller, AskedListener, SoundLinksExcept, SoundLinks, nobody}
-use Rattle.xti_requests.proofs.Keeping.{keeps}
-use Rattle.xti_requests.proofs.Ways.{some-is, none-is}
+use Rattle.xti_requests.proofs.KeptEndpoints.{keeps}
+use Rattle.xti_requests.proofs.StepWays.{some-is, none-is}
 use Rattle.xti_requests.proofs.OneChange.{one_world, one-same, one-other, hush, removes, just, switch-sound}
 use Rattle.xti_requests.proofs.EndpointUpdates.{desk, Both, both-of, both-named, both-broken}
 use Rattle.xti_requests.proofs.RequestUpdates.{TakenBack, is-taken_back}

@@ -17,22 +17,22 @@ use Rattle.xti_model.specs.Events.{is_state, some_wait}
 use Rattle.xti_model.specs.Step.{step_of}
 use Rattle.xti_model.specs.History.{left_by}
 use Rattle.xti_model.specs.Calls.Listen as Listen
-use Rattle.xti_laws.proofs.View.{changed-append, switch-other}
+use Rattle.xti_laws.proofs.ChangedEndpoints.{changed-append, switch-other}
 use Rattle.xti_requests.proofs.AcceptEnds.{same-prov}
 use Rattle.xti_requests.specs.Requests.{disconnects_with}
-use Rattle.xti_requests.proofs.Keeping.{AllKeep, keeps}
+use Rattle.xti_requests.proofs.KeptEndpoints.{AllKeep, keeps}
 use Rattle.xti_sound.proofs.AcrossCalls.{Asks, choice}
-use Rattle.xti_requests.proofs.Ways.{some-is, flip}
+use Rattle.xti_requests.proofs.StepWays.{some-is, flip}
 use Rattle.xti_requests.proofs.OneChange.{one_world, one-same, one-other}
 use Rattle.xti_requests.proofs.EndpointUpdates.{target-none}
 use Rattle.xti_requests.proofs.ListenerUpdates.{asked-hears}
 use Rattle.xti_sound.specs.Endpoints.{SoundEndpoint, ShortIndication}
 use Rattle.xti_requests.specs.Requests.{is_one_of}
 use Rattle.xti_sound.specs.Invariant.{Registered, SoundWorld}
-use Rattle.xti_sound.proofs.Rows.{Keeps, call-keeps}
-use Rattle.xti_laws.proofs.Rows.{Cleared, cleared}
+use Rattle.xti_sound.proofs.PassedRows.{Keeps, call-keeps}
+use Rattle.xti_laws.proofs.ClearedRows.{Cleared, cleared}
 use Rattle.xti_sound.proofs.States.{only, idle-not-asked, resting-out}
-use Rattle.xti_sound.proofs.Lists.{All-find}
+use Rattle.xti_sound.proofs.ShortLists.{All-find}
 use Rattle.xti_sound.proofs.Updates.{not-asking, asked-alone, fit-taken_out, fit-responding, fit-joining, fit-accepted}
 use Rattle.xti_sound.proofs.QuietChanges.{Parts, one-parts, own-parts, beside, beside-one, beside-switch, with-it, quiet-registered}
 use Rattle.xti_sound.proofs.Registering.{gives-registered}

@@ -15,21 +15,21 @@ use Rattle.xti_model.specs.Calls.Close as Close
 use Rattle.xti_model.specs.Calls.Listen as Listen
 use Rattle.xti_model.specs.Calls.Disconnect as Disconnect
 use Rattle.xti_model.specs.Calls.Release as Release
-use Rattle.xti_laws.proofs.View.{changed-append, closed-same, closed-other}
+use Rattle.xti_laws.proofs.ChangedEndpoints.{changed-append, closed-same, closed-other}
 use Rattle.xti_requests.specs.Requests.{SoundRequests, disconnects_with}
-use Rattle.xti_requests.proofs.Keeping.{AllKeep, append-keep, keeps}
-use Rattle.xti_requests.proofs.Ways.{none-is}
+use Rattle.xti_requests.proofs.KeptEndpoints.{AllKeep, append-keep, keeps}
+use Rattle.xti_requests.proofs.StepWays.{none-is}
 use Rattle.xti_requests.proofs.OneChange.{one_world}
 use Rattle.xti_requests.proofs.EndpointUpdates.{target-none, peer-connected}
 use Rattle.xti_requests.proofs.ListenerUpdates.{asked-hears}
 use Rattle.xti_sound.specs.Endpoints.{SoundEndpoint}
 use Rattle.xti_requests.specs.Requests.{is_one_of}
 use Rattle.xti_sound.specs.Invariant.{Registered, SoundEndpoints, SoundWorld}
-use Rattle.xti_sound.proofs.Rows.{call-keeps}
-use Rattle.xti_laws.proofs.Rows.{cleared}
+use Rattle.xti_sound.proofs.PassedRows.{call-keeps}
+use Rattle.xti_laws.proofs.ClearedRows.{cleared}
 use Rattle.xti_sound.proofs.States.{busy-sending, busy-connected, asking-bound}
 use Rattle.xti_sound.proofs.Updates.{asked-alone, fit-broken, fit-taken_back, fit-given_up, fit-idle, fit-taken_out, fit-rejected, fit-named, fit-released}
-use Rattle.xti_sound.proofs.MoreUpdates.{fit-after_send}
+use Rattle.xti_sound.proofs.ReleaseAndDatagramUpdates.{fit-after_send}
 use Rattle.xti_sound.proofs.QuietChanges.{Quiet, Parts, calm_at, AllCalm, calm-parts, one-parts, own-parts, switch-fit, quiet-named, quiet-cond}
 use Rattle.xti_sound.proofs.Registering.{closes-registered}
 use Rattle.xti_sound.proofs.OwnCalls.{parts, nothing}

@@ -9,7 +9,7 @@ use Rattle.xti_model.specs.World.{World, endpoint_cell, switch_cell, cell_at, cl
 use Rattle.xti_model.specs.Sound.{ThereAgrees}
 use Rattle.xti_sound.specs.Invariant.{Registered, SoundPlace, SoundWorld}
 use Rattle.xti_requests.proofs.Histories as Requests
-use Rattle.xti_requests.proofs.Ways.{none-is}
+use Rattle.xti_requests.proofs.StepWays.{none-is}
 
 -- each place is there, and closed
 closed-at : (m from n : ℕ) (w : World) → from ≤ m → m < from + n → cell_at (closed_places from n ++ w) m ≡ Some (record { number = m; cell = endpoint_cell 0 None })

@@ -12,11 +12,11 @@ use Rattle.xti_model.specs.Endpoint.{Endpoint}
 use Rattle.xti_model.specs.World.{World, Numbered, Cell, Switch, Binding, endpoint_cell, switch_cell, endpoint, endpoint_in, cell_at, the_switch, place_of, generation_of, descriptor}
 use Rattle.xti_model.specs.Switch.{bound, descriptors, is_bound, is_listening, listener, least, less}
 use Rattle.xti_model.specs.Sound.{ThereAgrees, CellAgrees, bindings_at, binding_of, binding_to}
-use Rattle.xti_requests.proofs.Ways.{none-is}
+use Rattle.xti_requests.proofs.StepWays.{none-is}
 use Rattle.xti_sound.specs.Invariant.{SoundWorld}
 use Rattle.xti_sound.specs.Laws.{OpenAndBound, OpenAndListening}
-use Rattle.xti_sound.proofs.View.{below}
-use Rattle.xti_sound.proofs.Filters.{filter-within, filter-swap}
+use Rattle.xti_sound.proofs.ChangedCells.{below}
+use Rattle.xti_sound.proofs.BindingFilters.{filter-within, filter-swap}
 
 -- the least number is one of the list
 lesser : (n : ℕ) (o : Option ℕ) (m : ℕ) → less n o ≡ Some m → (n ≡ m) ⊎ (o ≡ Some m)

@@ -14,8 +14,8 @@ use Rattle.xti_model.specs.Endpoint.{Endpoint}
 use Rattle.xti_model.specs.World.{World, Numbered, Cell, Switch, Binding, endpoint_cell, switch_cell, place_of, the_switch, cell_at, descriptor}
 use Rattle.xti_model.specs.Switch.{bound, is_bound, numbered_address, free_address}
 use Rattle.xti_model.specs.Sound.{ThereAgrees, CellAgrees, Agreement, bindings_at, binding_of, binding_to}
-use Rattle.xti_sound.proofs.View.{below}
-use Rattle.xti_sound.proofs.Filters.{filter-within, none-unbound}
+use Rattle.xti_sound.proofs.ChangedCells.{below}
+use Rattle.xti_sound.proofs.BindingFilters.{filter-within, none-unbound}
 
 -- Each place has at most one binding, so there are at most as many as places.
 

@@ -15,7 +15,7 @@ use Rattle.xti_requests.specs.Requests.{SoundRequests}
 use Rattle.xti_model.specs.Calls.Disconnect.{is_asked}
 use Rattle.xti_requests.proofs.EndpointUpdates.{target-none}
 use Rattle.xti_requests.proofs.ListenerUpdates.{hears}
-use Rattle.xti_sound.proofs.Lists.{cuts-few}
+use Rattle.xti_sound.proofs.ShortLists.{cuts-few}
 use Rattle.xti_sound.proofs.OwnCalls.{short-address}
 use Rattle.xti_base.specs.Kinds.{same_state}
 use Rattle.xti_base.specs.declared.kinds.State.TheVariants.{T_IDLE, T_INCON}

@@ -1,13 +1,13 @@
-mod View
-pub mod Rows
-mod Filters
+mod ChangedCells
+pub mod PassedRows
+mod BindingFilters
 mod PlaceAndSwitch
 pub mod CountingBindings
 mod SwitchUpdates
 pub mod States
-pub mod Lists
+pub mod ShortLists
 pub mod Updates
-pub mod MoreUpdates
+pub mod ReleaseAndDatagramUpdates
 pub mod QuietChanges
 mod Registering
 mod OwnCalls
@@ -15,22 +15,22 @@ mod ShowCalls
 mod AcrossCalls
 mod SendCalls
 mod AcceptCall
-pub mod Turning
-pub mod Matching
-pub mod Answering
-pub mod AnsweringCalls
+pub mod MatchedNext
+pub mod MatchedAfterCalls
+pub mod PeersStayThere
+pub mod PeersAfterCalls
 pub mod Beginning
 pub mod Steps
 pub mod Lent
 pub mod BoundAddresses
-pub mod Ends
-pub mod EndsHistories
+pub mod FewEndsAfterCalls
+pub mod FewEndsHistories
 mod Counterexamples
 pub mod SoundGives
-pub mod Ended
-pub mod Pairs
+pub mod LinkedEnds
+pub mod PairedAfterCalls
 pub mod ProvidersStay
-pub mod Telling
-pub mod Progressing
-pub mod Short
+pub mod ToldOutcomes
+pub mod ProgressOfSteps
+pub mod ShortReplies
 mod NeverAnswered

@@ -25,7 +25,7 @@ use Rattle.xti_model.specs.Calls.Open as Open
 use Rattle.xti_model.specs.Calls.Listen as Listen
 use Rattle.xti_model.specs.Calls.Send as Send
 use Rattle.xti_sound.specs.NeverAnswered.{is_answer, IsAnswer, HasAnswer}
-use Rattle.xti_sound.proofs.Telling.{StepTells, RefusalTells, step-tells, later-told, told}
+use Rattle.xti_sound.proofs.ToldOutcomes.{StepTells, RefusalTells, step-tells, later-told, told}
 
 abbrev refuses_well : Refusal → Bool
 refuses_well (answers r) = is_answer (Done r)

@@ -25,7 +25,7 @@ use Rattle.xti_model.specs.Calls.Disconnect as Disconnect
 use Rattle.xti_model.specs.Calls.Release as Release
 use Rattle.xti_requests.specs.Requests.{SoundRequests}
 use Rattle.xti_requests.proofs.AcceptEnds.{same-prov}
-use Rattle.xti_requests.proofs.Ways.{flip, not-both}
+use Rattle.xti_requests.proofs.StepWays.{flip, not-both}
 use Rattle.xti_requests.proofs.OneChange.{one_world, one-other}
 use Rattle.xti_requests.proofs.EndpointUpdates.{target-none, only-idle}
 use Rattle.xti_requests.proofs.Bindings.{Found, listener-found}
@@ -33,12 +33,12 @@ use Rattle.xti_sound.specs.Endpoints.{SoundEndpoint, ShortAddress}
 use Rattle.xti_requests.specs.Requests.{is_one_of}
 use Rattle.xti_sound.specs.Invariant.{SoundWorld}
 use Rattle.xti_sound.proofs.CountingBindings.{few-bindings, chosen-free, chosen-short}
-use Rattle.xti_sound.proofs.Filters.{unbound-none}
-use Rattle.xti_sound.proofs.Rows.{Keeps, call-keeps}
-use Rattle.xti_laws.proofs.Rows.{cleared}
+use Rattle.xti_sound.proofs.BindingFilters.{unbound-none}
+use Rattle.xti_sound.proofs.PassedRows.{Keeps, call-keeps}
+use Rattle.xti_laws.proofs.ClearedRows.{cleared}
 use Rattle.xti_sound.proofs.States.{only, busy-out, busy-receiving, asking-bound}
 use Rattle.xti_sound.proofs.Updates.{idle-alone, fit-bound, fit-unbound, fit-turned_away, fit-asked, fit-asking, fit-confirmed, fit-listened, fit-read}
-use Rattle.xti_sound.proofs.MoreUpdates.{fit-after_receive, fit-cut_received}
+use Rattle.xti_sound.proofs.ReleaseAndDatagramUpdates.{fit-after_receive, fit-cut_received}
 use Rattle.xti_sound.proofs.QuietChanges.{Quiet, Parts, own-parts, one-fit, switch-fit, quiet-cond}
 use Rattle.xti_sound.proofs.Registering.{MayGive, gives-registered, gives_up-registered}
 

@@ -6,8 +6,8 @@ use Rattle.xti_model.specs.declared.profile.Providers.{Providers}
 use Rattle.xti_model.specs.Endpoint.{Endpoint}
 use Rattle.xti_model.specs.World.{World, Numbered, Cell, Switch, endpoint_cell, switch_cell, change, change_switch, cell_at, endpoint, endpoint_in, place_of, generation_of, descriptor, switch_number, the_switch}
 use Rattle.xti_model.specs.Sound.{Agrees, ThereAgrees, CellAgrees, Agreement}
-use Rattle.xti_laws.proofs.View.{cell_at-same, cell_at-other, recell}
-use Rattle.xti_sound.proofs.View.{switch-kept, switch-changed, places-kept, numbers-kept, agreement-moved, below}
+use Rattle.xti_laws.proofs.ChangedEndpoints.{cell_at-same, cell_at-other, recell}
+use Rattle.xti_sound.proofs.ChangedCells.{switch-kept, switch-changed, places-kept, numbers-kept, agreement-moved, below}
 
 -- the world after both
 abbrev pub both : Providers → ℕ → (Cell → Cell) → (Switch → Switch) → World → World

@@ -17,13 +17,13 @@ use Rattle.xti_model.specs.declared.entry.Entry.{Entry}
 use Rattle.std.specs.Prelude.{option_and_then}
 use Rattle.xti_model.specs.Calls.Open as Open
 use Rattle.xti_model.specs.Calls.Listen as Listen
-use Rattle.xti_requests.proofs.Keeping.{Keep, AllKeep, append-keep, keeps}
+use Rattle.xti_requests.proofs.KeptEndpoints.{Keep, AllKeep, append-keep, keeps}
 use Rattle.xti_requests.proofs.Histories.{opening-none}
-use Rattle.xti_requests.proofs.Ways.{none-is}
+use Rattle.xti_requests.proofs.StepWays.{none-is}
 use Rattle.xti_sound.specs.Laws.{OpenProvidersPass, OpensPassing}
-use Rattle.xti_sound.proofs.Rows.{Keeps, call-keeps, step-keeps}
+use Rattle.xti_sound.proofs.PassedRows.{Keeps, call-keeps, step-keeps}
 use Rattle.xti_sound.proofs.AcrossCalls.{choice}
-use Rattle.xti_sound.proofs.Pairs.{TameChange, tame_at, tame_switch, tame_closes, AllTame, next-by}
+use Rattle.xti_sound.proofs.PairedAfterCalls.{TameChange, tame_at, tame_switch, tame_closes, AllTame, next-by}
 
 abbrev Passes : (Prov → Bool) → Option Endpoint → Type 0
 Passes test None = Unit {0}

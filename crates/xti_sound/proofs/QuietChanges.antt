@@ -6,13 +6,13 @@ use Rattle.xti_model.specs.declared.profile.Providers.{Providers}
 use Rattle.xti_model.specs.Endpoint.{Endpoint}
 use Rattle.xti_model.specs.World.{World, Numbered, Cell, Switch, endpoint_cell, switch_cell, Change, at_endpoint, at_switch, change, changed, change_endpoint, cell_at, endpoint, place_of, generation_of, descriptor, the_switch}
 use Rattle.xti_model.specs.Sound.{Agrees, ThereAgrees, CellAgrees, Agreement, binding_to}
-use Rattle.xti_laws.proofs.View.{cell_at-same, cell_at-other, recell, endpoint-same, switch-other}
+use Rattle.xti_laws.proofs.ChangedEndpoints.{cell_at-same, cell_at-other, recell, endpoint-same, switch-other}
 use Rattle.xti_sound.specs.Invariant.{Registered, SoundEndpoints, BoundOnce, SoundPlaces}
 use Rattle.xti_model.specs.Links.{if_names, names}
 use Rattle.xti_requests.proofs.OneChange.{one_world, one-other}
-use Rattle.xti_requests.proofs.Ways.{some-is, none-is}
+use Rattle.xti_requests.proofs.StepWays.{some-is, none-is}
 use Rattle.xti_sound.specs.Endpoints.{SoundEndpoint}
-use Rattle.xti_sound.proofs.View.{numbers-kept, switch-kept, agreement-moved, below}
+use Rattle.xti_sound.proofs.ChangedCells.{numbers-kept, switch-kept, agreement-moved, below}
 
 -- the update leaves what the switch knows of an endpoint
 abbrev pub Quiet : (Endpoint → Endpoint) → Type 0

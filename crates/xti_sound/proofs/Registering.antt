@@ -16,13 +16,13 @@ use Rattle.xti_model.specs.World.{World, Numbered, Switch, Place, Binding, endpo
 use Rattle.xti_model.specs.Switch.{bound, is_bound, is_listening, has_listener, give_address, give_up_address, free_place, is_free, place_at, mark_open}
 use Rattle.xti_model.specs.Sound.{Agrees, CellAgrees, ThereAgrees, bindings_at, binding_to}
 use Rattle.xti_model.specs.Calls.Close as Close
-use Rattle.xti_laws.proofs.View.{recell}
+use Rattle.xti_laws.proofs.ChangedEndpoints.{recell}
 use Rattle.xti_laws.proofs.Opening.{Closed, closed-there}
 use Rattle.xti_requests.proofs.AcceptEnds.{same-prov}
 use Rattle.xti_sound.specs.Invariant.{Registered, BoundOnce, SoundPlace, SoundPlaces}
-use Rattle.xti_sound.proofs.View.{below}
+use Rattle.xti_sound.proofs.ChangedCells.{below}
 use Rattle.xti_sound.proofs.PlaceAndSwitch.{both, both-numbers, both-switch, both-agree, open-agrees, there-after, whole}
-use Rattle.xti_sound.proofs.Filters.{unbound-none}
+use Rattle.xti_sound.proofs.BindingFilters.{unbound-none}
 use Rattle.xti_sound.proofs.SwitchUpdates.{given-here, given-other, given-once, given_up-other, given_up-here, given_up-once, set-other, set-same, set-places}
 
 -- An update of an open endpoint, and with it one of the switch that leaves the places.

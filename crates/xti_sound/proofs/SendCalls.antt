@@ -18,16 +18,16 @@ use Rattle.xti_model.specs.Plan.{Row, Refusal, answers, waits, loses, first, if_
 use Rattle.xti_model.specs.Step.{step_of, send}
 use Rattle.xti_model.specs.History.{left_by}
 use Rattle.xti_model.specs.Calls.Send as Send
-use Rattle.xti_laws.proofs.View.{changed-append}
-use Rattle.xti_requests.proofs.Keeping.{AllKeep, keeps}
-use Rattle.xti_requests.proofs.Ways.{some-is}
+use Rattle.xti_laws.proofs.ChangedEndpoints.{changed-append}
+use Rattle.xti_requests.proofs.KeptEndpoints.{AllKeep, keeps}
+use Rattle.xti_requests.proofs.StepWays.{some-is}
 use Rattle.xti_sound.specs.Endpoints.{SoundEndpoint}
 use Rattle.xti_sound.specs.Invariant.{SoundWorld}
-use Rattle.xti_sound.proofs.Rows.{passed, call-keeps, step-keeps}
-use Rattle.xti_laws.proofs.Rows.{cleared}
+use Rattle.xti_sound.proofs.PassedRows.{passed, call-keeps, step-keeps}
+use Rattle.xti_laws.proofs.ClearedRows.{cleared}
 use Rattle.xti_model.specs.Events.{is_state, sending}
 use Rattle.xti_sound.proofs.States.{Busy, busy-sending}
-use Rattle.xti_sound.proofs.Lists.{piece-few}
+use Rattle.xti_sound.proofs.ShortLists.{piece-few}
 use Rattle.xti_sound.proofs.Updates.{fit-named, fit-symbols, fit-flow, fit-sent, most_bytes, most_unfinished, unfinished_after}
 use Rattle.xti_sound.proofs.QuietChanges.{Quiet, Parts, one-parts, own-parts, quiet-named}
 use Rattle.xti_sound.proofs.OwnCalls.{parts}

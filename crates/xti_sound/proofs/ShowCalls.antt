@@ -24,14 +24,14 @@ use Rattle.xti_model.specs.Calls.Open as Open
 use Rattle.xti_model.specs.Calls.Datagrams as Datagrams
 use Rattle.xti_model.specs.Calls.Show as Show
 use Rattle.xti_requests.proofs.OpeningAndClosing.{opens-cases}
-use Rattle.xti_requests.proofs.Ways.{some-is, none-is, not-both}
+use Rattle.xti_requests.proofs.StepWays.{some-is, none-is, not-both}
 use Rattle.xti_requests.proofs.OneChange.{one_world}
 use Rattle.xti_sound.specs.Endpoints.{SoundEndpoint, ShortDatagram, ShortError}
 use Rattle.xti_sound.specs.Invariant.{SoundWorld, SoundEndpoints}
-use Rattle.xti_sound.proofs.Rows.{goes, passed, Keeps, call-keeps, step-keeps}
-use Rattle.xti_laws.proofs.Rows.{cleared}
+use Rattle.xti_sound.proofs.PassedRows.{goes, passed, Keeps, call-keeps, step-keeps}
+use Rattle.xti_laws.proofs.ClearedRows.{cleared}
 use Rattle.xti_sound.proofs.Updates.{fit-opened}
-use Rattle.xti_sound.proofs.MoreUpdates.{fit-marked, fit-got, fit-failed, fit-dropped, fit-datagram, fit-without_error, fit-mode, fit-shown, fit-settings}
+use Rattle.xti_sound.proofs.ReleaseAndDatagramUpdates.{fit-marked, fit-got, fit-failed, fit-dropped, fit-datagram, fit-without_error, fit-mode, fit-shown, fit-settings}
 use Rattle.xti_sound.proofs.QuietChanges.{Quiet, Parts, Fit, one-parts, own-parts, switch-fit, quiet-cond}
 use Rattle.xti_sound.proofs.Registering.{opens-registered}
 use Rattle.xti_sound.proofs.BoundAddresses.{bound-open}

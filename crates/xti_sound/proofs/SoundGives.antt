@@ -18,7 +18,7 @@ use Rattle.xti_model.specs.Switch.{bound, listener, opening_place, place_at}
 use Rattle.xti_model.specs.Touched.{cell_of, of_some, peer_cell, target_cell, caller_cell, caller_cells, bound_cell, listener_cell, cells_to, marked_cells, named}
 use Rattle.xti_base.specs.declared.limits.TheConstants.{LAST_SEQUENCE}
 use Rattle.xti_requests.specs.Requests.{SoundRequests, Stands, disconnects_with, indications_with}
-use Rattle.xti_requests.proofs.Ways.{some-is, none-is, not-both}
+use Rattle.xti_requests.proofs.StepWays.{some-is, none-is, not-both}
 use Rattle.xti_requests.proofs.EndpointUpdates.{target-none}
 use Rattle.xti_requests.proofs.ListenerUpdates.{hears}
 use Rattle.xti_sound.specs.Endpoints.{SoundEndpoint}

@@ -15,9 +15,9 @@ use Rattle.xti_model.specs.History.{Going, doing, step_going, step_at, left_by, 
 use Rattle.xti_requests.proofs.Steps.{sound-step, bound-step}
 use Rattle.xti_sound.specs.Invariant.{SoundWorld, Paired}
 use Rattle.xti_sound.specs.Connections.{Matched, PeersThere}
-use Rattle.xti_sound.proofs.Pairs.{next-paired}
-use Rattle.xti_sound.proofs.Matching.{next-matched}
-use Rattle.xti_sound.proofs.AnsweringCalls.{next-there}
+use Rattle.xti_sound.proofs.PairedAfterCalls.{next-paired}
+use Rattle.xti_sound.proofs.MatchedAfterCalls.{next-matched}
+use Rattle.xti_sound.proofs.PeersAfterCalls.{next-there}
 use Rattle.xti_sound.proofs.QuietChanges.{Parts}
 use Rattle.xti_sound.proofs.OwnCalls.{bind-parts, unbind-parts, connect-parts, confirm-parts, listen-parts, rcv-parts, rcvdis-parts, rcvrel-parts}
 use Rattle.xti_sound.proofs.ShowCalls.{sndudata-parts, rcvudata-parts, rcvuderr-parts, look-parts, mode-parts, option-parts, state-parts, info-parts, addresses-parts, open-parts}

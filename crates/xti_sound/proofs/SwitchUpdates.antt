@@ -13,7 +13,7 @@ use Rattle.xti_model.specs.World.{Switch, Binding, Place, place_of, closed_place
 use Rattle.xti_model.specs.Switch.{is_bound, is_listening, give_address, give_up_address, place_at, set_place}
 use Rattle.xti_model.specs.Sound.{Agrees, bindings_at, binding_to}
 use Rattle.xti_sound.specs.Invariant.{BoundOnce, SoundPlace, SoundPlaces}
-use Rattle.xti_sound.proofs.Filters.{filter-within, filter-swap}
+use Rattle.xti_sound.proofs.BindingFilters.{filter-within, filter-swap}
 
 flip : (m n : ℕ) → eqb m n ≡ false → eqb n m ≡ false
 flip m n h = ne_eqb n m (λ e. eqb-false m n h (sym e))

@@ -25,13 +25,13 @@ use Rattle.xti_model.specs.Calls.Disconnect as Disconnect
 use Rattle.xti_model.specs.Calls.Release as Release
 use Rattle.xti_requests.specs.Requests.{SoundRequests, is_connected}
 use Rattle.xti_model.specs.Calls.Disconnect.{is_asked}
-use Rattle.xti_requests.proofs.Ways.{none-is, not-both}
+use Rattle.xti_requests.proofs.StepWays.{none-is, not-both}
 use Rattle.xti_requests.proofs.EndpointUpdates.{target-none}
 use Rattle.xti_requests.proofs.ListenerUpdates.{asked-hears}
 use Rattle.xti_sound.specs.Endpoints.{SoundEndpoint, Unconnected, OfProvider, ShortIndication, ShortDisconnect, ShortDatagram, ShortError}
 use Rattle.xti_requests.specs.Requests.{is_one_of}
 use Rattle.xti_sound.proofs.States.{only, Busy, busy-data, busy-out, listening-bound, listening-bare}
-use Rattle.xti_sound.proofs.Lists.{without-shorter, without-one, All-without, counted-append, rest-fewer}
+use Rattle.xti_sound.proofs.ShortLists.{without-shorter, without-one, All-without, counted-append, rest-fewer}
 
 impossible : {A : Type 0} → true ≡ false → A
 impossible h = absurd (false≢true (sym h))

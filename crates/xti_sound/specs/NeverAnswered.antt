@@ -7,7 +7,7 @@ use Rattle.xti_model.specs.declared.entry.Outcome.{Outcome}
 use Rattle.xti_model.specs.declared.entry.Outcome.TheVariants.{Done}
 use Rattle.xti_model.specs.declared.entry.Reply.TheVariants.{Refused}
 
--- errors of XNS whose causes don't occur: all may use all addresses, a provider chooses one where none is given, a call's state changes by its steps alone, and no protocol fails
+-- errors of XNS whose causes don't occur: all may use all addresses, one is chosen where none is given, states change by steps alone, and no protocol fails
 abbrev pub is_never_answered : Errno → Bool
 is_never_answered TACCES = true
 is_never_answered TNOADDR = true

@@ -18,10 +18,10 @@ use Rattle.xti_model.specs.Calls.Listen as Listen
 use Rattle.xti_streams.proofs.Invariant.{View, view, HasView, NotNamedBy}
 use Rattle.xti_requests.specs.Requests.{is_connected}
 use Rattle.xti_requests.specs.Requests.{AskingCaller, SoundLinks}
-use Rattle.xti_requests.proofs.Keeping.{Keep, AllKeep, append-keep, keeps}
+use Rattle.xti_requests.proofs.KeptEndpoints.{Keep, AllKeep, append-keep, keeps}
 use Rattle.xti_streams.proofs.NonLinking.{bound_like-keeps_view}
-use Rattle.xti_requests.proofs.Ways.{Way, takes, loses_all, is_refused, is_marked, way, not-both, flip}
-use Rattle.xti_laws.proofs.Rows.{Cleared, cleared}
+use Rattle.xti_requests.proofs.StepWays.{Way, takes, loses_all, is_refused, is_marked, way, not-both, flip}
+use Rattle.xti_laws.proofs.ClearedRows.{Cleared, cleared}
 use Rattle.xti_requests.proofs.AcceptEnds.{no-disconnect, still-asks}
 
 -- the changes of an accept keep of an endpoint what each of them keeps

@@ -7,7 +7,7 @@ use Rattle.xti_model.specs.World.{World}
 use Rattle.xti_model.specs.Step.{Step, step}
 use Rattle.xti_model.specs.History.{Going, doing, step_going, step_at, left_by, after_from, Fits, LegalFrom, unfinished}
 use Rattle.xti_model.specs.Streams.{Connection, made_of, add, made_from}
-use Rattle.xti_streams.proofs.Ends.{End, after_step, after_steps}
+use Rattle.xti_streams.proofs.ConnectionEnds.{End, after_step, after_steps}
 use Rattle.xti_streams.proofs.FoldedStreams.{fd-after}
 use Rattle.xti_streams.proofs.Invariant.{SoundConnection}
 use Rattle.xti_requests.proofs.Histories.{Sound, left-sound}

@@ -21,15 +21,15 @@ use Rattle.xti_model.specs.Sending.{has_ends}
 use Rattle.xti_model.specs.Step.{Step, step_of}
 use Rattle.xti_model.specs.Streams.{Connection, connection_of}
 use Rattle.xti_model.specs.Calls.Listen as Listen
-use Rattle.xti_laws.proofs.View.{endpoint-same, changed-append}
-use Rattle.xti_streams.proofs.Ends.{new_end}
+use Rattle.xti_laws.proofs.ChangedEndpoints.{endpoint-same, changed-append}
+use Rattle.xti_streams.proofs.ConnectionEnds.{new_end}
 use Rattle.xti_streams.proofs.Invariant.{View, view, HasView, LiveEnd, LinkedEnd, BothLive, SoundConnection}
 use Rattle.xti_requests.specs.Requests.{is_connected}
 use Rattle.xti_requests.specs.Requests.{SoundRequests, AskingCaller, SoundLinks}
-use Rattle.xti_requests.proofs.Keeping.{Keep, AllKeep, keeps}
+use Rattle.xti_requests.proofs.KeptEndpoints.{Keep, AllKeep, keeps}
 use Rattle.xti_streams.proofs.NonLinking.{bound_like-keeps_view}
-use Rattle.xti_requests.proofs.Ways.{Way, takes, loses_all, is_refused, is_marked, way, all_deny, first-denies, is_denial, never-loses, all_kept, some-is, none-is, not-both, flip}
-use Rattle.xti_laws.proofs.Rows.{Cleared, cleared, un-not}
+use Rattle.xti_requests.proofs.StepWays.{Way, takes, loses_all, is_refused, is_marked, way, all_deny, first-denies, is_denial, never-loses, all_kept, some-is, none-is, not-both, flip}
+use Rattle.xti_laws.proofs.ClearedRows.{Cleared, cleared, un-not}
 use Rattle.xti_requests.proofs.EndpointUpdates.{target-none}
 use Rattle.xti_requests.proofs.AcceptEnds.{same-prov, responder-state, asks, responder, not_resfd, not_fd}
 

@@ -21,7 +21,7 @@ use Rattle.xti_model.specs.Step.{Step, step_of, connect}
 use Rattle.xti_model.specs.History.{Going}
 use Rattle.xti_model.specs.Streams.{Connection, got_by, sending_of}
 use Rattle.xti_model.specs.Calls.Connect as Connect
-use Rattle.xti_laws.proofs.Rows.{Cleared, un-not}
+use Rattle.xti_laws.proofs.ClearedRows.{Cleared, un-not}
 use Rattle.xti_streams.specs.Laws.{is_release_receipt}
 use Rattle.xti_streams.proofs.Invariant.{view}
 use Rattle.xti_streams.proofs.Effects.{confirms}

@@ -20,7 +20,7 @@ use Rattle.xti_streams.specs.Laws.{is_release_receipt}
 use Rattle.xti_streams.proofs.Invariant.{view}
 use Rattle.xti_streams.proofs.NonLinking.{AllNonLinking, append-non_linking, take_back-non_linking, callers-non_linking, of_own, closes_own, of_switch}
 use Rattle.xti_streams.proofs.Bystanders.{all-view}
-use Rattle.xti_requests.proofs.Ways.{never-loses}
+use Rattle.xti_requests.proofs.StepWays.{never-loses}
 use Rattle.xti_streams.proofs.Effects.{TransfersNothing, breaks, leaves, PeerBecomes, cut_off}
 use Rattle.xti_streams.proofs.EffectsByWay.{EffectFor, EffectOf, transfers-nothing, by-effect, on-it, view-is, own-peer, Ended, own-ended, last-ended, closing-ended, append-ended, linked-gets}
 use Rattle.xti_streams.proofs.ReceiveCalls.{LiveEndpoint}

@@ -13,7 +13,7 @@ use Rattle.xti_model.specs.declared.entry.Outcome.{Outcome}
 use Rattle.xti_model.specs.History.{Going}
 use Rattle.xti_model.specs.Streams.{Made, Connection, is_over, sending_of, taken_after, sent_by, got_by, sent_made, got_made}
 use Rattle.xti_streams.specs.Laws.{Prefix, is_release_receipt, receives_release}
-use Rattle.xti_streams.proofs.Ends.{End, with_step}
+use Rattle.xti_streams.proofs.ConnectionEnds.{End, with_step}
 use Rattle.xti_streams.proofs.Invariant.{View, waiting_in, HasView, NotNamedBy, HoldsRest, Prefixes, GotAll, PeerGone, rest_left, was_broken}
 
 -- the step adds nothing to what was sent, or to what was received

@@ -15,13 +15,13 @@ use Rattle.xti_model.specs.Plan.{Plan, answers, waits, loses, first, if_open, ha
 use Rattle.xti_model.specs.Step.{Step, made, step_of}
 use Rattle.xti_model.specs.History.{Going}
 use Rattle.xti_model.specs.Streams.{Made, Connection, Sending, sent_by, got_by, sending_of, taken_after, is_over}
-use Rattle.xti_laws.proofs.View.{endpoint-same, closed-same, switch-other, changed-append}
+use Rattle.xti_laws.proofs.ChangedEndpoints.{endpoint-same, closed-same, switch-other, changed-append}
 use Rattle.xti_streams.specs.Laws.{is_release_receipt}
 use Rattle.xti_streams.proofs.Invariant.{View, view, HasView, NotNamedBy}
-use Rattle.xti_requests.proofs.Keeping.{Keep, AllKeep, keeps}
+use Rattle.xti_requests.proofs.KeptEndpoints.{Keep, AllKeep, keeps}
 use Rattle.xti_streams.proofs.NonLinking.{KeepsView}
-use Rattle.xti_requests.proofs.Ways.{Way, takes, loses_all, is_refused, is_marked, way, all_deny, is_denial, first-denies, not-both}
-use Rattle.xti_laws.proofs.Rows.{Cleared, cleared}
+use Rattle.xti_requests.proofs.StepWays.{Way, takes, loses_all, is_refused, is_marked, way, all_deny, is_denial, first-denies, not-both}
+use Rattle.xti_laws.proofs.ClearedRows.{Cleared, cleared}
 use Rattle.xti_streams.proofs.Refusals.{denial-takes, denial-gives, denial-releases}
 use Rattle.xti_streams.proofs.Effects.{Effect, TransfersNothing, changes_nothing, PeerBecomes, same, NamesNobody}
 

@@ -12,7 +12,7 @@ use Rattle.xti_model.specs.World.{World, endpoint, state_of}
 use Rattle.xti_model.specs.Events.{sending, receiving}
 use Rattle.xti_model.specs.Streams.{Made, Connection, is_over, sent_made, got_made}
 use Rattle.xti_streams.specs.Laws.{receives_release}
-use Rattle.xti_streams.proofs.Ends.{End, with_step}
+use Rattle.xti_streams.proofs.ConnectionEnds.{End, with_step}
 use Rattle.xti_streams.proofs.Invariant.{View, waiting_in, HasView, NotNamedBy, HoldsRest, GotAll, LiveEnd, LinkedEnd, BothLive, OneLive, NoneLive, PeerGone, rest_left, was_broken, SoundWhere}
 use Rattle.xti_requests.specs.Requests.{is_connected}
 use Rattle.xti_streams.proofs.Refusals.{state-of_view, connected-lasts}

@@ -4,7 +4,7 @@ use Rattle.std.proofs.lemmas.List.{append-nil}
 use Rattle.std.specs.Prelude.{flat_map}
 use Rattle.std.specs.List.{list_any}
 use Rattle.xti_model.specs.Streams.{Made, Connection, is_made_by, is_over, until_over}
-use Rattle.xti_streams.proofs.Ends.{End, with_step, after_step, after_steps, counts}
+use Rattle.xti_streams.proofs.ConnectionEnds.{End, with_step, after_step, after_steps, counts}
 
 -- of these steps, those that are still of its life
 abbrev until_end : Bool → List Made → List Made

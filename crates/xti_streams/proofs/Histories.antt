@@ -23,7 +23,7 @@ use Rattle.xti_model.specs.Step.{step, plan}
 use Rattle.xti_model.specs.History.{Going, doing, made_by, unfinished, step_at, left_by, after_from, after, LegalFrom, Legal}
 use Rattle.xti_model.specs.Streams.{Made, Connection, connection, connection_in, connection_of, made_from, is_made_by, is_over, sent_made, got_made}
 use Rattle.xti_model.proofs.Appending.{take-one_more}
-use Rattle.xti_streams.proofs.Ends.{End, new_end, after_steps}
+use Rattle.xti_streams.proofs.ConnectionEnds.{End, new_end, after_steps}
 use Rattle.xti_streams.proofs.Invariant.{View, view, waiting_in, HasView, Prefixes, GotAll, PeerGone, rest_left, was_broken, SoundConnection, SoundWhere}
 use Rattle.xti_requests.specs.Requests.{SoundLinks}
 use Rattle.xti_model.specs.SentBytes.{AllSendBytes}
@@ -31,7 +31,7 @@ use Rattle.xti_streams.proofs.UnderWay.{SendGoesOn}
 use Rattle.xti_requests.proofs.Histories.{Sound, left-sound, after-sound, opening-sound}
 use Rattle.xti_streams.specs.Laws.{end_of, got_at, sent_to, PrefixLaw, WaitingLaw, ReleaseLaw, Prefix, is_unbroken, receives_release}
 use Rattle.xti_streams.proofs.FoldedStreams.{folded-stream, folded-test, folded-fd}
-use Rattle.xti_requests.proofs.Ways.{some-is, none-is}
+use Rattle.xti_requests.proofs.StepWays.{some-is, none-is}
 use Rattle.xti_streams.proofs.Effects.{rest-prefixes, gone-prefixes}
 use Rattle.xti_streams.proofs.OneStep.{swap}
 use Rattle.xti_streams.proofs.UnderWay.{doing-goes_on, next-goes_on}

@@ -11,7 +11,7 @@ use Rattle.xti_model.specs.Links.{names}
 use Rattle.xti_model.specs.Streams.{Connection}
 use Rattle.xti_requests.specs.Requests.{is_connected}
 use Rattle.xti_streams.specs.Laws.{Prefix}
-use Rattle.xti_streams.proofs.Ends.{End}
+use Rattle.xti_streams.proofs.ConnectionEnds.{End}
 
 -- the parts of an endpoint that matter to a connection
 pub record View : Type 0 where

@@ -1,4 +1,4 @@
-pub mod Ends
+pub mod ConnectionEnds
 pub mod Invariant
 pub mod Refusals
 pub mod FoldedStreams

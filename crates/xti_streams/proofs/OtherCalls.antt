@@ -27,8 +27,8 @@ use Rattle.xti_streams.specs.Laws.{is_release_receipt}
 use Rattle.xti_streams.proofs.Invariant.{view, HasView}
 use Rattle.xti_requests.specs.Requests.{is_connected}
 use Rattle.xti_streams.proofs.NonLinking.{datagram-keeps_view}
-use Rattle.xti_requests.proofs.Ways.{all_deny, not-both}
-use Rattle.xti_laws.proofs.Rows.{Cleared, un-not}
+use Rattle.xti_requests.proofs.StepWays.{all_deny, not-both}
+use Rattle.xti_laws.proofs.ClearedRows.{Cleared, un-not}
 use Rattle.xti_streams.proofs.EffectsByWay.{EffectOf, by-views_kept, by-state, on-it, view-is, AllKeepViews, update_keeps}
 use Rattle.xti_streams.proofs.ReceiveCalls.{LiveEndpoint}
 

@@ -20,8 +20,8 @@ use Rattle.xti_model.specs.Streams.{Connection, sent_by, got_by, sending_of, tak
 use Rattle.xti_model.specs.Calls.Receive as Receive
 use Rattle.xti_streams.specs.Laws.{is_release_receipt}
 use Rattle.xti_streams.proofs.Invariant.{view, waiting_in, LiveEnd}
-use Rattle.xti_requests.proofs.Ways.{never-loses}
-use Rattle.xti_laws.proofs.Rows.{Cleared, un-not}
+use Rattle.xti_requests.proofs.StepWays.{never-loses}
+use Rattle.xti_laws.proofs.ClearedRows.{Cleared, un-not}
 use Rattle.xti_streams.proofs.TakenSymbols.{reads-all, flags-expedited, flags-more}
 use Rattle.xti_streams.proofs.Effects.{receives}
 use Rattle.xti_streams.proofs.EffectsByWay.{EffectFor, EffectOf, by-effect, on-it, view-is, own-view, own-peer}

@@ -14,7 +14,7 @@ use Rattle.xti_model.specs.Streams.{Connection, is_over, taken_after, got_by}
 use Rattle.xti_streams.specs.Laws.{is_release_receipt}
 use Rattle.xti_streams.proofs.Invariant.{View, HasView}
 use Rattle.xti_requests.specs.Requests.{is_connected}
-use Rattle.xti_requests.proofs.Ways.{is_denial}
+use Rattle.xti_requests.proofs.StepWays.{is_denial}
 use Rattle.xti_requests.specs.Requests.{is_connected}
 
 pub denial-takes : (r : Reply) → is_denial r ≡ true → taken_after (Done r) ≡ None

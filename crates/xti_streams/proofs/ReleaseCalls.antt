@@ -20,11 +20,11 @@ use Rattle.xti_model.specs.History.{Going}
 use Rattle.xti_model.specs.Streams.{Connection, is_over, sent_by, sending_of, taken_after}
 use Rattle.xti_model.specs.Calls.Release as Release
 use Rattle.xti_model.specs.Calls.Disconnect as Disconnect
-use Rattle.xti_laws.proofs.View.{changed-append}
+use Rattle.xti_laws.proofs.ChangedEndpoints.{changed-append}
 use Rattle.xti_streams.specs.Laws.{is_release_receipt}
 use Rattle.xti_streams.proofs.Invariant.{view, HasView}
-use Rattle.xti_requests.proofs.Ways.{not-both, never-loses}
-use Rattle.xti_laws.proofs.Rows.{un-not}
+use Rattle.xti_requests.proofs.StepWays.{not-both, never-loses}
+use Rattle.xti_laws.proofs.ClearedRows.{un-not}
 use Rattle.xti_streams.proofs.Effects.{sends_release, sends_last, gets_release, gets_last, PeerBecomes, with_release}
 use Rattle.xti_streams.proofs.EffectsByWay.{EffectFor, EffectOf, transfers-nothing, by-effect, on-it, view-is, own-view, own-peer, Ended, own-ended, linked-gets, linked-leaves}
 use Rattle.xti_streams.proofs.ReceiveCalls.{LiveEndpoint}

@@ -15,7 +15,7 @@ use Rattle.xti_model.specs.Robin.{begin_line, next_line, next_or, next_going, ac
 use Rattle.xti_model.proofs.Turns.{next_turn-each, robin_from-keeps}
 use Rattle.xti_model.proofs.Legality.{GoesOn, unfinished-goes_on, robin_from-legal}
 use Rattle.xti_model.specs.SentBytes.{SendsBytes, BeginsBytes, AllSendBytes, NamedSendsBytes, LinesSendBytes}
-use Rattle.xti_requests.proofs.Ways.{some-is, none-is}
+use Rattle.xti_requests.proofs.StepWays.{some-is, none-is}
 
 named-bytes : (m : Meanings) (c : NamedCall) → NamedSendsBytes c → SendsBytes (with_numbers m c)
 named-bytes m (named.TSnd fd bytes flags) h = h

@@ -24,12 +24,12 @@ use Rattle.xti_model.specs.Step.{Step, step_of, send}
 use Rattle.xti_model.specs.History.{Going}
 use Rattle.xti_model.specs.Streams.{Connection, Sending, sent_by, got_by, sending_of, taken_after, taken_before, same_kind, kind_has_ends, adds}
 use Rattle.xti_model.specs.Calls.Send as Send
-use Rattle.xti_laws.proofs.View.{changed-append}
+use Rattle.xti_laws.proofs.ChangedEndpoints.{changed-append}
 use Rattle.xti_streams.specs.Laws.{is_release_receipt}
 use Rattle.xti_streams.proofs.Invariant.{View, view, waiting_in, HasView, LiveEnd}
 use Rattle.xti_streams.proofs.NonLinking.{sent-keeps_view, mark_flow-keeps_view}
-use Rattle.xti_requests.proofs.Ways.{never-loses, none-is, some-is, not-both}
-use Rattle.xti_laws.proofs.Rows.{un-not}
+use Rattle.xti_requests.proofs.StepWays.{never-loses, none-is, some-is, not-both}
+use Rattle.xti_laws.proofs.ClearedRows.{un-not}
 use Rattle.xti_streams.proofs.Effects.{sends, changes_nothing, PeerBecomes, with_symbols, same}
 use Rattle.xti_streams.proofs.EffectsByWay.{EffectFor, EffectOf, by-effect, by-ways, on-it, view-is, update_keeps, all-keep_views, all_kept-view, linked-gets, linked-leaves}
 use Rattle.xti_streams.proofs.ReceiveCalls.{LiveEndpoint, kind-ends}

@@ -1,6 +1,6 @@
 use Rattle.std.proofs.Common.{◌≡◌, true}
-use Rattle.xti_laws.proofs.Changes.{plan-kinds}
-use Rattle.xti_laws.proofs.Kept.{after_from-kept}
+use Rattle.xti_laws.proofs.ChangeKinds.{plan-kinds}
+use Rattle.xti_laws.proofs.KeptCells.{after_from-kept}
 use Rattle.xti_laws.proofs.changes_are_named.Goals as goal
 
 pub returns-clause-kinds : goal.returns-clause-kinds

@@ -1,5 +1,5 @@
-use Rattle.xti_laws.proofs.Waiting.{blocked-as-wanted}
-use Rattle.xti_laws.proofs.Arguments.{blocked-good}
+use Rattle.xti_laws.proofs.WaitingForWants.{blocked-as-wanted}
+use Rattle.xti_laws.proofs.GoodArguments.{blocked-good}
 use Rattle.xti_laws.proofs.steps_wait_for_their_wants.Goals as goal
 
 pub returns-clause-as_wanted : goal.returns-clause-as_wanted

@@ -1,4 +1,4 @@
-use Rattle.xti_sound.proofs.Ended.{connected-linked, confirmed-linked}
+use Rattle.xti_sound.proofs.LinkedEnds.{connected-linked, confirmed-linked}
 use Rattle.xti_sound.proofs.connections_have_two_ends.Goals as goal
 
 pub returns-clause-linked : goal.returns-clause-linked

@@ -1,5 +1,5 @@
-use Rattle.xti_sound.proofs.Ends.{step-symbols}
-use Rattle.xti_sound.proofs.EndsHistories.{opening-symbols, after-symbols}
+use Rattle.xti_sound.proofs.FewEndsAfterCalls.{step-symbols}
+use Rattle.xti_sound.proofs.FewEndsHistories.{opening-symbols, after-symbols}
 use Rattle.xti_sound.proofs.few_ends_wait.Goals as goal
 
 pub returns-clause-start : goal.returns-clause-start

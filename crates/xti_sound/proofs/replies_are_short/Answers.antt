@@ -1,4 +1,4 @@
-use Rattle.xti_sound.proofs.Short.{replies-short}
+use Rattle.xti_sound.proofs.ShortReplies.{replies-short}
 use Rattle.xti_sound.proofs.replies_are_short.Goals as goal
 
 pub returns : goal.returns

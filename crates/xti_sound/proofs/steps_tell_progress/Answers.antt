@@ -1,4 +1,4 @@
-use Rattle.xti_sound.proofs.Progressing.{progress}
+use Rattle.xti_sound.proofs.ProgressOfSteps.{progress}
 use Rattle.xti_sound.proofs.steps_tell_progress.Goals as goal
 
 pub returns : goal.returns

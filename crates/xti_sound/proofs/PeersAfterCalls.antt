@@ -35,21 +35,21 @@ use Rattle.xti_model.specs.Calls.Disconnect as Disconnect
 use Rattle.xti_model.specs.Calls.Release as Release
 use Rattle.xti_model.specs.Calls.Datagrams as Datagrams
 use Rattle.xti_model.specs.Calls.Show as Show
-use Rattle.xti_laws.proofs.View.{endpoint-same, changed-append, closed-same, closed-other, switch-other}
+use Rattle.xti_laws.proofs.ChangedEndpoints.{endpoint-same, changed-append, closed-same, closed-other, switch-other}
 use Rattle.xti_requests.specs.Requests.{nobody, is_connected}
-use Rattle.xti_requests.proofs.Keeping.{append-keep}
-use Rattle.xti_requests.proofs.Ways.{some-is, none-is, not-both, flip}
+use Rattle.xti_requests.proofs.KeptEndpoints.{append-keep}
+use Rattle.xti_requests.proofs.StepWays.{some-is, none-is, not-both, flip}
 use Rattle.xti_requests.proofs.OneChange.{one_world, one-other}
 use Rattle.xti_requests.specs.Requests.{is_one_of}
 use Rattle.xti_sound.specs.Invariant.{SoundWorld}
 use Rattle.xti_sound.specs.Connections.{other_states, NamesBack, IsReleased, PeersThere}
-use Rattle.xti_sound.proofs.Rows.{Keeps, call-keeps, step-keeps}
-use Rattle.xti_laws.proofs.Rows.{Cleared, cleared}
+use Rattle.xti_sound.proofs.PassedRows.{Keeps, call-keeps, step-keeps}
+use Rattle.xti_laws.proofs.ClearedRows.{Cleared, cleared}
 use Rattle.xti_sound.proofs.States.{only}
 use Rattle.xti_sound.proofs.SendCalls.{later-effect}
-use Rattle.xti_sound.proofs.Turning.{Easy, AllMild, alike}
-use Rattle.xti_sound.proofs.Matching as M
-use Rattle.xti_sound.proofs.Answering.{AllBack, PeersBut, Stays, but-nobody, all-there, calm-peers, own-peers, soft-peers, two-peers, broken-peers, left-peers}
+use Rattle.xti_sound.proofs.MatchedNext.{Easy, AllMild, alike}
+use Rattle.xti_sound.proofs.MatchedAfterCalls as M
+use Rattle.xti_sound.proofs.PeersStayThere.{AllBack, PeersBut, Stays, but-nobody, all-there, calm-peers, own-peers, soft-peers, two-peers, broken-peers, left-peers}
 
 -- Updates that leave the peer.
 either : (b : Bool) (e x y : Endpoint) → x.peer ≡ e.peer → y.peer ≡ e.peer → (cond b x y).peer ≡ e.peer

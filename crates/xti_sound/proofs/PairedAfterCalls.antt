@@ -35,15 +35,15 @@ use Rattle.xti_model.specs.Calls.Disconnect as Disconnect
 use Rattle.xti_model.specs.Calls.Release as Release
 use Rattle.xti_model.specs.Calls.Datagrams as Datagrams
 use Rattle.xti_model.specs.Calls.Show as Show
-use Rattle.xti_laws.proofs.View.{changed-append}
+use Rattle.xti_laws.proofs.ChangedEndpoints.{changed-append}
 use Rattle.xti_requests.specs.Requests.{AskingCaller, SoundLinks}
-use Rattle.xti_requests.proofs.Keeping.{Keep, AllKeep, keeps}
-use Rattle.xti_requests.proofs.Ways.{some-is, none-is, not-both, flip}
+use Rattle.xti_requests.proofs.KeptEndpoints.{Keep, AllKeep, keeps}
+use Rattle.xti_requests.proofs.StepWays.{some-is, none-is, not-both, flip}
 use Rattle.xti_requests.proofs.OneChange.{one_world, one-same, one-other, one-cases}
 use Rattle.xti_requests.proofs.AcceptEnds.{same-prov, asks, not_resfd}
 use Rattle.xti_sound.specs.Invariant.{Paired}
-use Rattle.xti_sound.proofs.Rows.{Keeps, call-keeps, step-keeps}
-use Rattle.xti_laws.proofs.Rows.{Cleared, cleared}
+use Rattle.xti_sound.proofs.PassedRows.{Keeps, call-keeps, step-keeps}
+use Rattle.xti_laws.proofs.ClearedRows.{Cleared, cleared}
 use Rattle.xti_sound.proofs.AcrossCalls.{choice}
 
 -- the provider stays, and the peer does or is named no more

@@ -6,13 +6,13 @@ use Rattle.xti_model.specs.declared.profile.Providers.{Providers}
 use Rattle.xti_model.specs.Endpoint.{Endpoint}
 use Rattle.xti_model.specs.World.{World, Change, at_endpoint, changed, endpoint}
 use Rattle.xti_model.specs.Links.{names, if_names, at_linked, broken}
-use Rattle.xti_laws.proofs.View.{endpoint-same}
+use Rattle.xti_laws.proofs.ChangedEndpoints.{endpoint-same}
 use Rattle.xti_requests.specs.Requests.{nobody}
-use Rattle.xti_requests.proofs.Keeping.{AllKeep, keeps}
-use Rattle.xti_requests.proofs.Ways.{some-is, none-is, not-both, flip}
+use Rattle.xti_requests.proofs.KeptEndpoints.{AllKeep, keeps}
+use Rattle.xti_requests.proofs.StepWays.{some-is, none-is, not-both, flip}
 use Rattle.xti_requests.proofs.OneChange.{one_world, one-same, one-other, one-cases}
 use Rattle.xti_sound.specs.Connections.{NamesBack, IsReleased, PeersThere}
-use Rattle.xti_sound.proofs.Turning.{Kept, Was, AllMild}
+use Rattle.xti_sound.proofs.MatchedNext.{Kept, Was, AllMild}
 
 -- the same of all endpoints but those that are exempt for the moment
 abbrev pub PeersBut : Providers → World → (ℕ → Bool) → Type 0

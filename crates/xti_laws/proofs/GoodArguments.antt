@@ -23,7 +23,7 @@ use Rattle.xti_model.specs.Calls.Send as Send
 use Rattle.xti_model.specs.Calls.Receive as Receive
 use Rattle.xti_model.specs.Calls.Datagrams as Datagrams
 use Rattle.xti_laws.specs.Waiting.{BlockedHasGoodArguments}
-use Rattle.xti_laws.proofs.Blocking.{blocked-waits, open-waits, later-waits}
+use Rattle.xti_laws.proofs.BlockingRows.{blocked-waits, open-waits, later-waits}
 
 -- among rows that answer, none holds before one that waits
 two_rows : (s a t b : Bool) (x y u v : _) (rest : List Row) → is_waiting (first (refuses s x ∷ refuses a u ∷ refuses t y ∷ refuses b v ∷ rest)) ≡ true → is_none (first (refuses a u ∷ refuses b v ∷ [])) ≡ true

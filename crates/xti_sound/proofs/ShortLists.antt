@@ -7,8 +7,8 @@ use Rattle.std.specs.List.{All, count_by}
 use Rattle.xti_model.specs.Endpoint.{Indication, Disconnect, has_number, find_number, without_number}
 use Rattle.xti_model.specs.Symbols.{is_byte, bytes_waiting, rest, front, ended, piece}
 use Rattle.xti_requests.specs.Requests.{indications_with, disconnects_with}
-use Rattle.xti_requests.proofs.Ways.{some-is, none-is}
-use Rattle.xti_requests.proofs.Counting.{none-count, length-taken, count-taken, count-without}
+use Rattle.xti_requests.proofs.StepWays.{some-is, none-is}
+use Rattle.xti_requests.proofs.IndicationNumbers.{none-count, length-taken, count-taken, count-without}
 
 -- taking one out
 pub without-shorter : (n : ℕ) (xs : List Indication) → length (without_number n xs) ≤ length xs

@@ -38,12 +38,12 @@ use Rattle.xti_model.specs.Calls.Datagrams as Datagrams
 use Rattle.xti_model.specs.Calls.Show as Show
 use Rattle.xti_base.specs.declared.kinds.State.TheVariants.{T_OUTCON, T_DATAXFER, T_OUTREL, T_INREL}
 use Rattle.xti_base.specs.declared.errno.Errno.TheVariants.{TNODATA}
-use Rattle.xti_requests.proofs.Ways.{is_denial, all_deny}
+use Rattle.xti_requests.proofs.StepWays.{is_denial, all_deny}
 use Rattle.xti_sound.specs.Endpoints.{SoundEndpoint, ShortIndication, ShortDisconnect, ShortConfirmation, ShortDatagram, ShortError}
 use Rattle.xti_sound.specs.Invariant.{SoundWorld}
 use Rattle.xti_sound.proofs.CountingBindings.{few-bindings, chosen-short}
 use Rattle.xti_sound.proofs.OwnCalls.{short-address}
-use Rattle.xti_sound.proofs.Telling.{StepTells, Tells, step-tells, denied, later-told, Clear, clear, open-tells, told}
+use Rattle.xti_sound.proofs.ToldOutcomes.{StepTells, Tells, step-tells, denied, later-told, Clear, clear, open-tells, told}
 use Rattle.xti_sound.specs.Replies.{Lengths, lengths, answered_length, bound_length, lengths_of, IsShortOutcome}
 
 -- An answered option has at most four bytes of value, and so 20 in all.

@@ -26,10 +26,10 @@ use Rattle.xti_model.specs.Calls.Open as Open
 use Rattle.xti_model.specs.Calls.Connect as Connect
 use Rattle.xti_model.specs.Calls.Listen as Listen
 use Rattle.xti_model.specs.Calls.Send as Send
-use Rattle.xti_requests.proofs.Ways.{is_denial, all_deny}
+use Rattle.xti_requests.proofs.StepWays.{is_denial, all_deny}
 use Rattle.xti_sound.specs.Progress.{GoesOn, IsRequest, IsWhole, Progress}
 use Rattle.xti_model.specs.Streams.{taken_before}
-use Rattle.xti_sound.proofs.Telling.{StepTells, Tells, step-tells, denied, later-told, later-none, Clear, clear, open-tells, told}
+use Rattle.xti_sound.proofs.ToldOutcomes.{StepTells, Tells, step-tells, denied, later-told, later-none, Clear, clear, open-tells, told}
 
 whole-denial : (r : Reply) → is_denial r ≡ true → IsWhole (Done r)
 whole-denial (reply.Refused e) h = tt

@@ -15,11 +15,11 @@ use Rattle.xti_requests.proofs.Histories.{opening-none, opening-sound}
 use Rattle.xti_requests.proofs.Steps.{sound-step, bound-step}
 use Rattle.xti_requests.specs.Requests.{SoundLinks, BoundToOpen}
 use Rattle.xti_sound.specs.Invariant.{Paired}
-use Rattle.xti_sound.proofs.Pairs.{next-paired}
-use Rattle.xti_requests.proofs.Ways.{none-is}
+use Rattle.xti_sound.proofs.PairedAfterCalls.{next-paired}
+use Rattle.xti_requests.proofs.StepWays.{none-is}
 use Rattle.xti_model.specs.SentBytes.{SendsBytes, BeginsBytes, AllSendBytes}
 use Rattle.xti_sound.specs.Symbols.{SoundSymbols}
-use Rattle.xti_sound.proofs.Ends.{step-symbols}
+use Rattle.xti_sound.proofs.FewEndsAfterCalls.{step-symbols}
 
 abbrev ByteCall : Option Call → Type 0
 ByteCall None = Unit {0}

@@ -5,8 +5,8 @@ use Rattle.xti_base.specs.declared.kinds.State.TheVariants.{T_OUTCON, T_OUTREL, 
 use Rattle.xti_model.specs.declared.profile.Providers.{Providers}
 use Rattle.xti_model.specs.Endpoint.{Endpoint}
 use Rattle.xti_model.specs.World.{World, Change, changed, endpoint}
-use Rattle.xti_requests.proofs.Keeping.{AllKeep, keeps}
-use Rattle.xti_requests.proofs.Ways.{some-is, none-is, not-both, flip}
+use Rattle.xti_requests.proofs.KeptEndpoints.{AllKeep, keeps}
+use Rattle.xti_requests.proofs.StepWays.{some-is, none-is, not-both, flip}
 use Rattle.xti_requests.proofs.OneChange.{one_world, one-same, one-other, one-cases}
 use Rattle.xti_requests.specs.Requests.{is_one_of}
 use Rattle.xti_sound.specs.Invariant.{Paired}

@@ -28,13 +28,13 @@ use Rattle.xti_model.specs.Calls.Send as Send
 use Rattle.xti_model.specs.Calls.Receive as Receive
 use Rattle.xti_model.specs.Calls.Disconnect as Disconnect
 use Rattle.xti_model.specs.Calls.Release as Release
-use Rattle.xti_laws.proofs.View.{changed-append}
+use Rattle.xti_laws.proofs.ChangedEndpoints.{changed-append}
 use Rattle.xti_requests.specs.Requests.{is_connected, disconnects_with, SoundRequests, Stands, request_to, SoundLinksExcept, SoundLinks, nobody}
 use Rattle.xti_model.specs.Calls.Disconnect.{is_asked}
-use Rattle.xti_requests.proofs.Keeping.{keeps}
-use Rattle.xti_requests.proofs.Ways.{Way, takes, loses_all, is_refused, is_marked, way, some-is, not-both}
-use Rattle.xti_laws.proofs.Rows.{Cleared, cleared, un-not}
-use Rattle.xti_requests.proofs.Counting.{find-some}
+use Rattle.xti_requests.proofs.KeptEndpoints.{keeps}
+use Rattle.xti_requests.proofs.StepWays.{Way, takes, loses_all, is_refused, is_marked, way, some-is, not-both}
+use Rattle.xti_laws.proofs.ClearedRows.{Cleared, cleared, un-not}
+use Rattle.xti_requests.proofs.IndicationNumbers.{find-some}
 use Rattle.xti_requests.proofs.OneChange.{Alike, one_world, one-other, hush, removes, rests-again, just, switch-sound}
 use Rattle.xti_requests.proofs.EndpointUpdates.{Both, good-plain, asks-not, target-none, both-bound, both-unbound, both-confirmed, both-symbols, both-read, both-idle, both-released, both-after_send, both-after_receive}
 use Rattle.xti_requests.proofs.ListenerUpdates.{both-listened, both-cut, taken_out-good, out-fewer, out-rest}

@@ -13,9 +13,9 @@ use Rattle.xti_model.specs.History.{left_by}
 use Rattle.xti_model.specs.StateTable.{Move, is_in_table}
 use Rattle.xti_laws.specs.Counts.{count_after}
 use Rattle.xti_laws.specs.States.{ocnt_of, is_initialised}
-use Rattle.xti_laws.proofs.Rows.{Cleared, cleared}
+use Rattle.xti_laws.proofs.ClearedRows.{Cleared, cleared}
 use Rattle.xti_laws.proofs.TableRows.{LeadsTo}
-use Rattle.xti_laws.proofs.Steady.{Standing, standing}
+use Rattle.xti_laws.proofs.SteadyUpdates.{Standing, standing}
 use Rattle.xti_laws.proofs.Effects.{standing_in, closed, told-state, told-count, open-effect, step-effect, AllLeave, puts-first, leaves}
 
 -- the standing that an effect leads to, with its row of the table; and its count, where something else is known

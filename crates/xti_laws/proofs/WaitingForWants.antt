@@ -28,7 +28,7 @@ use Rattle.xti_model.specs.Calls.Send as Send
 use Rattle.xti_model.specs.Calls.Receive as Receive
 use Rattle.xti_model.specs.Calls.Datagrams as Datagrams
 use Rattle.xti_laws.specs.Waiting.{BlockedAsWanted}
-use Rattle.xti_laws.proofs.Blocking.{step_of-blocked, on_open-blocked, on_open-never, no_wait, same_row, later-waits, waits_at, and-false, NoWait}
+use Rattle.xti_laws.proofs.BlockingRows.{step_of-blocked, on_open-blocked, on_open-never, no_wait, same_row, later-waits, waits_at, and-false, NoWait}
 use Rattle.xti_model.specs.Calls.Open as Open
 
 -- fields that are too long don't wait, however many bytes are taken

@@ -10,7 +10,7 @@ use Rattle.xti_model.specs.World.{World, Cell, Change, cell_number, new_cell, ch
 use Rattle.xti_model.specs.Plan.{Plan, Refusal, answers, waits, loses, first}
 use Rattle.xti_model.specs.Step.{plan, step, step_by, made}
 use Rattle.xti_model.specs.History.{after_from, step_at, step_going, doing, left_by, Going}
-use Rattle.xti_laws.proofs.Changes.{plan-kinds}
+use Rattle.xti_laws.proofs.ChangeKinds.{plan-kinds}
 use Rattle.xti_laws.specs.Laws.{AllCells, Keeps}
 use Rattle.xti_laws.specs.Updates.{Kind, AllKinds, PlanKinds}
 

@@ -19,7 +19,7 @@ use Rattle.xti_model.specs.Calls.Disconnect as Disconnect
 use Rattle.xti_model.specs.Calls.Datagrams as Datagrams
 use Rattle.xti_laws.specs.States.{state_at}
 use Rattle.xti_laws.specs.Counts.{ocnt_at}
-use Rattle.xti_laws.proofs.Steady.{mark_flow-steady, sent-steady, symbols-steady}
+use Rattle.xti_laws.proofs.SteadyUpdates.{mark_flow-steady, sent-steady, symbols-steady}
 use Rattle.xti_laws.proofs.Effects.{closed, told-state, told-count, AllLeave, elsewhere, steady, in_switch, closes_elsewhere, append-leave, leaves, linked-leave, break-leave, callers-leave}
 use Rattle.xti_laws.proofs.StatesOfConnections.{bind_like-leave}
 

@@ -10,7 +10,7 @@ use Rattle.xti_model.specs.Endpoint.{Endpoint}
 use Rattle.xti_model.specs.World.{World, changed}
 use Rattle.xti_model.specs.Plan.{Plan, Row, Refusal, answers, waits, loses, first, if_open, later, later_row}
 use Rattle.xti_model.specs.Step.{Step, step_of, step_by, made}
-use Rattle.xti_requests.proofs.Ways.{none-is, is_denial, all_deny, first-denies}
+use Rattle.xti_requests.proofs.StepWays.{none-is, is_denial, all_deny, first-denies}
 
 abbrev pub StepTells : (Outcome → Type 0) → Option Step → Type 0
 StepTells O None = Unit {0}

@@ -36,14 +36,14 @@ use Rattle.xti_model.specs.Calls.Disconnect as Disconnect
 use Rattle.xti_model.specs.Calls.Release as Release
 use Rattle.xti_model.specs.Calls.Datagrams as Datagrams
 use Rattle.xti_model.specs.Calls.Show as Show
-use Rattle.xti_laws.proofs.View.{changed-append, endpoint-same, endpoint-other}
-use Rattle.xti_requests.proofs.Keeping.{AllKeep, append-keep, keeps}
+use Rattle.xti_laws.proofs.ChangedEndpoints.{changed-append, endpoint-same, endpoint-other}
+use Rattle.xti_requests.proofs.KeptEndpoints.{AllKeep, append-keep, keeps}
 use Rattle.xti_sound.specs.Invariant.{Paired}
 use Rattle.xti_model.specs.SentBytes.{AreBytes, SendsBytes}
 use Rattle.xti_sound.specs.Symbols.{FewEnds, SoundSymbols}
-use Rattle.xti_sound.proofs.Rows.{call-keeps, step-keeps}
-use Rattle.xti_laws.proofs.Rows.{cleared}
-use Rattle.xti_sound.proofs.Lists.{counted-append, counted-drop}
+use Rattle.xti_sound.proofs.PassedRows.{call-keeps, step-keeps}
+use Rattle.xti_laws.proofs.ClearedRows.{cleared}
+use Rattle.xti_sound.proofs.ShortLists.{counted-append, counted-drop}
 use Rattle.xti_sound.proofs.AcrossCalls.{KeepsAt, choice}
 use Rattle.xti_sound.proofs.SendCalls.{later-effect}
 

@@ -23,12 +23,12 @@ use Rattle.xti_model.specs.Calls.Show as Show
 use Rattle.xti_requests.specs.Requests.{SoundRequests}
 use Rattle.xti_model.specs.Calls.Disconnect.{is_asked}
 use Rattle.xti_requests.proofs.EndpointUpdates.{target-none}
-use Rattle.xti_requests.proofs.Ways.{not-both}
+use Rattle.xti_requests.proofs.StepWays.{not-both}
 use Rattle.xti_requests.proofs.ListenerUpdates.{asked-hears}
 use Rattle.xti_sound.specs.Endpoints.{SoundEndpoint, OfProvider, ShortAddress, ShortDisconnect, ShortDatagram, ShortError}
 use Rattle.xti_requests.specs.Requests.{is_one_of}
 use Rattle.xti_sound.proofs.States.{only, busy-data, busy-receiving, busy-sending}
-use Rattle.xti_sound.proofs.Lists.{cuts-few}
+use Rattle.xti_sound.proofs.ShortLists.{cuts-few}
 use Rattle.xti_sound.proofs.Updates.{not-asking, asked-alone, fit-moved, fit-idle, fit-taken_out}
 
 -- Releases.

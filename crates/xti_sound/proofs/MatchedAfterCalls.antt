@@ -36,22 +36,22 @@ use Rattle.xti_model.specs.Calls.Disconnect as Disconnect
 use Rattle.xti_model.specs.Calls.Release as Release
 use Rattle.xti_model.specs.Calls.Datagrams as Datagrams
 use Rattle.xti_model.specs.Calls.Show as Show
-use Rattle.xti_laws.proofs.View.{changed-append, endpoint-same}
+use Rattle.xti_laws.proofs.ChangedEndpoints.{changed-append, endpoint-same}
 use Rattle.xti_requests.specs.Requests.{SoundLinks, is_connected}
-use Rattle.xti_requests.proofs.Keeping.{AllKeep, append-keep, keeps}
-use Rattle.xti_requests.proofs.Ways.{some-is, none-is, not-both, flip}
+use Rattle.xti_requests.proofs.KeptEndpoints.{AllKeep, append-keep, keeps}
+use Rattle.xti_requests.proofs.StepWays.{some-is, none-is, not-both, flip}
 use Rattle.xti_requests.specs.Requests.{AskingCaller}
 use Rattle.xti_requests.proofs.OneChange.{one_world, one-other, one-cases}
 use Rattle.xti_requests.proofs.AcceptEnds.{asks, not_resfd, not_fd, responder, responder-state}
 use Rattle.xti_requests.specs.Requests.{is_one_of}
 use Rattle.xti_sound.specs.Invariant.{Paired}
 use Rattle.xti_sound.specs.Connections.{other_states, LinkedWith, Matched}
-use Rattle.xti_sound.proofs.Rows.{Keeps, call-keeps, step-keeps}
-use Rattle.xti_laws.proofs.Rows.{Cleared, cleared}
+use Rattle.xti_sound.proofs.PassedRows.{Keeps, call-keeps, step-keeps}
+use Rattle.xti_laws.proofs.ClearedRows.{Cleared, cleared}
 use Rattle.xti_sound.proofs.States.{only}
 use Rattle.xti_sound.proofs.AcrossCalls.{choice}
 use Rattle.xti_sound.proofs.SendCalls.{later-effect}
-use Rattle.xti_sound.proofs.Turning.{Like, alike, Easy, Able, Kept, Was, AllMild, kept-easy, kept-free, mild-matched, own-matched, two-matched}
+use Rattle.xti_sound.proofs.MatchedNext.{Like, alike, Easy, Able, Kept, Was, AllMild, kept-easy, kept-free, mild-matched, own-matched, two-matched}
 
 -- Updates that leave an endpoint as it was, or without a peer.
 abbrev Eased : Endpoint → Endpoint → Type 0

@@ -10,7 +10,7 @@ use Rattle.xti_model.specs.World.{World, endpoint}
 use Rattle.xti_model.specs.Links.{names, if_back, linked}
 use Rattle.xti_model.specs.Events.{is_state, sending}
 use Rattle.xti_requests.specs.Requests.{is_connected}
-use Rattle.xti_requests.proofs.Ways.{not-both}
+use Rattle.xti_requests.proofs.StepWays.{not-both}
 use Rattle.xti_requests.specs.Requests.{is_one_of}
 use Rattle.xti_sound.specs.Invariant.{SoundWorld}
 use Rattle.xti_sound.specs.Connections.{Linked, NamesBack, IsReleased}

@@ -3,7 +3,7 @@ use Rattle.std.proofs.Common.{ℕ, Bool, true, false, List, [], ◌∷◌, ◌++
 use Rattle.std.proofs.lemmas.Bool.{false≢true, eqb-true, eq-eqb}
 use Rattle.xti_model.specs.Endpoint.{Indication, Disconnect, has_number, find_number, without_number}
 use Rattle.xti_requests.specs.Requests.{indications_with, disconnects_with}
-use Rattle.xti_requests.proofs.Ways.{some-is, none-is}
+use Rattle.xti_requests.proofs.StepWays.{some-is, none-is}
 
 pub count-append : (n : ℕ) (xs ys : List Indication) → indications_with n (xs ++ ys) ≡ indications_with n xs + indications_with n ys
 count-append n [] ys = omega arith
