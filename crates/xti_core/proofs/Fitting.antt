@@ -1,14 +1,13 @@
 -- Which lent cells are fit for a step.
-use Rattle.std.proofs.Common.{◌≡◌, ℕ, ◌+◌, ◌*◌, ◌<◌, Bool, true, false, ◌||◌, cond, eqb, List, [], ◌∷◌, map, Option, Some, None, refl, sym, ap, ◌∙◌, subst, arith}
+use Rattle.std.proofs.Common.{◌≡◌, ℕ, ◌<◌, Bool, true, false, ◌||◌, cond, eqb, List, [], ◌∷◌, map, length, Option, Some, None, refl, sym, ap, ◌∙◌, subst}
 use Rattle.std.specs.Prelude.{option_map, is_some, IfSome}
 use Rattle.std.specs.List.{AllByRecursion}
 use Rattle.std.proofs.lemmas.Bool.{eq-eqb, eqb-true, false≢true}
 use Rattle.xti_base.specs.declared.kinds.Prov.{Prov}
 use Rattle.xti_base.specs.declared.kinds.Prov.TheVariants.{Ticots, Ticotsord, Ticlts, Other}
-use Rattle.xti_model.specs.declared.profile.Providers.{Providers}
 use Rattle.xti_model.specs.Endpoint.{Endpoint}
 use Rattle.xti_model.specs.Sound.{is_sound_body, Agrees}
-use Rattle.xti_model.specs.World.{Cell, cell_at, endpoint_cell, is_among, the_switch}
+use Rattle.xti_model.specs.World.{Cell, Switch, cell_at, endpoint_cell, switch_cell, switch_number, is_among, the_switch, places, descriptor}
 use Rattle.xti_registry.specs.Known.{Known}
 use Rattle.xti_end.specs.Held.{Held, cell}
 use Rattle.xti_sound.specs.Invariant.{SoundWorld}
@@ -18,23 +17,15 @@ use Rattle.xti_lent.specs.Kept.{Distinct, IsPlace}
 use Rattle.xti_lent.specs.Lending.{Lending, held_in, held_at, cell_lent, cells_by}
 use Rattle.xti_lent.specs.Fit.{IsSound, KnownTo, Agree, IsBuilt, IsOfTiclts, IsFit, place_of_held}
 use Rattle.xti_lent.proofs.Worlds.{at_number, cell_at-is}
-use Rattle.xti_lent.proofs.Lendings.{cell-is}
+use Rattle.xti_lent.proofs.Places.{place-cell}
+use Rattle.xti_lent.proofs.Lendings.{cell-is, lent-switch, switch-is}
+use Rattle.xti_lent.proofs.Open.{held-all}
+use Rattle.xti_lent.proofs.Named.{all-among}
 use Rattle.xti_core.specs.Standing.{IsLoan, is_served}
-use Rattle.xti_core.proofs.Switches.{switch-known}
-use Rattle.xti_core.proofs.Naming.{Sub, switch-sub}
-
-held-step : (P : Held → Type 0) (b : Bool) (x h : Held) (o : Option Held) → P x → (o ≡ Some h → P h) → cond b (Some x) o ≡ Some h → P h
-held-step P true x h o i j e = let s : x ≡ h = cc in subst P s i
-held-step P false x h o i j e = j e
-
--- what holds of each endpoint that is lent holds of one that is found
-pub held-all : (P : Held → Type 0) (ms : List ℕ) (hs : List Held) (n : ℕ) (h : Held) → AllByRecursion P hs → held_in ms hs n ≡ Some h → P h
-held-all P [] hs n h a e = absurd (cc)
-held-all P (m ∷ ms) [] n h a e = absurd (cc)
-held-all P (m ∷ ms) (x ∷ hs) n h a e = held-step P (eqb m n) x h (held_in ms hs n) a.0 (λ i. held-all P ms hs n h a.1 i) e
+use Rattle.xti_core.proofs.SomeCells.{Sub, switch-sub}
 
 pub held-sound : (l : Lending) (n : ℕ) (h : Held) → AllByRecursion IsSound l.held → held_at l n ≡ Some h → is_sound_body h.body ≡ true
-held-sound l n h a e = held-all IsSound l.numbers l.held n h a e
+held-sound l n h a e = held-all IsSound l.numbers l.held n h e a
 
 -- and what holds of each that is found holds of all
 held-among : (ms : List ℕ) (hs : List Held) (n : ℕ) (x : Held) → held_in ms hs n ≡ Some x → is_among ms n ≡ true
@@ -67,27 +58,21 @@ each-held P (m ∷ ms) (h ∷ hs) d e f = (f h (rw (eq-eqb m h.place (sym (ap (h
         absurd (let v = d.0 in cc)
     tail x i false j = rw j i
 
-among-place : (ms : List ℕ) (n : ℕ) → AllByRecursion IsPlace ms → is_among ms n ≡ true → n < 64
-among-place [] n a e = cc
-among-place (m ∷ ms) n a e = go (eqb m n) refl e (among-place ms n a.1)
-  where
-    go : (b : Bool) → eqb m n ≡ b → (b || is_among ms n) ≡ true → (is_among ms n ≡ true → n < 64) → n < 64
-    go true i j k = subst (λ z. z < 64) (eqb-true m n i) a.0
-    go false i j k = k j
+-- a lent endpoint has a place
+place-of : (l : Lending) (h : Held) → IsLoan l → held_at l h.place ≡ Some h → h.place < places l.providers
+place-of l h loan e = all-among (IsPlace l.providers) l.numbers h.place loan.kept.places (held-among l.numbers l.held h.place h e)
 
 -- a lent endpoint is in the cell of its place
-lent-at : (at : ℕ → Option Cell) (l : Lending) (h : Held) → Sub (cell_lent l) at → IsLoan l → held_at l h.place ≡ Some h → cell_at (cells_by at) h.place ≡ Some (at_number h.place (cell h))
+lent-at : (at : ℕ → Option Cell) (l : Lending) (h : Held) → Sub (cell_lent l) at → IsLoan l → held_at l h.place ≡ Some h → cell_at (cells_by l.providers at) h.place ≡ Some (at_number h.place (cell h))
 lent-at at l h u loan e =
-    let lt : h.place < 64 = among-place l.numbers h.place loan.kept.places (held-among l.numbers l.held h.place h e) in
+    let lt = place-of l h loan e in
     let i : cell_lent l h.place ≡ Some (cell h) = cell-is l h.place h lt e in
     let j : at h.place ≡ Some (cell h) = sym (u h.place (ap is_some i)) ∙ i in
-    cell_at-is at h.place (omega (arith, lt)) ∙ ap (option_map (at_number h.place)) j
+    cell_at-is l.providers at h.place (place-cell l.providers h.place lt) ∙ ap (option_map (at_number h.place)) j
 
 -- a lent endpoint of a sound world
-held-fits : (p : Providers) (at : ℕ → Option Cell) (l : Lending) (h : Held) → SoundWorld p (cells_by at) → Sub (cell_lent l) at → IsLoan l → held_at l h.place ≡ Some h → SoundWhenLent p (the_switch p (cells_by at)) h.place (cell h)
-held-fits p at l h s u loan e =
-    let lt : h.place < 64 = among-place l.numbers h.place loan.kept.places (held-among l.numbers l.held h.place h e) in
-    lent-cell p (cells_by at) h.place (at_number h.place (cell h)) s lt (lent-at at l h u loan e)
+held-fits : (at : ℕ → Option Cell) (l : Lending) (h : Held) → SoundWorld l.providers (cells_by l.providers at) → Sub (cell_lent l) at → IsLoan l → held_at l h.place ≡ Some h → SoundWhenLent l.providers (the_switch l.providers (cells_by l.providers at)) h.place (cell h)
+held-fits at l h s u loan e = lent-cell l.providers (cells_by l.providers at) h.place (at_number h.place (cell h)) s (place-of l h loan e) (lent-at at l h u loan e)
 
 -- an open endpoint of a provider that has code is of the provider of datagrams
 of-ticlts : (prov : Prov) → is_served prov ≡ true → prov ≡ Ticlts
@@ -96,30 +81,33 @@ of-ticlts Ticotsord h = absurd (false≢true h)
 of-ticlts Ticlts h = refl
 of-ticlts Other h = absurd (false≢true h)
 
-held-built : (p : Providers) (at : ℕ → Option Cell) (l : Lending) (h : Held) → OpenProvidersPass is_served p (cells_by at) → Sub (cell_lent l) at → IsLoan l → held_at l h.place ≡ Some h → IsBuilt h
-held-built p at l h s u loan e = go h.body refl
+held-built : (at : ℕ → Option Cell) (l : Lending) (h : Held) → OpenProvidersPass is_served l.providers (cells_by l.providers at) → Sub (cell_lent l) at → IsLoan l → held_at l h.place ≡ Some h → IsBuilt h
+held-built at l h s u loan e = go h.body refl
   where
-    lt : h.place < 64
-    lt = among-place l.numbers h.place loan.kept.places (held-among l.numbers l.held h.place h e)
-
     go : (o : Option Endpoint) → h.body ≡ o → IfSome o IsOfTiclts
     go None i = tt
-    go (Some b) i = of-ticlts b.prov (s (64 * h.generation + h.place) b (cell-endpoint p (cells_by at) h.place h.generation b (at_number h.place (cell h)) lt (lent-at at l h u loan e) (ap (endpoint_cell h.generation) i)))
+    go (Some b) i = of-ticlts b.prov (s (descriptor l.providers h.generation h.place) b (cell-endpoint l.providers (cells_by l.providers at) h.place h.generation b (at_number h.place (cell h)) (place-of l h loan e) (lent-at at l h u loan e) (ap (endpoint_cell h.generation) i)))
 
-pub sounds : (p : Providers) (at : ℕ → Option Cell) (l : Lending) → SoundWorld p (cells_by at) → Sub (cell_lent l) at → IsLoan l → AllByRecursion IsSound l.held
-sounds p at l s u loan = each-held IsSound l.numbers l.held loan.kept.distinct loan.own (λ h e. (held-fits p at l h s u loan e).is_sound_alone)
+pub sounds : (at : ℕ → Option Cell) (l : Lending) → SoundWorld l.providers (cells_by l.providers at) → Sub (cell_lent l) at → IsLoan l → AllByRecursion IsSound l.held
+sounds at l s u loan = each-held IsSound l.numbers l.held loan.kept.distinct loan.own (λ h e. (held-fits at l h s u loan e).is_sound_alone)
+
+table-there : (l : Lending) (k : Known) → l.registry ≡ Some k → is_some (cell_lent l (switch_number l.providers)) ≡ true
+table-there l k i = ap is_some (lent-switch l ∙ ap (option_map (λ (k : Known). switch_cell k.switch)) i)
 
 -- lent cells of a sound world are fit
-pub fits : (at : ℕ → Option Cell) (l : Lending) → SoundWorld l.providers (cells_by at) → OpenProvidersPass is_served l.providers (cells_by at) → Sub (cell_lent l) at → IsLoan l → IsFit l
+pub fits : (at : ℕ → Option Cell) (l : Lending) → SoundWorld l.providers (cells_by l.providers at) → OpenProvidersPass is_served l.providers (cells_by l.providers at) → Sub (cell_lent l) at → IsLoan l → IsFit l
 fits at l s q u loan = record {
   places = loan.own;
-  sound = sounds l.providers at l s u loan;
+  sound = sounds at l s u loan;
   agree = agree l.registry refl;
-  built = each-held IsBuilt l.numbers l.held loan.kept.distinct loan.own (λ h e. held-built l.providers at l h q u loan e);
+  built = each-held IsBuilt l.numbers l.held loan.kept.distinct loan.own (λ h e. held-built at l h q u loan e);
 }
   where
     agree : (o : Option Known) → l.registry ≡ o → Agree l.providers o l.held
     agree None i = tt
     agree (Some k) i =
-        let t : the_switch l.providers (cells_by at) ≡ k.switch = sym (switch-sub l.providers (cell_lent l) at u (rw i refl)) ∙ switch-known l.providers l k i in
-        each-held (KnownTo l.providers k.switch) l.numbers l.held loan.kept.distinct loan.own (λ h e. subst (λ z. Agrees l.providers z h.place h.generation h.body) t (held-fits l.providers at l h s u loan e).switch_agrees)
+        let t : the_switch l.providers (cells_by l.providers at) ≡ k.switch = sym (switch-sub l.providers (cell_lent l) at u (table-there l k i)) ∙ switch-is l k i in
+        record {
+          places_known = subst (λ (z : Switch). length z.places ≡ places l.providers) t s.registered.agreement.places_known;
+          each_agrees = each-held (KnownTo l.providers k.switch) l.numbers l.held loan.kept.distinct loan.own (λ h e. subst (λ z. Agrees l.providers z h.place h.generation h.body) t (held-fits at l h s u loan e).switch_agrees);
+        }

@@ -1,25 +1,23 @@
 -- Cells in rising order, put together.
-use Rattle.std.proofs.Common.{ℕ, suc, Bool, true, false, ◌||◌, ◌&&◌, ◌≡◌, refl, sym, ap, ◌∙◌, List, [], ◌∷◌, ◌++◌, length, map, ◌≤◌, ◌+◌, Option, Some, None, arith, ◌⊎◌, inl, inr, length-append, append_assoc}
-use Rattle.std.specs.Prelude.{nat_le, is_none, is_some, option_map, option_to_list, ◌==◌}
+use Rattle.std.proofs.Common.{ℕ, suc, cond, Bool, true, false, ◌||◌, ◌&&◌, ◌≡◌, refl, sym, ap, ◌∙◌, List, [], ◌∷◌, ◌++◌, length, map, ◌≤◌, ◌+◌, Option, Some, None, arith, ◌⊎◌, inl, inr, length-append, append_assoc}
+use Rattle.std.specs.Prelude.{nat_le, nat_lt, is_none, is_some, option_map, option_to_list, ◌==◌}
 use Rattle.std.proofs.lemmas.Bool.Decides.{nat_tests}
 use Rattle.std.proofs.lemmas.List.{append-nil}
 use Rattle.xti_model.specs.declared.profile.Providers.{Providers}
 use Rattle.xti_model.specs.Endpoint.{Endpoint, Indication, Target, address_of}
-use Rattle.xti_model.specs.World.{World, place_of, the_switch}
-use Rattle.xti_model.specs.Cells.{listed}
+use Rattle.xti_model.specs.World.{World, place_of, generation_of, switch_number, the_switch}
+use Rattle.xti_model.specs.Cells.{listed, with_number}
 use Rattle.xti_model.specs.Switch.{bound}
 use Rattle.xti_base.specs.declared.kinds.Prov.{Prov}
 use Rattle.xti_model.specs.Sound.{is_sound_body, is_only_asked, requests}
 use Rattle.xti_model.specs.Touched.{of_some, cell_of, peer_cell, target_cell, caller_cells, marked_cells, cells_to}
-use Rattle.xti_end.specs.Held.{Held, parts, is_open, mark_at, parts_of, is_open_as, descriptor_of, peer_at, target_at}
-use Rattle.xti_model.proofs.Rising.{listed-more, length-listed}
-
-pub listed-none : [] ≡ listed []
-unfolding listed
-listed-none = refl
+use Rattle.xti_end.specs.Held.{Held, parts, is_open, mark_at, parts_of, is_open_as, peer_at, target_at}
+use Rattle.xti_model.proofs.RisingNumbers.{listed-one, length-listed}
+use Rattle.xti_lent.specs.Lending.{Lending}
+use Rattle.xti_core.specs.Touches.{known, with_switch}
 
 -- the cells that an endpoint knows
-pub known-is : (p : Providers) (body : Option Endpoint) → cell_of p (peer_at body) ++ (cell_of p (target_at body) ++ of_some body (caller_cells p)) ≡ of_some body (λ e. peer_cell p e ++ target_cell p e ++ caller_cells p e)
+pub known-is : (p : Providers) (body : Option Endpoint) → cell_of p (peer_at body) ++ (cell_of p (target_at body) ++ of_some body (caller_cells p)) ≡ of_some body (known p)
 known-is p None = refl
 known-is p (Some e) = sym (append_assoc (peer_cell p e) (target_cell p e) (caller_cells p e))
 
@@ -77,7 +75,7 @@ either false b c h = inr (and-parts b c h)
 sum-few : (xs ys zs : List ℕ) → length xs + length ys + length zs ≤ 9 → length (xs ++ ys ++ zs) ≤ 9
 sum-few xs ys zs h = omega (arith, length-append (xs ++ ys) zs, length-append xs ys)
 
-pub known-few : (p : Providers) (body : Option Endpoint) → is_sound_body body ≡ true → length (of_some body (λ e. peer_cell p e ++ target_cell p e ++ caller_cells p e)) ≤ 9
+pub known-few : (p : Providers) (body : Option Endpoint) → is_sound_body body ≡ true → length (of_some body (known p)) ≤ 9
 known-few p None h = omega arith
 known-few p (Some e) h = go (either (requests e == 0) (is_none e.peer) (is_none e.target) (asked-parts e h).2)
   where
@@ -94,22 +92,31 @@ pub listed-few : (ns cells : List ℕ) (k : ℕ) → cells ≡ listed ns → len
 listed-few ns cells k e h = let l = length-listed ns in let m = ap length e in omega (arith, l, m)
 
 -- one more cell
-pub one-more : (n : ℕ) (cells ns : List ℕ) → cells ≡ listed ns → listed (n ∷ cells) ≡ listed (n ∷ ns)
-one-more n cells ns e = ap (λ ms. listed (n ∷ ms)) e ∙ listed-more n ns
+pub one-more : (n : ℕ) (cells ns : List ℕ) → cells ≡ listed ns → with_number n cells ≡ listed (n ∷ ns)
+one-more n cells ns e = ap (with_number n) e ∙ sym (listed-one n ns)
+
+pub few-with : (n : ℕ) (cells : List ℕ) → length (with_number n cells) ≤ length cells + 1
+few-with n [] = omega arith
+few-with n (m ∷ ms) = go (nat_lt n m) (n == m) (few-with n ms)
+  where
+    go : (b c : Bool) → length (with_number n ms) ≤ length ms + 1 → length (cond b (n ∷ m ∷ ms) (cond c (m ∷ ms) (m ∷ with_number n ms))) ≤ length (m ∷ ms) + 1
+    go true c i = omega arith
+    go false true i = omega arith
+    go false false i = omega (arith, i)
 
 -- a cell that is named, before no others
 pub put-none : (cells : List ℕ) (n m : Option ℕ) → cells ≡ listed (option_to_list n ++ []) → n ≡ m → cells ≡ listed (option_to_list m)
 put-none cells n m e h = e ∙ (ap listed (append-nil (option_to_list n)) ∙ ap (λ o. listed (option_to_list o)) h)
 
 pub named-cells : (p : Providers) (body : Option Endpoint) (peer listener : Option ℕ) (n m : Option ℕ) → option_to_list n ≡ cell_of p peer → peer ≡ peer_at body → option_to_list m ≡ cell_of p listener → listener ≡ target_at body
-    → option_to_list n ++ (option_to_list m ++ of_some body (caller_cells p)) ≡ of_some body (λ e. peer_cell p e ++ target_cell p e ++ caller_cells p e)
+    → option_to_list n ++ (option_to_list m ++ of_some body (caller_cells p)) ≡ of_some body (known p)
 named-cells p body peer listener n m h i j k =
     ap (λ xs. xs ++ (option_to_list m ++ of_some body (caller_cells p))) (h ∙ ap (cell_of p) i) ∙
     (ap (λ xs. cell_of p (peer_at body) ++ (xs ++ of_some body (caller_cells p))) (j ∙ ap (cell_of p) k) ∙ known-is p body)
 
 -- an open endpoint's parts are its body
-pub body-is : (h : Held) (fd : ℕ) → is_open_as fd h ≡ true → h.body ≡ Some (parts h)
-body-is h fd e = go h.body (and-parts (is_some h.body) (fd == descriptor_of h) e).0
+pub body-is : (p : Providers) (h : Held) (fd : ℕ) → is_open_as p fd h ≡ true → h.body ≡ Some (parts h)
+body-is p h fd e = go h.body (and-parts (is_some h.body) _ (and-parts (is_some h.body && (h.generation == generation_of p fd)) _ e).0).0
   where
     go : (o : Option Endpoint) → is_some o ≡ true → o ≡ Some (parts_of o)
     go None i = cc
@@ -123,10 +130,10 @@ mark-parts h e = go h.body e
     go None i = cc
     go (Some x) i = refl
 
-pub marked-put : (p : Providers) (w : World) (e : Endpoint) (address bytes : List ℕ) (prov : Prov) (cells : List ℕ) (n r : Option ℕ) → cells ≡ listed (64 ∷ (option_to_list n ++ [])) → option_to_list n ≡ cell_of p r → r ≡ bound (the_switch p w) prov bytes
+pub marked-put : (p : Providers) (w : World) (e : Endpoint) (address bytes : List ℕ) (prov : Prov) (cells : List ℕ) (n r : Option ℕ) → cells ≡ listed (switch_number p ∷ (option_to_list n ++ [])) → option_to_list n ≡ cell_of p r → r ≡ bound (the_switch p w) prov bytes
     → prov ≡ e.prov → bytes ≡ address → Some address ≡ e.flow_datagram → cells ≡ listed (marked_cells p w e)
 marked-put p w e address bytes prov cells n r h i j k l m =
-    h ∙ (ap (λ xs. listed (64 ∷ xs)) (append-nil (option_to_list n) ∙ (i ∙ ap (cell_of p) (j ∙ (ap (λ z. bound (the_switch p w) z bytes) k ∙ ap (bound (the_switch p w) e.prov) l)))) ∙ ap (λ o. listed (cells_to p w e o)) m)
+    h ∙ (ap (λ xs. listed (switch_number p ∷ xs)) (append-nil (option_to_list n) ∙ (i ∙ ap (cell_of p) (j ∙ (ap (λ z. bound (the_switch p w) z bytes) k ∙ ap (bound (the_switch p w) e.prov) l)))) ∙ ap (λ o. listed (cells_to p w e o)) m)
 
 pub unmarked-put : (p : Providers) (w : World) (e : Endpoint) (cells : List ℕ) → cells ≡ listed [] → None ≡ e.flow_datagram → cells ≡ listed (marked_cells p w e)
 unmarked-put p w e cells h m = h ∙ ap (λ o. listed (cells_to p w e o)) m
@@ -139,5 +146,5 @@ looking-put p w fd m o h cells n peer i j k l q r =
     (ap (λ xs. listed (place_of p fd ∷ (xs ++ marked_cells p w (parts h)))) (k ∙ ap (cell_of p) (l ∙ ap peer_at q)) ∙ ap (λ x. listed (place_of p fd ∷ of_some x (λ e. peer_cell p e ++ marked_cells p w e))) r))
 
 -- the cells of a send
-pub sending-put : (m : ℕ) (ns cells : List ℕ) (n : Option ℕ) → cells ≡ listed (m ∷ 64 ∷ (option_to_list n ++ [])) → option_to_list n ≡ ns → cells ≡ listed (m ∷ 64 ∷ ns)
-sending-put m ns cells n h i = h ∙ ap (λ xs. listed (m ∷ 64 ∷ xs)) (append-nil (option_to_list n) ∙ i)
+pub sending-put : (l : Lending) (fd : ℕ) (ns cells : List ℕ) (n : Option ℕ) → cells ≡ with_switch l fd (option_to_list n ++ []) → option_to_list n ≡ ns → cells ≡ with_switch l fd ns
+sending-put l fd ns cells n h i = h ∙ ap (with_switch l fd) (append-nil (option_to_list n) ∙ i)

@@ -1,12 +1,11 @@
 //! One step over lent cells.
 
-ghost use Rattle.std.specs.Prelude.{◌≡◌, true, false, None, IfOk, IsOk, OnErr};
-ghost use Rattle.xti_model.specs.Memory.{may_run_out};
-ghost use Rattle.xti_model.specs.Step.{step};
+ghost use Rattle.std.specs.Prelude.{◌≡◌, true, IfOk, OnErr};
 ghost use Rattle.xti_model.specs.World.{place_of};
 ghost use Rattle.xti_model.specs.Built.{is_built};
 ghost use Rattle.xti_model.specs.Touched.{touched};
-ghost use Rattle.xti_end.specs.Taken.{taken, IsAt};
+ghost use Rattle.xti_end.specs.Taken.{IsAt};
+ghost use Rattle.xti_lent.specs.Answers.{AnswersCall, IsSureOf, StaysBlocked};
 ghost use Rattle.xti_lent.specs.Lending.{cells, is_lent};
 ghost use Rattle.xti_lent.specs.Fit.{AllLent, AtOwnPlaces, IsFit, SameCells};
 
@@ -14,7 +13,7 @@ use crate::looking::look;
 use std::alloc::AllocError;
 use xti_base::Fd;
 use xti_dgram::dgram_step;
-use xti_lent::{Lent, place_of};
+use xti_lent::Lent;
 use xti_model::{Applied, Call, Go};
 use xti_switch::switch_step;
 
@@ -23,14 +22,14 @@ pub(crate) fn local(lent: &mut Lent, call: &Call, fd: Fd, _go: Go) -> Result<App
     requires at { IsAt lent.old.providers (place_of lent.old.providers fd.0) call.now }
     requires places { AtOwnPlaces lent.old }
     requires lent { is_lent lent.old (place_of lent.old.providers fd.0) ≡ true }
-    ensures step { IfOk result (λ a. taken a (cells lent.new) ≡ step lent.old.providers (cells lent.old) call.now _go) }
-    ensures still { IfOk result (λ a. taken a (cells lent.new) ≡ None → lent.new ≡ lent.old) }
+    ensures step { IfOk result (AnswersCall call.now _go lent.old lent.new) }
+    ensures still { IfOk result (StaysBlocked lent.old lent.new) }
     ensures kept { SameCells lent.old lent.new }
     ensures err { OnErr result (lent.new ≡ lent.old) }
-    ensures sure { may_run_out lent.old.providers (cells lent.old) call.now _go ≡ false → IsOk result }
+    ensures sure { IsSureOf call.now _go lent.old result }
 {
     let p = *lent.providers();
-    let e = lent.endpoint(place_of(fd));
+    let e = lent.endpoint(p.place_of(fd));
     e.local(call, _go, &p)
 }
 
@@ -40,11 +39,11 @@ pub fn apply(lent: &mut Lent, call: &Call, _go: Go) -> Result<Applied, AllocErro
     requires built { is_built call.now ≡ true }
     requires fit { IsFit lent.old }
     requires lent { AllLent lent.old (touched lent.old.providers (cells lent.old) call.now) }
-    ensures step { IfOk result (λ a. taken a (cells lent.new) ≡ step lent.old.providers (cells lent.old) call.now _go) }
-    ensures still { IfOk result (λ a. taken a (cells lent.new) ≡ None → lent.new ≡ lent.old) }
+    ensures step { IfOk result (AnswersCall call.now _go lent.old lent.new) }
+    ensures still { IfOk result (StaysBlocked lent.old lent.new) }
     ensures kept { SameCells lent.old lent.new }
     ensures err { OnErr result (lent.new ≡ lent.old) }
-    ensures sure { may_run_out lent.old.providers (cells lent.old) call.now _go ≡ false → IsOk result }
+    ensures sure { IsSureOf call.now _go lent.old result }
 {
     match call {
         Call::TRcvUData { fd, .. }

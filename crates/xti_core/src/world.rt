@@ -16,9 +16,6 @@ use xti_lent::Lent;
 use xti_model::{Applied, Call, Go, Providers};
 use xti_registry::Registry;
 
-/// How many places there are.
-const PLACES: u32 = 64;
-
 /// All cells, for one thread: contracts see the providers, and the cells by rising number.
 #[derive(Drop)]
 pub struct World {
@@ -45,7 +42,7 @@ impl World {
     {
         let registry = Registry::fresh(alloc, p)?;
         let mut lent = Lent::new(alloc, p);
-        for place in 0..PLACES {
+        for place in 0..p.places() {
             lent.lend(place, Endpoint::closed(alloc, place));
         }
         lent.lend_registry(registry);

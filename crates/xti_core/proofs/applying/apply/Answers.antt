@@ -1,6 +1,6 @@
-use Rattle.std.proofs.Common.{◌≡◌, Some, refl, ap, inl, inr}
+use Rattle.std.proofs.Common.{◌≡◌, Some, ap, inl, inr}
 use Rattle.xti_model.specs.Touched.{fd_of}
-use Rattle.xti_core.proofs.Lending.{own-lent}
+use Rattle.xti_core.proofs.AllLent.{own-lent}
 use Rattle.xti_core.proofs.applying.apply.Goals as goal
 
 pub local-requires-clause-lent : goal.local-requires-clause-lent
@@ -22,4 +22,4 @@ local-requires-clause-lent c =
         ]
       ]
     ] in
-    own-lent c.args.lent.now.providers c.args.lent.now c.args.call.now _ c.in-TRcvUData.fd.0 refl f c.requires.lent
+    own-lent c.args.lent.now c.args.call.now c.in-TRcvUData.fd.0 f c.requires.lent

@@ -1,9 +1,9 @@
-use Rattle.std.proofs.Common.{◌∙◌, sym}
-use Rattle.xti_core.proofs.Switches.{switch-known, switch-gone}
+use Rattle.std.proofs.Common.{sym, refl}
+use Rattle.xti_lent.proofs.Lendings.{switch-is, switch-not-lent}
 use Rattle.xti_core.proofs.touching.bound.Goals as goal
 
-pub returns-then-has : goal.returns-then-has
-returns-then-has c = rw (switch-known c.args.lent.now.providers c.args.lent.now c.registry_ref.result.now (sym c.registry_ref.ensures)) c.bound.ensures
+pub returns-in_err-registry : goal.returns-in_err-registry
+returns-in_err-registry c = rw (c.from_residual.ensures, switch-not-lent c.args.lent.now (sym c.in_err-registry.ensures)) refl
 
-pub returns-else-has : goal.returns-else-has
-returns-else-has c = rw (switch-gone c.args.lent.now.providers c.args.lent.now (sym c.has.ensures ∙ c.if-has.false))
+pub returns : goal.returns
+returns c = rw (switch-is c.args.lent.now c.in_ok-registry.registry.now (sym c.in_ok-registry.ensures)) c.bound.ensures

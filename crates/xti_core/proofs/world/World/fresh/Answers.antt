@@ -1,8 +1,8 @@
 use Rattle.std.proofs.Common.{◌≡◌, ◌∙◌, ◌∷◌, [], ◌++◌, length, length-append, sym, subst, ap, arith}
 use Rattle.xti_model.specs.Robin.{numbers}
-use Rattle.xti_model.specs.World.{opening}
+use Rattle.xti_model.specs.World.{opening, places}
 use Rattle.xti_lent.specs.Lending.{Lending, cells}
-use Rattle.xti_core.proofs.Beginning.{UnusedFrom, AllClosed, numbers-push, numbers-length, next-apart, unused-push, opens, stands-first, same-standing}
+use Rattle.xti_core.proofs.OpeningWorld.{UnusedFrom, AllClosed, numbers-push, numbers-length, next-apart, unused-push, opens, stands-first, same-standing}
 use Rattle.xti_core.proofs.world.World.fresh.Goals as goal
 
 pub lend-requires-clause-apart : goal.lend-requires-clause-apart
@@ -25,7 +25,7 @@ loop-place-preserved c =
 
 pub invariant_of-result : goal.invariant_of-result
 invariant_of-result c =
-    let e : c.loop-place.place ≡ 64 = omega (arith, c.loop-place-test.false, c.loop-place.auto.place-end) in
+    let e : c.loop-place.place ≡ places c.args.p.now = omega (arith, c.loop-place-test.false, c.loop-place.auto.place-end) in
     let h : c.lend_registry.new.self.held ≡ c.loop-place.lent.held = ap (λ (l : Lending). l.held) c.lend_registry.ensures in
     let a : AllClosed c.args.p.now c.in_ok-registry.registry c.lend_registry.new.self = record {
       providers = ap (λ (l : Lending). l.providers) c.lend_registry.ensures ∙ (c.loop-place.invariant.providers ∙ ap (λ (l : Lending). l.providers) c.new-lent.ensures);
@@ -39,7 +39,7 @@ invariant_of-result c =
 
 pub returns : goal.returns
 returns c =
-    let e : c.loop-place.place ≡ 64 = omega (arith, c.loop-place-test.false, c.loop-place.auto.place-end) in
+    let e : c.loop-place.place ≡ places c.args.p.now = omega (arith, c.loop-place-test.false, c.loop-place.auto.place-end) in
     let h : c.lend_registry.new.self.held ≡ c.loop-place.lent.held = ap (λ (l : Lending). l.held) c.lend_registry.ensures in
     let a : AllClosed c.args.p.now c.in_ok-registry.registry c.lend_registry.new.self = record {
       providers = ap (λ (l : Lending). l.providers) c.lend_registry.ensures ∙ (c.loop-place.invariant.providers ∙ ap (λ (l : Lending). l.providers) c.new-lent.ensures);

@@ -1,6 +1,6 @@
 use Rattle.std.proofs.Common.{◌≡◌, length, None}
 use Rattle.xti_model.specs.Robin.{numbers}
-use Rattle.xti_core.proofs.Beginning.{UnusedFrom}
+use Rattle.xti_core.proofs.OpeningWorld.{UnusedFrom}
 use Rattle.xti_core.proofs.world.World.fresh.Given as goal
 
 abbrev pub invariant-loop-place : goal.invariant-loop-place

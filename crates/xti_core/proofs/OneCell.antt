@@ -1,6 +1,6 @@
 -- A step on the lent cell of its descriptor alone is the step on all lent cells.
-use Rattle.std.proofs.Common.{◌≡◌, ℕ, zero, suc, ◌+◌, ◌<◌, ◌≤◌, Bool, true, false, cond, eqb, List, [], ◌∷◌, Option, Some, None, refl, sym, ap, ◌∙◌, subst, arith}
-use Rattle.std.specs.Prelude.{map, option_map, ◌&&◌, Result, Ok, Err, IfOk, OnErr}
+use Rattle.std.proofs.Common.{◌≡◌, ℕ, zero, suc, ◌+◌, ◌<◌, ◌≤◌, Bool, true, false, cond, eqb, [], ◌∷◌, Option, Some, None, refl, sym, ap, ◌∙◌, subst, arith}
+use Rattle.std.specs.Prelude.{option_map, ◌&&◌, Result, Ok, Err, IfOk, OnErr}
 use Rattle.std.proofs.lemmas.Bool.{ne_eqb, eq-eqb, eqb-true}
 use Rattle.std.proofs.lemmas.Bool.Decides.{nat_tests}
 use Rattle.xti_model.specs.declared.call.Call.{Call}
@@ -8,7 +8,7 @@ use Rattle.xti_model.specs.declared.call.Call.TheVariants as call
 use Rattle.xti_model.specs.declared.entry.Go.{Go}
 use Rattle.xti_model.specs.declared.entry.Applied.{Applied}
 use Rattle.xti_model.specs.declared.profile.Providers.{Providers}
-use Rattle.xti_model.specs.World.{World, Cell, switch_cell, is_among, only, place_of}
+use Rattle.xti_model.specs.World.{World, Cell, switch_cell, switch_number, is_among, only, place_of, places}
 use Rattle.xti_model.specs.Memory.{takes_memory, may_run_out}
 use Rattle.xti_model.specs.Plan.{Plan, Refusal, first, has_effect}
 use Rattle.xti_model.specs.Step.{plan, step, first_refusal}
@@ -20,10 +20,12 @@ use Rattle.xti_laws.specs.Laws.{Within}
 use Rattle.xti_laws.proofs.Local.{plan-local, step-local}
 use Rattle.xti_laws.proofs.Others.{step-others}
 use Rattle.xti_laws.proofs.TableWalk.{told-fd}
-use Rattle.xti_lent.specs.Lending.{Lending, held_in, held_at, put_in, with_held, cell_lent, cells, cells_by}
-use Rattle.xti_lent.specs.Fit.{AtOwnPlaces, SameCells, place_of_held}
+use Rattle.xti_lent.specs.Lending.{Lending, held_at, with_held, cell_lent, cells, cells_by}
+use Rattle.xti_lent.specs.Fit.{AtOwnPlaces, SameCells}
 use Rattle.xti_lent.proofs.Worlds.{from_number}
+use Rattle.xti_lent.proofs.Places.{place-cell}
 use Rattle.xti_lent.proofs.Lendings.{cell-is, put-same, put-other}
+use Rattle.xti_lent.proofs.Written.{written-same, own-kept}
 use Rattle.xti_lent.proofs.Open.{own-place}
 use Rattle.xti_core.proofs.Settling.{kept_by, only-is, settled}
 
@@ -63,53 +65,30 @@ one-from at from (suc k) n c le lt e h = go (eqb n from) refl (λ ne. one-from a
         let ne : from + 1 ≤ n = grind (arith, nat_tests) in
         rw (h from i) (later ne)
 
-one-kept : (at : ℕ → Option Cell) (n : ℕ) (c : Cell) → n < 65 → at n ≡ Some c → only (n ∷ []) (cells_by at) ≡ record { number = n; cell = c } ∷ []
+one-kept : (p : Providers) (at : ℕ → Option Cell) (n : ℕ) (c : Cell) → n < places p + 1 → at n ≡ Some c → only (n ∷ []) (cells_by p at) ≡ record { number = n; cell = c } ∷ []
 unfolding cells_by
-one-kept at n c lt e = only-is (n ∷ []) at ∙ one-from (kept_by (n ∷ []) at) 0 65 n c (omega arith) (omega arith) (rw (own n n refl) e) (λ m i. rw i refl)
+one-kept p at n c lt e = only-is p (n ∷ []) at ∙ one-from (kept_by (n ∷ []) at) 0 (places p + 1) n c (omega arith) (omega arith) (rw (own n n refl) e) (λ m i. rw i refl)
 
-pub alone-is : (l : Lending) (n : ℕ) (h : Held) → n < 64 → AtOwnPlaces l → held_at l n ≡ Some h → only (n ∷ []) (cells l) ≡ alone h
-alone-is l n h lt own e = one-kept (cell_lent l) n (cell h) (omega arith) (cell-is l n h lt e) ∙ ap (λ m. record { number = m; cell = cell h } ∷ []) (sym (own-place l.numbers l.held n h own e))
-
--- an endpoint put back at its own place
-same-places : (n : ℕ) (ms : List ℕ) (hs : List Held) (h new : Held) → held_in ms hs n ≡ Some h → new.place ≡ h.place → map place_of_held (put_in ms hs n new) ≡ map place_of_held hs
-same-places n [] hs h new e i = refl
-same-places n (m ∷ ms) [] h new e i = cc
-same-places n (m ∷ ms) (x ∷ hs) h new e i = go (eqb m n) e (same-places n ms hs h new)
-  where
-    go : (b : Bool) → cond b (Some x) (held_in ms hs n) ≡ Some h → (held_in ms hs n ≡ Some h → new.place ≡ h.place → map place_of_held (put_in ms hs n new) ≡ map place_of_held hs)
-        → map place_of_held (cond b (new ∷ hs) (x ∷ put_in ms hs n new)) ≡ x.place ∷ map place_of_held hs
-    go true j k = let s : x ≡ h = cc in ap (λ z. z ∷ map place_of_held hs) (i ∙ ap place_of_held (sym s))
-    go false j k = ap (λ z. x.place ∷ z) (k j i)
-
--- the same endpoint put back
-put-back : (n : ℕ) (ms : List ℕ) (hs : List Held) (h : Held) → held_in ms hs n ≡ Some h → put_in ms hs n h ≡ hs
-put-back n [] hs h e = refl
-put-back n (m ∷ ms) [] h e = cc
-put-back n (m ∷ ms) (x ∷ hs) h e = go (eqb m n) e (put-back n ms hs h)
-  where
-    go : (b : Bool) → cond b (Some x) (held_in ms hs n) ≡ Some h → (held_in ms hs n ≡ Some h → put_in ms hs n h ≡ hs) → cond b (h ∷ hs) (x ∷ put_in ms hs n h) ≡ x ∷ hs
-    go true j k = let s : x ≡ h = cc in ap (λ z. z ∷ hs) (sym s)
-    go false j k = ap (λ z. x ∷ z) (k j)
-
-pub same-back : (l : Lending) (n : ℕ) (h new : Held) → held_at l n ≡ Some h → new ≡ h → with_held l n new ≡ l
-same-back l n h new e i = ap (λ hs. record l { held = hs }) (ap (put_in l.numbers l.held n) i ∙ put-back n l.numbers l.held h e)
+pub alone-is : (l : Lending) (n : ℕ) (h : Held) → n < places l.providers → AtOwnPlaces l → held_at l n ≡ Some h → only (n ∷ []) (cells l) ≡ alone h
+alone-is l n h lt own e = one-kept l.providers (cell_lent l) n (cell h) (place-cell l.providers n lt) (cell-is l n h lt e) ∙ ap (λ m. record { number = m; cell = cell h } ∷ []) (sym (own-place l.numbers l.held n h own e))
 
 pub same-cells : (l : Lending) (n : ℕ) (h new : Held) → held_at l n ≡ Some h → SameRoom h new → SameCells l (with_held l n new)
-same-cells l n h new e r = record { providers = refl; numbers = refl; places = same-places n l.numbers l.held h new e r.place }
+same-cells l n h new e r = written-same l n h new e r.place
 
 not-own : (n m : ℕ) → is_among (n ∷ []) m ≡ false → eqb m n ≡ false
 not-own n m e = grind (arith, nat_tests)
 
 -- a step of one cell
-pub lifted : (p : Providers) (l : Lending) (n : ℕ) (h new : Held) (c : Call) (g : Go) (a : Applied) → n < 64 → IsAt p n c → AtOwnPlaces l → held_at l n ≡ Some h → SameRoom h new
-    → taken a (alone new) ≡ step p (alone h) c g → taken a (cells (with_held l n new)) ≡ step p (cells l) c g
-lifted p l n h new c g a lt i own e r s =
+pub lifted : (l : Lending) (n : ℕ) (h new : Held) (c : Call) (g : Go) (a : Applied) → n < places l.providers → IsAt l.providers n c → AtOwnPlaces l → held_at l n ≡ Some h → SameRoom h new
+    → taken a (alone new) ≡ step l.providers (alone h) c g → taken a (cells (with_held l n new)) ≡ step l.providers (cells l) c g
+lifted l n h new c g a lt i own e r s =
+    let p = l.providers in
     let q = reads p (cells l) n c g i in
-    let o : AtOwnPlaces (with_held l n new) = same-places n l.numbers l.held h new e r.place ∙ own in
+    let o : AtOwnPlaces (with_held l n new) = own-kept l (with_held l n new) (same-cells l n h new e r) own in
     let m : held_at (with_held l n new) n ≡ Some new = put-same n l.numbers l.held h new e in
     settled p (n ∷ []) (cell_lent l) (cell_lent (with_held l n new)) c g a
     (step-local p (n ∷ []) (cells l) c g q.named q.told) (step-others p (n ∷ []) (cells l) c g q.named)
-    (λ k b j. ap (λ z. cond (eqb k 64) (option_map (λ (k : Known). switch_cell k.switch) l.registry) (option_map cell z)) (put-other n k l.numbers l.held new (not-own n k j)))
+    (λ k b j. ap (λ z. cond (eqb k (switch_number p)) (option_map (λ (k : Known). switch_cell k.switch) l.registry) (option_map cell z)) (put-other n k l.numbers l.held new (not-own n k j)))
     (ap (taken a) (alone-is (with_held l n new) n new lt o m) ∙ (s ∙ ap (λ w. step p w c g) (sym (alone-is l n h lt own e))))
 
 takes-alike : (p : Providers) (v w : World) (n : ℕ) (c : Call) → IsAt p n c → takes_memory p v c ≡ takes_memory p w c
@@ -122,8 +101,9 @@ takes-alike p v w n (call.SetMode fd nonblock) i = refl
 takes-alike p v w n other i = absurd i
 
 -- one cell tells whether its step may run out of memory
-pub runs-out-alike : (p : Providers) (l : Lending) (n : ℕ) (h : Held) (c : Call) (g : Go) → n < 64 → IsAt p n c → AtOwnPlaces l → held_at l n ≡ Some h → may_run_out p (alone h) c g ≡ may_run_out p (cells l) c g
-runs-out-alike p l n h c g lt i own e =
+pub runs-out-alike : (l : Lending) (n : ℕ) (h : Held) (c : Call) (g : Go) → n < places l.providers → IsAt l.providers n c → AtOwnPlaces l → held_at l n ≡ Some h → may_run_out l.providers (alone h) c g ≡ may_run_out l.providers (cells l) c g
+runs-out-alike l n h c g lt i own e =
+    let p = l.providers in
     let r : first_refusal p (alone h) c g ≡ first_refusal p (cells l) c g =
     ap (λ w. first_refusal p w c g) (sym (alone-is l n h lt own e)) ∙ ap (λ (x : Plan). first x.rows) (plan-local p (n ∷ []) (cells l) c g (reads p (cells l) n c g i).named) in
     ap (λ (b : Bool). b && has_effect (first_refusal p (alone h) c g)) (takes-alike p (alone h) (cells l) n c i) ∙ ap (λ (x : Option Refusal). takes_memory p (cells l) c && has_effect x) r

@@ -8,7 +8,7 @@ use Rattle.std.proofs.lemmas.List.{append-nil}
 use Rattle.xti_model.specs.declared.profile.Providers.{Providers}
 use Rattle.xti_model.specs.Profile.{valid}
 use Rattle.xti_model.specs.Robin.{numbers}
-use Rattle.xti_model.specs.World.{World, Cell, endpoint_cell, switch_cell, closed_places, is_among, opening, opening_switch}
+use Rattle.xti_model.specs.World.{World, Cell, endpoint_cell, switch_cell, switch_number, places, closed_places, is_among, opening, opening_switch}
 use Rattle.xti_registry.specs.Known.{Known}
 use Rattle.xti_end.specs.Held.{Held, cell}
 use Rattle.xti_sound.specs.Invariant.{SoundWorld}
@@ -18,7 +18,9 @@ use Rattle.xti_sound.proofs.ProvidersStay.{opening-providers}
 use Rattle.xti_lent.specs.Kept.{Distinct, IsPlace}
 use Rattle.xti_lent.specs.Lending.{Lending, held_in, held_at, cell_lent, cells, cells_by, numbered_cell}
 use Rattle.xti_lent.specs.Fit.{place_of_held}
+use Rattle.xti_lent.proofs.Places.{not-switch}
 use Rattle.xti_lent.proofs.Worlds.{from_number}
+use Rattle.xti_lent.proofs.Lendings.{lent-switch}
 use Rattle.xti_core.specs.Standing.{Standing, IsStanding, is_served}
 
 -- the numbers of places
@@ -45,9 +47,9 @@ distinct-numbers : (from k : ℕ) → Distinct (numbers from k)
 distinct-numbers from zero = tt
 distinct-numbers from (suc k) = (before-among (from + 1) k from (omega arith), distinct-numbers (from + 1) k)
 
-place-numbers : (from k : ℕ) → from + k ≤ 64 → AllByRecursion IsPlace (numbers from k)
-place-numbers from zero le = tt
-place-numbers from (suc k) le = (omega arith, place-numbers (from + 1) k (omega arith))
+place-numbers : (p : Providers) (from k : ℕ) → from + k ≤ places p → AllByRecursion (IsPlace p) (numbers from k)
+place-numbers p from zero le = tt
+place-numbers p from (suc k) le = (omega (arith, le), place-numbers p (from + 1) k (omega (arith, le)))
 
 not-held-in : (ms : List ℕ) (hs : List Held) (n : ℕ) → is_among ms n ≡ false → held_in ms hs n ≡ None
 not-held-in [] hs n e = refl
@@ -96,18 +98,26 @@ closed-from at from (suc k) h =
 -- what is so once all closed places and a table where nothing is bound are lent
 pub record AllClosed (p : Providers) (k : Known) (l : Lending) : Type 0 where
   pub providers : l.providers ≡ p
-  pub numbered : l.numbers ≡ numbers 0 64
+  pub numbered : l.numbers ≡ numbers 0 (places p)
   pub unused : UnusedFrom 0 l.held
-  pub count : length l.held ≡ 64
+  pub count : length l.held ≡ places p
   pub registry : l.registry ≡ Some k
-  pub switch : k.switch ≡ opening_switch 64
+  pub switch : k.switch ≡ opening_switch (places p)
+
+closed-cells : (p : Providers) (k : Known) (l : Lending) → AllClosed p k l → (n : ℕ) → n < places p → cell_lent l n ≡ Some (endpoint_cell 0 None)
+closed-cells p k l a n lt =
+    let e : eqb n (switch_number l.providers) ≡ false = ap (λ (q : Providers). eqb n (switch_number q)) a.providers ∙ not-switch p n lt in
+    ap (λ b. cond b (option_map (λ (k : Known). switch_cell k.switch) l.registry) (option_map cell (held_at l n))) e ∙ (ap (λ ns. option_map cell (held_in ns l.held n)) a.numbered ∙ unused-cell 0 (places p) l.held n a.unused a.count (omega arith) (omega (arith, lt)))
+
+opened-table : (p : Providers) (k : Known) (l : Lending) → AllClosed p k l → cell_lent l (switch_number p) ≡ Some (switch_cell (opening_switch (places p)))
+opened-table p k l a = ap (λ (q : Providers). cell_lent l (switch_number q)) (sym a.providers) ∙ (lent-switch l ∙ (ap (option_map (λ (k : Known). switch_cell k.switch)) a.registry ∙ ap (λ z. Some (switch_cell z)) a.switch))
+
+all-cells : (p : Providers) (at : ℕ → Option Cell) → ((n : ℕ) → n < places p → at n ≡ Some (endpoint_cell 0 None)) → at (switch_number p) ≡ Some (switch_cell (opening_switch (places p))) → cells_by p at ≡ opening p
+unfolding cells_by opening
+all-cells p at closed table = closed-from at 0 (places p) (λ n i j. closed n j) ∙ ap (λ o. closed_places 0 (places p) ++ numbered_cell (switch_number p) o) table
 
 pub opens : (p : Providers) (k : Known) (l : Lending) → AllClosed p k l → cells l ≡ opening p
-unfolding cells_by opening
-opens p k l a = closed-from (cell_lent l) 0 64 (λ n i j. closed n j) ∙ ap (λ o. closed_places 0 64 ++ numbered_cell 64 o) (ap (option_map (λ (k : Known). switch_cell k.switch)) a.registry ∙ ap (λ z. Some (switch_cell z)) a.switch)
-  where
-    closed : (n : ℕ) → n < 64 → cell_lent l n ≡ Some (endpoint_cell 0 None)
-    closed n lt = rw (ne_eqb n 64 (λ i. omega arith), a.numbered) (unused-cell 0 64 l.held n a.unused a.count (omega arith) (omega arith))
+opens p k l a = ap (λ (q : Providers). cells_by q (cell_lent l)) a.providers ∙ all-cells p (cell_lent l) (closed-cells p k l a) (opened-table p k l a)
 
 pub stands-first : (p : Providers) (k : Known) (l : Lending) → valid p ≡ true → AllClosed p k l → IsStanding l
 stands-first p k l v a = record {
@@ -117,9 +127,9 @@ stands-first p k l v a = record {
   loan = record {
     kept = record {
       valid_providers = valid_l;
-      places = subst (λ ns. AllByRecursion IsPlace ns) (sym a.numbered) (place-numbers 0 64 (omega arith));
-      distinct = subst Distinct (sym a.numbered) (distinct-numbers 0 64);
-      paired = a.count ∙ sym (ap length a.numbered ∙ numbers-length 0 64);
+      places = subst (λ (q : Providers). AllByRecursion (IsPlace q) l.numbers) (sym a.providers) (subst (λ ns. AllByRecursion (IsPlace p) ns) (sym a.numbered) (place-numbers p 0 (places p) (omega arith)));
+      distinct = subst Distinct (sym a.numbered) (distinct-numbers 0 (places p));
+      paired = a.count ∙ sym (ap length a.numbered ∙ numbers-length 0 (places p));
     };
     own = unused-places 0 l.held a.unused ∙ (ap (numbers 0) a.count ∙ sym a.numbered);
   };

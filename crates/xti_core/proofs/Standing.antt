@@ -37,7 +37,7 @@ loan-after l m loan same =
     record {
       kept = record {
         valid_providers = ap valid same.providers ∙ loan.kept.valid_providers;
-        places = subst (λ ns. AllByRecursion IsPlace ns) (sym same.numbers) loan.kept.places;
+        places = subst (λ (p : Providers). AllByRecursion (IsPlace p) m.numbers) (sym same.providers) (subst (λ ns. AllByRecursion (IsPlace l.providers) ns) (sym same.numbers) loan.kept.places);
         distinct = subst Distinct (sym same.numbers) loan.kept.distinct;
         paired = sym (length-places m.held) ∙ ap length n;
       };

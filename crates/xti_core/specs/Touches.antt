@@ -1,0 +1,43 @@
+-- The cells of built calls, as far as lent cells tell them.
+use Rattle.std.specs.Prelude.{◌≤◌, ◌+◌, ℕ, List, ◌∷◌, ◌++◌, length, option_to_list}
+use Rattle.xti_base.specs.declared.kinds.Prov.{Prov}
+use Rattle.xti_base.specs.declared.limits.TheConstants.{MOST_TOUCHED}
+use Rattle.xti_model.specs.declared.profile.Providers.{Providers}
+use Rattle.xti_model.specs.Cells.{listed}
+use Rattle.xti_model.specs.Endpoint.{Endpoint}
+use Rattle.xti_model.specs.Switch.{opening_place}
+use Rattle.xti_model.specs.Touched.{of_open, peer_cell, target_cell, caller_cells, bound_cell, marked_cells}
+use Rattle.xti_model.specs.World.{the_switch, place_of, switch_number}
+use Rattle.xti_lent.specs.Lending.{Lending, cells}
+
+-- the other endpoints that an endpoint knows: its peer, its listener and its callers
+abbrev pub known : Providers → Endpoint → List ℕ
+known p e = peer_cell p e ++ target_cell p e ++ caller_cells p e
+
+-- whom an endpoint knows, and whom it may send to again
+abbrev pub looked_at : Lending → Endpoint → List ℕ
+looked_at l e = peer_cell l.providers e ++ marked_cells l.providers (cells l) e
+
+-- two more can be named
+abbrev pub HasRoomForTwo : List ℕ → Type 0
+HasRoomForTwo ns = length ns + 2 ≤ MOST_TOUCHED
+
+-- the cell of the descriptor, that of the switch, and others
+abbrev pub with_switch : Lending → ℕ → List ℕ → List ℕ
+with_switch l fd ns = listed (place_of l.providers fd ∷ switch_number l.providers ∷ ns)
+
+-- of t_open
+abbrev pub opening_cells : Lending → Prov → List ℕ
+opening_cells l prov = listed (switch_number l.providers ∷ option_to_list (opening_place l.providers (the_switch l.providers (cells l)) prov))
+
+-- of t_close
+abbrev pub closing_cells : Lending → ℕ → List ℕ
+closing_cells l fd = with_switch l fd (of_open l.providers (cells l) fd (known l.providers))
+
+-- whoever is bound to the address at the provider of the endpoint
+abbrev pub receiving_cell : Lending → ℕ → List ℕ → List ℕ
+receiving_cell l fd address = of_open l.providers (cells l) fd (bound_cell l.providers (cells l) address)
+
+-- of t_look
+abbrev pub looking_cells : Lending → ℕ → List ℕ
+looking_cells l fd = listed (place_of l.providers fd ∷ of_open l.providers (cells l) fd (looked_at l))
