@@ -8,6 +8,7 @@ ghost use Rattle.tpi_grammar.specs.Kinds.{row_of};
 ghost use Rattle.tpi_grammar.specs.Frame.{text, AreBytes, IsFilled, spelling, words, parts, offset, head, control_size, be};
 ghost use Rattle.tpi_prim.specs.Primitive.{filled, Spells};
 ghost use Rattle.tpi_prim.specs.Fields.{primitive_in};
+ghost use Rattle.tpi_prim.specs.declared.frames.TheConstants.{INLINE};
 ghost use Rattle.tpi_prim.specs.declared.primitive.Prim.TheVariants.{T_UNITDATA_IND, T_UDERROR_IND};
 ghost use Rattle.tpi_prim.specs.Lent.{value_of, values_of, parts_size, filled_by, front_of, HasShape, IsTooBig};
 
@@ -248,7 +249,7 @@ fn offset_of(len: u32, place: u32) -> u32
 /// Writes a word, high byte first.
 #[inline(always)]
 fn put_word(out: &mut Front, word: u32)
-    requires { array_vec_len out.old + 4 ≤ 64 }
+    requires { array_vec_len out.old + 4 ≤ INLINE }
     ensures items { out.new.items ≡ out.old.items ++ be word }
     ensures len { array_vec_len out.new ≡ array_vec_len out.old + 4 }
 {
@@ -258,7 +259,7 @@ fn put_word(out: &mut Front, word: u32)
 /// Writes the words of a field, whose part lies at this place of the control part; gives the place after that part.
 #[inline(always)]
 fn put_field(out: &mut Front, place: u32, field: &Field<'_>) -> u32
-    requires room { array_vec_len out.old + 8 ≤ 64 }
+    requires room { array_vec_len out.old + 8 ≤ INLINE }
     requires part { place + length (parts (value_of field.now)) < 2 ^ 32 }
     ensures items { out.new.items ≡ out.old.items ++ words place (value_of field.now) }
     ensures len { array_vec_len out.new ≤ array_vec_len out.old + 8 }
@@ -282,7 +283,7 @@ fn put_field(out: &mut Front, place: u32, field: &Field<'_>) -> u32
 /// Writes the words of the fields, whose parts lie from this place of the control part on.
 #[inline(always)]
 fn put_words(out: &mut Front, place: u32, fields: &[Field<'_>; 3])
-    requires room { array_vec_len out.old + 24 ≤ 64 }
+    requires room { array_vec_len out.old + 24 ≤ INLINE }
     requires parts { place + parts_size fields.now < 2 ^ 32 }
     ensures { out.new.items ≡ out.old.items ++ words place (values_of fields.now) }
 {
@@ -295,7 +296,7 @@ fn put_words(out: &mut Front, place: u32, fields: &[Field<'_>; 3])
 /// Writes bytes for which there is room.
 #[inline(always)]
 fn put_bytes(out: &mut Front, bytes: &[u8])
-    requires { array_vec_len out.old + length bytes.now ≤ 64 }
+    requires { array_vec_len out.old + length bytes.now ≤ INLINE }
     ensures items { out.new.items ≡ out.old.items ++ bytes.now }
     ensures len { array_vec_len out.new ≡ array_vec_len out.old + length bytes.now }
     ensures bytes { AreBytes bytes.now }
@@ -309,7 +310,7 @@ fn put_bytes(out: &mut Front, bytes: &[u8])
 #[inline(always)]
 #[tactic(auto, using(crate::proofs::Words::bytes_three))]
 fn put_parts(out: &mut Front, fields: &[Field<'_>; 3])
-    requires { array_vec_len out.old + parts_size fields.now ≤ 64 }
+    requires { array_vec_len out.old + parts_size fields.now ≤ INLINE }
     ensures items { out.new.items ≡ out.old.items ++ parts (values_of fields.now) }
     ensures bytes { AreBytes (parts (values_of fields.now)) }
 {

@@ -1,9 +1,7 @@
 //! Inputs that are no script, and the first line by which each is none.
 
-use crate::running::assert_replay;
-use std::alloc::{AllocError, Global};
+use crate::running::{NO_FAULTS, answer};
 use std::test::*;
-use xti_base::Octets;
 
 /// Lines, each with what is after it, that are refused after the same lines before, and the output of each replay.
 #[derive(Clone, Copy)]
@@ -13,10 +11,10 @@ struct Group {
     lines: &'static [&'static [u8]],
 }
 
-const GROUPS: [Group; 3] = [
+static GROUPS: [Group; 3] = [
     Group {
         before: b"",
-        output: "refused line 1\n",
+        output: "2 refused line 1\n",
         lines: &[
             b"",
             b"\n",
@@ -33,7 +31,7 @@ const GROUPS: [Group; 3] = [
     },
     Group {
         before: b"xti-script 1\n",
-        output: "refused line 2\n",
+        output: "2 refused line 2\n",
         lines: &[
             b"+++\n",
             b"0 open a  ticlts\n",
@@ -57,7 +55,7 @@ const GROUPS: [Group; 3] = [
             b"0 open\n",
             b"0 open a block\n",
             b"0 open a ticots\n",
-            b"0 open a tiotsord\n",
+            b"0 open a ticotsord\n",
             b"0 open a Other\n",
             b"0 open a ticlts nonblock block\n",
             b"0 open a ticlts mode=block\n",
@@ -73,7 +71,7 @@ const GROUPS: [Group; 3] = [
     },
     Group {
         before: b"xti-script 1\n0 open a ticlts\n1 open b ticlts\n",
-        output: "refused line 4\n",
+        output: "2 refused line 4\n",
         lines: &[
             b"0 open a ticlts\n",
             b"1 open a ticlts\n",
@@ -133,84 +131,14 @@ const GROUPS: [Group; 3] = [
     },
 ];
 
-/// An input with one part repeated, and the output of its replay. Where the part is within a bound, the line after it
-/// is the one that is refused.
-#[derive(Clone, Copy)]
-struct Repeated {
-    before: &'static str,
-    part: &'static str,
-    count: u32,
-    behind: &'static str,
-    output: &'static str,
-}
-
-const REPEATED: [Repeated; 5] = [
-    Repeated {
-        before: "xti-script 1\n0 open ",
-        part: "a",
-        count: 16,
-        behind: " ticlts\n#\n",
-        output: "refused line 3\n",
-    },
-    Repeated {
-        before: "xti-script 1\n0 open ",
-        part: "a",
-        count: 17,
-        behind: " ticlts\n#\n",
-        output: "refused line 2\n",
-    },
-    Repeated {
-        before: "xti-script 1\n0 open a ticlts\n0 sndudata a data=t:",
-        part: "x",
-        count: 4_194_304,
-        behind: "\n#\n",
-        output: "refused line 4\n",
-    },
-    Repeated {
-        before: "xti-script 1\n0 open a ticlts\n0 sndudata a data=t:",
-        part: "x",
-        count: 4_194_305,
-        behind: "\n#\n",
-        output: "refused line 3\n",
-    },
-    Repeated {
-        before: "xti-script 1\n0 open a ticlts nonblock\n",
-        part: "0 rcvudata a\n",
-        count: 99_999,
-        behind: "0 rcvudata a\n",
-        output: "refused line 100002\n",
-    },
-];
-
-fn with_repeats(alloc: Global, r: &Repeated) -> Result<Octets, AllocError> {
-    let mut input = Vec::from_slice(alloc, r.before.as_bytes())?;
-    for _ in 0..r.count {
-        input.extend_from_slice(r.part.as_bytes())?;
-    }
-    input.extend_from_slice(r.behind.as_bytes())?;
-    Ok(Octets::from_vec(input))
-}
-
 #[test]
 fn bad_lines(rt: HostRuntime) -> Result<(), Fail> {
     let alloc = rt.alloc();
     for group in &GROUPS {
         for line in group.lines {
-            let mut input = Vec::from_slice(alloc, group.before)?;
-            input.extend_from_slice(line)?;
-            let name = format!(in alloc; "{line:?}")?;
-            assert_replay(&rt, alloc, &name, Octets::from_vec(input), 2, group.output)?;
+            let answer = answer(&rt, alloc, "replay", &[group.before, line], NO_FAULTS)?;
+            assert_eq!(rt; answer.as_slice(), group.output.as_bytes(), "{line:?}");
         }
-    }
-    Ok(())
-}
-
-#[test]
-fn repeated_parts(rt: HostRuntime) -> Result<(), Fail> {
-    let alloc = rt.alloc();
-    for r in &REPEATED {
-        let input = with_repeats(alloc, r)?;
-        assert_replay(&rt, alloc, r.output, input, 2, r.output)?;
     }
     Ok(())
 }

@@ -1,0 +1,179 @@
+//! Frames: how much of an input is one, and reading them in pieces.
+
+use bytes::Bytes;
+use std::alloc::Global;
+use std::test::Fail;
+use tpi_grammar::{Measure, measure_frame};
+use tpi_prim::primitive::Prim;
+use tpi_prim::{FrameReader, encode};
+
+/// T_DATA_IND, MORE_flag 0, two bytes of user data.
+const DATA: &[u8] = b"\0\0\0\x08\0\0\0\x02\0\0\0\x0e\0\0\0\0hi";
+
+/// T_UNITDATA_IND from "ab", with no options and three bytes of user data.
+const DATAGRAM: &[u8] = b"\0\0\0\x16\0\0\0\x03\0\0\0\x14\0\0\0\x02\0\0\0\x14\0\0\0\0\0\0\0\0abxyz";
+
+/// An input, what is at its start, and what the case is about.
+type Case = (&'static [u8], Measure, &'static str);
+
+static MEASURES: [Case; 28] = [
+    (DATA, Measure::Whole(18), "a frame"),
+    (DATAGRAM, Measure::Whole(33), "an empty part, and user data"),
+    (
+        b"\0\0\0\x08\0\0\0\x02\0\0\0\x0e\0\0\0\0hi\xff",
+        Measure::Whole(18),
+        "a byte behind",
+    ),
+    (
+        b"\0\0\0\x04\0\0\0\0\0\0\0\x07",
+        Measure::Whole(12),
+        "nothing but a head",
+    ),
+    (
+        b"\0\0\0\x12\0\0\0\0\0\0\0\x06\0\0\0\x02\0\0\0\x10\0\0\0\x05ab",
+        Measure::Whole(26),
+        "an address",
+    ),
+    (
+        b"\0\0\0\x10\0\0\0\0\0\0\0\x12\0\0\0\x03\xff\xff\xff\xff\x80\0\0\0",
+        Measure::Whole(24),
+        "words of any value",
+    ),
+    (b"", Measure::Short, "nothing"),
+    (
+        b"\0\0\0\x08\0\x01\0\0\0\0\0\x03\0\0\0\x01",
+        Measure::Short,
+        "the most user data",
+    ),
+    (
+        b"\0\0\0\x05",
+        Measure::Bad(3),
+        "a control length of no primitive",
+    ),
+    (b"\0\0\0\x0d\0\0\0\0", Measure::Bad(3), "another one"),
+    (b"\0\0\x05", Measure::Bad(2), "a control length over 1024"),
+    (b"\0\0\x04\x01", Measure::Bad(3), "a control length of 1025"),
+    (b"\x01", Measure::Bad(0), "a control length over 16777215"),
+    (
+        b"\0\0\0\x10\0\0\0\x01",
+        Measure::Bad(7),
+        "user data where none may be",
+    ),
+    (b"\0\0\0\x10\0\x01", Measure::Bad(5), "much of it"),
+    (
+        b"\0\0\0\x04\0\0\0\x01",
+        Measure::Bad(7),
+        "user data of an orderly release",
+    ),
+    (
+        b"\0\0\0\x08\0\x01\0\x01",
+        Measure::Bad(7),
+        "a data length of 65537",
+    ),
+    (
+        b"\0\0\0\x08\0\0\0\0\0\0\0\x05",
+        Measure::Bad(11),
+        "an unknown number",
+    ),
+    (
+        b"\0\0\0\x08\0\0\0\0\0\0\0\x18",
+        Measure::Bad(11),
+        "a number over all",
+    ),
+    (
+        b"\0\0\0\x08\0\0\0\0\0\0\0\x01",
+        Measure::Bad(11),
+        "the number of a longer one",
+    ),
+    (
+        b"\0\0\0\x08\0\0\0\x01\0\0\0\x13",
+        Measure::Bad(11),
+        "user data of T_OK_ACK",
+    ),
+    (
+        b"\0\0\0\x08\0\0\0\0\0\0\0\x0e\0\0\0\x02",
+        Measure::Bad(15),
+        "MORE_flag 2",
+    ),
+    (
+        b"\0\0\0\x12\0\0\0\0\0\0\0\x06\0\0\0\x02\0\0\0\x11\0\0\0\x05ab",
+        Measure::Bad(19),
+        "a gap before the address",
+    ),
+    (
+        b"\0\0\0\x12\0\0\0\0\0\0\0\x06\0\0\0\x01",
+        Measure::Bad(15),
+        "a gap behind the address",
+    ),
+    (
+        b"\0\0\0\x16\0\0\0\0\0\0\0\x08\0\0\0\x03",
+        Measure::Bad(15),
+        "a length over what is left",
+    ),
+    (
+        b"\0\0\0\x16\0\0\0\0\0\0\0\x08\0\0\0\x01\0\0\0\x14\0\0\0\x02",
+        Measure::Bad(23),
+        "a second length over what is left",
+    ),
+    (
+        b"\0\0\0\x16\0\0\0\0\0\0\0\x08\0\0\0\x01\0\0\0\x14\0\0\0\x01\0\0\0\x14",
+        Measure::Bad(27),
+        "parts that overlap",
+    ),
+    (
+        b"\0\0\0\x14\0\0\0\0\0\0\0\x08\0\0\0\0\0\0\0\x14",
+        Measure::Bad(19),
+        "an offset of an empty part",
+    ),
+];
+
+#[test]
+fn measures(rt: HostRuntime) {
+    for (input, wanted, case) in &MEASURES {
+        assert_eq!(rt; measure_frame(input), *wanted, "{case}");
+    }
+}
+
+#[test]
+fn cut_frames_are_short(rt: HostRuntime) {
+    for length in 0..DATAGRAM.len() {
+        let (front, _) = DATAGRAM.split_at(length);
+        assert_eq!(rt; measure_frame(front), Measure::Short, "{length}");
+    }
+}
+
+/// Whether the primitive's frame is these bytes.
+fn is_frame_of(alloc: Global, prim: &Prim, bytes: &[u8]) -> bool {
+    match encode(alloc, prim) {
+        Ok(frame) => frame.bytes() == bytes,
+        Err(_) => false,
+    }
+}
+
+#[test]
+fn encodes(rt: HostRuntime) {
+    let data = Prim::T_DATA_IND {
+        more: false,
+        user: Bytes::from_static(b"hi"),
+    };
+    assert!(rt; is_frame_of(rt.alloc(), &data, DATA));
+}
+
+/// Three frames and the start of a fourth one, in these pieces, and how many frames each piece completes.
+static PIECES: [(&'static [u8], usize); 5] = [
+    (b"\0\0\0\x08\0", 0),
+    (b"\0\0\x02\0\0\0\x0e\0\0\0\0hi\0\0\0\x04", 1),
+    (b"", 0),
+    (b"\0\0\0\0\0\0\0\x07\0\0\0\x04\0\0\0\0\0\0\0\x07", 2),
+    (b"\0\0\0", 0),
+];
+
+#[test]
+fn feeds(rt: HostRuntime) -> Result<(), Fail> {
+    let mut reader = FrameReader::new(rt.alloc());
+    for (piece, wanted) in &PIECES {
+        assert_eq!(rt; reader.feed(piece)?.len(), *wanted);
+    }
+    assert_eq!(rt; reader.rest(), 3);
+    Ok(())
+}

@@ -1,0 +1,15 @@
+//! Tests of the crates below the runs of scripts: worked values from outside, and calls that take memory, with memory at hand.
+#![tactic(auto)]
+
+#[cfg(test)]
+mod frames;
+#[cfg(test)]
+mod journal;
+#[cfg(test)]
+mod memory;
+#[cfg(test)]
+mod options;
+#[cfg(test)]
+mod queue;
+#[cfg(test)]
+mod streams;
