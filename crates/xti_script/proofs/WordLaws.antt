@@ -1,11 +1,11 @@
 -- Reading numbers, bytes and several values from left to right.
 use Rattle.std.proofs.Common.{◌≡◌, ℕ, ◌+◌, ◌-◌, ◌*◌, ◌<◌, ◌≤◌, Bool, true, false, cond, not, ◌&&◌, eqb, ltb, List, [], ◌∷◌, ◌++◌, length, drop, Option, Some, None, refl, sym, ap, ◌∙◌, append_assoc, arith}
 use Rattle.std.specs.List.{list_all}
-use Rattle.std.proofs.lemmas.Bool.{ltb-true, ltb-false, lt-ltb, eqb-true, and_parts}
+use Rattle.std.proofs.lemmas.Bool.{ltb-true, ltb-false, lt-ltb, eqb-true}
 use Rattle.std.proofs.lemmas.List.{append-nil}
 use Rattle.xti_script.specs.Texts.{is_digit}
-use Rattle.xti_script.specs.Values.{decimal_behind, is_decimal, number_in, hex_digit, hex_pair, hex_bytes, onto}
-use Rattle.xti_script.specs.Numbers.{digits_behind, first_byte}
+use Rattle.xti_script.specs.Values.{decimal_behind, number_in, hex_digit, hex_pair, hex_bytes, onto}
+use Rattle.xti_script.specs.Numbers.{digits_behind, can_begin, first_byte}
 
 -- ---- numbers
 
@@ -40,27 +40,25 @@ digits n [] h =
     rw t refl
 digits n (c ∷ cs) h = digit_step (n * 10 + (c - 48)) cs (is_digit c) (ltb (n * 10 + (c - 48)) 4294967296) refl (λ below. digits (n * 10 + (c - 48)) cs below)
 
-and_true : (b : Bool) → b ≡ true → (b && true) ≡ true
-and_true true e = refl
-and_true false e = absurd cc
+and_true : (b : Bool) → (b && true) ≡ b
+and_true true = refl
+and_true false = refl
 
-all_digits : (word : List ℕ) → is_decimal word ≡ true → list_all is_digit word ≡ true
-all_digits [] e = absurd cc
-all_digits (c ∷ []) e = and_true (is_digit c) e
-all_digits (c ∷ d ∷ cs) e = (and_parts (not (eqb c 48)) (list_all is_digit (c ∷ d ∷ cs)) e).1
-
-pub number_is : (word : List ℕ) (b : Bool) → b ≡ true → b ≡ is_decimal word → digits_behind (Some 0) word ≡ number_in word
+pub number_is : (word : List ℕ) (b : Bool) → b ≡ true → b ≡ can_begin word → digits_behind (Some 0) word ≡ number_in word
 unfolding number_in
-number_is word b t e =
-    let d : is_decimal word ≡ true = sym e ∙ t in
-    let all : list_all is_digit word ≡ true = all_digits word d in
-    digits 0 word (omega arith) ∙ rw (all, d) refl
+number_is [] b t e = let f : true ≡ false = sym t ∙ e in absurd cc
+number_is (c ∷ []) b t e = digits 0 (c ∷ []) (omega arith) ∙ rw (and_true (is_digit c)) refl
+number_is (c ∷ d ∷ cs) b t e =
+    let begins : not (eqb c 48) ≡ true = sym e ∙ t in
+    digits 0 (c ∷ d ∷ cs) (omega arith) ∙ rw begins refl
 
-pub number_none : (word : List ℕ) (b : Bool) → b ≡ false → b ≡ is_decimal word → None ≡ number_in word
+pub number_none : (word : List ℕ) (b : Bool) → b ≡ false → b ≡ can_begin word → None ≡ number_in word
 unfolding number_in
-number_none word b t e =
-    let d : is_decimal word ≡ false = sym e ∙ t in
-    rw d refl
+number_none [] b t e = refl
+number_none (c ∷ []) b t e = let f : true ≡ false = sym e ∙ t in absurd cc
+number_none (c ∷ d ∷ cs) b t e =
+    let begins : not (eqb c 48) ≡ false = sym e ∙ t in
+    rw begins refl
 
 -- ---- one value after the other
 

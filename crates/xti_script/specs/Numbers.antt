@@ -1,5 +1,5 @@
 -- Reading digits from left to right.
-use Rattle.std.specs.Prelude.{ℕ, ◌+◌, ◌-◌, ◌*◌, ◌&&◌, nat_lt, List, [], ◌∷◌, Option, Some, None, if◌then◌else◌}
+use Rattle.std.specs.Prelude.{ℕ, ◌+◌, ◌-◌, ◌*◌, ◌==◌, Bool, true, false, not, ◌&&◌, nat_lt, List, [], ◌∷◌, Option, Some, None, if◌then◌else◌}
 use Rattle.xti_script.specs.Texts.{is_digit}
 use Rattle.xti_script.specs.Values.{hex_digit, hex_pair}
 
@@ -11,6 +11,12 @@ abbrev pub digits_behind : Option ℕ → List ℕ → Option ℕ
 digits_behind None cs = None
 digits_behind (Some n) [] = Some n
 digits_behind (Some n) (c ∷ cs) = digits_behind (with_digit n c) cs
+
+-- not empty, and no zero before other bytes
+abbrev pub can_begin : List ℕ → Bool
+can_begin [] = false
+can_begin (c ∷ []) = true
+can_begin (c ∷ d ∷ cs) = not (c == 48)
 
 -- the byte that the first two digits are
 abbrev pub first_byte : List ℕ → Option ℕ

@@ -1,6 +1,6 @@
 //! The lines that are read so far, and what they say together.
 
-ghost use Rattle.std.specs.Prelude.{◌≡◌, ◌≤◌, ◌<◌, ◌+◌, ◌++◌, ◌∷◌, [], length, IfOk, IfSome, IfNone, OnErr};
+ghost use Rattle.std.specs.Prelude.{◌≡◌, ◌≤◌, ◌<◌, ◌+◌, ◌++◌, ◌∷◌, [], take, length, IfOk, IfSome, IfNone, OnErr};
 ghost use Rattle.std.specs.List.{concat};
 ghost use Rattle.xti_model.specs.Work.{argument_bytes};
 ghost use Rattle.xti_script.specs.Grammar.{is_defined};
@@ -127,6 +127,14 @@ fn admit(
     Ok(Some(left))
 }
 
+// Apart, since lines are seldom refused.
+#[inline(never)]
+fn shorten(lines: &mut Vec<Line>, count: usize)
+    ensures { lines.new.items ≡ take count lines.old.items }
+{
+    lines.truncate(count);
+}
+
 /// Adds the line, which is moved but once; what is left of so many bytes after it. `None` where a limit is in the way:
 /// then, and where memory runs out, nothing is added.
 fn add_line(
@@ -149,13 +157,9 @@ fn add_line(
     lines.push(line)?;
     match admit(names, alloc, count, left, &lines[count]) {
         Ok(Some(left)) => Ok(Some(left)),
-        Ok(None) => {
-            lines.truncate(count);
-            Ok(None)
-        }
-        Err(e) => {
-            lines.truncate(count);
-            Err(e)
+        refused => {
+            shorten(lines, count);
+            refused
         }
     }
 }

@@ -31,13 +31,7 @@ fn add_call(draft: &mut Draft, worker: u32, call: NamedCall, fields: &Fields) ->
 
 /// Adds the call of the endpoint with the values of these fields.
 #[tactic(auto, unfolding(crate::specs::Fields::field, crate::specs::Calls::form_of, crate::specs::Calls::call_with))]
-fn read_call(
-    draft: &mut Draft,
-    worker: u32,
-    verb: Verb,
-    fd: Name,
-    fields: &mut Fields,
-) -> AddedCall
+fn read_call(draft: &mut Draft, worker: u32, verb: Verb, fd: Name, fields: &mut Fields) -> AddedCall
     requires worker { worker ≤ LAST_WORKER }
     requires keys { fields.old.keys.now ≡ form verb }
     ensures { AddsUnlessWrong result draft.new (with_call draft.old worker (with_values verb fd (unread fields.old))) }

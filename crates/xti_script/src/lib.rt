@@ -14,7 +14,8 @@ mod verbs;
 mod words;
 
 pub use laws::{
-    never_both, one_script, scripts_are_built, scripts_are_small, scripts_have_workers, scripts_send_bytes,
+    never_both, one_script, scripts_are_built, scripts_are_small, scripts_have_workers,
+    scripts_send_bytes,
 };
 pub use script_text::{ScriptFail, read_script};
 pub use xti_model::{Line, Lines, Name, NamedCall, Script};

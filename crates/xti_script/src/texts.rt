@@ -57,13 +57,6 @@ pub(crate) fn is_digit(c: u8) -> bool
     b'0' <= c && c <= b'9'
 }
 
-/// Whether each byte is a decimal digit.
-pub(crate) fn are_digits(text: &[u8]) -> bool
-    ensures { result ≡ list_all is_digit text.now }
-{
-    text.iter().all(|c| is_digit(*c))
-}
-
 fn is_name_byte(c: u8) -> bool
     ensures { result ≡ is_name_byte c }
 {

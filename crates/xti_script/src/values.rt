@@ -2,11 +2,11 @@
 
 ghost use Rattle.std.specs.Prelude.{◌≡◌, ◌==◌, ◌≤◌, ◌∷◌, [], length, IfOk, Some};
 ghost use Rattle.xti_script.specs.Texts.{is_plain_text};
-ghost use Rattle.xti_script.specs.Values.{is_decimal, number_in, hex_digit, hex_bytes, plain_bytes, bytes_in, each_in, list_in};
-ghost use Rattle.xti_script.specs.Numbers.{with_digit, digits_behind, first_byte};
+ghost use Rattle.xti_script.specs.Values.{number_in, hex_digit, hex_bytes, plain_bytes, bytes_in, each_in, list_in};
+ghost use Rattle.xti_script.specs.Numbers.{with_digit, digits_behind, can_begin, first_byte};
 ghost use Rattle.xti_script.specs.Reading.{views, behind_key};
 
-use crate::texts::{are_digits, is_digit, is_plain_text, pieces_of};
+use crate::texts::{is_digit, is_plain_text, pieces_of};
 use std::alloc::{AllocError, Global};
 use xti_base::{Octets, Parts, Sizes};
 
@@ -35,13 +35,13 @@ fn digits_behind(number: u32, digits: &[u8]) -> Option<u32>
     }
 }
 
-fn is_decimal(word: &[u8]) -> bool
-    ensures { result ≡ is_decimal word.now }
+fn can_begin(word: &[u8]) -> bool
+    ensures { result ≡ can_begin word.now }
 {
     match word {
         [] => false,
-        [c] => is_digit(*c),
-        [c, ..] => *c != b'0' && are_digits(word),
+        [_] => true,
+        [c, ..] => *c != b'0',
     }
 }
 
@@ -49,7 +49,7 @@ fn is_decimal(word: &[u8]) -> bool
 pub(crate) fn number_in(word: &[u8]) -> Option<u32>
     ensures { result ≡ number_in word.now }
 {
-    if is_decimal(word) {
+    if can_begin(word) {
         digits_behind(0, word)
     } else {
         None
