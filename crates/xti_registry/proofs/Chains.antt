@@ -1,7 +1,7 @@
 -- Chains, as an entry comes and as one goes.
-use Rattle.std.proofs.Common.{◌≡◌, ◌≢◌, ◌⊎◌, ◌∙◌, ◌<◌, ℕ, Bool, true, false, not, cond, eqb, All, IfSome, IsSome, List, [], ◌∷◌, ◌++◌, Option, Some, None, length, map, filter, reverse, refl, sym, ap, subst, inl, inr, arith}
+use Rattle.std.proofs.Common.{◌≡◌, ◌≢◌, ◌∙◌, ◌<◌, ℕ, Bool, true, false, not, cond, eqb, All, IfSome, IsSome, List, [], ◌∷◌, ◌++◌, Option, Some, None, length, map, filter, reverse, refl, sym, ap, subst, inl, inr, arith}
 use Rattle.std.specs.List.{AllByRecursion}
-use Rattle.std.proofs.lemmas.Bool.{cases_eq, eq-eqb}
+use Rattle.std.proofs.lemmas.Bool.{eq-eqb}
 use Rattle.std.proofs.lemmas.Bool.Decides.{nat_tests}
 use Rattle.std.proofs.lemmas.List.{append-nil, get_or_past, map-append, reverse-append}
 use Rattle.std.proofs.lemmas.List.Elements.{All-filter, All-push, All-weaker, filter-append, filter_passes, recursion_from_All}
@@ -15,7 +15,7 @@ use Rattle.xti_registry.specs.declared.addresses.Entry.{Entry}
 use Rattle.xti_registry.specs.declared.addresses.Link.{Link}
 use Rattle.xti_registry.specs.declared.addresses.Link.TheVariants.{Head, After}
 use Rattle.xti_registry.specs.declared.binding.TheConstants.{CHAINS}
-use Rattle.xti_registry.proofs.Links.{Comes, Goes, comes_agree, comes_leads, goes_agree, goes_leads, leads_to, link_passed, passed}
+use Rattle.xti_registry.proofs.Links.{Comes, Goes, comes_agree, comes_leads, goes_agree, goes_leads, leads_to, link_passed}
 
 -- two tests that agree where they are asked
 pub filter_alike : (f g : ℕ → Bool) (keys : List ℕ) → AllByRecursion (λ k. f k ≡ g k) keys → filter f keys ≡ filter g keys

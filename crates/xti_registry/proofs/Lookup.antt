@@ -1,10 +1,9 @@
 -- Looking an address up in its chain.
-use Rattle.std.proofs.Common.{◌≡◌, ◌≤◌, ◌<◌, ◌∙◌, ◌-◌, ℕ, zero, suc, ◌+◌, Bool, true, false, ◌&&◌, cond, eqb, List, [], ◌∷◌, ◌++◌, length, drop, filter, map, reverse, Option, Some, None, if◌then◌else◌, refl, sym, ap, arith}
+use Rattle.std.proofs.Common.{◌≡◌, ◌≤◌, ◌∙◌, ◌-◌, ℕ, zero, suc, Bool, true, false, ◌&&◌, cond, eqb, List, [], ◌∷◌, length, drop, filter, map, reverse, Option, Some, None, if◌then◌else◌, refl, sym, ap, arith}
 use Rattle.std.specs.Str.{bytes_eq}
 use Rattle.std.proofs.lemmas.Bool.{eq-eqb}
 use Rattle.std.proofs.lemmas.Bool.Decides.{nat_tests}
 use Rattle.std.proofs.lemmas.List.{length-reverse, map-append, reverse-append}
-use Rattle.std.proofs.lemmas.Nat.{mod_below}
 use Rattle.std.proofs.lemmas.Slice.Eq.{bytes_eq-Decides}
 use Rattle.xti_base.specs.Kinds.{prov_number}
 use Rattle.xti_base.specs.declared.kinds.Prov.{Prov}
@@ -16,9 +15,9 @@ use Rattle.xti_registry.specs.Links.{binding_at, bindings_of}
 use Rattle.xti_registry.specs.Word.{mixed, word_of, chain_of, binding_chain}
 use Rattle.xti_registry.specs.declared.addresses.Addresses.{Addresses}
 use Rattle.xti_registry.specs.declared.addresses.Link.{Link}
-use Rattle.xti_registry.specs.declared.addresses.Link.TheVariants.{Head, After}
+use Rattle.xti_registry.specs.declared.addresses.Link.TheVariants.{After}
 use Rattle.xti_registry.proofs.Keeping.{filter_le}
-use Rattle.xti_registry.proofs.Least.{both, both_assoc, both_comm, both_none, least_append, least_cons, least_of, one_if}
+use Rattle.xti_registry.proofs.Least.{both, both_assoc, both_comm, least_append, least_cons, least_of, one_if}
 
 -- how many keys follow one another from this one on, of so many at most
 abbrev pub steps : (Link → Option ℕ) → ℕ → Option ℕ → ℕ

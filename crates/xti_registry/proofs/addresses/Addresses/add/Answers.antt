@@ -2,11 +2,8 @@ use Rattle.std.proofs.Common.{◌≡◌, ◌≢◌, ◌<◌, ◌∙◌, ℕ, Som
 use Rattle.std.proofs.lemmas.List.{get_or_default}
 use Rattle.slab.specs.Slab.{ContainsKey, get}
 use Rattle.xti_registry.specs.Links.{binding_of, from_of, link_to, linked, next_of}
-use Rattle.xti_registry.specs.Word.{binding_chain}
-use Rattle.xti_registry.specs.declared.addresses.Entry.{Entry}
 use Rattle.xti_registry.specs.declared.addresses.Link.TheVariants.{Head, After}
 use Rattle.xti_registry.proofs.Chains.{Added, bindings_more, chained_more, if_key, known_link, linked_others}
-use Rattle.xti_registry.proofs.Links.{Comes}
 use Rattle.xti_registry.proofs.addresses.Addresses.add.Goals as goal
 
 pub set_from-requires : goal.set_from-requires

@@ -1,4 +1,4 @@
-use Rattle.std.proofs.Common.{◌≡◌, ◌∙◌, get_or, true, refl, sym, ap}
+use Rattle.std.proofs.Common.{◌∙◌, sym, ap}
 use Rattle.std.proofs.lemmas.List.Quantifiers.{position-Some}
 use Rattle.xti_registry.specs.Links.{is_of}
 use Rattle.xti_registry.proofs.Removal.{found_none}

@@ -1,15 +1,14 @@
-use Rattle.std.proofs.Common.{◌≡◌, ◌≤◌, ◌<◌, ◌∙◌, ◌∷◌, [], ℕ, List, Some, None, length, map, refl, reverse, sym, ap, subst, arith}
+use Rattle.std.proofs.Common.{◌≡◌, ◌<◌, ◌∙◌, ◌∷◌, [], None, length, reverse, sym, ap, subst, arith}
 use Rattle.std.proofs.lemmas.List.{get_or_default}
 use Rattle.std.proofs.lemmas.Nat.{mod_below}
 use Rattle.slab.specs.Slab.{get}
 use Rattle.xti_registry.specs.Chains.{Leads, keys_in}
-use Rattle.xti_registry.specs.Known.{is_asked}
-use Rattle.xti_registry.specs.Links.{binding_at, binding_of, bindings_of, linked, next_of}
+use Rattle.xti_registry.specs.Links.{binding_of, linked, next_of}
 use Rattle.xti_registry.specs.Word.{word_of, chain_of}
 use Rattle.xti_registry.specs.declared.addresses.Link.TheVariants.{Head, After}
 use Rattle.xti_registry.specs.declared.binding.TheConstants.{CHAINS}
 use Rattle.xti_registry.proofs.Chains.{known_link}
-use Rattle.xti_registry.proofs.Least.{both, both_none, least_of}
+use Rattle.xti_registry.proofs.Least.{both_none}
 use Rattle.xti_registry.proofs.Lookup.{chain_begins, chain_goes_on, chain_short, leads_none, leads_some, steps_are}
 use Rattle.xti_registry.proofs.addresses.Addresses.least_at.Goals as goal
 

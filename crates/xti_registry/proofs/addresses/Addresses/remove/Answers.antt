@@ -1,7 +1,7 @@
-use Rattle.std.proofs.Common.{◌≡◌, ◌∙◌, ℕ, List, ap, eqb, filter, length, map, not, refl, sym}
+use Rattle.std.proofs.Common.{◌∙◌, ℕ, List, ap, eqb, filter, map, not, sym}
 use Rattle.slab.specs.Slab.{get}
 use Rattle.xti_model.specs.World.{Binding}
-use Rattle.xti_registry.specs.Links.{binding_at, bindings_of}
+use Rattle.xti_registry.specs.Links.{binding_at}
 use Rattle.xti_registry.proofs.Removal.{fewer, filter_gone, none_left, not_left, of_known}
 use Rattle.xti_registry.proofs.addresses.Addresses.remove.Goals as goal
 

@@ -1,7 +1,7 @@
-use Rattle.std.proofs.Common.{◌≡◌, ◌≢◌, ◌∙◌, ℕ, Some, None, eqb, filter, length, not, rules, sym, ap, refl}
+use Rattle.std.proofs.Common.{◌≡◌, ◌∙◌, ℕ, None, eqb, filter, length, not, rules, sym, ap, refl}
 use Rattle.std.proofs.lemmas.Fn.{filter_same}
 use Rattle.slab.specs.Slab.{ContainsKey, get}
-use Rattle.xti_registry.specs.Links.{binding_of, from_of, link_to, linked, next_of}
+use Rattle.xti_registry.specs.Links.{binding_of, from_of, linked, next_of}
 use Rattle.xti_registry.specs.declared.addresses.Addresses.{Addresses}
 use Rattle.xti_registry.specs.declared.addresses.Link.TheVariants.{After}
 use Rattle.xti_registry.proofs.Chains.{Gone, chained_less, if_key, known_link, link_there, linked_others}

@@ -1,4 +1,4 @@
-use Rattle.std.proofs.Common.{◌≡◌, ◌≤◌, ◌-◌, ◌+◌, arith, sym, subst}
+use Rattle.std.proofs.Common.{◌≡◌, ◌≤◌, ◌-◌, ◌+◌, arith, subst}
 use Rattle.xti_registry.specs.Chains.{HasRoom}
 use Rattle.xti_registry.proofs.registry.Registry.put.Goals as goal
 
