@@ -13,7 +13,9 @@ use Rattle.xti_script.specs.declared.fields.FieldFail.{FieldFail}
 use Rattle.xti_script.specs.declared.fields.FieldFail.TheVariants.{Wrong, OutOfMemory}
 use Rattle.xti_script.specs.Values.{onto}
 use Rattle.xti_script.specs.Fields.{kind_of}
-use Rattle.xti_script.specs.Reading.{fields_of}
+use Rattle.xti_script.specs.declared.verbs.Verb.{Verb}
+use Rattle.xti_script.specs.Calls.{form}
+use Rattle.xti_script.specs.Reading.{fields_of, with_values}
 
 abbrev pub usual_is : Usual → Value
 usual_is usual.Empty = value.Bytes []
@@ -22,6 +24,10 @@ usual_is (usual.Number number) = value.Number number
 -- the values that the words give the fields that are not read yet
 abbrev pub unread : Fields → List (List ℕ) → Option (List Value)
 unread fields words = fields_of fields.keys.now words
+
+-- the call of the endpoint whose fields the words are
+abbrev pub call_of_fields : Verb → List ℕ → List (List ℕ) → Option NamedCall
+call_of_fields verb fd words = with_values verb fd (fields_of (form verb) words)
 
 -- the next field is of this kind
 abbrev pub NextIs : Kind → List Key → Type 0

@@ -1,9 +1,8 @@
 //! Reading the calls of an endpoint from their fields.
 
 ghost use Rattle.std.specs.Prelude.{◌≡◌, ◌≤◌, []};
-ghost use Rattle.xti_script.specs.Calls.{form};
-ghost use Rattle.xti_script.specs.Reading.{fields_of, with_values, with_call};
-ghost use Rattle.xti_script.specs.Unread.{alone, AddsUnlessWrong};
+ghost use Rattle.xti_script.specs.Reading.{fields_of, with_call};
+ghost use Rattle.xti_script.specs.Unread.{alone, call_of_fields, AddsUnlessWrong};
 
 use crate::draft::Draft;
 use crate::fields::{FieldFail, Fields};
@@ -38,7 +37,7 @@ pub(crate) fn read_fields(
     words: &mut Words,
 ) -> AddedCall
     requires { worker ≤ LAST_WORKER }
-    ensures { AddsUnlessWrong result draft.new (with_call draft.old worker (with_values verb fd (fields_of (form verb) words.old))) }
+    ensures { AddsUnlessWrong result draft.new (with_call draft.old worker (call_of_fields verb fd words.old)) }
 {
     let mut fields = Fields::new(draft.alloc(), form(verb));
     match verb {
