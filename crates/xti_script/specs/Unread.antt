@@ -1,5 +1,5 @@
 -- Fields that are read one after the other, and the call that their values make.
-use Rattle.std.specs.Prelude.{◌≡◌, Bool, false, List, [], ◌∷◌, Option, Some, None, Result, Ok, Err}
+use Rattle.std.specs.Prelude.{◌≡◌, ℕ, Bool, false, List, [], ◌∷◌, Option, Some, None, Result, Ok, Err}
 use Rattle.xti_model.specs.declared.script.NamedCall.{NamedCall}
 use Rattle.xti_model.specs.declared.script.Line.{Line}
 use Rattle.xti_script.specs.Kinds.{Kind}
@@ -13,15 +13,21 @@ use Rattle.xti_script.specs.declared.fields.FieldFail.{FieldFail}
 use Rattle.xti_script.specs.declared.fields.FieldFail.TheVariants.{Wrong, OutOfMemory}
 use Rattle.xti_script.specs.Values.{onto}
 use Rattle.xti_script.specs.Fields.{kind_of}
-use Rattle.xti_script.specs.Reading.{fields_of}
+use Rattle.xti_script.specs.declared.verbs.Verb.{Verb}
+use Rattle.xti_script.specs.Calls.{form}
+use Rattle.xti_script.specs.Reading.{fields_of, with_values}
 
 abbrev pub usual_is : Usual → Value
 usual_is usual.Empty = value.Bytes []
 usual_is (usual.Number number) = value.Number number
 
--- the values of the fields that are not read yet
-abbrev pub unread : Fields → Option (List Value)
-unread fields = fields_of fields.keys.now fields.words
+-- the values that the words give the fields that are not read yet
+abbrev pub unread : Fields → List (List ℕ) → Option (List Value)
+unread fields words = fields_of fields.keys.now words
+
+-- the call of the endpoint whose fields the words are
+abbrev pub call_of_fields : Verb → List ℕ → List (List ℕ) → Option NamedCall
+call_of_fields verb fd words = with_values verb fd (fields_of (form verb) words)
 
 -- the next field is of this kind
 abbrev pub NextIs : Kind → List Key → Type 0

@@ -31,8 +31,8 @@ fn mode_of(word: &[u8]) -> Option<bool>
     }
 }
 
-fn open_mode(mut words: Words) -> Option<bool>
-    ensures { result ≡ open_mode words.entry }
+fn open_mode(words: &mut Words) -> Option<bool>
+    ensures { result ≡ open_mode words.old }
 {
     match words.next() {
         None => Some(false),
@@ -55,9 +55,9 @@ fn provider_of(word: &[u8]) -> Option<Prov>
 }
 
 #[tactic(auto, unfolding(crate::specs::Reading::open_of, crate::specs::Reading::extended))]
-fn read_open(draft: &mut Draft, worker: u32, mut words: Words) -> Added
+fn read_open(draft: &mut Draft, worker: u32, words: &mut Words) -> Added
     requires { worker ≤ LAST_WORKER }
-    ensures { Adds result draft.new (with_call draft.old worker (open_of draft.old worker words.entry)) }
+    ensures { Adds result draft.new (with_call draft.old worker (open_of draft.old worker words.old)) }
 {
     let (Some(name), Some(prov)) = (words.next(), words.next()) else {
         return Ok(false);
@@ -81,9 +81,9 @@ fn read_open(draft: &mut Draft, worker: u32, mut words: Words) -> Added
 }
 
 #[tactic(auto, unfolding(crate::specs::Reading::set_mode_of, crate::specs::Reading::extended))]
-fn read_set_mode(draft: &mut Draft, worker: u32, mut words: Words) -> Added
+fn read_set_mode(draft: &mut Draft, worker: u32, words: &mut Words) -> Added
     requires { worker ≤ LAST_WORKER }
-    ensures { Adds result draft.new (with_call draft.old worker (set_mode_of draft.old worker words.entry)) }
+    ensures { Adds result draft.new (with_call draft.old worker (set_mode_of draft.old worker words.old)) }
 {
     let (Some(fd), Some(mode)) = (words.next(), words.next()) else {
         return Ok(false);
@@ -100,9 +100,9 @@ fn read_set_mode(draft: &mut Draft, worker: u32, mut words: Words) -> Added
 }
 
 #[tactic(auto, unfolding(crate::specs::Reading::with_fields))]
-fn read_with_fields(draft: &mut Draft, worker: u32, verb: Option<Verb>, mut words: Words) -> Added
+fn read_with_fields(draft: &mut Draft, worker: u32, verb: Option<Verb>, words: &mut Words) -> Added
     requires { worker ≤ LAST_WORKER }
-    ensures { Adds result draft.new (with_call draft.old worker (with_fields draft.old worker verb words.entry)) }
+    ensures { Adds result draft.new (with_call draft.old worker (with_fields draft.old worker verb words.old)) }
 {
     let (Some(verb), Some(name)) = (verb, words.next()) else {
         return Ok(false);
@@ -119,9 +119,9 @@ fn read_with_fields(draft: &mut Draft, worker: u32, verb: Option<Verb>, mut word
 }
 
 #[tactic(auto, unfolding(crate::specs::Reading::call_of))]
-fn read_call(draft: &mut Draft, worker: u32, mut words: Words) -> Added
+fn read_call(draft: &mut Draft, worker: u32, words: &mut Words) -> Added
     requires { worker ≤ LAST_WORKER }
-    ensures { Adds result draft.new (with_call draft.old worker (call_of draft.old worker words.entry)) }
+    ensures { Adds result draft.new (with_call draft.old worker (call_of draft.old worker words.old)) }
 {
     let Some(word) = words.next() else {
         return Ok(false);
@@ -155,7 +155,7 @@ pub(crate) fn read_line(draft: &mut Draft, text: &[u8]) -> Added
         return Ok(false);
     };
     match worker_of(word) {
-        Some(worker) => read_call(draft, worker, words),
+        Some(worker) => read_call(draft, worker, &mut words),
         None => Ok(false),
     }
 }

@@ -117,53 +117,43 @@ fn field_text<'a>(key: Key, words: &mut Words<'a>) -> Option<&'a [u8]>
 
 /// The fields of a call that are not read yet.
 #[derive(Drop)]
-pub(crate) struct Fields<'a> {
+pub(crate) struct Fields {
     /// Where their values are allocated.
     alloc: Global,
     /// Their keys.
     keys: &'static [Key],
-    /// The words that are left for them.
-    words: Words<'a>,
 }
 
-impl<'a> Fields<'a> {
-    /// The fields with these keys, which the words are to be.
-    pub(crate) fn new(alloc: Global, keys: &'static [Key], words: Words<'a>) -> Fields<'a>
-        ensures keys { result.keys.now ≡ keys.now }
-        ensures words { result.words ≡ words.entry }
+impl Fields {
+    /// The fields with these keys.
+    pub(crate) fn new(alloc: Global, keys: &'static [Key]) -> Fields
+        ensures { result.keys.now ≡ keys.now }
     {
-        Fields { alloc, keys, words }
-    }
-
-    /// Whether no word is left.
-    pub(crate) fn is_empty(&self) -> bool
-        ensures { result ≡ (length self.now.words == 0) }
-    {
-        self.words.is_empty()
+        Fields { alloc, keys }
     }
 
     /// Takes the next key, and the word with it where the field is written: what is after the key, or `None`.
     #[inline(always)]
-    fn next(&mut self) -> (Key, Option<&'a [u8]>)
+    fn next<'a>(&mut self, words: &mut Words<'a>) -> (Key, Option<&'a [u8]>)
         requires { 0 < length self.old.keys.now }
         ensures keys { self.old.keys.now ≡ result.0 ∷ self.new.keys.now }
-        ensures text { written_value result.0 (option_copied result.1) ≡ field_value result.0 self.old.words }
-        ensures rest { self.new.words ≡ field_rest result.0 self.old.words }
+        ensures text { written_value result.0 (option_copied result.1) ≡ field_value result.0 words.old }
+        ensures rest { words.new ≡ field_rest result.0 words.old }
     {
         let key = self.keys[0];
         self.keys = &self.keys[1..];
-        (key, field_text(key, &mut self.words))
+        (key, field_text(key, words))
     }
 
     /// The bytes of the next field.
     #[inline(always)]
     #[tactic(auto, unfolding(crate::specs::Fields::field))]
-    pub(crate) fn bytes(&mut self) -> Result<Octets, FieldFail>
+    pub(crate) fn bytes(&mut self, words: &mut Words) -> Result<Octets, FieldFail>
         requires { NextIs kind.Bytes self.old.keys.now }
         ensures keys { self.new.keys.now ≡ drop 1 self.old.keys.now }
-        ensures value { Reads value.Bytes (unread self.old) (unread self.new) result }
+        ensures value { Reads value.Bytes (unread self.old words.old) (unread self.new words.new) result }
     {
-        let (key, text) = self.next();
+        let (key, text) = self.next(words);
         match text {
             Some(text) => bytes_in(self.alloc, text)?.ok_or(FieldFail::Wrong),
             None => match usual_value(key) {
@@ -176,12 +166,12 @@ impl<'a> Fields<'a> {
     /// The number of the next field.
     #[inline(always)]
     #[tactic(auto, unfolding(crate::specs::Fields::field))]
-    pub(crate) fn number(&mut self) -> Result<u32, FieldFail>
+    pub(crate) fn number(&mut self, words: &mut Words) -> Result<u32, FieldFail>
         requires { NextIs kind.Number self.old.keys.now }
         ensures keys { self.new.keys.now ≡ drop 1 self.old.keys.now }
-        ensures value { Reads value.Number (unread self.old) (unread self.new) result }
+        ensures value { Reads value.Number (unread self.old words.old) (unread self.new words.new) result }
     {
-        let (key, text) = self.next();
+        let (key, text) = self.next(words);
         match text {
             Some(text) => number_in(text).ok_or(FieldFail::Wrong),
             None => match usual_value(key) {
@@ -193,12 +183,12 @@ impl<'a> Fields<'a> {
 
     /// The parts of the next field, which has no usual value.
     #[tactic(auto, unfolding(crate::specs::Fields::field))]
-    pub(crate) fn parts(&mut self) -> Result<Parts, FieldFail>
+    pub(crate) fn parts(&mut self, words: &mut Words) -> Result<Parts, FieldFail>
         requires { NextIs kind.Parts self.old.keys.now }
         ensures keys { self.new.keys.now ≡ drop 1 self.old.keys.now }
-        ensures value { Reads value.Parts (unread self.old) (unread self.new) result }
+        ensures value { Reads value.Parts (unread self.old words.old) (unread self.new words.new) result }
     {
-        match self.next() {
+        match self.next(words) {
             (_, Some(text)) => parts_in(self.alloc, text)?.ok_or(FieldFail::Wrong),
             (_, None) => Err(FieldFail::Wrong),
         }
@@ -206,12 +196,12 @@ impl<'a> Fields<'a> {
 
     /// The sizes of the next field, which has no usual value.
     #[tactic(auto, unfolding(crate::specs::Fields::field))]
-    pub(crate) fn sizes(&mut self) -> Result<Sizes, FieldFail>
+    pub(crate) fn sizes(&mut self, words: &mut Words) -> Result<Sizes, FieldFail>
         requires { NextIs kind.Sizes self.old.keys.now }
         ensures keys { self.new.keys.now ≡ drop 1 self.old.keys.now }
-        ensures value { Reads value.Sizes (unread self.old) (unread self.new) result }
+        ensures value { Reads value.Sizes (unread self.old words.old) (unread self.new words.new) result }
     {
-        match self.next() {
+        match self.next(words) {
             (_, Some(text)) => sizes_in(self.alloc, text)?.ok_or(FieldFail::Wrong),
             (_, None) => Err(FieldFail::Wrong),
         }

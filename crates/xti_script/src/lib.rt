@@ -18,4 +18,5 @@ pub use laws::{
     scripts_send_bytes,
 };
 pub use script_text::{ScriptFail, read_script};
+pub use values::MOST_PIECES;
 pub use xti_model::{Line, Lines, Name, NamedCall, Script};
