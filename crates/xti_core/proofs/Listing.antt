@@ -3,6 +3,7 @@ use Rattle.std.proofs.Common.{ℕ, suc, cond, Bool, true, false, ◌||◌, ◌&&
 use Rattle.std.specs.Prelude.{nat_le, nat_lt, is_none, is_some, option_map, option_to_list, ◌==◌}
 use Rattle.std.proofs.lemmas.Bool.Decides.{nat_tests}
 use Rattle.std.proofs.lemmas.List.{append-nil}
+use Rattle.xti_base.specs.declared.limits.TheConstants.{MOST_ADDRESS, MOST_QUEUE}
 use Rattle.xti_model.specs.declared.profile.Providers.{Providers}
 use Rattle.xti_model.specs.Endpoint.{Endpoint, Indication, Target, address_of}
 use Rattle.xti_model.specs.World.{World, place_of, generation_of, switch_number, the_switch}
@@ -37,23 +38,23 @@ length-cell : (p : Providers) (o : Option ℕ) → length (cell_of p o) ≤ 1
 length-cell p None = omega arith
 length-cell p (Some fd) = omega arith
 
-asked-parts : (e : Endpoint) → is_sound_body (Some e) ≡ true → (nat_le e.qlen 8 ≡ true) × (nat_le (requests e) e.qlen ≡ true) × (is_only_asked e ≡ true)
+asked-parts : (e : Endpoint) → is_sound_body (Some e) ≡ true → (nat_le e.qlen MOST_QUEUE ≡ true) × (nat_le (requests e) e.qlen ≡ true) × (is_only_asked e ≡ true)
 asked-parts e h =
-    let a = and-parts (nat_le e.qlen 8 && nat_le (length (address_of e)) 64 && nat_le (requests e) e.qlen) (is_only_asked e) h in
-    let b = and-parts (nat_le e.qlen 8 && nat_le (length (address_of e)) 64) (nat_le (requests e) e.qlen) a.0 in
-    let c = and-parts (nat_le e.qlen 8) (nat_le (length (address_of e)) 64) b.0 in
+    let a = and-parts (nat_le e.qlen MOST_QUEUE && nat_le (length (address_of e)) MOST_ADDRESS && nat_le (requests e) e.qlen) (is_only_asked e) h in
+    let b = and-parts (nat_le e.qlen MOST_QUEUE && nat_le (length (address_of e)) MOST_ADDRESS) (nat_le (requests e) e.qlen) a.0 in
+    let c = and-parts (nat_le e.qlen MOST_QUEUE) (nat_le (length (address_of e)) MOST_ADDRESS) b.0 in
     (c.0, b.1, a.1)
 
-few-asked : (p : Providers) (e : Endpoint) → is_sound_body (Some e) ≡ true → length (caller_cells p e) ≤ 8
+few-asked : (p : Providers) (e : Endpoint) → is_sound_body (Some e) ≡ true → length (caller_cells p e) ≤ MOST_QUEUE
 few-asked p e h =
     let c = asked-parts e h in
     let l = length-callers p (e.pending ++ e.outstanding) in
     let m = length-both e.pending e.outstanding in
-    let q : nat_le e.qlen 8 ≡ true = c.0 in
+    let q : nat_le e.qlen MOST_QUEUE ≡ true = c.0 in
     let r : nat_le (length e.pending + length e.outstanding) e.qlen ≡ true = c.1 in
     grind (arith, nat_tests)
 
-pub few-callers : (p : Providers) (body : Option Endpoint) → is_sound_body body ≡ true → length (of_some body (caller_cells p)) ≤ 8
+pub few-callers : (p : Providers) (body : Option Endpoint) → is_sound_body body ≡ true → length (of_some body (caller_cells p)) ≤ MOST_QUEUE
 few-callers p None h = omega arith
 few-callers p (Some e) h = few-asked p e h
 
@@ -72,14 +73,14 @@ either : (a b c : Bool) → (a || (b && c)) ≡ true → (a ≡ true) ⊎ ((b �
 either true b c h = inl refl
 either false b c h = inr (and-parts b c h)
 
-sum-few : (xs ys zs : List ℕ) → length xs + length ys + length zs ≤ 9 → length (xs ++ ys ++ zs) ≤ 9
+sum-few : (xs ys zs : List ℕ) → length xs + length ys + length zs ≤ MOST_QUEUE + 1 → length (xs ++ ys ++ zs) ≤ MOST_QUEUE + 1
 sum-few xs ys zs h = omega (arith, length-append (xs ++ ys) zs, length-append xs ys)
 
-pub known-few : (p : Providers) (body : Option Endpoint) → is_sound_body body ≡ true → length (of_some body (known p)) ≤ 9
+pub known-few : (p : Providers) (body : Option Endpoint) → is_sound_body body ≡ true → length (of_some body (known p)) ≤ MOST_QUEUE + 1
 known-few p None h = omega arith
 known-few p (Some e) h = go (either (requests e == 0) (is_none e.peer) (is_none e.target) (asked-parts e h).2)
   where
-    go : ((requests e == 0) ≡ true) ⊎ ((is_none e.peer ≡ true) × (is_none e.target ≡ true)) → length (peer_cell p e ++ target_cell p e ++ caller_cells p e) ≤ 9
+    go : ((requests e == 0) ≡ true) ⊎ ((is_none e.peer ≡ true) × (is_none e.target ≡ true)) → length (peer_cell p e ++ target_cell p e ++ caller_cells p e) ≤ MOST_QUEUE + 1
     go (inl z) =
         let l = length-callers p (e.pending ++ e.outstanding) in
         let m = length-both e.pending e.outstanding in

@@ -39,13 +39,6 @@ impl Endpoint {
         self.datagrams.frames_len() < MOST_DATAGRAMS
     }
 
-    /// Takes all datagrams out. Takes no memory.
-    pub fn clear_datagrams(&mut self)
-        ensures { self.new ≡ with_parts (λ e. record e { datagrams = [] }) self.old }
-    {
-        self.datagrams.discard_stream();
-    }
-
     /// Makes room for one more datagram; where memory runs out all is as before.
     pub fn reserve_datagrams(&mut self) -> Result<(), AllocError>
         ensures same { self.new ≡ record self.old { spare_datagrams = self.new.spare_datagrams } }

@@ -112,20 +112,6 @@ impl Endpoint {
         self.place
     }
 
-    /// How often the place was closed.
-    pub fn generation(&self) -> u32
-        ensures { result ≡ self.now.generation }
-    {
-        self.generation
-    }
-
-    /// Whether an endpoint is open at the place.
-    pub fn is_open(&self) -> bool
-        ensures { result ≡ is_open self.now }
-    {
-        self.body.is_some()
-    }
-
     /// Whether the endpoint is open with this descriptor. It has nothing of a connection, since none are made yet.
     pub fn is(&self, p: &Providers, fd: Fd) -> bool
         ensures is { result ≡ is_open_as p.now fd.0 self.now }
