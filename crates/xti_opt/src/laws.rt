@@ -91,8 +91,7 @@ pub fn negotiation_order()
     ensures among { (s : Settings) (action : ℕ) (os : List Opt) →
         let all = negotiate s action os in
         (all.result ≡ t_success) ⊎ Any (λ o. o.status ≡ all.result) all.options }
-    ensures rising {
-        map badness (t_success ∷ t_partsuccess ∷ t_failure ∷ t_readonly ∷ t_notsupport ∷ []) ≡ 0 ∷ 1 ∷ 2 ∷ 3 ∷ 4 ∷ [] }
+    ensures rising { map badness (t_success ∷ t_partsuccess ∷ t_failure ∷ t_readonly ∷ t_notsupport ∷ []) ≡ 0 ∷ 1 ∷ 2 ∷ 3 ∷ 4 ∷ [] }
 {}
 
 /// The receive size 70,000 and a low-water mark of 5, negotiated from buffers of 16,384: the size becomes 65,536, which
