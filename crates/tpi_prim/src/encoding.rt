@@ -159,7 +159,10 @@ impl Lent<'_> {
     fn control_len(&self) -> Option<u32>
         ensures { SomeIff result (control_size (filled_by self.now) ≤ MOST_CONTROL) (control_size (filled_by self.now)) }
     {
-        let left = room_left(MOST_CONTROL as usize - self.kind.head() as usize, &self.fields)?;
+        let left = room_left(
+            MOST_CONTROL as usize - self.kind.head() as usize,
+            &self.fields,
+        )?;
         Some(MOST_CONTROL - left as u32)
     }
 

@@ -2,7 +2,8 @@
 use Rattle.std.specs.Prelude.{◌≡◌, ◌++◌, ◌&&◌, ℕ, Bool, true, false, List}
 use Rattle.xti_base.specs.declared.options.Opt.{Opt}
 use Rattle.xti_base.specs.Options.{word_bytes, begins_option, front_option, behind_option, is_option_list, the_options, option_bytes, options_bytes}
-use Rattle.xti_base.specs.Negotiation.{Settings, Negotiated, Answer, is_action, is_one_level, negotiate}
+use Rattle.xti_base.specs.Negotiation.{Settings, Negotiated, Answer, is_action, is_one_level, negotiate, answer_meant}
+use Rattle.xti_opt.specs.Answers.{meaning_at}
 use Rattle.xti_opt.specs.declared.first.First.{First}
 
 -- a list of options of one level
@@ -32,6 +33,10 @@ told level name a = record { level = level; name = name; status = a.result; valu
 -- the same in bytes
 abbrev pub told_bytes : ℕ → ℕ → Answer → List ℕ
 told_bytes level name a = option_bytes (told level name a)
+
+-- the bytes that answer an option of this level, name and value
+abbrev pub meant_bytes : Settings → ℕ → ℕ → ℕ → List ℕ → List ℕ
+meant_bytes s action level name value = told_bytes level name (answer_meant s action value (meaning_at level name))
 
 -- the four words before an option's value
 abbrev pub header_bytes : ℕ → ℕ → ℕ → ℕ → List ℕ

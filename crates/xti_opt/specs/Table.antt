@@ -1,7 +1,7 @@
 -- The words in which the table of negotiation is read line by line.
 use Rattle.std.specs.Prelude.{◌≢◌, ℕ, List, [], ◌∷◌}
 use Rattle.xti_base.specs.declared.options.Opt.{Opt}
-use Rattle.xti_base.specs.Negotiation.{Settings, Negotiated, xti_generic, xti_sndbuf, xti_rcvbuf, xti_sndlowat, xti_rcvlowat}
+use Rattle.xti_base.specs.Negotiation.{Settings, Negotiated, xti_generic, xti_sndbuf, xti_rcvbuf, xti_sndlowat, xti_rcvlowat, t_success, t_partsuccess, t_failure, t_readonly, t_notsupport}
 
 pub data Side : Type 0 where
   sending : Side
@@ -52,6 +52,10 @@ pub record IsUnknownName (name : ℕ) : Type 0 where
   pub no_rcvbuf : name ≢ xti_rcvbuf
   pub no_sndlowat : name ≢ xti_sndlowat
   pub no_rcvlowat : name ≢ xti_rcvlowat
+
+-- the results of single options, from the best to the worst
+abbrev pub results : List ℕ
+results = t_success ∷ t_partsuccess ∷ t_failure ∷ t_readonly ∷ t_notsupport ∷ []
 
 -- what an answer keeps of its option
 pub record Place : Type 0 where

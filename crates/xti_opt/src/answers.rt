@@ -6,8 +6,8 @@ ghost use Rattle.xti_base.specs.Negotiation.{only_asks, asked_size, buffer_answe
 ghost use Rattle.xti_opt.specs.Answers.{answer_of, meaning_of, meaning_at};
 
 use crate::numbers::{
-    LOW_WATER_MARK, T_CHECK, T_CURRENT, T_FAILURE, T_NEGOTIATE, T_NOTSUPPORT, T_PARTSUCCESS, T_READONLY,
-    T_SUCCESS, XTI_GENERIC, XTI_RCVBUF, XTI_RCVLOWAT, XTI_SNDBUF, XTI_SNDLOWAT,
+    LOW_WATER_MARK, T_CHECK, T_CURRENT, T_FAILURE, T_NEGOTIATE, T_NOTSUPPORT, T_PARTSUCCESS,
+    T_READONLY, T_SUCCESS, XTI_GENERIC, XTI_RCVBUF, XTI_RCVLOWAT, XTI_SNDBUF, XTI_SNDLOWAT,
 };
 use xti_base::limits::MOST_SIZE;
 

@@ -6,7 +6,7 @@ ghost use Rattle.xti_base.specs.declared.limits.TheConstants.{MOST_SIZE};
 ghost use Rattle.xti_base.specs.declared.options.Opt.{Opt};
 ghost use Rattle.xti_base.specs.Options.{word_bytes, read_options, is_option_list, options_bytes, IsOption, IsFirstWrongOption};
 ghost use Rattle.xti_base.specs.Negotiation.{Settings, negotiate, only_asks, badness, worse, xti_generic, t_negotiate, t_check, t_default, t_current, t_success, t_failure, t_partsuccess, t_readonly, t_notsupport};
-ghost use Rattle.xti_opt.specs.Table.{Side, all_sizes, generic, buffer, mark, size, start_size, with_size, answers, IsUnknownName, place_of};
+ghost use Rattle.xti_opt.specs.Table.{Side, all_sizes, generic, buffer, mark, size, start_size, with_size, answers, IsUnknownName, results, place_of};
 
 /// Reading what was written gives the options back, and writing what was read gives the bytes back.
 pub fn round_trips()
@@ -91,8 +91,7 @@ pub fn negotiation_order()
     ensures among { (s : Settings) (action : ℕ) (os : List Opt) →
         let all = negotiate s action os in
         (all.result ≡ t_success) ⊎ Any (λ o. o.status ≡ all.result) all.options }
-    ensures rising {
-        map badness (t_success ∷ t_partsuccess ∷ t_failure ∷ t_readonly ∷ t_notsupport ∷ []) ≡ 0 ∷ 1 ∷ 2 ∷ 3 ∷ 4 ∷ [] }
+    ensures rising { map badness results ≡ 0 ∷ 1 ∷ 2 ∷ 3 ∷ 4 ∷ [] }
 {}
 
 /// The receive size 70,000 and a low-water mark of 5, negotiated from buffers of 16,384: the size becomes 65,536, which

@@ -2,9 +2,9 @@
 
 ghost use Rattle.std.specs.Prelude.{◌≡◌, ◌≤◌, ◌+◌, ◌++◌, ◌&&◌, ◌↔◌, false, true, length, IfOk, OnOk, OnErr, IsErrOf};
 ghost use Rattle.xti_base.specs.Options.{word_bytes, is_option_list, the_options};
-ghost use Rattle.xti_base.specs.Negotiation.{Settings as AnySettings, is_action, is_one_level, answer_meant};
-ghost use Rattle.xti_opt.specs.Answers.{answer_of, meaning_at};
-ghost use Rattle.xti_opt.specs.Requests.{is_request, IsBadRequest, negotiated_request, answered_bytes, told_bytes, header_bytes};
+ghost use Rattle.xti_base.specs.Negotiation.{Settings as AnySettings, is_action, is_one_level};
+ghost use Rattle.xti_opt.specs.Answers.{answer_of};
+ghost use Rattle.xti_opt.specs.Requests.{is_request, IsBadRequest, negotiated_request, answered_bytes, told_bytes, meant_bytes, header_bytes};
 
 use crate::answers::{Answer, Subject, only_asks, worse};
 use crate::first::split_first;
@@ -114,7 +114,7 @@ fn is_one_level(request: &[u8]) -> bool
 
 /// How many bytes the answer to this option takes.
 fn size_of_answer(action: u32, level: u32, name: u32, value: &[u8]) -> usize
-    ensures size { (s : AnySettings) → result ≡ length (told_bytes level name (answer_meant s action value.now (meaning_at level name))) }
+    ensures size { (s : AnySettings) → result ≡ length (meant_bytes s action level name value.now) }
     ensures bound { result ≤ 20 }
 {
     match Subject::of(level, name) {
