@@ -136,7 +136,7 @@ fn bad_lines(rt: HostRuntime) -> Result<(), Fail> {
     let alloc = rt.alloc();
     for group in &GROUPS {
         for line in group.lines {
-            let answer = answer(&rt, alloc, "replay", &[group.before, line], NO_FAULTS)?;
+            let answer = answer(&rt, alloc, "replay", &[group.before, *line], NO_FAULTS)?;
             assert_eq!(rt; answer.as_slice(), group.output.as_bytes(), "{line:?}");
         }
     }
