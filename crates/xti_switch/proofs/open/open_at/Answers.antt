@@ -1,9 +1,9 @@
-use Rattle.std.proofs.Common.{sym, ap, subst, ◌≡◌, ◌<◌}
+use Rattle.std.proofs.Common.{true, sym, ap, subst, ◌≡◌, ◌<◌}
 use Rattle.xti_model.specs.Endpoint.{opened}
 use Rattle.xti_model.specs.Provider.{profile}
 use Rattle.xti_model.specs.declared.profile.Providers.{Providers}
-use Rattle.xti_model.specs.World.{open_cell, the_switch, last_generation}
-use Rattle.xti_model.specs.Switch.{mark_open}
+use Rattle.xti_model.specs.World.{open_cell, the_switch, last_generation, descriptor}
+use Rattle.xti_model.specs.Switch.{mark_open, is_free, place_at}
 use Rattle.xti_model.specs.Calls.Open as Open
 use Rattle.xti_end.specs.Held.{Held, cell}
 use Rattle.xti_lent.specs.Lending.{cells, with_held, with_registry}
@@ -17,7 +17,8 @@ pub open_place-fd-requires-clause-place : goal.open_place-fd-requires-clause-pla
 open_place-fd-requires-clause-place c = subst (λ n. c.args.place < n) (sym (places-known c.args.lent.now c.registry.result.now c.requires.fit (sym c.registry.ensures.now))) c.requires.place
 
 pub open_place-fd-requires-clause-free : goal.open_place-fd-requires-clause-free
-open_place-fd-requires-clause-free c = rw (switch-is c.args.lent.now c.registry.result.now (sym c.registry.ensures.now)) at c.requires.free
+open_place-fd-requires-clause-free c =
+    subst (λ (q : Providers). is_free q (place_at c.registry.result.now.switch c.args.place) ≡ true) (sym c.providers.ensures.providers) (rw (switch-is c.args.lent.now c.registry.result.now (sym c.registry.ensures.now)) at c.requires.free)
 
 pub open-requires-clause-closed : goal.open-requires-clause-closed
 open-requires-clause-closed c =
@@ -45,7 +46,8 @@ returns-clause-step c =
     let b = free-closed l.providers k c.args.place h a (rw w at c.requires.free) in
     let n : cell c.open.new.self ≡ open_cell e (cell h) = opened-cell h c.open.new.self e b (rw c.providers.ensures.providers at c.open.ensures) in
     let v = both-written l c.args.place h c.open.new.self (open_cell e) k c.open_place-fd.new.self (mark_open c.args.place) c.requires.place (sym c.endpoint.ensures.now) n (sym c.registry.ensures.now) c.open_place-fd.ensures.switch in
-    let d : c.open_place-fd.result.0 ≡ Open.fd_at l.providers (the_switch l.providers (cells l)) c.args.place = rw w c.open_place-fd.ensures.descriptor in
+    let f = subst (λ (q : Providers). c.open_place-fd.result.0 ≡ descriptor q (place_at k.switch c.args.place).generation c.args.place) c.providers.ensures.providers c.open_place-fd.ensures.descriptor in
+    let d : c.open_place-fd.result.0 ≡ Open.fd_at l.providers (the_switch l.providers (cells l)) c.args.place = rw w f in
     opened-step l.providers c.open_place-fd.result.0 _ _ _ _ c.done.ensures d v
 
 pub returns-clause-kept : goal.returns-clause-kept
