@@ -1,41 +1,22 @@
--- Workers that have begun no line, and facts on each of several workers.
-use Rattle.std.proofs.Common.{◌≡◌, ◌≢◌, ℕ, zero, suc, ◌+◌, ◌<◌, Bool, true, false, cond, eqb, List, [], ◌∷◌, ◌++◌, length, get_or, set, map, None, refl, sym, ap, ◌∙◌, subst, arith, ◌⊎◌, inl, inr}
+-- Workers that have begun no line, and lines that are handed out.
+use Rattle.std.proofs.Common.{◌≡◌, ◌≢◌, ℕ, ◌+◌, ◌-◌, ◌<◌, ◌≤◌, Bool, true, false, cond, eqb, List, [], ◌∷◌, ◌++◌, length, get_or, set, map, take, None, refl, sym, ap, ◌∙◌, subst, arith, inl, inr}
+use Rattle.std.specs.Prelude.{if◌then◌else◌}
 use Rattle.std.proofs.lemmas.Bool.{eq-eqb, ne_eqb}
-use Rattle.std.proofs.lemmas.Bool.Decides.{eqb_tells}
-use Rattle.std.proofs.lemmas.List.{append-nil, length-set, get_or-set_same, get_or-set_other, map-append}
+use Rattle.std.proofs.lemmas.List.{append-nil, map-append, length-set, length-take, length_push, take_more}
+use Rattle.xti_base.specs.declared.limits.TheConstants.{WORKERS}
+use Rattle.xti_model.specs.declared.entry.Entry.{Entry}
 use Rattle.xti_model.specs.declared.script.Line.{Line}
 use Rattle.xti_model.specs.Resolve.{is_of}
+use Rattle.xti_model.specs.Robin.{is_through, numbers}
 use Rattle.xti_replay.specs.declared.workers.Worker.{Worker}
 use Rattle.xti_replay.specs.Spots.{Spot, spots_from, spots_of, places_of}
-use Rattle.xti_replay.specs.Known.{known_in}
-use Rattle.xti_replay.specs.Progress.{Of, IsFresh}
+use Rattle.xti_replay.specs.Known.{Table, known_in}
+use Rattle.xti_replay.specs.Progress.{Of, IsFresh, AreFresh, IsKept, AreKept, part_going, is_finished}
+use Rattle.xti_replay.specs.Turns.{LeavesOutFinished}
+use Rattle.xti_replay.proofs.Each.{at-worker, of-push, of-changed}
 use Rattle.xti_replay.proofs.Meanings.{known-nothing}
-
--- Each of several.
-
-push-cases : (ws : List Worker) (w d : Worker) (k : ℕ) (P : Worker → Type 0) → k < length (ws ++ w ∷ []) → (k < length ws → P (get_or ws k d)) → (k ≡ length ws → P w) → P (get_or (ws ++ w ∷ []) k d)
-push-cases [] w d zero P lt here last = last refl
-push-cases [] w d (suc k) P lt here last = absurd (omega arith)
-push-cases (x ∷ ws) w d zero P lt here last = here (omega arith)
-push-cases (x ∷ ws) w d (suc k) P lt here last = push-cases ws w d k P (omega arith) (λ h. here (omega arith)) (λ h. last (omega arith))
-
-pub of-push : (P : ℕ → Worker → Type 0) (ws : List Worker) (w : Worker) → Of P ws → P (length ws) w → Of P (ws ++ w ∷ [])
-of-push P ws w each h = λ k d lt. push-cases ws w d k (P k) lt (λ l. each k d l) (λ e. subst (λ (n : ℕ). P n w) (sym e) h)
-
-pub of-changed : (P Q : ℕ → Worker → Type 0) (ws : List Worker) (i : ℕ) (w : Worker) → Of P ws → ((k : ℕ) (v : Worker) → k ≢ i → k < length ws → P k v → Q k v) → (i < length ws → Q i w) → Of Q (set ws i w)
-of-changed P Q ws i w each other here = λ k d lt. let within : k < length ws = omega (arith, length-set {A = Worker}) in by k d within (eqb_tells k i)
-  where
-    by : (k : ℕ) (d : Worker) → k < length ws → ((eqb k i ≡ true) × (k ≡ i)) ⊎ ((eqb k i ≡ false) × (k ≢ i)) → Q k (get_or (set ws i w) k d)
-    by k d lt (inl e) = let same : i ≡ k = sym e.1 in subst (λ (j : ℕ). Q j (get_or (set ws i w) j d)) same (let l : i < length ws = omega arith in rw get_or-set_same (here l))
-    by k d lt (inr e) = let ne : k ≢ i = e.1 in rw get_or-set_other (other k (get_or ws k d) ne lt (each k d lt))
-
--- Lines are handed out.
-
-pub fresh-of : (lines : List Line) (number : ℕ) (w : Worker) → w.places.items ≡ places_of lines number → w.begun ≡ 0 → ((name : List ℕ) → known_in w.names name ≡ None) → w.next ≡ None → IsFresh lines number w
-fresh-of lines number w places count names idle = record {
-  told = record { places = places; count = count; names = λ name. names name ∙ sym (known-nothing name (spots_of lines number)); whole = refl };
-  idle = idle;
-}
+use Rattle.xti_replay.proofs.OthersAsked.{finished-through}
+use Rattle.xti_replay.proofs.Turns.{leaves-append, numbers-last}
 
 pub spots-more : (from : ℕ) (lines : List Line) (line : Line) (worker : ℕ) → spots_from from (lines ++ line ∷ []) worker ≡ spots_from from lines worker ++ cond {A = List Spot} (is_of worker line) (record { place = from + length lines; line = line } ∷ []) []
 spots-more from [] line worker = by (is_of worker line)
@@ -65,3 +46,62 @@ pub places-other : (lines : List Line) (line : Line) (worker : ℕ) → line.wor
 places-other lines line worker other =
     let no : eqb line.worker worker ≡ false = ne_eqb line.worker worker other in
     ap (map (λ (s : Spot). s.place)) (spots-more 0 lines line worker) ∙ rw no (ap (map (λ (s : Spot). s.place)) (append-nil (spots_of lines worker)))
+
+pub fresh-of : (lines : List Line) (number : ℕ) (w : Worker) → w.places.items ≡ places_of lines number → w.begun ≡ 0 → ((name : List ℕ) → known_in w.names name ≡ None) → w.part ≡ None → w.next ≡ None → IsFresh lines number w
+fresh-of lines number w places count names part idle = record {
+  told = record { places = places; count = count; names = λ name. names name ∙ sym (known-nothing name (spots_of lines number)); part = ap part_going part; built = rw part refl };
+  idle = idle;
+}
+
+pub fresh-push : (n : ℕ) (ws : List Worker) (w : Worker) → length ws ≡ n → Of (IsFresh []) ws → w.places.items ≡ [] → w.begun ≡ 0 → ((name : List ℕ) → known_in w.names name ≡ None) → w.part ≡ None → w.next ≡ None → (length (ws ++ w ∷ []) ≡ n + 1) × Of (IsFresh []) (ws ++ w ∷ [])
+fresh-push n ws w many each places count names part idle = (length_push ws w ∙ ap (λ (k : ℕ). k + 1) many, of-push (IsFresh []) ws w each (fresh-of [] (length ws) w places count names part idle))
+
+part-none : (lines : List Line) (number : ℕ) (w : Worker) → IsFresh lines number w → part_going w.part ≡ None
+part-none lines number w f = f.told.part
+
+again : (lines more : List Line) (number : ℕ) (w new : Worker) → IsFresh lines number w → new.places.items ≡ places_of more number → new.begun ≡ w.begun → new.names ≡ w.names → new.part ≡ w.part → new.next ≡ w.next → IsFresh more number new
+again lines more number w new f places begun names part next = record {
+  told = record {
+    places = places;
+    count = begun ∙ f.told.count;
+    names = λ name. ap (λ (t : Table). known_in t name) names ∙ f.told.names name ∙ known-nothing name (spots_of lines number) ∙ sym (known-nothing name (spots_of more number));
+    part = ap part_going part ∙ f.told.part;
+    built = rw part f.told.built;
+  };
+  idle = next ∙ f.idle;
+}
+
+pub fresh-handed : (lines : List Line) (place : ℕ) (ws : List Worker) (line : Line) (w new : Worker) → AreFresh (take place lines) ws → place < length lines → line ≡ get_or lines place line → line.worker < WORKERS → w ≡ get_or ws line.worker w
+    → new.places.items ≡ w.places.items ++ place ∷ [] → new.begun ≡ w.begun → new.names ≡ w.names → new.part ≡ w.part → new.next ≡ w.next → AreFresh (take (place + 1) lines) (set ws line.worker new)
+fresh-handed lines place ws line w new f lt at small is places begun names part next = record {
+  many = length-set ws line.worker new ∙ f.many;
+  each = subst (λ (more : List Line). Of (IsFresh more) (set ws line.worker new)) (sym grown)
+      (of-changed (IsFresh (take place lines)) (IsFresh (take place lines ++ line ∷ [])) ws line.worker new f.each
+      (λ k v ne l h. again (take place lines) (take place lines ++ line ∷ []) k v v h (h.told.places ∙ sym (places-other (take place lines) line k (λ same. ne (sym same)))) refl refl refl refl)
+      (λ l. let h = at-worker (IsFresh (take place lines)) ws line.worker w f.each l is in
+      again (take place lines) (take place lines ++ line ∷ []) line.worker w new h (places ∙ ap (λ (ps : List ℕ). ps ++ place ∷ []) h.told.places ∙ sym (places-own (take place lines) line line.worker place long refl)) begun names part next));
+}
+  where
+    grown : take (place + 1) lines ≡ take place lines ++ line ∷ []
+    grown = take_more lines place line lt ∙ ap (λ (l : Line). take place lines ++ l ∷ []) (sym at)
+
+    long : length (take place lines) ≡ place
+    long = omega (arith, length-take place lines, lt)
+
+-- Turns from the first on.
+
+pub leaves-more : (lines : List Line) (past : List Entry) (ws : List Worker) (from i : ℕ) (more : List ℕ) (w : Worker) → AreKept lines past ws → from ≤ i → i < length ws → w ≡ get_or ws i w → LeavesOutFinished lines past (numbers from (i - from)) more
+    → LeavesOutFinished lines past (numbers from (i + 1 - from)) (more ++ (if is_finished w then [] else i ∷ []))
+leaves-more lines past ws from i more w k le lt at h =
+    subst (λ (l : List ℕ). LeavesOutFinished lines past l (more ++ (if is_finished w then [] else i ∷ []))) (sym grown)
+    (leaves-append lines past (numbers from (i - from)) (i ∷ []) more _ h (by (is_finished w) (sym (finished-through lines past i w (at-worker (IsKept lines past) ws i w k.each lt at).told))))
+  where
+    grown : numbers from (i + 1 - from) ≡ numbers from (i - from) ++ i ∷ []
+    grown =
+        let n : i + 1 - from ≡ i - from + 1 = omega (arith, le) in
+        let m : from + (i - from) ≡ i = omega (arith, le) in
+        ap (numbers from) n ∙ numbers-last from (i - from) ∙ ap (λ (x : ℕ). numbers from (i - from) ++ x ∷ []) m
+
+    by : (b : Bool) → is_through lines past i ≡ b → LeavesOutFinished lines past (i ∷ []) (if b then [] else i ∷ [])
+    by true e = inl (e, refl)
+    by false e = inr ([], refl, refl)

@@ -1,11 +1,13 @@
-pub mod Done
 pub mod Tables
 pub mod Meanings
 pub mod Lines
-pub mod Fresh
+pub mod Each
 pub mod Steps
-pub mod Keeping
-pub mod Turning
-pub mod Starting
-pub mod Stalling
-mod Few
+pub mod Turns
+pub mod OthersAsked
+pub mod SetupAsked
+pub mod StallLines
+pub mod Fresh
+pub mod Histories
+pub mod WholeRuns
+pub mod Few

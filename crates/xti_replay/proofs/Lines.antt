@@ -6,10 +6,13 @@ use Rattle.std.proofs.lemmas.List.Elements.{filter-append}
 use Rattle.std.proofs.lemmas.Bool.{and_parts, eqb-true, ne_eqb, eq-eqb, ltb-true}
 use Rattle.std.proofs.lemmas.List.{append-nil, append_assoc, length_push}
 use Rattle.std.proofs.lemmas.Option.{same_Some, none-some, slice_get-map}
+use Rattle.xti_base.specs.declared.limits.TheConstants.{WORKERS}
 use Rattle.xti_model.specs.declared.call.Call.{Call}
+use Rattle.xti_model.specs.declared.entry.Act.{Act}
+use Rattle.xti_model.specs.declared.entry.Act.TheVariants as act
 use Rattle.xti_model.specs.declared.entry.Go.TheVariants as go
 use Rattle.xti_model.specs.declared.entry.Outcome.{Outcome}
-use Rattle.xti_model.specs.declared.entry.Outcome.TheVariants.{Done, Part}
+use Rattle.xti_model.specs.declared.entry.Outcome.TheVariants as outcome
 use Rattle.xti_model.specs.declared.entry.Entry.{Entry}
 use Rattle.xti_model.specs.declared.script.Line.{Line}
 use Rattle.xti_model.specs.Built.{is_built, is_built_named}
@@ -17,19 +20,19 @@ use Rattle.xti_model.specs.History.{Going, own, call_after, going_after, unfinis
 use Rattle.xti_model.specs.Resolve.{is_of, lines_of, is_begin, begun, answer_of, or_else, opened_fd, listened_number, opens, listens, Meanings, Placed, placed_from, meanings, with_numbers, if_own}
 use Rattle.xti_model.specs.Robin.{begin_line, next_or, next_going}
 use Rattle.xti_model.proofs.Appending.{own-append}
-use Rattle.xti_model.proofs.Working.{call_from, unfinished_from-snoc}
+use Rattle.xti_model.proofs.Working.{call_from, unfinished_from-snoc, IsCallOf, call_of-from}
 use Rattle.xti_replay.specs.declared.names.Known.{Known}
 use Rattle.xti_replay.specs.declared.workers.Worker.{Worker}
 use Rattle.xti_replay.specs.Playable.{is_playable, are_playable}
 use Rattle.xti_replay.specs.Spots.{Spot, spots_from, spots_of, places_of}
-use Rattle.xti_replay.specs.Known.{known_in, known_by, number_of, or_known, call_before}
-use Rattle.xti_replay.specs.Progress.{Told, IsNext}
-use Rattle.xti_replay.proofs.Done.{is_done}
+use Rattle.xti_replay.specs.Known.{Table, known_in, known_by, number_of, or_known, call_before}
+use Rattle.xti_replay.specs.declared.workers.Part.{Part}
+use Rattle.xti_replay.specs.Progress.{Told, IsNext, part_going, part_call, is_built_part}
 use Rattle.xti_replay.proofs.Meanings.{known-more, call-same, call-built}
 
 -- The lines of a worker by their places.
 
-abbrev placed_by : List Line → Spot → Placed
+abbrev pub placed_by : List Line → Spot → Placed
 placed_by lines s = record { earlier = take s.place lines; line = s.line }
 
 front-of : (before : List Line) (line : Line) (lines : List Line) (from : ℕ) → length before ≡ from → take from (before ++ line ∷ lines) ≡ before
@@ -38,7 +41,7 @@ front-of [] line lines (suc n) e = absurd (omega arith)
 front-of (x ∷ before) line lines zero e = absurd (omega arith)
 front-of (x ∷ before) line lines (suc n) e = ap (λ (l : List Line). x ∷ l) (front-of before line lines n (omega arith))
 
-placed-spots : (before lines : List Line) (from worker k : ℕ) → length before ≡ from
+pub placed-spots : (before lines : List Line) (from worker k : ℕ) → length before ≡ from
     → slice_get (placed_from before lines worker) k ≡ option_map (placed_by (before ++ lines)) (slice_get (spots_from from lines worker) k)
 placed-spots before [] from worker k e = refl
 placed-spots before (line ∷ lines) from worker k e = by (is_of worker line) k (later (λ j. placed-spots (before ++ line ∷ []) lines (from + 1) worker j longer))
@@ -115,12 +118,12 @@ pub record HasNext (lines : List Line) (past : List Entry) (number : ℕ) (w : W
   pub own : s.line.worker ≡ number
   pub going : next_going lines past number ≡ Some (record { call = call_at lines past number s; so_far = go.Begin })
 
-place-spot : (lines : List Line) (past : List Entry) (number : ℕ) (w : Worker) → Told lines past number w → slice_get w.places.items w.begun ≡ option_map (λ (s : Spot). s.place) (next_spot lines past number)
+pub place-spot : (lines : List Line) (past : List Entry) (number : ℕ) (w : Worker) → Told lines past number w → slice_get w.places.items w.begun ≡ option_map (λ (s : Spot). s.place) (next_spot lines past number)
 place-spot lines past number w t =
     ap (λ (ps : List ℕ). slice_get ps w.begun) t.places ∙ ap (slice_get (places_of lines number)) t.count ∙ slice_get-map (λ (s : Spot). s.place) (spots_of lines number) (length (begun past number))
 
-has-next : (lines : List Line) (past : List Entry) (number : ℕ) (w : Worker) (s : Spot) → Told lines past number w → next_spot lines past number ≡ Some s → HasNext lines past number w s
-has-next lines past number w s t h =
+pub has-next : (lines : List Line) (past : List Entry) (number : ℕ) (w : Worker) (s : Spot) → Told lines past number w → unfinished past number ≡ None → next_spot lines past number ≡ Some s → HasNext lines past number w s
+has-next lines past number w s t whole h =
     let i = spot-line lines 0 number (length (begun past number)) s h in
     let at : i.index ≡ s.place = omega (arith, i.place) in
     record {
@@ -128,31 +131,31 @@ has-next lines past number w s t h =
       place = place-spot lines past number w t ∙ ap (option_map (λ (s : Spot). s.place)) h;
       line = subst (λ (k : ℕ). slice_get lines k ≡ Some s.line) at i.line;
       own = i.own;
-      going = next-spots lines past number t.whole ∙ ap (option_map (going_at lines past number)) h;
+      going = next-spots lines past number whole ∙ ap (option_map (going_at lines past number)) h;
     }
 
 -- by the worker's next place
-pub next-at : (lines : List Line) (past : List Entry) (number : ℕ) (w : Worker) (place : ℕ) → Told lines past number w → slice_get w.places.items w.begun ≡ Some place → (s : Spot) × (s.place ≡ place) × HasNext lines past number w s
-next-at lines past number w place t h = by (next_spot lines past number) refl
+pub next-at : (lines : List Line) (past : List Entry) (number : ℕ) (w : Worker) (place : ℕ) → Told lines past number w → unfinished past number ≡ None → slice_get w.places.items w.begun ≡ Some place → (s : Spot) × (s.place ≡ place) × HasNext lines past number w s
+next-at lines past number w place t whole h = by (next_spot lines past number) refl
   where
     by : (o : Option Spot) → next_spot lines past number ≡ o → (s : Spot) × (s.place ≡ place) × HasNext lines past number w s
     by None e = absurd (none-some place (sym (ap (option_map (λ (s : Spot). s.place)) e) ∙ sym (place-spot lines past number w t) ∙ h))
-    by (Some s) e = (s, same_Some s.place place (sym (ap (option_map (λ (s : Spot). s.place)) e) ∙ sym (place-spot lines past number w t) ∙ h), has-next lines past number w s t e)
+    by (Some s) e = (s, same_Some s.place place (sym (ap (option_map (λ (s : Spot). s.place)) e) ∙ sym (place-spot lines past number w t) ∙ h), has-next lines past number w s t whole e)
 
-pub through-at : (lines : List Line) (past : List Entry) (number : ℕ) (w : Worker) → Told lines past number w → slice_get w.places.items w.begun ≡ None → next_going lines past number ≡ None
-through-at lines past number w t h = by (next_spot lines past number) refl
+pub through-at : (lines : List Line) (past : List Entry) (number : ℕ) (w : Worker) → Told lines past number w → unfinished past number ≡ None → slice_get w.places.items w.begun ≡ None → next_going lines past number ≡ None
+through-at lines past number w t whole h = by (next_spot lines past number) refl
   where
     by : (o : Option Spot) → next_spot lines past number ≡ o → next_going lines past number ≡ None
-    by None e = next-spots lines past number t.whole ∙ ap (option_map (going_at lines past number)) e
+    by None e = next-spots lines past number whole ∙ ap (option_map (going_at lines past number)) e
     by (Some s) e = absurd (none-some s.place (sym h ∙ place-spot lines past number w t ∙ ap (option_map (λ (s : Spot). s.place)) e))
 
 -- by the worker's next call
-pub next-by : (lines : List Line) (past : List Entry) (number : ℕ) (w : Worker) (g : Going) → Told lines past number w → next_going lines past number ≡ Some g → (s : Spot) × HasNext lines past number w s
-next-by lines past number w g t h = by (next_spot lines past number) refl
+pub next-by : (lines : List Line) (past : List Entry) (number : ℕ) (w : Worker) (g : Going) → Told lines past number w → unfinished past number ≡ None → next_going lines past number ≡ Some g → (s : Spot) × HasNext lines past number w s
+next-by lines past number w g t whole h = by (next_spot lines past number) refl
   where
     by : (o : Option Spot) → next_spot lines past number ≡ o → (s : Spot) × HasNext lines past number w s
-    by None e = absurd (none-some g (sym (next-spots lines past number t.whole ∙ ap (option_map (going_at lines past number)) e) ∙ h))
-    by (Some s) e = (s, has-next lines past number w s t e)
+    by None e = absurd (none-some g (sym (next-spots lines past number whole ∙ ap (option_map (going_at lines past number)) e) ∙ h))
+    by (Some s) e = (s, has-next lines past number w s t whole e)
 
 pub playable-line : (lines : List Line) (i : ℕ) (line : Line) → are_playable lines ≡ true → slice_get lines i ≡ Some line → is_playable line ≡ true
 playable-line [] i line p h = absurd cc
@@ -162,8 +165,8 @@ playable-line (x ∷ lines) (suc i) line p h = playable-line lines i line (and_p
 pub line-built : (line : Line) → is_playable line ≡ true → is_built_named line.call ≡ true
 line-built line p = (and_parts _ (is_built_named line.call) p).1
 
-pub line-worker : (line : Line) → is_playable line ≡ true → line.worker < 33
-line-worker line p = ltb-true line.worker 33 (and_parts _ (is_built_named line.call) p).0
+pub line-worker : (line : Line) → is_playable line ≡ true → line.worker < WORKERS
+line-worker line p = ltb-true line.worker WORKERS (and_parts _ (is_built_named line.call) p).0
 
 -- the call that the tables give is the worker's next
 pub next-call : (lines : List Line) (past : List Entry) (number : ℕ) (w setup : Worker) (s : Spot) (call : Call) → Told lines past number w → Told lines past 0 setup → HasNext lines past number w s → is_built_named s.line.call ≡ true
@@ -194,7 +197,8 @@ told-other lines past e number w ne t = record {
   places = t.places;
   count = t.count ∙ ap length (sym (begun-other past e number ne));
   names = λ name. t.names name ∙ ap (known_by name (spots_of lines number)) (sym (begun-other past e number ne));
-  whole = ap (unfinished_from None None) (own-other past e number ne) ∙ t.whole;
+  part = t.part ∙ sym (ap (unfinished_from None None) (own-other past e number ne));
+  built = t.built;
 }
 
 -- the worker's next call by its own entries and those of worker 0
@@ -208,13 +212,20 @@ abbrev going_by : List Line → ℕ → List Entry → List Entry → Option Goi
 going_by lines worker es zs =
     option_map (λ (s : Spot). beginning (with_numbers (told_by (take s.place lines) worker es zs) s.line.call)) (slice_get (spots_of lines worker) (length es))
 
--- nor its next call, where it is not of worker 0
-pub next-other : (lines : List Line) (past : List Entry) (e : Entry) (number : ℕ) (w : Worker) → e.worker ≢ number → e.worker ≢ 0 → Told lines past number w → next_going lines (past ++ e ∷ []) number ≡ next_going lines past number
-next-other lines past e number w ne nz t =
-    next-spots lines (past ++ e ∷ []) number (told-other lines past e number w ne t).whole
-    ∙ ap (λ (es : List Entry). going_by lines number es (begun (past ++ e ∷ []) 0)) (begun-other past e number ne)
-    ∙ ap (going_by lines number (begun past number)) (begun-other past e 0 nz)
-    ∙ sym (next-spots lines past number t.whole)
+-- nor its next step, where it is not of worker 0
+pub next-other : (lines : List Line) (past : List Entry) (e : Entry) (number : ℕ) → e.worker ≢ number → e.worker ≢ 0 → next_going lines (past ++ e ∷ []) number ≡ next_going lines past number
+next-other lines past e number ne nz = by (unfinished past number) refl
+  where
+    same : unfinished (past ++ e ∷ []) number ≡ unfinished past number
+    same = ap (unfinished_from None None) (own-other past e number ne)
+
+    by : (u : Option Going) → unfinished past number ≡ u → next_going lines (past ++ e ∷ []) number ≡ next_going lines past number
+    by None h =
+        next-spots lines (past ++ e ∷ []) number (same ∙ h)
+        ∙ ap (λ (es : List Entry). going_by lines number es (begun (past ++ e ∷ []) 0)) (begun-other past e number ne)
+        ∙ ap (going_by lines number (begun past number)) (begun-other past e 0 nz)
+        ∙ sym (next-spots lines past number h)
+    by (Some g) h = ap (next_or lines (past ++ e ∷ []) number) (same ∙ h) ∙ sym (ap (next_or lines past number) h)
 
 begun-same : (past : List Entry) (e : Entry) (worker : ℕ) → e.worker ≡ worker → is_begin e.act ≡ true → begun (past ++ e ∷ []) worker ≡ begun past worker ++ e ∷ []
 begun-same past e worker same begins =
@@ -222,18 +233,27 @@ begun-same past e worker same begins =
     ∙ filter-append (λ (e : Entry). is_begin e.act) (own past worker) (e ∷ [])
     ∙ rw begins refl
 
-going-done : (c : Option Call) (o : Outcome) → is_done o ≡ true → going_after c o ≡ None
-going-done None o h = refl
-going-done (Some c) (Done reply) h = refl
-going-done (Some c) (Part n) h = absurd cc
+unfinished-same : (past : List Entry) (e : Entry) (worker : ℕ) → e.worker ≡ worker → unfinished (past ++ e ∷ []) worker ≡ going_after (call_after (call_from None (own past worker)) e.act) e.outcome
+unfinished-same past e worker same = ap (unfinished_from None None) (own-same past e worker same) ∙ unfinished_from-snoc None None (own past worker) e
 
--- its own entry ends its next line
-pub told-next : (lines : List Line) (past : List Entry) (e : Entry) (number : ℕ) (w new : Worker) (s : Spot) → Told lines past number w → HasNext lines past number w s
-    → e.worker ≡ number → is_begin e.act ≡ true → is_done e.outcome ≡ true → new.places ≡ w.places → new.begun ≡ w.begun + 1
+call_in : Call → Option Going → Call
+call_in c None = c
+call_in c (Some g) = g.call
+
+-- what is left of a built call is of it
+built-after : (part : Option Part) (c : Call) (o : Outcome) → part_going part ≡ going_after (Some c) o → is_built c ≡ true → is_built_part part ≡ true
+unfolding call_in
+built-after None c o h b = refl
+built-after (Some p) c (outcome.Done reply) h b = absurd (none-some _ (sym h))
+built-after (Some p) c (outcome.Part n) h b = ap is_built (ap (call_in c) h) ∙ b
+
+-- its own entry begins its next line
+pub told-begun : (lines : List Line) (past : List Entry) (e : Entry) (number : ℕ) (c : Call) (w new : Worker) (s : Spot) → Told lines past number w → HasNext lines past number w s
+    → e.worker ≡ number → e.act ≡ act.Begin c → is_built c ≡ true → new.places ≡ w.places → new.begun ≡ w.begun + 1 → part_going new.part ≡ going_after (Some c) e.outcome
     → ((name : List ℕ) → known_in new.names name ≡ or_known (known_in w.names name) (cond (opens name s.line.call) (Some (record { place = s.place; number = number_of e.outcome })) None))
     → Told lines (past ++ e ∷ []) number new
-told-next lines past e number w new s t h same begins done places count names =
-    let grown = begun-same past e number same begins in
+told-begun lines past e number c w new s t h same begins built places count part names =
+    let grown = begun-same past e number same (ap is_begin begins) in
     record {
       places = ap (λ (v : Vec ℕ Global). v.items) places ∙ t.places;
       count = count ∙ ap (λ (k : ℕ). k + 1) t.count ∙ sym (length_push (begun past number) e) ∙ ap length (sym grown);
@@ -241,6 +261,29 @@ told-next lines past e number w new s t h same begins done places count names =
           ∙ ap (λ (k : Option Known). or_known k (cond (opens name s.line.call) (Some (record { place = s.place; number = number_of e.outcome })) None)) (t.names name)
           ∙ sym (known-more name (spots_of lines number) (begun past number) s e h.spot)
           ∙ ap (known_by name (spots_of lines number)) (sym grown);
-      whole = ap (unfinished_from None None) (own-same past e number same) ∙ unfinished_from-snoc None None (own past number) e
-          ∙ going-done (call_after (call_from None (own past number)) e.act) e.outcome done;
+      part = part ∙ sym (unfinished-same past e number same ∙ ap (λ (a : Act). going_after (call_after (call_from None (own past number)) a) e.outcome) begins);
+      built = built-after new.part c e.outcome part built;
+    }
+
+begun-quiet : (past : List Entry) (e : Entry) (worker : ℕ) → e.worker ≡ worker → is_begin e.act ≡ false → begun (past ++ e ∷ []) worker ≡ begun past worker
+begun-quiet past e worker same more =
+    ap (filter (λ (e : Entry). is_begin e.act)) (own-same past e worker same)
+    ∙ filter-append (λ (e : Entry). is_begin e.act) (own past worker) (e ∷ [])
+    ∙ rw more (append-nil (begun past worker))
+
+-- or it goes on with its call
+pub told-more : (lines : List Line) (past : List Entry) (e : Entry) (number : ℕ) (p : Part) (w new : Worker) → Told lines past number w → w.part ≡ Some p
+    → e.worker ≡ number → e.act ≡ act.More → new.places ≡ w.places → new.begun ≡ w.begun → new.names ≡ w.names → part_going new.part ≡ going_after (part_call w.part) e.outcome
+    → Told lines (past ++ e ∷ []) number new
+told-more lines past e number p w new t is same goes places count names part =
+    let quiet = begun-quiet past e number same (ap is_begin goes) in
+    let going : unfinished past number ≡ Some (record { call = p.call; so_far = go.More p.taken }) = sym t.part ∙ ap part_going is in
+    let call : call_from None (own past number) ≡ Some p.call = subst (IsCallOf (call_from None (own past number))) going (call_of-from None None (own past number) tt) in
+    let left : part_going new.part ≡ going_after (Some p.call) e.outcome = part ∙ ap (λ (o : Option Part). going_after (part_call o) e.outcome) is in
+    record {
+      places = ap (λ (v : Vec ℕ Global). v.items) places ∙ t.places;
+      count = count ∙ t.count ∙ ap length (sym quiet);
+      names = λ name. ap (λ (table : Table). known_in table name) names ∙ t.names name ∙ ap (known_by name (spots_of lines number)) (sym quiet);
+      part = left ∙ sym (unfinished-same past e number same ∙ ap (λ (a : Act). going_after (call_after (call_from None (own past number)) a) e.outcome) goes ∙ ap (λ (c : Option Call). going_after c e.outcome) call);
+      built = built-after new.part p.call e.outcome left (sym (ap is_built_part is) ∙ t.built);
     }

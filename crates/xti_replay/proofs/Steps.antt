@@ -1,126 +1,293 @@
--- One worker's next call, and its step.
-use Rattle.std.proofs.Common.{◌≡◌, ℕ, ◌+◌, ◌<◌, true, cond, false, List, [], ◌∷◌, ◌++◌, length, get_or, Option, Some, None, refl, sym, ap, ◌∙◌, subst, arith, inr}
-use Rattle.std.specs.Prelude.{option_map, option_and_then, slice_get}
-use Rattle.std.proofs.lemmas.Option.{slice_get_read, slice_get_within, get_or_from_slice_get}
+-- A worker's next call, and its step.
+use Rattle.std.proofs.Common.{◌≡◌, ◌≢◌, ℕ, ◌+◌, ◌<◌, ◌⊎◌, inl, inr, Bool, true, false, cond, eqb, List, [], ◌∷◌, ◌++◌, length, get_or, set, Option, Some, None, refl, sym, ap, ◌∙◌, subst, arith}
+use Rattle.std.specs.Prelude.{is_none, option_map, option_and_then, slice_get}
+use Rattle.std.proofs.lemmas.Bool.{and_parts}
+use Rattle.std.proofs.lemmas.Bool.Decides.{eqb_tells}
+use Rattle.std.proofs.lemmas.List.{length-set, get_or-set_same, set-get_or}
+use Rattle.std.proofs.lemmas.Option.{none-some, slice_get_within, get_or_from_slice_get}
 use Rattle.xti_base.specs.declared.kinds.State.{State}
 use Rattle.xti_model.specs.declared.call.Call.{Call}
+use Rattle.xti_model.specs.declared.entry.Act.{Act}
 use Rattle.xti_model.specs.declared.entry.Act.TheVariants as act
+use Rattle.xti_model.specs.declared.entry.Go.{Go}
 use Rattle.xti_model.specs.declared.entry.Go.TheVariants as go
 use Rattle.xti_model.specs.declared.entry.Outcome.{Outcome}
 use Rattle.xti_model.specs.declared.entry.Entry.{Entry}
 use Rattle.xti_model.specs.declared.script.Line.{Line}
 use Rattle.xti_model.specs.declared.profile.Providers.{Providers}
 use Rattle.xti_model.specs.Built.{is_built, is_built_named}
+use Rattle.xti_model.specs.History.{Going, unfinished, step_going, call_after, going_after}
 use Rattle.xti_model.specs.World.{World}
-use Rattle.xti_model.specs.Step.{Step, step}
+use Rattle.xti_model.specs.Step.{Step}
 use Rattle.xti_model.specs.Resolve.{opens}
-use Rattle.xti_model.specs.Robin.{next_going, Turn, turn_of, turn_going, turn}
+use Rattle.xti_model.specs.Robin.{next_or, next_going, is_through, Turn, turn_of, turn_going, turn}
+use Rattle.xti_model.proofs.Phases.{through-same}
 use Rattle.xti_core.specs.Standing.{Standing}
+use Rattle.xti_replay.specs.declared.workers.Part.{Part}
 use Rattle.xti_replay.specs.declared.workers.Worker.{Worker}
-use Rattle.xti_replay.specs.declared.run.Run.{Run}
+use Rattle.xti_replay.specs.Spots.{Spot}
 use Rattle.xti_replay.specs.Playable.{are_playable}
 use Rattle.xti_replay.specs.Known.{known_in, number_of, or_known, call_before}
-use Rattle.xti_replay.specs.Progress.{Told, pending, is_built_or_none, IsNext, IsReady, Of, InStep, Taken, Makes}
-use Rattle.xti_replay.proofs.Done.{is_done, step_done}
-use Rattle.xti_replay.proofs.Lines.{beginning, next-at, through-at, next-by, next-call, told-next, playable-line, line-built, line-worker}
+use Rattle.xti_replay.specs.Progress.{Told, IsNext, MayAsk, IsKnown, IsKept, AreKept, IsReady, IsFound, MayTake, begun_by, Learns, Makes, Asked, part_going, part_call, is_built_part, is_built_or_none, going_of, next_act}
+use Rattle.xti_replay.proofs.Lines.{beginning, HasNext, next-at, through-at, next-by, next-call, playable-line, line-built, own-other, told-other, next-other, told-begun, told-more}
+use Rattle.xti_replay.proofs.Each.{at-worker, get_or_any, of-changed}
 
-pub at-worker : (P : ℕ → Worker → Type 0) (ws : List Worker) (number : ℕ) (w : Worker) → Of P ws → number < length ws → w ≡ get_or ws number w → P number w
-at-worker P ws number w each lt is = subst (λ (v : Worker). P number v) (sym is) (each number w lt)
-
-pub at-told : (lines : List Line) (past : List Entry) (r : Run) (number : ℕ) (w : Worker) → InStep lines past r → number < 33 → w ≡ get_or r.workers.items number w → Told lines past number w
-at-told lines past r number w k lt is = at-worker (Told lines past) r.workers.items number w k.workers.told (omega (arith, k.workers.many)) is
-
-pub at-next : (lines : List Line) (past : List Entry) (r : Run) (number : ℕ) (w : Worker) → InStep lines past r → number < 33 → w ≡ get_or r.workers.items number w → IsNext lines past number w.next
-at-next lines past r number w k lt is = (at-worker (IsReady lines past) r.workers.items number w k.workers.ready (omega (arith, k.workers.many)) is).own (inr k.through)
+pub whole-of : (lines : List Line) (past : List Entry) (number : ℕ) (w : Worker) → Told lines past number w → w.part ≡ None → unfinished past number ≡ None
+whole-of lines past number w t e = sym t.part ∙ ap part_going e
 
 -- The next call by the worker's next place.
 
-pub place-within : (lines : List Line) (past : List Entry) (ws : List Worker) (number : ℕ) (w : Worker) (place : ℕ) → Of (Told lines past) ws → length ws ≡ 33 → number < 33 → w ≡ get_or ws number w
-    → Some place ≡ slice_get w.places.items w.begun → place < length lines
-place-within lines past ws number w place each many lt is there =
-    let t = at-worker (Told lines past) ws number w each (omega (arith, many)) is in
-    let n = next-at lines past number w place t (sym there) in
+pub place-within : (lines : List Line) (past : List Entry) (number : ℕ) (w : Worker) (place : ℕ) → Told lines past number w → w.part ≡ None → slice_get w.places.items w.begun ≡ Some place → place < length lines
+place-within lines past number w place t whole there =
+    let n = next-at lines past number w place t (whole-of lines past number w t whole) there in
     slice_get_within lines place n.0.line (subst (λ (k : ℕ). slice_get lines k ≡ Some n.0.line) n.1 n.2.line)
 
-pub place-built : (lines : List Line) (past : List Entry) (ws : List Worker) (number : ℕ) (w : Worker) (place : ℕ) (line : Line) → are_playable lines ≡ true → Of (Told lines past) ws → length ws ≡ 33 → number < 33 → w ≡ get_or ws number w
-    → Some place ≡ slice_get w.places.items w.begun → line ≡ get_or lines place line → is_built_named line.call ≡ true
-place-built lines past ws number w place line playable each many lt is there e =
-    let t = at-worker (Told lines past) ws number w each (omega (arith, many)) is in
-    let n = next-at lines past number w place t (sym there) in
+pub place-built : (lines : List Line) (past : List Entry) (number : ℕ) (w : Worker) (place : ℕ) (line : Line) → are_playable lines ≡ true → Told lines past number w → w.part ≡ None
+    → slice_get w.places.items w.begun ≡ Some place → line ≡ get_or lines place line → is_built_named line.call ≡ true
+place-built lines past number w place line playable t whole there e =
+    let n = next-at lines past number w place t (whole-of lines past number w t whole) there in
     let at : slice_get lines place ≡ Some n.0.line = subst (λ (k : ℕ). slice_get lines k ≡ Some n.0.line) n.1 n.2.line in
     subst (λ (l : Line). is_built_named l.call ≡ true) (sym (e ∙ get_or_from_slice_get lines place n.0.line line at)) (line-built n.0.line (playable-line lines place n.0.line playable at))
 
-pub place-next : (lines : List Line) (past : List Entry) (ws : List Worker) (number : ℕ) (w setup : Worker) (place : ℕ) (line : Line) (call : Call) → are_playable lines ≡ true → Of (Told lines past) ws → length ws ≡ 33 → number < 33 → w ≡ get_or ws number w → setup ≡ get_or ws 0 setup
-    → Some place ≡ slice_get w.places.items w.begun → line ≡ get_or lines place line → call ≡ call_before place w.names setup.names line.call → IsNext lines past number (Some call)
-place-next lines past ws number w setup place line call playable each many lt is first there at made =
-    let t = at-worker (Told lines past) ws number w each (omega (arith, many)) is in
-    let z = at-worker (Told lines past) ws 0 setup each (omega (arith, many)) first in
-    let n = next-at lines past number w place t (sym there) in
+pub place-next : (lines : List Line) (past : List Entry) (number : ℕ) (w setup : Worker) (place : ℕ) (line : Line) (call : Call) → are_playable lines ≡ true → Told lines past number w → Told lines past 0 setup → w.part ≡ None
+    → slice_get w.places.items w.begun ≡ Some place → line ≡ get_or lines place line → call ≡ call_before place w.names setup.names line.call → IsNext lines past number (Some call)
+place-next lines past number w setup place line call playable t z whole there at made =
+    let n = next-at lines past number w place t (whole-of lines past number w t whole) there in
     let got : slice_get lines place ≡ Some n.0.line = subst (λ (k : ℕ). slice_get lines k ≡ Some n.0.line) n.1 n.2.line in
     let same : line ≡ n.0.line = at ∙ get_or_from_slice_get lines place n.0.line line got in
     next-call lines past number w setup n.0 call t z n.2 (line-built n.0.line (playable-line lines place n.0.line playable got))
     (made ∙ ap (λ (k : ℕ). call_before k w.names setup.names line.call) (sym n.1) ∙ ap (λ (l : Line). call_before n.0.place w.names setup.names l.call) same)
 
-pub place-none : (lines : List Line) (past : List Entry) (ws : List Worker) (number : ℕ) (w : Worker) → Of (Told lines past) ws → length ws ≡ 33 → number < 33 → w ≡ get_or ws number w
-    → None ≡ slice_get w.places.items w.begun → IsNext lines past number None
-place-none lines past ws number w each many lt is there =
-    let t = at-worker (Told lines past) ws number w each (omega (arith, many)) is in
-    record { going = sym (through-at lines past number w t (sym there)); built = refl }
-
-pub playable-worker : (lines : List Line) (i : ℕ) (line : Line) → are_playable lines ≡ true → i < length lines → line ≡ get_or lines i line → line.worker < 33
-playable-worker lines i line playable lt at = line-worker line (playable-line lines i line playable (slice_get_read lines (length lines) i line refl lt at))
+pub place-none : (lines : List Line) (past : List Entry) (number : ℕ) (w : Worker) → Told lines past number w → w.part ≡ None → slice_get w.places.items w.begun ≡ None → IsNext lines past number None
+place-none lines past number w t whole there = record { going = sym (through-at lines past number w t (whole-of lines past number w t whole) there); built = refl }
 
 -- The step.
 
-goes : (lines : List Line) (past : List Entry) (number : ℕ) (next : Option Call) (call : Call) → IsNext lines past number next → next ≡ Some call → next_going lines past number ≡ Some (beginning call)
-goes lines past number next call n e = sym n.going ∙ ap pending e
+begins_with : Go → Bool
+begins_with go.Begin = true
+begins_with (go.More n) = false
 
-pub can-advance : (lines : List Line) (past : List Entry) (number : ℕ) (w : Worker) (call : Call) → Told lines past number w → IsNext lines past number w.next → w.next ≡ Some call → (w.begun < length w.places.items) × (get_or w.places.items w.begun 0 < length lines)
-can-advance lines past number w call t n e =
-    let h = next-by lines past number w (beginning call) t (goes lines past number w.next call n e) in
-    let place : get_or w.places.items w.begun 0 ≡ h.0.place = get_or_from_slice_get w.places.items w.begun h.0.place 0 h.1.place in
-    (slice_get_within w.places.items w.begun h.0.place h.1.place, subst (λ (k : ℕ). k < length lines) (sym place) (slice_get_within lines h.0.place h.0.line h.1.line))
+begins_it : Option Going → Bool
+begins_it None = true
+begins_it (Some g) = begins_with g.so_far
 
-pub turn-by : (p : Providers) (lines : List Line) (w : World) (past : List Entry) (number : ℕ) (next : Option Call) (call : Call) (o : Option Step) → IsNext lines past number next → next ≡ Some call → step p w call go.Begin ≡ o
-    → turn p lines w past number ≡ option_map (turn_of number (beginning call)) o
-turn-by p lines w past number next call o n e made =
-    ap (option_and_then (turn_going p w number)) (goes lines past number next call n e) ∙ ap (option_map (turn_of number (beginning call))) made
-
-abbrev held : Call → Option Call → Call
-held d None = d
-held d (Some call) = call
-
-pub same-call : (one other : Call) → Some one ≡ Some other → one ≡ other
-same-call one other e = ap (held one) e
-
-pub makes-made : (p : Providers) (lines : List Line) (number : ℕ) (past : List Entry) (taken all : Taken) (before after : Standing) (old new : Worker) (call : Call) (outcome : Outcome) (state : State)
-    → Told lines past number old → IsNext lines past number old.next → old.next ≡ Some call → Some (record { outcome = outcome; after = state; world = after.cells }) ≡ step p before.cells call go.Begin
-    → (taken past → all (past ++ record { worker = number; act = act.Begin call; outcome = outcome; after = state } ∷ [])) → new.places ≡ old.places → new.begun ≡ old.begun + 1
-    → ((line : Line) (name : List ℕ) → slice_get lines (get_or old.places.items old.begun 0) ≡ Some line → known_in new.names name ≡ or_known (known_in old.names name) (cond (opens name line.call) (Some (record { place = get_or old.places.items old.begun 0; number = number_of outcome })) None))
-    → Makes lines number past taken all before after old new true (turn p lines before.cells past number)
-makes-made p lines number past taken all before after old new call outcome state t n e made takes places count names =
-    let entry : Entry = record { worker = number; act = act.Begin call; outcome = outcome; after = state } in
-    let h = next-by lines past number old (beginning call) t (goes lines past number old.next call n e) in
-    let place : get_or old.places.items old.begun 0 ≡ h.0.place = get_or_from_slice_get old.places.items old.begun h.0.place 0 h.1.place in
-    let built : is_built call ≡ true = sym (ap is_built_or_none e) ∙ n.built in
-    let done : is_done outcome ≡ true = step_done p before.cells call _ built (sym made) in
-    let learnt : (name : List ℕ) → known_in new.names name ≡ or_known (known_in old.names name) (cond (opens name h.0.line.call) (Some (record { place = h.0.place; number = number_of outcome })) None) =
-    λ name. names h.0.line name (subst (λ (k : ℕ). slice_get lines k ≡ Some h.0.line) (sym place) h.1.line)
-    ∙ ap (λ (k : ℕ). or_known (known_in old.names name) (cond (opens name h.0.line.call) (Some (record { place = k; number = number_of outcome })) None)) place in
-    let told : Told lines (past ++ entry ∷ []) number new = told-next lines past entry number old new h.0 t h.1 refl refl done places count learnt in
-    subst (λ (o : Option Turn). Makes lines number past taken all before after old new true o) (sym (turn-by p lines before.cells past number old.next call _ n e (sym made)))
-    (refl, refl, refl, told, takes)
-
--- no step: the worker has no next call, or the call is blocked
-pub makes-through : (p : Providers) (lines : List Line) (number : ℕ) (past : List Entry) (taken : Taken) (world : Standing) (w : Worker) → IsNext lines past number w.next → w.next ≡ None
-    → Makes lines number past taken taken world world w w false (turn p lines world.cells past number)
-makes-through p lines number past taken world w n e =
-    subst (λ (o : Option Turn). Makes lines number past taken taken world world w w false o) (sym none) (refl, refl, refl, λ h. h)
+-- a worker that begins a call has none that is part way
+whole-begin : (lines : List Line) (past : List Entry) (number : ℕ) (w : Worker) (c : Call) → Told lines past number w → next_going lines past number ≡ Some (beginning c) → unfinished past number ≡ None
+unfolding begins_it begins_with
+whole-begin lines past number w c t h = by w.part refl
   where
-    none : turn p lines world.cells past number ≡ None
-    none = ap (option_and_then (turn_going p world.cells number)) (sym n.going ∙ ap pending e)
+    by : (o : Option Part) → w.part ≡ o → unfinished past number ≡ None
+    by None e = sym t.part ∙ ap part_going e
+    by (Some p) e =
+        let goes : next_going lines past number ≡ Some (record { call = p.call; so_far = go.More p.taken }) = ap (next_or lines past number) (sym t.part ∙ ap part_going e) in
+        absurd (let no : false ≡ true = ap begins_it (sym goes ∙ h) in cc)
 
-pub makes-blocked : (p : Providers) (lines : List Line) (number : ℕ) (past : List Entry) (taken : Taken) (before after : Standing) (w : Worker) (call : Call) → IsNext lines past number w.next → w.next ≡ Some call → after ≡ before → None ≡ step p before.cells call go.Begin
-    → Makes lines number past taken taken before after w w false (turn p lines before.cells past number)
-makes-blocked p lines number past taken before after w call n e still made =
-    subst (λ (o : Option Turn). Makes lines number past taken taken before after w w false o) (sym (turn-by p lines before.cells past number w.next call None n e (sym made))) (refl, still, refl, λ h. h)
+pub begin-next : (lines : List Line) (past : List Entry) (number : ℕ) (w : Worker) (c : Call) → IsReady lines past number w → w.next ≡ Some c → (s : Spot) × HasNext lines past number w s
+begin-next lines past number w c r e =
+    let goes : next_going lines past number ≡ Some (beginning c) = sym r.going ∙ ap (λ (o : Option Call). going_of (record w { next = o })) e in
+    next-by lines past number w (beginning c) r.kept.told (whole-begin lines past number w c r.kept.told goes) goes
+
+pub can-take : (lines : List Line) (past : List Entry) (number : ℕ) (w v : Worker) → IsReady lines past number w → v ≡ record w { next = None } → MayTake lines v (next_act w)
+can-take lines past number w v r e = subst (λ (x : Worker). MayTake lines x (next_act w)) (sym e) (by w.next refl)
+  where
+    by : (o : Option Call) → w.next ≡ o → MayTake lines (record w { next = None }) (next_act (record w { next = o }))
+    by None n = tt
+    by (Some c) n =
+        let h = begin-next lines past number w c r n in
+        let place : get_or w.places.items w.begun 0 ≡ h.0.place = get_or_from_slice_get w.places.items w.begun h.0.place 0 h.1.place in
+        (slice_get_within w.places.items w.begun h.0.place h.1.place, subst (λ (k : ℕ). k < length lines) (sym place) (slice_get_within lines h.0.place h.0.line h.1.line))
+
+turn-by : (p : Providers) (lines : List Line) (cells : World) (past : List Entry) (number : ℕ) (g : Going) (s : Step) → next_going lines past number ≡ Some g → Some s ≡ option_and_then (step_going p cells) (next_going lines past number)
+    → turn p lines cells past number ≡ Some (turn_of number g s)
+turn-by p lines cells past number g s n made =
+    ap (option_and_then (turn_going p cells number)) n ∙ ap (option_map (turn_of number g)) (sym (made ∙ ap (option_and_then (step_going p cells)) n))
+
+-- what an entry of a worker makes of what is told of it
+pub record IsAdvance (lines : List Line) (w new : Worker) (a : Act) (outcome : Outcome) : Type 0 where
+  pub places : new.places ≡ w.places
+  pub count : new.begun ≡ w.begun + begun_by a
+  pub part : part_going new.part ≡ going_after (call_after (part_call w.part) a) outcome
+  pub names : Learns lines (get_or w.places.items w.begun 0) a outcome w.names new.names
+
+pub advance-begun : (lines : List Line) (past : List Entry) (e : Entry) (number : ℕ) (c : Call) (w new : Worker) (s : Spot) → Told lines past number w → HasNext lines past number w s → e.worker ≡ number → e.act ≡ act.Begin c → is_built c ≡ true
+    → IsAdvance lines w new (act.Begin c) e.outcome → Told lines (past ++ e ∷ []) number new
+advance-begun lines past e number c w new s t h own begins built a =
+    let place : get_or w.places.items w.begun 0 ≡ s.place = get_or_from_slice_get w.places.items w.begun s.place 0 h.place in
+    told-begun lines past e number c w new s t h own begins built a.places a.count a.part
+    (λ name. a.names s.line name (subst (λ (k : ℕ). slice_get lines k ≡ Some s.line) (sym place) h.line)
+    ∙ ap (λ (k : ℕ). or_known (known_in w.names name) (cond (opens name s.line.call) (Some (record { place = k; number = number_of e.outcome })) None)) place)
+
+pub advance-more : (lines : List Line) (past : List Entry) (e : Entry) (number : ℕ) (p : Part) (w new : Worker) → Told lines past number w → w.part ≡ Some p → e.worker ≡ number → e.act ≡ act.More
+    → IsAdvance lines w new act.More e.outcome → Told lines (past ++ e ∷ []) number new
+advance-more lines past e number p w new t is own goes a =
+    let same : new.begun ≡ w.begun = omega (arith, a.count) in
+    told-more lines past e number p w new t is own goes a.places same a.names a.part
+
+idle-told : (lines : List Line) (past : List Entry) (number : ℕ) (w : Worker) → Told lines past number w → Told lines past number (record w { next = None })
+idle-told lines past number w t = record { places = t.places; count = t.count; names = t.names; part = t.part; built = t.built }
+
+pub makes-made : (p : Providers) (lines : List Line) (number : ℕ) (past : List Entry) (before after : Standing) (w v new : Worker) (a : Act) (outcome : Outcome) (state : State)
+    → IsReady lines past number w → Some (record { outcome = outcome; after = state; world = after.cells }) ≡ option_and_then (step_going p before.cells) (going_of w)
+    → a ≡ next_act w → v ≡ record w { next = None } → new.next ≡ v.next → IsAdvance lines v new a outcome
+    → Makes lines number past before after w new (Some (record { worker = number; act = a; outcome = outcome; after = state })) (turn p lines before.cells past number)
+makes-made p lines number past before after w v new a outcome state r made acts taken idle advance = by w.next refl
+  where
+    done : Step
+    done = record { outcome = outcome; after = state; world = after.cells }
+
+    stepped : Some done ≡ option_and_then (step_going p before.cells) (next_going lines past number)
+    stepped = made ∙ ap (option_and_then (step_going p before.cells)) r.going
+
+    from : IsAdvance lines (record w { next = None }) new (next_act w) outcome
+    from = subst (λ (x : Act). IsAdvance lines (record w { next = None }) new x outcome) acts (subst (λ (x : Worker). IsAdvance lines x new a outcome) taken advance)
+
+    none : new.next ≡ None
+    none = idle ∙ ap (λ (x : Worker). x.next) taken
+
+    Result : Option Turn → Type 0
+    Result o = Makes lines number past before after w new (Some (record { worker = number; act = a; outcome = outcome; after = state })) o
+
+    finished : (g : Going) (x : Act) → next_going lines past number ≡ Some g → a ≡ x → (turn_of number g done).entry.act ≡ x → Told lines (past ++ record { worker = number; act = x; outcome = outcome; after = state } ∷ []) number new
+        → Result (turn p lines before.cells past number)
+    finished g x n e f told =
+        let entry : record { worker = number; act = x; outcome = outcome; after = state } ≡ (turn_of number g done).entry = ap (λ (y : Act). let made : Entry = record { worker = number; act = y; outcome = outcome; after = state } in made) (sym f) in
+        let mine : record { worker = number; act = a; outcome = outcome; after = state } ≡ (turn_of number g done).entry = ap (λ (y : Act). let made : Entry = record { worker = number; act = y; outcome = outcome; after = state } in made) e ∙ entry in
+        subst Result (sym (turn-by p lines before.cells past number g done n stepped))
+        (ap (λ (x : Entry). Some x) mine, refl, refl, subst (λ (y : Entry). Told lines (past ++ y ∷ []) number new) entry told, none)
+
+    part : (o : Option Part) → w.part ≡ o → w.next ≡ None → Result (turn p lines before.cells past number)
+    part None q n = absurd (none-some done (sym (made ∙ ap (option_and_then (step_going p before.cells)) (ap (λ (o : Option Call). going_of (record w { next = o })) n ∙ ap part_going q))))
+    part (Some x) q n =
+        let acted : next_act w ≡ act.More = ap (λ (o : Option Call). next_act (record w { next = o })) n in
+        let goes : next_going lines past number ≡ Some (record { call = x.call; so_far = go.More x.taken }) = sym r.going ∙ ap (λ (o : Option Call). going_of (record w { next = o })) n ∙ ap part_going q in
+        finished (record { call = x.call; so_far = go.More x.taken }) act.More goes (acts ∙ acted) refl
+        (advance-more lines past _ number x (record w { next = None }) new (idle-told lines past number w r.kept.told) q refl refl (subst (λ (y : Act). IsAdvance lines (record w { next = None }) new y outcome) acted from))
+
+    by : (o : Option Call) → w.next ≡ o → Result (turn p lines before.cells past number)
+    by None n = part w.part refl n
+    by (Some c) n =
+        let acted : next_act w ≡ act.Begin c = ap (λ (o : Option Call). next_act (record w { next = o })) n in
+        let goes : next_going lines past number ≡ Some (beginning c) = sym r.going ∙ ap (λ (o : Option Call). going_of (record w { next = o })) n in
+        let built : is_built c ≡ true = sym (ap is_built_or_none n) ∙ (and_parts (is_built_or_none w.next) (is_built_part w.part) r.built).0 in
+        let h = begin-next lines past number w c r n in
+        let h2 : HasNext lines past number (record w { next = None }) h.0 = record { spot = h.1.spot; place = h.1.place; line = h.1.line; own = h.1.own; going = h.1.going } in
+        finished (beginning c) (act.Begin c) goes (acts ∙ acted) refl
+        (advance-begun lines past _ number c (record w { next = None }) new h.0 (idle-told lines past number w r.kept.told) h2 refl refl built (subst (λ (y : Act). IsAdvance lines (record w { next = None }) new y outcome) acted from))
+
+-- no step: the worker has none, or it is blocked
+pub makes-none : (p : Providers) (lines : List Line) (number : ℕ) (past : List Entry) (before after : Standing) (w : Worker) → IsReady lines past number w → None ≡ option_and_then (step_going p before.cells) (going_of w) → after ≡ before
+    → Makes lines number past before after w w None (turn p lines before.cells past number)
+makes-none p lines number past before after w r blocked still = subst (λ (o : Option Turn). Makes lines number past before after w w None o) (sym none) (refl, still, refl)
+  where
+    by : (g : Option Going) → None ≡ option_and_then (step_going p before.cells) g → option_and_then (turn_going p before.cells number) g ≡ None
+    by None h = refl
+    by (Some g) h = ap (option_map (turn_of number g)) (sym h)
+
+    none : turn p lines before.cells past number ≡ None
+    none = by (next_going lines past number) (blocked ∙ ap (option_and_then (step_going p before.cells)) r.going)
+
+-- All workers.
+
+pub through-other : (lines : List Line) (past : List Entry) (e : Entry) (number : ℕ) → e.worker ≢ number → is_through lines (past ++ e ∷ []) number ≡ is_through lines past number
+through-other lines past e number ne = through-same lines past (past ++ e ∷ []) number (own-other past e number ne)
+
+known-other : (lines : List Line) (past : List Entry) (e : Entry) (number : ℕ) (next : Option Call) → e.worker ≢ number → (e.worker ≡ 0 → is_through lines past 0 ≡ false) → IsKnown lines past number next → IsKnown lines (past ++ e ∷ []) number next
+known-other lines past e number None ne unfinished k = tt
+known-other lines past e number (Some c) ne unfinished k = by (eqb_tells e.worker 0) k.1
+  where
+    by : ((eqb e.worker 0 ≡ true) × (e.worker ≡ 0)) ⊎ ((eqb e.worker 0 ≡ false) × (e.worker ≢ 0)) → MayAsk lines past number → IsKnown lines (past ++ e ∷ []) number (Some c)
+    by (inl z) (inl m) = absurd (ne (z.1 ∙ sym m))
+    by (inl z) (inr m) = absurd (let no : false ≡ true = sym (unfinished z.1) ∙ m in cc)
+    by (inr z) m = (record { going = k.0.going ∙ sym (next-other lines past e number ne z.1); built = k.0.built }, may m)
+      where
+        may : MayAsk lines past number → MayAsk lines (past ++ e ∷ []) number
+        may (inl m) = inl m
+        may (inr m) = inr (through-other lines past e 0 z.1 ∙ m)
+
+pub kept-step : (lines : List Line) (past : List Entry) (ws : List Worker) (number : ℕ) (new : Worker) (e : Entry) → AreKept lines past ws → e.worker ≡ number → (e.worker ≡ 0 → is_through lines past 0 ≡ false) → Told lines (past ++ e ∷ []) number new → IsKnown lines (past ++ e ∷ []) number new.next
+    → AreKept lines (past ++ e ∷ []) (set ws number new)
+kept-step lines past ws number new e k own unfinished told known = record {
+  many = length-set ws number new ∙ k.many;
+  each = of-changed (IsKept lines past) (IsKept lines (past ++ e ∷ [])) ws number new k.each
+      (λ j v ne l h. record { told = told-other lines past e j v (λ same. ne (sym same ∙ own)) h.told; known = known-other lines past e j v.next (λ same. ne (sym same ∙ own)) unfinished h.known })
+      (λ l. record { told = told; known = known });
+}
+
+-- the worker was asked
+pub asked-by : (lines : List Line) (number : ℕ) (past : List Entry) (before after : Standing) (ws vs : List Worker) (w new : Worker) (entry : Option Entry) (p : Providers) → AreKept lines past ws → w ≡ get_or ws number w → vs ≡ set ws number new
+    → Makes lines number past before after w new entry (turn p lines before.cells past number) → Asked lines number past before after vs entry (turn p lines before.cells past number)
+asked-by lines number past before after ws vs w new entry p k at items m = by (turn p lines before.cells past number) refl m
+  where
+    through : (t : Turn) → turn p lines before.cells past number ≡ Some t → is_through lines past number ≡ false
+    through t e = going (next_going lines past number) e
+      where
+        going : (g : Option Going) → option_and_then (turn_going p before.cells number) g ≡ Some t → is_none g ≡ false
+        going None e = absurd (none-some t e)
+        going (Some g) e = refl
+
+    by : (o : Option Turn) → turn p lines before.cells past number ≡ o → Makes lines number past before after w new entry o → Asked lines number past before after vs entry o
+    by None e m = (m.0, m.1, subst (AreKept lines past) (sym (items ∙ ap (set ws number) (m.2 ∙ at) ∙ set-get_or ws number w)) k)
+    by (Some t) e m = (
+      m.0,
+      m.1,
+      m.2,
+      subst (AreKept lines (past ++ t.entry ∷ [])) (sym items)
+          (kept-step lines past ws number new t.entry k m.2 (λ z. subst (λ (n : ℕ). is_through lines past n ≡ false) (sym m.2 ∙ z) (through t e)) m.3 (subst (IsKnown lines (past ++ t.entry ∷ []) number) (sym m.4) tt)),
+    )
+
+-- Next calls are found.
+
+pub found-known : (lines : List Line) (past : List Entry) (ws : List Worker) (number : ℕ) (w : Worker) → AreKept lines past ws → number < length ws → w ≡ get_or ws number w → (w.next ≡ None → w.part ≡ None → ⊥) → IsFound lines past number ws
+found-known lines past ws number w k lt at not = record { kept = k; ready = λ d. ready (get_or ws number d) (k.each number d lt) (λ n p. not (ap (λ (x : Worker). x.next) (at ∙ same d) ∙ n) (ap (λ (x : Worker). x.part) (at ∙ same d) ∙ p)) }
+  where
+    same : (d : Worker) → get_or ws number w ≡ get_or ws number d
+    same d = get_or_any ws number w d lt
+
+    ready : (v : Worker) → IsKept lines past number v → (v.next ≡ None → v.part ≡ None → ⊥) → IsReady lines past number v
+    ready v h never = by v.next refl
+      where
+        by : (o : Option Call) → v.next ≡ o → IsReady lines past number v
+        by (Some c) n =
+            let known = subst (IsKnown lines past number) n h.known in
+            record {
+              kept = h;
+              going = ap (λ (o : Option Call). going_of (record v { next = o })) n ∙ known.0.going;
+              built = rw n (rw known.0.built h.told.built);
+            }
+        by None n = part v.part refl
+          where
+            part : (o : Option Part) → v.part ≡ o → IsReady lines past number v
+            part None q = absurd (never n q)
+            part (Some x) q = record {
+              kept = h;
+              going = ap (λ (o : Option Call). going_of (record v { next = o })) n ∙ ap part_going q ∙ ap (next_or lines past number) (sym (ap part_going q) ∙ h.told.part);
+              built = rw n h.told.built;
+            }
+
+pub found-next : (lines : List Line) (past : List Entry) (ws vs : List Worker) (number : ℕ) (w : Worker) (next : Option Call) → AreKept lines past ws → MayAsk lines past number → number < length ws → w ≡ get_or ws number w → w.part ≡ None → IsNext lines past number next
+    → vs ≡ set ws number (record w { next = next }) → IsFound lines past number vs
+found-next lines past ws vs number w next k may lt at whole n items = subst (IsFound lines past number) (sym items) (record {
+  kept = record {
+    many = length-set ws number (record w { next = next }) ∙ k.many;
+    each = of-changed (IsKept lines past) (IsKept lines past) ws number (record w { next = next }) k.each (λ j v ne l h. h) (λ l. kept);
+  };
+  ready = λ d. subst (IsReady lines past number) (sym (get_or-set_same ws number (record w { next = next }) d lt)) (record {
+    kept = kept;
+    going = by next n;
+    built = rw n.built told.built;
+  });
+})
+  where
+    told : Told lines past number w
+    told = (at-worker (IsKept lines past) ws number w k.each lt at).told
+
+    known : (o : Option Call) → IsNext lines past number o → IsKnown lines past number o
+    known None m = tt
+    known (Some c) m = (m, may)
+
+    kept : IsKept lines past number (record w { next = next })
+    kept = record { told = record { places = told.places; count = told.count; names = told.names; part = told.part; built = told.built }; known = known next n }
+
+    by : (o : Option Call) → IsNext lines past number o → going_of (record w { next = o }) ≡ next_going lines past number
+    by None m = ap part_going whole ∙ m.going
+    by (Some c) m = m.going

@@ -5,6 +5,7 @@ use Rattle.std.specs.BTreeMap.{BTreeMap, get_by}
 use Rattle.std.specs.Cmp.Lexicographic.{slice_cmp}
 use Rattle.std.specs.Ordering.{nat_cmp}
 use Rattle.xti_base.specs.declared.kinds.Fd.{Fd}
+use Rattle.xti_base.specs.declared.limits.TheConstants.{NO_NUMBER}
 use Rattle.xti_model.specs.declared.call.Call.{Call}
 use Rattle.xti_model.specs.declared.entry.Outcome.{Outcome}
 use Rattle.xti_model.specs.declared.entry.Entry.{Entry}
@@ -46,7 +47,7 @@ or_known (Some k) other = Some k
 
 -- the number that a name without one stands for
 abbrev pub or_no_number : Option ℕ → ℕ
-or_no_number None = 4294967295
+or_no_number None = NO_NUMBER
 or_no_number (Some n) = n
 
 -- what a name of a line at this place stands for, by the worker's own table and then by worker 0's

@@ -10,22 +10,20 @@ ghost use Rattle.xti_replay.specs.Known.{known_in, number_before, number_of, fd_
 use std::alloc::{AllocError, Global};
 use std::collections::BTreeMap;
 use xti_base::Fd;
+use xti_base::limits::NO_NUMBER;
 use xti_model::{Call, NamedCall, Outcome, Reply};
 
 /// An endpoint that a name stands for.
 #[derive(Clone, Copy)]
-pub(crate) struct Known {
+pub struct Known {
     /// Where the line that opened it stands in the script.
-    pub(crate) place: usize,
+    pub place: usize,
     /// The descriptor that its entry answered.
-    pub(crate) number: u32,
+    pub number: u32,
 }
 
 /// What each name stands for.
-pub(crate) type Table = BTreeMap<Vec<u8>, Known>;
-
-/// The number of a name that stands for no endpoint.
-const NO_NUMBER: u32 = 4_294_967_295;
+pub type Table = BTreeMap<Vec<u8>, Known>;
 
 /// The number of the name, where the line that opened it stands before the place.
 fn number_before(place: usize, table: &Table, name: &[u8]) -> Option<u32>
@@ -157,7 +155,7 @@ fn plain_before(place: usize, own: &Table, setup: &Table, call: &NamedCall) -> C
 }
 
 /// The call of a line at this place, with numbers in place of names.
-pub(crate) fn call_before(
+pub fn call_before(
     place: usize,
     own: &Table,
     setup: &Table,
@@ -221,7 +219,7 @@ fn add(alloc: Global, table: &mut Table, name: &[u8], known: Known) -> Result<()
 }
 
 /// Learns what the entry of a line at this place answered, where the line opens an endpoint.
-pub(crate) fn learn(
+pub fn learn(
     alloc: Global,
     table: &mut Table,
     place: usize,

@@ -1,73 +1,156 @@
 //! What is kept of each worker.
 
-ghost use Rattle.std.specs.Prelude.{◌≡◌, ◌+◌, ◌<◌, ℕ, List, [], length, ◌++◌, ◌∷◌, slice_index, slice_get, Some, None, IfOk, OnOk, if◌then◌else◌};
+ghost use Rattle.std.specs.Prelude.{◌≡◌, ◌+◌, ◌<◌, ◌++◌, ◌∷◌, [], List, ℕ, None, Some, option_map, slice_index, slice_get, length, IfOk, OnOk, true, if◌then◌else◌};
+ghost use Rattle.xti_model.specs.declared.entry.Entry.{Entry};
 ghost use Rattle.xti_model.specs.declared.script.Line.{Line};
+ghost use Rattle.xti_model.specs.History.{call_after, going_after};
 ghost use Rattle.xti_model.specs.Resolve.{opens};
 ghost use Rattle.xti_replay.specs.Known.{known_in, or_known, number_of};
-ghost use Rattle.xti_replay.specs.Progress.{IsFresh, Of};
+ghost use Rattle.xti_replay.specs.Playable.{are_playable};
+ghost use Rattle.xti_replay.specs.Progress.{is_finished, Told, IsNext, MayTake, Learns, begun_by, next_act, part_call, part_going};
 
-use crate::names::{Table, learn};
+use crate::names::{Table, call_before, learn};
 use std::alloc::{AllocError, Global};
-use xti_model::{Call, Line, Outcome};
+use std::collections::VecDeque;
+use xti_model::{Act, Call, Line, Outcome};
 
-/// How many workers there are: worker 0 is the setup.
-pub(crate) const WORKERS: usize = 33;
+/// A call that is part way.
+#[derive(Drop)]
+pub struct Part {
+    /// The call.
+    pub call: Call,
+    /// How many bytes it has taken so far.
+    pub taken: u32,
+}
 
 /// How far a worker has come.
 #[derive(Drop)]
-pub(crate) struct Worker {
+pub struct Worker {
     /// Where its lines stand in the script.
-    places: Vec<usize>,
+    pub(crate) places: Vec<usize>,
     /// How many of them it has begun.
-    begun: usize,
+    pub(crate) begun: usize,
     /// What its names stand for.
-    pub(crate) names: Table,
-    /// The call of its next line, where it may make it.
+    pub names: Table,
+    /// Its call that is part way.
+    pub(crate) part: Option<Part>,
+    /// The call of its next line, once it is found.
     pub(crate) next: Option<Call>,
 }
 
-impl Worker {
-    /// Where its next line stands; `None` where it has begun them all.
-    pub(crate) fn place(&self) -> Option<usize>
-        ensures { result ≡ slice_get self.now.places.items self.now.begun }
-    {
-        self.places.get(self.begun).copied()
+/// What is left of a call after its first step.
+fn part_of(call: &Call, outcome: &Outcome) -> Result<Option<Part>, AllocError>
+    ensures { IfOk result (λ part. part_going part ≡ going_after (Some call.now) outcome.now) }
+{
+    match outcome {
+        Outcome::Done(_) => Ok(None),
+        Outcome::Part { taken } => {
+            let call = call.copy()?;
+            Ok(Some(Part {
+                call,
+                taken: *taken,
+            }))
+        }
     }
+}
 
-    /// How many of its lines it has begun.
-    pub(crate) fn begun(&self) -> usize
-        ensures { result ≡ self.now.begun }
+/// What is left of a call after a further step.
+fn go_on(part: Option<Part>, outcome: &Outcome) -> Option<Part>
+    ensures { part_going result ≡ going_after (part_call part) outcome.now }
+{
+    match outcome {
+        Outcome::Done(_) => None,
+        Outcome::Part { taken } => match part {
+            None => None,
+            Some(part) => Some(Part {
+                call: part.call,
+                taken: *taken,
+            }),
+        },
+    }
+}
+
+impl Worker {
+    /// A worker without lines.
+    pub fn idle(alloc: Global) -> Worker
+        ensures places { result.places.items ≡ [] }
+        ensures begun { result.begun ≡ 0 }
+        ensures names { (name : List ℕ) → known_in result.names name ≡ None }
+        ensures part { result.part ≡ None }
+        ensures next { result.next ≡ None }
     {
-        self.begun
+        Worker {
+            places: Vec::new(alloc),
+            begun: 0,
+            names: Table::new(alloc),
+            part: None,
+            next: None,
+        }
     }
 
     /// The line at this place is the worker's too.
-    pub(crate) fn hand(&mut self, place: usize) -> Result<(), AllocError>
+    pub fn hand(&mut self, place: usize) -> Result<(), AllocError>
         ensures places { OnOk result (self.new.places.items ≡ self.old.places.items ++ place ∷ []) }
-        ensures others { (self.new.begun ≡ self.old.begun) × (self.new.names ≡ self.old.names) × (self.new.next ≡ self.old.next) }
+        ensures others { (self.new.begun ≡ self.old.begun) × (self.new.names ≡ self.old.names) × (self.new.part ≡ self.old.part) × (self.new.next ≡ self.old.next) }
     {
         self.places.push(place)?;
         Ok(())
     }
 
-    /// Sets the worker's next call.
-    pub(crate) fn set_next(&mut self, next: Option<Call>)
+    /// Whether it has made all its calls.
+    pub fn is_finished(&self) -> bool
+        ensures { result ≡ is_finished self.now }
+    {
+        self.part.is_none() && self.places.len() <= self.begun
+    }
+
+    /// Where its next line stands; `None` where it has begun them all.
+    pub fn place(&self) -> Option<usize>
+        ensures { result ≡ slice_get self.now.places.items self.now.begun }
+    {
+        self.places.get(self.begun).copied()
+    }
+
+    /// The call of its next line, with numbers in place of names; `None` where it has begun them all.
+    pub fn next_call(&self, lines: &[Line], setup: &Worker) -> Result<Option<Call>, AllocError>
+        requires lines { are_playable lines.now ≡ true }
+        requires told { (past : List Entry) × (number : ℕ) × Told lines.now past number self.now × Told lines.now past 0 setup.now }
+        requires whole { self.now.part ≡ None }
+        ensures { IfOk result (λ next. (past : List Entry) (number : ℕ) → Told lines.now past number self.now → Told lines.now past 0 setup.now → IsNext lines.now past number next) }
+    {
+        match self.place() {
+            None => Ok(None),
+            Some(place) => {
+                let line = &lines[place];
+                let call = call_before(place, &self.names, &setup.names, &line.call)?;
+                Ok(Some(call))
+            }
+        }
+    }
+
+    /// Sets the call of its next line.
+    pub fn set_next(&mut self, next: Option<Call>)
         ensures { self.new ≡ record self.old { next = next } }
     {
         self.next = next;
     }
 
-    /// The worker's next line is made: learns what it answered.
-    pub(crate) fn advance(
-        &mut self,
-        alloc: Global,
-        lines: &[Line],
-        outcome: &Outcome,
-    ) -> Result<(), AllocError>
+    /// How its next step begins or goes on, in an entry.
+    pub(crate) fn take_act(&mut self) -> Act
+        ensures act { result ≡ next_act self.old }
+        ensures left { self.new ≡ record self.old { next = None } }
+    {
+        match self.next.take() {
+            None => Act::More,
+            Some(call) => Act::Begin(call),
+        }
+    }
+
+    /// The worker's next line is begun: learns what its entry answered.
+    fn begin(&mut self, alloc: Global, lines: &[Line], outcome: &Outcome) -> Result<(), AllocError>
         requires more { self.old.begun < length self.old.places.items }
         requires within { slice_index self.old.places.items self.old.begun < length lines.now }
-        ensures places { self.new.places ≡ self.old.places }
-        ensures next { self.new.next ≡ self.old.next }
+        ensures others { (self.new.places ≡ self.old.places) × (self.new.part ≡ self.old.part) × (self.new.next ≡ self.old.next) }
         ensures count { OnOk result (self.new.begun ≡ self.old.begun + 1) }
         ensures names { OnOk result ((line : Line) (name : List ℕ) → slice_get lines.now (slice_index self.old.places.items self.old.begun) ≡ Some line → known_in self.new.names name ≡ or_known (known_in self.old.names name) (if opens name line.call then Some (record { place = slice_index self.old.places.items self.old.begun; number = number_of outcome.now }) else None)) }
     {
@@ -77,21 +160,56 @@ impl Worker {
         self.begun += 1;
         Ok(())
     }
+
+    /// Sets its call that is part way.
+    fn set_part(&mut self, part: Option<Part>)
+        ensures { self.new ≡ record self.old { part = part } }
+    {
+        self.part = part;
+    }
+
+    /// An entry of the worker is made: its next line is begun, or its call goes on.
+    pub fn advance(
+        &mut self,
+        alloc: Global,
+        lines: &[Line],
+        act: &Act,
+        outcome: &Outcome,
+    ) -> Result<(), AllocError>
+        requires { MayTake lines.now self.old act.now }
+        ensures places { self.new.places ≡ self.old.places }
+        ensures next { self.new.next ≡ self.old.next }
+        ensures count { OnOk result (self.new.begun ≡ self.old.begun + begun_by act.now) }
+        ensures part { OnOk result (part_going self.new.part ≡ going_after (call_after (part_call self.old.part) act.now) outcome.now) }
+        ensures names { OnOk result (Learns lines.now (slice_index self.old.places.items self.old.begun) act.now outcome.now self.old.names self.new.names) }
+    {
+        match act {
+            Act::Begin(call) => {
+                self.begin(alloc, lines, outcome)?;
+                let part = part_of(call, outcome)?;
+                self.set_part(part);
+                Ok(())
+            }
+            Act::More => {
+                let part = go_on(self.part.take(), outcome);
+                self.set_part(part);
+                Ok(())
+            }
+        }
+    }
 }
 
-/// Workers without lines.
-pub(crate) fn idle_workers(alloc: Global) -> Result<Vec<Worker>, AllocError>
-    ensures many { IfOk result (λ ws. length ws.items ≡ 33) }
-    ensures fresh { IfOk result (λ ws. Of (IsFresh []) ws.items) }
+/// The worker comes last, where it isn't finished.
+pub(crate) fn put_back(
+    turns: &mut VecDeque<usize>,
+    worker: &Worker,
+    number: usize,
+) -> Result<(), AllocError>
+    ensures { OnOk result (turns.new.items ≡ (if is_finished worker.now then turns.old.items else turns.old.items ++ number ∷ [])) }
 {
-    let mut workers = Vec::with_capacity(alloc, WORKERS)?;
-    for _number in 0..WORKERS {
-        workers.push(Worker {
-            places: Vec::new(alloc),
-            begun: 0,
-            names: Table::new(alloc),
-            next: None,
-        })?;
+    if worker.is_finished() {
+        return Ok(());
     }
-    Ok(workers)
+    turns.push_back(number)?;
+    Ok(())
 }

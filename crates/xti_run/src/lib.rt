@@ -7,6 +7,6 @@ mod top;
 mod words;
 
 pub use gate::{Gate, NoGate};
-pub use round_robin::{replay, replay_into};
+pub use round_robin::replay;
 pub use top::{Status, program};
 pub use words::Words;

@@ -11,12 +11,11 @@ ghost use Rattle.xti_replay.specs.Stalls.{stalls_of, are_through};
 ghost use Rattle.xti_script.specs.Grammar.{HasText};
 
 use std::alloc::{AllocError, Global};
-use xti_journal::Recorder;
-use xti_model::{Journal, Script, Stalls, usual_is_valid};
+use xti_model::{Journal, Script, usual_is_valid};
 use xti_script::{scripts_are_built, scripts_are_small, scripts_have_workers};
 
 /// A script that has a text can be played.
-fn texts_are_playable()
+pub(crate) fn texts_are_playable()
     ensures { (s : Script) → HasText s → IsPlayable s }
 {
     usual_is_valid();
@@ -39,23 +38,4 @@ pub fn replay(alloc: Global, s: &Script) -> Result<Journal, AllocError>
 {
     texts_are_playable();
     xti_replay::replay(alloc, s)
-}
-
-/// The stall lines of that run, whose entries the recorder takes as they come.
-pub fn replay_into<H: Recorder>(
-    alloc: Global,
-    s: &Script,
-    recorder: &mut H,
-) -> Result<Stalls, AllocError>
-    requires { HasText s.now }
-    ensures entries { OnOk result ((first : H) → H.took first [] recorder.old → H.took first (robin s.now) recorder.new) }
-    ensures few { length (robin s.now) ≤ length s.now.lines + script_bytes s.now.lines }
-    ensures stalls { IfOk result (λ stalls. stalls ≡ stalls_of s.now) }
-    ensures through { IfOk result (λ stalls. (stalls ≡ []) ↔ (are_through s.now.lines (robin s.now) ≡ true)) }
-    ensures legal { Legal s.now.providers (robin s.now) }
-    ensures follows { Each (Follows (robin s.now) s.now.lines) workers }
-    ensures complete { Complete s.now.providers (robin s.now) s.now.lines }
-{
-    texts_are_playable();
-    xti_replay::replay_into(alloc, s, recorder)
 }

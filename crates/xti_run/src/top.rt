@@ -1,29 +1,31 @@
 //! The top call.
 
-ghost use Rattle.std.specs.Prelude.{◌≡◌, ◌≢◌, ◌<◌, ◌≤◌, ◌+◌, ◌⊎◌, ℕ, List, Some, None, IfOk, IfErr, OnErr, length, ◌==◌};
+ghost use Rattle.std.specs.Prelude.{◌≡◌, ◌≢◌, ◌<◌, ◌≤◌, ◌+◌, ◌⊎◌, ℕ, List, [], Some, None, IfOk, OnOk, IfErr, OnErr, length, ◌==◌};
 ghost use Rattle.xti_io.specs.Faults.{Rose};
 ghost use Rattle.xti_io.specs.Source.{GivesUpTo};
 ghost use Rattle.xti_model.specs.declared.script.Script.{Script};
+ghost use Rattle.xti_journal.specs.Writing.{Written, Took, TookOne};
+ghost use Rattle.xti_model.specs.declared.entry.Entry.{Entry};
+ghost use Rattle.xti_replay.specs.Runs.{IsRunOf, IsWhole};
 ghost use Rattle.xti_script.specs.Grammar.{IsScript};
 ghost use Rattle.xti_run.specs.declared.words.Command.{Command};
 ghost use Rattle.xti_run.specs.Program.{IsReplayed, IsRefusedInput, IsListed, IsRefusedByte, IsAnswered, IsRun, IsOutput, IsRefusedWords, IsWritten, IsCutOff, HasInput, IsDone, NoFault, limit, refused_line, refused_byte, refused_words, refused_size, command_of, status_with};
 
 use crate::gate::Gate;
-use crate::round_robin::replay_into;
+use crate::round_robin::texts_are_playable;
 use crate::words::{Command, Words};
 use std::alloc::{AllocError, Global};
 use std::sync::Wait;
 use std::thread::Threads;
 use tpi_grammar::frames_law;
 use xti_base::Octets;
+use xti_base::limits::{MOST_INPUT, MOST_STEPS};
 use xti_frames::{FramesFail, show_frames};
 use xti_io::{ReadEnd, Sink, Source, read_all, write_all};
 use xti_journal::JournalWriter;
-use xti_model::{Script, Stalls};
+use xti_model::{Entry, Script, Stalls, robin_follows, robin_is_complete, robin_is_legal};
+use xti_replay::Run;
 use xti_script::{ScriptFail, never_both, read_script};
-
-/// The most bytes of an input.
-const LIMIT: usize = 67_108_864;
 
 /// How a run of the program ends.
 ///
@@ -31,6 +33,14 @@ const LIMIT: usize = 67_108_864;
 /// script is blocked at the end. 4: out of memory. 5: reading failed. 6: writing failed.
 #[derive(Clone, Copy, Debug, PartialEq, Eq)]
 pub struct Status(pub u8);
+
+impl From<AllocError> for Status {
+    ghost from_gives = { λ _ status. status.0 ≡ 4 };
+
+    fn from(_error: AllocError) -> Status {
+        Status(4)
+    }
+}
 
 /// A status, and what is written before it.
 #[derive(Drop)]
@@ -62,13 +72,40 @@ fn journal_status(stalls: &Stalls) -> u8
     if stalls.is_empty() { 0 } else { 3 }
 }
 
+/// Writes an entry, and lets it go.
+fn write_entry(writer: &mut JournalWriter, entry: Entry) -> Result<(), AllocError>
+    ensures { OnOk result (TookOne writer.old entry writer.new) }
+{
+    writer.add(&entry)
+}
+
+/// Writes the entries of a run to its end.
+fn write_entries(run: &mut Run, writer: &mut JournalWriter) -> Result<(), AllocError>
+    requires { (s : Script) × (all : List Entry) × IsRunOf s all [] run.old }
+    ensures { OnOk result ((s : Script) (all : List Entry) → IsRunOf s all [] run.old → ((first : Written) → Took first [] writer.old → Took first all writer.new) × IsWhole s all run.new) }
+{
+    for _step in 0..MOST_STEPS {
+        match run.next()? {
+            None => return Ok(()),
+            Some(entry) => write_entry(writer, entry)?,
+        }
+    }
+    Ok(())
+}
+
 /// What `replay` answers to the text of a script: its journal, written while it runs, in the room of the input.
 fn journal_answer(alloc: Global, script: &Script, input: Octets) -> Result<Answer, AllocError>
     requires { IsScript script.now input }
     ensures { IfOk result (λ a. IsReplayed input a.status a.text) }
 {
+    texts_are_playable();
+    robin_is_legal();
+    robin_follows();
+    robin_is_complete();
     let mut writer = JournalWriter::begin(input.into_vec()?, &script.providers)?;
-    let stalls = replay_into(alloc, script, &mut writer)?;
+    let mut run = Run::of(alloc, script)?;
+    write_entries(&mut run, &mut writer)?;
+    let stalls = run.stalls()?;
     let status = journal_status(&stalls);
     let text = writer.end(&stalls)?;
     Ok(Answer { status, text })
@@ -139,15 +176,9 @@ fn answer_from<R: Source>(alloc: Global, command: Command, source: &mut R) -> Re
     ensures read { GivesUpTo (limit + 1) (R.left source.old) (R.left source.new) }
     ensures later { R.faults source.old ≤ R.faults source.new }
 {
-    match read_all(alloc, source, LIMIT) {
-        Ok(input) => match answer_to(alloc, command, input) {
-            Ok(answer) => Ok(answer),
-            Err(_) => Err(Status(4)),
-        },
-        Err(ReadEnd::TooLong) => match size_answer(alloc) {
-            Ok(answer) => Ok(answer),
-            Err(_) => Err(Status(4)),
-        },
+    match read_all(alloc, source, MOST_INPUT) {
+        Ok(input) => Ok(answer_to(alloc, command, input)?),
+        Err(ReadEnd::TooLong) => Ok(size_answer(alloc)?),
         Err(ReadEnd::Fault) => Err(Status(5)),
         Err(ReadEnd::OutOfMemory) => Err(Status(4)),
     }
@@ -162,10 +193,7 @@ fn output<R: Source>(alloc: Global, words: &Words, source: &mut R) -> Result<Ans
 {
     match words.command() {
         Some(command) => answer_from(alloc, command, source),
-        None => match words_answer(alloc) {
-            Ok(answer) => Ok(answer),
-            Err(_) => Err(Status(4)),
-        },
+        None => Ok(words_answer(alloc)?),
     }
 }
 

@@ -1,22 +1,32 @@
 use Rattle.std.proofs.Common.{refl}
 use Rattle.xti_model.specs.Robin.{robin}
 use Rattle.xti_journal.specs.JournalText.{head_text}
+use Rattle.xti_replay.proofs.Few.{robin-few}
+use Rattle.xti_replay.proofs.WholeRuns.{ends}
 use Rattle.xti_run.proofs.Answered.{IsRunOf, begun, replayed-is}
 use Rattle.xti_run.proofs.top.journal_answer.Goals as goal
 
-pub replay_into-requires : goal.replay_into-requires
-replay_into-requires c = (c.args.input, c.requires)
+pub of-requires : goal.of-requires
+of-requires c = c.texts_are_playable.ensures c.args.script.now (c.args.input, c.requires)
+
+pub write_entries-requires : goal.write_entries-requires
+write_entries-requires c = (c.args.script.now, robin c.args.script.now, c.in_ok-run.ensures)
+
+pub stalls-requires : goal.stalls-requires
+stalls-requires c = (robin c.args.script.now, (c.in_ok-write_entries.ensures c.args.script.now (robin c.args.script.now) c.in_ok-run.ensures).1.stands)
 
 pub returns : goal.returns
 returns c =
+    let whole = c.in_ok-write_entries.ensures c.args.script.now (robin c.args.script.now) c.in_ok-run.ensures in
+    let end = ends c.args.script.now c.in_ok-stalls.stalls c.write_entries.new.run.lines.now whole.1.lines (c.in_ok-stalls.ensures (robin c.args.script.now) whole.1.stands) in
     let r : IsRunOf c.args.script.now c.in_ok-stalls.stalls = record {
-      stalls = c.in_ok-stalls.ensures.stalls;
-      through = c.in_ok-stalls.ensures.through;
-      legal = c.replay_into.ensures.legal;
-      follows = c.replay_into.ensures.follows;
-      complete = c.replay_into.ensures.complete;
-      few = c.replay_into.ensures.few;
+      stalls = end.stalls;
+      through = end.through;
+      legal = c.robin_is_legal.ensures.whole c.args.script.now;
+      follows = c.robin_follows.ensures c.args.script.now;
+      complete = c.robin_is_complete.ensures c.args.script.now (c.texts_are_playable.ensures c.args.script.now (c.args.input, c.requires)).bound;
+      few = robin-few c.args.script.now;
     } in
-    let taken = c.in_ok-stalls.ensures.entries (head_text c.args.script.now.providers, 0) (begun c.in_ok-writer.writer (head_text c.args.script.now.providers) c.in_ok-writer.ensures) in
+    let taken = whole.0 (head_text c.args.script.now.providers, 0) (begun c.in_ok-writer.writer (head_text c.args.script.now.providers) c.in_ok-writer.ensures) in
     replayed-is c.args.script.now c.args.input c.in_ok-text.text c.in_ok-stalls.stalls c.journal_status-status.result c.requires r c.journal_status-status.ensures
     (c.in_ok-text.ensures (record { providers = c.args.script.now.providers; entries = robin c.args.script.now; stalls = c.in_ok-stalls.stalls }) taken refl)

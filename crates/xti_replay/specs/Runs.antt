@@ -1,0 +1,59 @@
+-- A run of a script beside its entries so far.
+use Rattle.std.specs.Prelude.{ℕ, ◌≡◌, ◌<◌, true, false, List, [], ◌∷◌, ◌++◌, Option, Some, None, if◌then◌else◌}
+use Rattle.std.specs.List.{AllByRecursion}
+use Rattle.xti_base.specs.declared.limits.TheConstants.{WORKERS}
+use Rattle.xti_model.specs.declared.entry.Entry.{Entry}
+use Rattle.xti_model.specs.declared.script.Line.{Line}
+use Rattle.xti_model.specs.declared.script.Script.{Script}
+use Rattle.xti_model.specs.Robin.{is_through, last_worker, robin_from, most_steps, Turn}
+use Rattle.xti_replay.specs.declared.run.Run.{Run}
+use Rattle.xti_replay.specs.Playable.{are_playable}
+use Rattle.xti_replay.specs.Progress.{AreKept}
+use Rattle.xti_replay.specs.Turns.{AreTurns}
+
+-- the run stands where its lines have come by these entries
+pub record StandsAfter (past : List Entry) (r : Run) : Type 0 where
+  pub playable : are_playable r.lines.now ≡ true
+  pub kept : AreKept r.lines.now past r.workers.items
+  pub turns : AreTurns r.lines.now past r.turns.items
+  pub last : last_worker 0 past < WORKERS
+  pub setup : is_through r.lines.now past 0 ≡ false → last_worker 0 past ≡ 0
+
+-- the run has gone on by this turn, and answered its entry; or there is none, and it stands as before
+abbrev pub GoesOn : List Entry → Run → Run → Option Entry → Option Turn → Type 0
+GoesOn past old new entry None = (entry ≡ None) × (new.world ≡ old.world) × StandsAfter past new
+GoesOn past old new entry (Some t) = (entry ≡ Some t.entry) × (new.world.cells ≡ t.world) × StandsAfter (past ++ t.entry ∷ []) new
+
+-- worker 0 is finished, and each worker stands as the entries so far have it
+pub record AsksOthers (past : List Entry) (r : Run) : Type 0 where
+  pub playable : are_playable r.lines.now ≡ true
+  pub kept : AreKept r.lines.now past r.workers.items
+  pub through : is_through r.lines.now past 0 ≡ true
+  pub within : AllByRecursion (λ number. (0 < number) × (number < WORKERS)) r.turns.items
+
+-- these, and the worker where it isn't finished
+abbrev pub put_back : List Line → List Entry → ℕ → List ℕ → List ℕ
+put_back lines past number rest = if is_through lines past number then rest else rest ++ number ∷ []
+
+-- the worker was asked, and comes last where it isn't finished
+abbrev pub HasAsked : List Entry → ℕ → List ℕ → Run → Run → Option Entry → Option Turn → Type 0
+HasAsked past number rest old new entry None =
+    (entry ≡ None) × (new.world ≡ old.world) × AreKept old.lines.now past new.workers.items × (new.turns.items ≡ put_back old.lines.now past number rest)
+HasAsked past number rest old new entry (Some t) =
+    (entry ≡ Some t.entry) × (new.world.cells ≡ t.world) × (t.entry.worker ≡ number) × AreKept old.lines.now (past ++ t.entry ∷ []) new.workers.items
+    × (new.turns.items ≡ put_back old.lines.now (past ++ t.entry ∷ []) number rest)
+
+-- the run is one of the script, after these entries; at most so many steps more lead to all
+pub record Leads (s : Script) (all : List Entry) (more : ℕ) (past : List Entry) (r : Run) : Type 0 where
+  pub stands : StandsAfter past r
+  pub lines : r.lines.now ≡ s.lines
+  pub providers : r.world.providers ≡ s.providers
+  pub left : robin_from s.providers s.lines more r.world.cells past ≡ all
+
+abbrev pub IsRunOf : Script → List Entry → List Entry → Run → Type 0
+IsRunOf s all past r = Leads s all most_steps past r
+
+-- the run is one of the script, after all its entries
+pub record IsWhole (s : Script) (all : List Entry) (r : Run) : Type 0 where
+  pub stands : StandsAfter all r
+  pub lines : r.lines.now ≡ s.lines

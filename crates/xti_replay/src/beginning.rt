@@ -1,0 +1,103 @@
+//! What workers are after a history of their script.
+
+ghost use Rattle.std.specs.Prelude.{◌≡◌, ◌+◌, ◌-◌, ◌++◌, ◌≤◌, ◌<◌, ℕ, List, [], length, take, IfOk, OnOk, true};
+ghost use Rattle.xti_base.specs.declared.limits.TheConstants.{WORKERS};
+ghost use Rattle.xti_model.specs.declared.entry.Entry.{Entry};
+ghost use Rattle.xti_model.specs.declared.profile.Providers.{Providers};
+ghost use Rattle.xti_model.specs.Complete.{IsHistoryOf};
+ghost use Rattle.xti_model.specs.Robin.{is_through, last_worker, numbers, order_after};
+ghost use Rattle.xti_replay.specs.Playable.{are_playable};
+ghost use Rattle.xti_replay.specs.Progress.{AreKept, AreFresh};
+ghost use Rattle.xti_replay.specs.Turns.{AreTurns, LeavesOutFinished};
+
+use crate::workers::{Worker, put_back};
+use std::alloc::{AllocError, Global};
+use std::collections::VecDeque;
+use xti_base::limits::WORKERS;
+use xti_model::{Entry, Line};
+
+/// Workers without lines.
+fn idle_workers(alloc: Global) -> Result<Vec<Worker>, AllocError>
+    ensures { IfOk result (λ ws. AreFresh [] ws.items) }
+{
+    let mut workers = Vec::with_capacity(alloc, WORKERS)?;
+    for _number in 0..WORKERS {
+        workers.push(Worker::idle(alloc))?;
+    }
+    Ok(workers)
+}
+
+/// Workers with their lines, of which they have begun none.
+fn fresh_workers(alloc: Global, lines: &[Line]) -> Result<Vec<Worker>, AllocError>
+    requires { are_playable lines.now ≡ true }
+    ensures { IfOk result (λ ws. AreFresh lines.now ws.items) }
+{
+    let mut workers = idle_workers(alloc)?;
+    for place in 0..lines.len() {
+        let worker = &mut workers[lines[place].worker as usize];
+        worker.hand(place)?;
+    }
+    Ok(workers)
+}
+
+/// The workers after the history.
+pub(crate) fn workers_after(
+    alloc: Global,
+    lines: &[Line],
+    history: &[Entry],
+) -> Result<Vec<Worker>, AllocError>
+    requires lines { are_playable lines.now ≡ true }
+    requires history { (p : Providers) × IsHistoryOf p lines.now history.now }
+    ensures { IfOk result (λ ws. AreKept lines.now history.now ws.items) }
+{
+    let mut workers = fresh_workers(alloc, lines)?;
+    for entry in history {
+        let worker = &mut workers[entry.worker as usize];
+        worker.advance(alloc, lines, &entry.act, &entry.outcome)?;
+    }
+    Ok(workers)
+}
+
+/// The worker of the last entry; 0 where there is none.
+fn last_worker(history: &[Entry]) -> u32
+    ensures { result ≡ last_worker 0 history.now }
+{
+    match history.last() {
+        None => 0,
+        Some(entry) => entry.worker,
+    }
+}
+
+/// Adds the numbers from one on, up to another, of the workers that are not finished.
+fn add_turns(
+    turns: &mut VecDeque<usize>,
+    workers: &[Worker],
+    from: usize,
+    to: usize,
+) -> Result<(), AllocError>
+    requires from { from ≤ to }
+    requires to { to ≤ length workers.now }
+    ensures { OnOk result ((lines : List Line) (past : List Entry) → AreKept lines past workers.now → (more : List ℕ) × (turns.new.items ≡ turns.old.items ++ more) × LeavesOutFinished lines past (numbers from (to - from)) more) }
+{
+    for number in from..to {
+        put_back(turns, &workers[number], number)?;
+    }
+    Ok(())
+}
+
+/// The workers but 0 that are not finished, in the order of their turns.
+pub(crate) fn turns_after(
+    alloc: Global,
+    workers: &[Worker],
+    history: &[Entry],
+) -> Result<VecDeque<usize>, AllocError>
+    requires workers { (lines : List Line) × AreKept lines history.now workers.now }
+    requires last { last_worker 0 history.now < WORKERS }
+    ensures { IfOk result (λ turns. (lines : List Line) → AreKept lines history.now workers.now → AreTurns lines history.now turns.items) }
+{
+    let after = last_worker(history) as usize + 1;
+    let mut turns = VecDeque::with_capacity(alloc, WORKERS)?;
+    add_turns(&mut turns, workers, after, WORKERS)?;
+    add_turns(&mut turns, workers, 1, after)?;
+    Ok(turns)
+}

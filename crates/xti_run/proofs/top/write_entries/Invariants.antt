@@ -1,0 +1,10 @@
+use Rattle.std.proofs.Common.{◌-◌, List, []}
+use Rattle.xti_journal.specs.Writing.{Written, Took}
+use Rattle.xti_model.specs.declared.entry.Entry.{Entry}
+use Rattle.xti_model.specs.declared.script.Script.{Script}
+use Rattle.xti_model.specs.Robin.{most_steps}
+use Rattle.xti_replay.specs.Runs.{IsRunOf, Leads}
+use Rattle.xti_run.proofs.top.write_entries.Given as goal
+
+abbrev pub invariant-loop-step : goal.invariant-loop-step
+invariant-loop-step l = (s : Script) (all : List Entry) → IsRunOf s all [] l.fn.run → (past : List Entry) × ((first : Written) → Took first [] l.fn.writer → Took first past l.writer) × Leads s all (most_steps - l._step) past l.run
