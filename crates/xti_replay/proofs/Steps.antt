@@ -1,6 +1,6 @@
 -- A worker's next call, and its step.
 use Rattle.std.proofs.Common.{◌≡◌, ◌≢◌, ℕ, ◌+◌, ◌<◌, ◌⊎◌, inl, inr, Bool, true, false, cond, eqb, List, [], ◌∷◌, ◌++◌, length, get_or, set, Option, Some, None, refl, sym, ap, ◌∙◌, subst, arith}
-use Rattle.std.specs.Prelude.{is_none, option_map, option_and_then, slice_get}
+use Rattle.std.specs.Prelude.{is_none, unwrap_or, option_map, option_and_then, slice_get}
 use Rattle.std.proofs.lemmas.Bool.{and_parts}
 use Rattle.std.proofs.lemmas.Bool.Decides.{eqb_tells}
 use Rattle.std.proofs.lemmas.List.{length-set, get_or-set_same, set-get_or}
@@ -18,7 +18,7 @@ use Rattle.xti_model.specs.declared.profile.Providers.{Providers}
 use Rattle.xti_model.specs.Built.{is_built, is_built_named}
 use Rattle.xti_model.specs.History.{Going, unfinished, step_going, call_after, going_after}
 use Rattle.xti_model.specs.World.{World}
-use Rattle.xti_model.specs.Step.{Step}
+use Rattle.xti_model.specs.Step.{Step, step}
 use Rattle.xti_model.specs.Resolve.{opens}
 use Rattle.xti_model.specs.Robin.{next_or, next_going, is_through, Turn, turn_of, turn_going, turn}
 use Rattle.xti_model.proofs.Phases.{through-same}
@@ -28,7 +28,7 @@ use Rattle.xti_replay.specs.declared.workers.Worker.{Worker}
 use Rattle.xti_replay.specs.Spots.{Spot}
 use Rattle.xti_replay.specs.Playable.{are_playable}
 use Rattle.xti_replay.specs.Known.{known_in, number_of, or_known, call_before}
-use Rattle.xti_replay.specs.Progress.{Told, IsNext, MayAsk, IsKnown, IsKept, AreKept, IsReady, IsFound, MayTake, begun_by, Learns, Makes, Asked, part_going, part_call, is_built_part, is_built_or_none, going_of, next_act}
+use Rattle.xti_replay.specs.Progress.{Told, IsNext, MayAsk, IsKnown, IsKept, AreKept, IsReady, IsFound, MayTake, begun_by, Learns, Makes, Asked, part_going, part_call, is_built_part, is_built_or_none, is_built_next, pending, or_going, going_of, call_of, so_far_of, next_act}
 use Rattle.xti_replay.proofs.Lines.{beginning, HasNext, next-at, through-at, next-by, next-call, playable-line, line-built, own-other, told-other, next-other, told-begun, told-more}
 use Rattle.xti_replay.proofs.Each.{at-worker, get_or_any, of-changed}
 
@@ -173,6 +173,23 @@ makes-made p lines number past before after w v new a outcome state r made acts 
         let h2 : HasNext lines past number (record w { next = None }) h.0 = record { spot = h.1.spot; place = h.1.place; line = h.1.line; own = h.1.own; going = h.1.going } in
         finished (beginning c) (act.Begin c) goes (acts ∙ acted) refl
         (advance-begun lines past _ number c (record w { next = None }) new h.0 (idle-told lines past number w r.kept.told) h2 refl refl built (subst (λ (y : Act). IsAdvance lines (record w { next = None }) new y outcome) acted from))
+
+-- the step of a worker's call, as far as that has come
+pub step-going : (p : Providers) (before : World) (o : Option Going) (c : Call) (g : Go) → Some c ≡ call_of o → g ≡ so_far_of o → step p before c g ≡ option_and_then (step_going p before) o
+step-going p before None c g h i = absurd (none-some c (sym h))
+step-going p before (Some x) c g h i = ap (λ (z : Call). step p before z g) (ap (λ (q : Option Call). unwrap_or q c) h) ∙ ap (step p before x.call) i
+
+pub still-going : (p : Providers) (before : World) (o : Option Going) → None ≡ call_of o → None ≡ option_and_then (step_going p before) o
+still-going p before None h = refl
+still-going p before (Some x) h = absurd (none-some x.call h)
+
+pub built-going : (w : Worker) (c : Call) → is_built_next w ≡ true → Some c ≡ call_of (going_of w) → is_built c ≡ true
+built-going w c b h = by w.next w.part (and_parts (is_built_or_none w.next) (is_built_part w.part) b) h
+  where
+    by : (n : Option Call) (q : Option Part) → (is_built_or_none n ≡ true) × (is_built_part q ≡ true) → Some c ≡ call_of (or_going (pending n) (part_going q)) → is_built c ≡ true
+    by (Some d) q k i = ap is_built (ap (λ (o : Option Call). unwrap_or o c) i) ∙ k.0
+    by None (Some x) k i = ap is_built (ap (λ (o : Option Call). unwrap_or o c) i) ∙ k.1
+    by None None k i = absurd (none-some c (sym i))
 
 -- no step: the worker has none, or it is blocked
 pub makes-none : (p : Providers) (lines : List Line) (number : ℕ) (past : List Entry) (before after : Standing) (w : Worker) → IsReady lines past number w → None ≡ option_and_then (step_going p before.cells) (going_of w) → after ≡ before

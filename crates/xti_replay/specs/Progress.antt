@@ -4,6 +4,7 @@ use Rattle.xti_base.specs.declared.limits.TheConstants.{WORKERS}
 use Rattle.xti_model.specs.declared.call.Call.{Call}
 use Rattle.xti_model.specs.declared.entry.Act.{Act}
 use Rattle.xti_model.specs.declared.entry.Act.TheVariants as act
+use Rattle.xti_model.specs.declared.entry.Go.{Go}
 use Rattle.xti_model.specs.declared.entry.Go.TheVariants as go
 use Rattle.xti_model.specs.declared.entry.Outcome.{Outcome}
 use Rattle.xti_model.specs.declared.entry.Applied.{Applied}
@@ -52,6 +53,15 @@ or_going (Some g) other = Some g
 -- the worker's next step, as far as it is known
 abbrev pub going_of : Worker → Option Going
 going_of w = or_going (pending w.next) (part_going w.part)
+
+-- its call, and how far that has come
+abbrev pub call_of : Option Going → Option Call
+call_of None = None
+call_of (Some g) = Some g.call
+
+abbrev pub so_far_of : Option Going → Go
+so_far_of None = go.Begin
+so_far_of (Some g) = g.so_far
 
 abbrev pub is_built_next : Worker → Bool
 is_built_next w = is_built_or_none w.next && is_built_part w.part
@@ -138,11 +148,6 @@ abbrev pub Learns : List Line → ℕ → Act → Outcome → Table → Table �
 Learns lines place (act.Begin c) outcome old new = (line : Line) (name : List ℕ) → slice_get lines place ≡ Some line →
     known_in new name ≡ or_known (known_in old name) (if opens name line.call then Some (record { place = place; number = number_of outcome }) else None)
 Learns lines place act.More outcome old new = new ≡ old
-
--- the step that was made, which left these cells; none where it is blocked
-abbrev pub step_by : Applied → World → Option Step
-step_by applied.Blocked cells = None
-step_by (applied.Step outcome after) cells = Some (record { outcome = outcome; after = after; world = cells })
 
 -- one worker's step was made, or there was none
 abbrev pub Makes : List Line → ℕ → List Entry → Standing → Standing → Worker → Worker → Option Entry → Option Turn → Type 0

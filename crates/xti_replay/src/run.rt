@@ -1,6 +1,6 @@
 //! A run of a script in which the workers take turns.
 
-ghost use Rattle.std.specs.Prelude.{◌≡◌, ◌∷◌, [], ℕ, List, IfOk, OnOk, true};
+ghost use Rattle.std.specs.Prelude.{◌≡◌, ◌∷◌, [], ℕ, List, None, IfOk, OnOk, true};
 ghost use Rattle.xti_model.specs.declared.entry.Entry.{Entry};
 ghost use Rattle.xti_model.specs.Complete.{IsHistoryOf};
 ghost use Rattle.xti_model.specs.History.{after};
@@ -9,7 +9,7 @@ ghost use Rattle.xti_replay.specs.Playable.{are_playable};
 ghost use Rattle.xti_replay.specs.Runs.{StandsAfter, AsksOthers, HasAsked, GoesOn};
 ghost use Rattle.xti_replay.specs.Stalls.{stalls_after};
 
-use crate::asking::ask;
+use crate::asking::{ask, let_go};
 use crate::beginning::{turns_after, workers_after};
 use crate::stalling::stall_lines;
 use crate::workers::{Worker, put_back};
@@ -27,6 +27,8 @@ pub struct Run<'a> {
     workers: Vec<Worker>,
     /// The workers but 0 that are not finished, in the order of their turns.
     turns: VecDeque<usize>,
+    /// The entry that was made, until it is handed out.
+    made: Option<Entry>,
 }
 
 impl<'a> Run<'a> {
@@ -52,50 +54,55 @@ impl<'a> Run<'a> {
             world,
             workers,
             turns,
+            made: None,
         })
     }
 
     /// Asks the worker whose turn it is; then it comes last, where it isn't finished.
-    fn ask_first(&mut self) -> Result<Option<Entry>, AllocError>
-        requires { (past : List Entry) × AsksOthers past self.old }
-        ensures asked { IfOk result (λ entry. (past : List Entry) (number : ℕ) (rest : List ℕ) → AsksOthers past self.old → self.old.turns.items ≡ number ∷ rest → HasAsked past number rest self.old self.new entry (turn self.old.world.providers self.old.lines.now self.old.world.cells past number)) }
+    #[inline(always)]
+    fn ask_first(&mut self) -> Result<(), AllocError>
+        requires asks { (past : List Entry) × AsksOthers past self.old }
+        requires none { self.old.made ≡ None }
+        ensures asked { OnOk result ((past : List Entry) (number : ℕ) (rest : List ℕ) → AsksOthers past self.old → self.old.turns.items ≡ number ∷ rest → HasAsked past number rest self.old self.new self.new.made (turn self.old.world.providers self.old.lines.now self.old.world.cells past number)) }
         ensures providers { self.new.world.providers ≡ self.old.world.providers }
         ensures lines { self.new.lines.now ≡ self.old.lines.now }
     {
         let Some(number) = self.turns.pop_front() else {
-            return Ok(None);
+            return Ok(());
         };
-        let entry = ask(
+        ask(
             self.alloc,
             self.lines,
             &mut self.workers,
             &mut self.world,
             number,
+            &mut self.made,
         )?;
-        put_back(&mut self.turns, &self.workers[number], number)?;
-        Ok(entry)
+        put_back(&mut self.turns, &self.workers[number], number)
     }
 
-    /// The next step of the workers but 0.
-    fn ask_others(&mut self) -> Result<Option<Entry>, AllocError>
-        requires { (past : List Entry) × StandsAfter past self.old × (is_through self.old.lines.now past 0 ≡ true) }
-        ensures goes_on { IfOk result (λ entry. (past : List Entry) → StandsAfter past self.old → is_through self.old.lines.now past 0 ≡ true → GoesOn past self.old self.new entry (next_turn self.old.world.providers self.old.lines.now self.old.world.cells past)) }
+    /// The next step of the workers but 0, and the entry of it.
+    fn ask_others(&mut self) -> Result<(), AllocError>
+        requires stands { (past : List Entry) × StandsAfter past self.old × (is_through self.old.lines.now past 0 ≡ true) }
+        requires none { self.old.made ≡ None }
+        ensures goes_on { OnOk result ((past : List Entry) → StandsAfter past self.old → is_through self.old.lines.now past 0 ≡ true → GoesOn past self.old self.new self.new.made (next_turn self.old.world.providers self.old.lines.now self.old.world.cells past)) }
         ensures providers { self.new.world.providers ≡ self.old.world.providers }
         ensures lines { self.new.lines.now ≡ self.old.lines.now }
     {
         for _asked in 0..self.turns.len() {
-            match self.ask_first()? {
-                Some(entry) => return Ok(Some(entry)),
-                None => {}
+            self.ask_first()?;
+            if self.made.is_some() {
+                return Ok(());
             }
         }
-        Ok(None)
+        Ok(())
     }
 
-    /// The next entry of the run; `None` where nobody can make a step.
-    pub fn next(&mut self) -> Result<Option<Entry>, AllocError>
-        requires { (past : List Entry) × StandsAfter past self.old }
-        ensures goes_on { IfOk result (λ entry. (past : List Entry) → StandsAfter past self.old → GoesOn past self.old self.new entry (next_turn self.old.world.providers self.old.lines.now self.old.world.cells past)) }
+    /// The next step of the run, and the entry of it.
+    fn make(&mut self) -> Result<(), AllocError>
+        requires stands { (past : List Entry) × StandsAfter past self.old }
+        requires none { self.old.made ≡ None }
+        ensures goes_on { OnOk result ((past : List Entry) → StandsAfter past self.old → GoesOn past self.old self.new self.new.made (next_turn self.old.world.providers self.old.lines.now self.old.world.cells past)) }
         ensures providers { self.new.world.providers ≡ self.old.world.providers }
         ensures lines { self.new.lines.now ≡ self.old.lines.now }
     {
@@ -108,7 +115,20 @@ impl<'a> Run<'a> {
             &mut self.workers,
             &mut self.world,
             0,
+            &mut self.made,
         )
+    }
+
+    /// The next entry of the run; `None` where nobody can make a step.
+    pub fn next(&mut self) -> Result<Option<Entry>, AllocError>
+        requires { (past : List Entry) × StandsAfter past self.old }
+        ensures goes_on { IfOk result (λ entry. (past : List Entry) → StandsAfter past self.old → GoesOn past self.old self.new entry (next_turn self.old.world.providers self.old.lines.now self.old.world.cells past)) }
+        ensures providers { self.new.world.providers ≡ self.old.world.providers }
+        ensures lines { self.new.lines.now ≡ self.old.lines.now }
+    {
+        let_go(self.made.take());
+        self.make()?;
+        Ok(self.made.take())
     }
 
     /// The stall lines of the run as it stands: the next step of worker 0 where it isn't finished, else that of each worker

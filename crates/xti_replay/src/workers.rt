@@ -1,18 +1,19 @@
 //! What is kept of each worker.
 
 ghost use Rattle.std.specs.Prelude.{◌≡◌, ◌+◌, ◌<◌, ◌++◌, ◌∷◌, [], List, ℕ, None, Some, option_map, slice_index, slice_get, length, IfOk, OnOk, true, if◌then◌else◌};
+ghost use Rattle.std.specs.Option.{option_copied};
 ghost use Rattle.xti_model.specs.declared.entry.Entry.{Entry};
 ghost use Rattle.xti_model.specs.declared.script.Line.{Line};
 ghost use Rattle.xti_model.specs.History.{call_after, going_after};
 ghost use Rattle.xti_model.specs.Resolve.{opens};
 ghost use Rattle.xti_replay.specs.Known.{known_in, or_known, number_of};
 ghost use Rattle.xti_replay.specs.Playable.{are_playable};
-ghost use Rattle.xti_replay.specs.Progress.{is_finished, Told, IsNext, MayTake, Learns, begun_by, next_act, part_call, part_going};
+ghost use Rattle.xti_replay.specs.Progress.{is_finished, Told, IsNext, MayTake, Learns, begun_by, next_act, part_call, part_going, going_of, call_of, so_far_of};
 
 use crate::names::{Table, call_before, learn};
 use std::alloc::{AllocError, Global};
 use std::collections::VecDeque;
-use xti_model::{Act, Call, Line, Outcome};
+use xti_model::{Act, Call, Go, Line, Outcome};
 
 /// A call that is part way.
 #[derive(Drop)]
@@ -39,6 +40,7 @@ pub struct Worker {
 }
 
 /// What is left of a call after its first step.
+#[inline(always)]
 fn part_of(call: &Call, outcome: &Outcome) -> Result<Option<Part>, AllocError>
     ensures { IfOk result (λ part. part_going part ≡ going_after (Some call.now) outcome.now) }
 {
@@ -55,6 +57,7 @@ fn part_of(call: &Call, outcome: &Outcome) -> Result<Option<Part>, AllocError>
 }
 
 /// What is left of a call after a further step.
+#[inline(always)]
 fn go_on(part: Option<Part>, outcome: &Outcome) -> Option<Part>
     ensures { part_going result ≡ going_after (part_call part) outcome.now }
 {
@@ -98,6 +101,7 @@ impl Worker {
     }
 
     /// Whether it has made all its calls.
+    #[inline(always)]
     pub fn is_finished(&self) -> bool
         ensures { result ≡ is_finished self.now }
     {
@@ -128,7 +132,36 @@ impl Worker {
         }
     }
 
+    /// The call of its next step, as far as it is known.
+    #[inline(always)]
+    pub(crate) fn call(&self) -> Option<&Call>
+        ensures { option_copied result ≡ call_of (going_of self.now) }
+    {
+        match &self.next {
+            Some(call) => Some(call),
+            None => match &self.part {
+                Some(part) => Some(&part.call),
+                None => None,
+            },
+        }
+    }
+
+    /// How far that call has come.
+    #[inline(always)]
+    pub(crate) fn so_far(&self) -> Go
+        ensures { result ≡ so_far_of (going_of self.now) }
+    {
+        match &self.next {
+            Some(_) => Go::Begin,
+            None => match &self.part {
+                Some(part) => Go::More(part.taken),
+                None => Go::Begin,
+            },
+        }
+    }
+
     /// Sets the call of its next line.
+    #[inline(always)]
     pub fn set_next(&mut self, next: Option<Call>)
         ensures { self.new ≡ record self.old { next = next } }
     {
@@ -136,6 +169,7 @@ impl Worker {
     }
 
     /// How its next step begins or goes on, in an entry.
+    #[inline(always)]
     pub(crate) fn take_act(&mut self) -> Act
         ensures act { result ≡ next_act self.old }
         ensures left { self.new ≡ record self.old { next = None } }
@@ -147,6 +181,7 @@ impl Worker {
     }
 
     /// The worker's next line is begun: learns what its entry answered.
+    #[inline(always)]
     fn begin(&mut self, alloc: Global, lines: &[Line], outcome: &Outcome) -> Result<(), AllocError>
         requires more { self.old.begun < length self.old.places.items }
         requires within { slice_index self.old.places.items self.old.begun < length lines.now }
@@ -162,6 +197,7 @@ impl Worker {
     }
 
     /// Sets its call that is part way.
+    #[inline(always)]
     fn set_part(&mut self, part: Option<Part>)
         ensures { self.new ≡ record self.old { part = part } }
     {
@@ -169,6 +205,7 @@ impl Worker {
     }
 
     /// An entry of the worker is made: its next line is begun, or its call goes on.
+    #[inline(always)]
     pub fn advance(
         &mut self,
         alloc: Global,
@@ -200,6 +237,7 @@ impl Worker {
 }
 
 /// The worker comes last, where it isn't finished.
+#[inline(always)]
 pub(crate) fn put_back(
     turns: &mut VecDeque<usize>,
     worker: &Worker,

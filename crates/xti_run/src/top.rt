@@ -73,6 +73,7 @@ fn journal_status(stalls: &Stalls) -> u8
 }
 
 /// Writes an entry, and lets it go.
+#[inline(always)]
 fn write_entry(writer: &mut JournalWriter, entry: Entry) -> Result<(), AllocError>
     ensures { OnOk result (TookOne writer.old entry writer.new) }
 {

@@ -1,17 +1,16 @@
-use Rattle.std.proofs.Common.{refl, sym, inl, ◌∙◌}
-use Rattle.std.proofs.lemmas.Result.{IfOk-weaker}
-use Rattle.xti_replay.proofs.SetupAsked.{first-through, setup-asked}
+use Rattle.std.proofs.Common.{Option, sym, subst}
+use Rattle.xti_model.specs.declared.entry.Entry.{Entry}
+use Rattle.xti_replay.specs.Runs.{GoesOn}
+use Rattle.xti_replay.proofs.OthersAsked.{next_in, stands-with, goes-out}
 use Rattle.xti_replay.proofs.run.Run.next.Goals as goal
 
-pub ask_others-requires : goal.ask_others-requires
-ask_others-requires c = (c.requires.0, c.requires.1, sym (first-through c.requires.0 c.args.self.now c.index.result.now c.requires.1 c.index.ensures) ∙ sym c.is_finished.ensures ∙ c.if-is_finished.true)
-
-pub returns-then-is_finished-clause-goes_on : goal.returns-then-is_finished-clause-goes_on
-returns-then-is_finished-clause-goes_on c = IfOk-weaker c.ask_others.result _ _ (λ entry goes past k.
-    goes past k (sym (first-through past c.args.self.now c.index.result.now k c.index.ensures) ∙ sym c.is_finished.ensures ∙ c.if-is_finished.true)) c.ask_others.ensures.goes_on
+pub make-requires : goal.make-requires
+make-requires c = record {
+  stands = (c.requires.0, stands-with c.requires.0 c.args.self.now c.take.new.self c.requires.1);
+  none = c.take.ensures.after;
+}
 
 pub returns-clause-goes_on : goal.returns-clause-goes_on
-returns-clause-goes_on c = IfOk-weaker c.ask.result _ _ (λ entry asked past k.
-    setup-asked past c.args.self.now (record { alloc = c.args.self.now.alloc; lines = c.args.self.now.lines; world = c.ask.new.world; workers = c.ask.new.workers; turns = c.args.self.now.turns }) entry k
-    (sym (first-through past c.args.self.now c.index.result.now k c.index.ensures) ∙ sym c.is_finished.ensures ∙ c.if-is_finished.false)
-    (asked past k.kept (inl refl)) refl refl) c.ask.ensures.asked
+returns-clause-goes_on c = λ past k.
+    subst (λ (o : Option Entry). GoesOn past c.args.self.now (record { alloc = c.make.new.self.alloc; lines = c.make.new.self.lines; world = c.make.new.self.world; workers = c.make.new.self.workers; turns = c.make.new.self.turns; made = c.take-2.new.self }) o (next_in past c.args.self.now)) (sym c.take-2.ensures.value)
+    (goes-out past c.args.self.now c.make.new.self c.take-2.new.self c.take.new.self (next_in past c.args.self.now) (c.in_ok-make.ensures.goes_on past (stands-with past c.args.self.now c.take.new.self k)))
