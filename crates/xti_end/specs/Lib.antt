@@ -1,5 +1,6 @@
-pub mod Held
+pub mod WaitingList
 pub mod Frames
+pub mod Waiting
+pub mod Held
 pub mod Kept
 pub mod Taken
-pub mod Unconnected

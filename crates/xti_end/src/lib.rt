@@ -2,11 +2,10 @@
 #![tactic(auto)]
 
 mod answers;
-mod connections;
-mod datagram_errors;
 mod datagrams;
 mod endpoint;
 mod fields;
+mod indications;
 mod lists;
 mod local;
 mod parts;
@@ -17,4 +16,5 @@ mod values;
 
 pub use endpoint::Endpoint;
 pub use fields::{is_too_long, trimmed, trimmed_copy};
+pub use indications::Ind;
 pub use providers::{has_datagrams, profile};
