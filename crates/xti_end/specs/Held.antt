@@ -105,6 +105,10 @@ peer_at o = option_and_then (λ (e : Endpoint). e.peer) o
 abbrev pub target_at : Option Endpoint → Option ℕ
 target_at o = option_and_then (λ (e : Endpoint). option_map (λ t. t.listener) e.target) o
 
+-- the number of the request to it
+abbrev pub target_number_at : Option Endpoint → Option ℕ
+target_number_at o = option_and_then (λ (e : Endpoint). option_map (λ t. t.number) e.target) o
+
 -- an endpoint's place where nothing was open yet
 abbrev pub IsUnused : ℕ → Held → Type 0
 IsUnused place h = alone h ≡ closed_places place 1
