@@ -1,5 +1,5 @@
 -- What the parts of an endpoint stand for.
-use Rattle.std.proofs.Common.{◌≡◌, ℕ, zero, suc, Bool, true, false, List, [], ◌∷◌, Option, Some, None, refl, sym, ap}
+use Rattle.std.proofs.Common.{◌≡◌, ℕ, zero, suc, Bool, true, false, List, [], ◌∷◌, Option, Some, None, refl, ap}
 use Rattle.std.specs.Prelude.{map, is_none, is_some, option_map, remove}
 use Rattle.xti_model.specs.Endpoint.{Endpoint}
 use Rattle.xti_model.specs.Events.{some_wait}
@@ -8,9 +8,10 @@ use Rattle.xti_queue.specs.Indications.{begun, left_behind, symbols_of_all}
 use Rattle.xti_queue.specs.Queue.{Queue, frames, symbols}
 use Rattle.xti_end.specs.declared.parts.Parts.{Parts}
 use Rattle.xti_end.specs.declared.parts.Waiting.{Waiting}
-use Rattle.xti_end.specs.Frames.{datagram_of, error_in, AreDatagrams}
+use Rattle.xti_end.specs.declared.indications.Ind.{Ind}
+use Rattle.xti_end.specs.Frames.{datagram_of, error_in, disconnect_in, indication_of, AreDatagrams}
 use Rattle.xti_end.specs.WaitingList.{WaitingList as Listed}
-use Rattle.xti_end.specs.Held.{body_of, datagrams_at, parts_of}
+use Rattle.xti_end.specs.Held.{body_of, datagrams_at, normal_at, expedited_at, parts_of}
 use Rattle.xti_end.proofs.Fronts.{first_in, left-is}
 
 pub frames-none : (q : Queue) → q.pushed ≡ [] → frames q ≡ []
@@ -24,6 +25,14 @@ symbols-none q e = rw e refl
 pub datagrams-at : (o : Option Parts) (w : Waiting) → (is_none o ≡ true → w.datagrams.pushed ≡ []) → map datagram_of (frames w.datagrams) ≡ datagrams_at (body_of o w)
 datagrams-at None w h = rw (frames-none w.datagrams (h refl)) refl
 datagrams-at (Some e) w h = refl
+
+pub normal-at : (o : Option Parts) (w : Waiting) → (is_none o ≡ true → w.normal.pushed ≡ []) → symbols w.normal ≡ normal_at (body_of o w)
+normal-at None w h = symbols-none w.normal (h refl)
+normal-at (Some e) w h = refl
+
+pub expedited-at : (o : Option Parts) (w : Waiting) → (is_none o ≡ true → w.expedited.pushed ≡ []) → symbols w.expedited ≡ expedited_at (body_of o w)
+expedited-at None w h = symbols-none w.expedited (h refl)
+expedited-at (Some e) w h = refl
 
 pub closed-none : (o : Option Parts) (w : Waiting) → is_some (body_of o w) ≡ false → is_none o ≡ true
 closed-none None w h = refl
@@ -64,3 +73,21 @@ pub error-removed : (o : Option Parts) (w : Waiting) (r : Listed (List ℕ)) (pl
     → body_of o (record w { datagram_errors = r }) ≡ option_map (λ (x : Endpoint). record x { datagram_errors = remove x.datagram_errors place }) (body_of o w)
 error-removed None w r place h = refl
 error-removed (Some e) w r place h = rw (h, map-removed error_in w.datagram_errors.items place) refl
+
+-- a disconnect is taken out
+pub disconnect-removed : (o : Option Parts) (w : Waiting) (r : Listed (List ℕ)) (place : ℕ) → r.items ≡ remove w.disconnects.items place
+    → body_of o (record w { disconnects = r }) ≡ option_map (λ (x : Endpoint). record x { disconnects = remove x.disconnects place }) (body_of o w)
+disconnect-removed None w r place h = refl
+disconnect-removed (Some e) w r place h = rw (h, map-removed disconnect_in w.disconnects.items place) refl
+
+-- a pending request is taken out
+pub pending-removed : (o : Option Parts) (w : Waiting) (r : Listed Ind) (place : ℕ) → r.items ≡ remove w.pending.items place
+    → body_of o (record w { pending = r }) ≡ option_map (λ (x : Endpoint). record x { pending = remove x.pending place }) (body_of o w)
+pending-removed None w r place h = refl
+pending-removed (Some e) w r place h = rw (h, map-removed indication_of w.pending.items place) refl
+
+-- an outstanding request is taken out
+pub outstanding-removed : (o : Option Parts) (w : Waiting) (r : Listed Ind) (place : ℕ) → r.items ≡ remove w.outstanding.items place
+    → body_of o (record w { outstanding = r }) ≡ option_map (λ (x : Endpoint). record x { outstanding = remove x.outstanding place }) (body_of o w)
+outstanding-removed None w r place h = refl
+outstanding-removed (Some e) w r place h = rw (h, map-removed indication_of w.outstanding.items place) refl

@@ -1,5 +1,5 @@
 -- Frames that wait at an endpoint, as what they stand for.
-use Rattle.std.specs.Prelude.{◌≡◌, ℕ, List, [], Option, Some, IfSome}
+use Rattle.std.specs.Prelude.{◌≡◌, ℕ, List, [], Option, IfSome}
 use Rattle.std.specs.List.{AllByRecursion}
 use Rattle.tpi_grammar.specs.declared.kind.Kind.{Kind}
 use Rattle.tpi_grammar.specs.declared.kind.Kind.TheVariants as kind

@@ -3,4 +3,5 @@ pub mod Frames
 pub mod Waiting
 pub mod Held
 pub mod Kept
+pub mod Callers
 pub mod Taken

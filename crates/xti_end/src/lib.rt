@@ -12,6 +12,8 @@ mod parts;
 mod providers;
 mod receiving;
 mod receiving_errors;
+mod showing;
+mod streams;
 mod values;
 
 pub use endpoint::Endpoint;

@@ -1,18 +1,14 @@
 //! The calls that touch one cell.
 
-ghost use Rattle.std.specs.Prelude.{◌≡◌, [], true, false, IsOk, OnErr, None};
+ghost use Rattle.std.specs.Prelude.{◌≡◌, false, IsOk, OnErr};
 ghost use Rattle.xti_model.specs.Memory.{may_run_out};
 ghost use Rattle.xti_model.specs.Step.{step};
-ghost use Rattle.xti_model.specs.World.{place_of};
-ghost use Rattle.xti_model.specs.Calls.Show as Show;
 ghost use Rattle.xti_end.specs.Held.{alone, SameRoom};
-ghost use Rattle.xti_end.specs.Taken.{taken, IsAt, AnswersBy, Makes, StillBlocked};
+ghost use Rattle.xti_end.specs.Taken.{IsAt, Makes, StillBlocked};
 
-use crate::answers::{done, refused};
 use crate::endpoint::Endpoint;
 use std::alloc::AllocError;
-use xti_base::{Errno, Fd};
-use xti_model::{Applied, Call, Go, Providers, Reply};
+use xti_model::{Applied, Call, Go, Providers};
 
 impl Endpoint {
     /// One step of a call that touches this cell alone: what it answers, and the state of its endpoint afterwards. Where it is
@@ -45,31 +41,5 @@ impl Endpoint {
             Call::SetMode { fd, nonblock } => Ok(self.set_mode(p, *fd, *nonblock)),
             _ => unreachable!(),
         }
-    }
-
-    /// t_getstate and t_sync.
-    fn getstate(&self, p: &Providers, fd: Fd) -> Applied
-        requires { place_of p.now fd.0 ≡ self.now.place }
-        ensures { AnswersBy p.now (Show.state_plan p.now (alone self.now) fd.0) self.now self.now result }
-    {
-        if !self.is(p, fd) {
-            return refused(self, p, fd, Errno::TBADF);
-        }
-        let state = self.state();
-        done(self, p, fd, Reply::Stands { state })
-    }
-
-    /// Sets O_NONBLOCK, or clears it.
-    fn set_mode(&mut self, p: &Providers, fd: Fd, nonblock: bool) -> Applied
-        requires { place_of p.now fd.0 ≡ self.old.place }
-        ensures step { AnswersBy p.now (Show.mode_plan p.now (alone self.old) fd.0 nonblock) self.old self.new result }
-        ensures still { taken result (alone self.new) ≡ None → self.new ≡ self.old }
-        ensures room { SameRoom self.old self.new }
-    {
-        if !self.is(p, fd) {
-            return refused(self, p, fd, Errno::TBADF);
-        }
-        self.set_nonblock(nonblock);
-        done(self, p, fd, Reply::Plain)
     }
 }
