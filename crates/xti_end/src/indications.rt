@@ -7,6 +7,7 @@ ghost use Rattle.tpi_prim.specs.Fields.{kind_in};
 ghost use Rattle.xti_base.specs.declared.limits.TheConstants.{MOST_TOUCHED};
 ghost use Rattle.xti_model.specs.Cells.{listed};
 ghost use Rattle.xti_model.specs.Endpoint.{find_number};
+ghost use Rattle.xti_model.specs.Events.{some_wait};
 ghost use Rattle.xti_model.specs.Sound.{is_sound_body};
 ghost use Rattle.xti_model.specs.Touched.{of_some, caller_cells};
 ghost use Rattle.xti_end.specs.Callers.{caller_place, with_numbers};
@@ -35,6 +36,14 @@ impl Endpoint {
         ensures kind { IfSome result (λ indication. kind_in indication.now.frame ≡ T_CONN_IND) }
     {
         self.waiting.pending.get(place)
+    }
+
+    /// Whether a pending request waits at the open endpoint.
+    pub fn has_pending(&self) -> bool
+        requires { is_open self.now ≡ true }
+        ensures { result ≡ some_wait (parts self.now).pending }
+    {
+        !self.waiting.pending.is_empty()
     }
 
     /// Takes the pending request at a place out, a T_CONN_IND; the others stay in their order. Takes no memory.
@@ -119,6 +128,14 @@ impl Endpoint {
         ensures kind { IfSome result (λ disconnect. kind_in disconnect.now ≡ T_DISCON_IND) }
     {
         self.waiting.disconnects.get(place)
+    }
+
+    /// Whether a disconnect waits at the open endpoint.
+    pub fn has_disconnect(&self) -> bool
+        requires { is_open self.now ≡ true }
+        ensures { result ≡ some_wait (parts self.now).disconnects }
+    {
+        !self.waiting.disconnects.is_empty()
     }
 
     /// Takes the disconnect at a place out, a T_DISCON_IND; the others stay in their order. Takes no memory.

@@ -4,6 +4,7 @@ ghost use Rattle.std.specs.Prelude.{◌≡◌, true, false};
 ghost use Rattle.std.specs.Option.{option_copied, option_map};
 ghost use Rattle.xti_base.specs.Kinds.{same_state};
 ghost use Rattle.xti_base.specs.declared.kinds.State.TheVariants.{T_UNINIT};
+ghost use Rattle.xti_model.specs.Provider.{is_provider};
 ghost use Rattle.xti_model.specs.Spot.{spot_bytes};
 ghost use Rattle.xti_end.specs.Held.{is_open, parts, with_parts, mark_at, peer_at, target_at, target_number_at, target_of};
 
@@ -20,6 +21,17 @@ impl Endpoint {
         match &self.body {
             Some(parts) => parts.prov,
             None => unreachable!(),
+        }
+    }
+
+    /// Sets the provider of the open endpoint.
+    pub fn set_prov(&mut self, prov: Prov)
+        requires open { is_open self.old ≡ true }
+        requires provider { is_provider prov ≡ true }
+        ensures { self.new ≡ with_parts (λ e. record e { prov = prov }) self.old }
+    {
+        if let Some(parts) = &mut self.body {
+            parts.prov = prov;
         }
     }
 
