@@ -11,6 +11,7 @@ use Rattle.xti_model.specs.Endpoint.{Endpoint}
 use Rattle.xti_model.specs.Plan.{Plan, Field, field, first, has_effect, overflows, plan_of}
 use Rattle.xti_model.specs.Step.{Step, step_by, step_of}
 use Rattle.xti_model.specs.Calls.Datagrams as Datagrams
+use Rattle.xti_model.specs.Calls.Show as Show
 use Rattle.xti_end.specs.Held.{Held, alone, parts}
 
 abbrev pub taken : Applied → World → Option Step
@@ -24,6 +25,8 @@ IsAt p place (call.TRcvVUData fd sizes amax omax) = place_of p fd.0 ≡ place
 IsAt p place (call.TRcvUDErr fd amax omax) = place_of p fd.0 ≡ place
 IsAt p place (call.TGetState fd) = place_of p fd.0 ≡ place
 IsAt p place (call.TSync fd) = place_of p fd.0 ≡ place
+IsAt p place (call.TGetInfo fd) = place_of p fd.0 ≡ place
+IsAt p place (call.TGetProtAddr fd amax pmax) = place_of p fd.0 ≡ place
 IsAt p place (call.SetMode fd nonblock) = place_of p fd.0 ≡ place
 IsAt p place _ = ⊥
 
@@ -72,6 +75,10 @@ receiving_all p h fd sizes amax omax = receiving p h fd (length sizes) (sum size
 
 abbrev pub receiving_error : Providers → Held → ℕ → ℕ → ℕ → Plan
 receiving_error p h fd amax omax = Datagrams.error_plan p (alone h) fd amax omax
+
+-- how the addresses of an endpoint and of its peer are shown
+abbrev pub showing_addresses : Providers → Held → ℕ → ℕ → ℕ → Plan
+showing_addresses p h fd amax pmax = Show.addresses_plan p (alone h) fd amax pmax
 
 -- the first datagram was received or lost, in however many sizes
 abbrev pub Receives : {E : Type 0} → Providers → ℕ → ℕ → ℕ → ℕ → Held → Held → Result Applied E → Type 0

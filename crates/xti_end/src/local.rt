@@ -38,6 +38,8 @@ impl Endpoint {
             Call::TRcvUDErr { fd, amax, omax } => self.rcvuderr(p, *fd, *amax, *omax),
             Call::TGetState { fd } => Ok(self.getstate(p, *fd)),
             Call::TSync { fd } => Ok(self.getstate(p, *fd)),
+            Call::TGetInfo { fd } => Ok(self.getinfo(p, *fd)),
+            Call::TGetProtAddr { fd, amax, pmax } => self.getprotaddr(p, *fd, *amax, *pmax),
             Call::SetMode { fd, nonblock } => Ok(self.set_mode(p, *fd, *nonblock)),
             _ => unreachable!(),
         }
