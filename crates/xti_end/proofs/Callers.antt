@@ -36,7 +36,7 @@ all-at P [] k x all lt e = absurd (omega (arith, lt))
 all-at P (y ∷ ys) zero x all lt e = subst P (sym e) all.0
 all-at P (y ∷ ys) (suc k) x all lt e = all-at P ys k x all.1 (omega (arith, lt)) e
 
-number-is : (i : Ind) (n : ℕ) → IsRequest i → seq_of (primitive_in i.frame) ≡ Some n → (indication_of i).number ≡ n
+pub number-is : (i : Ind) (n : ℕ) → IsRequest i → seq_of (primitive_in i.frame) ≡ Some n → (indication_of i).number ≡ n
 number-is i n k e = let h : Some (word_in i.frame 28) ≡ Some n = rw (request-is i.frame k) at e in rw (request-is i.frame k) cc
 
 -- the request at a place has the number, or has it not

@@ -3,3 +3,6 @@ pub mod Fronts
 pub mod Errors
 pub mod Sizes
 pub mod Callers
+pub mod Numbers
+pub mod Disconnects
+pub mod Rows

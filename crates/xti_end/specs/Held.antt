@@ -5,7 +5,7 @@ use Rattle.xti_base.specs.declared.kinds.Seq.{Seq}
 use Rattle.xti_base.specs.declared.kinds.Prov.TheVariants.{Ticlts}
 use Rattle.xti_base.specs.declared.kinds.State.TheVariants.{T_UNINIT}
 use Rattle.xti_model.specs.declared.profile.Providers.{Providers}
-use Rattle.xti_model.specs.Endpoint.{Endpoint, Target, Indication, Disconnect, Datagram, DatagramError}
+use Rattle.xti_model.specs.Endpoint.{Endpoint, Target, Indication, Disconnect, Datagram, DatagramError, without_number}
 use Rattle.xti_model.specs.Calls.Datagrams.{with_datagram, with_error}
 use Rattle.xti_model.specs.Spot.{spot_bytes}
 use Rattle.xti_model.specs.World.{World, Cell, endpoint_cell, generation_of, place_of, closed_places}
@@ -217,6 +217,10 @@ without_pending_at place e = record e { pending = remove e.pending place }
 
 abbrev pub without_outstanding_at : ℕ → Endpoint → Endpoint
 without_outstanding_at place e = record e { outstanding = remove e.outstanding place }
+
+-- the outstanding request with the number is gone
+abbrev pub without_outstanding : ℕ → Endpoint → Endpoint
+without_outstanding number e = record e { outstanding = without_number number e.outstanding }
 
 abbrev pub without_disconnect_at : ℕ → Endpoint → Endpoint
 without_disconnect_at place e = record e { disconnects = remove e.disconnects place }

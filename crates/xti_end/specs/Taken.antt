@@ -11,6 +11,7 @@ use Rattle.xti_model.specs.Endpoint.{Endpoint}
 use Rattle.xti_model.specs.Plan.{Plan, Field, field, first, has_effect, overflows, plan_of}
 use Rattle.xti_model.specs.Step.{Step, step_by, step_of}
 use Rattle.xti_model.specs.Calls.Datagrams as Datagrams
+use Rattle.xti_model.specs.Calls.Disconnect as Disconnect
 use Rattle.xti_model.specs.Calls.Show as Show
 use Rattle.xti_end.specs.Held.{Held, alone, parts}
 
@@ -20,6 +21,8 @@ taken applied.Blocked w = None
 
 -- the call is one of those that touch one cell, and this is the cell
 abbrev pub IsAt : Providers → ℕ → Call → Type 0
+IsAt p place (call.TRcvDis fd umax) = place_of p fd.0 ≡ place
+IsAt p place (call.TRcvRel fd) = place_of p fd.0 ≡ place
 IsAt p place (call.TRcvUData fd max amax omax) = place_of p fd.0 ≡ place
 IsAt p place (call.TRcvVUData fd sizes amax omax) = place_of p fd.0 ≡ place
 IsAt p place (call.TRcvUDErr fd amax omax) = place_of p fd.0 ≡ place
@@ -44,6 +47,12 @@ abbrev pub error_step : Providers → World → ℕ → ℕ → ℕ → Endpoint
 error_step p w fd amax omax e =
     step_by p w (plan_of fd e (Datagrams.error_rows amax omax e) (at_endpoint fd Datagrams.without_error ∷ []) (Done (Datagrams.error_reply (Datagrams.first_error e) amax omax)))
     (first (overflows (error_fields amax omax e) ∷ []))
+
+-- a disconnect is there: it is told, or taken without its data where they are too long
+abbrev pub disconnect_step : Providers → World → ℕ → ℕ → Endpoint → Option Step
+disconnect_step p w fd umax e =
+    step_by p w (plan_of fd e (Disconnect.receive_rows umax e) (at_endpoint fd Disconnect.received ∷ []) (Done (Disconnect.receive_reply (Disconnect.oldest e) umax)))
+    (first (overflows (field (Disconnect.oldest e).udata umax ∷ []) ∷ []))
 
 -- the answer, and the cell that is left, are those of the plan's step
 abbrev pub AnswersBy : Providers → Plan → Held → Held → Applied → Type 0
@@ -75,6 +84,10 @@ receiving_all p h fd sizes amax omax = receiving p h fd (length sizes) (sum size
 
 abbrev pub receiving_error : Providers → Held → ℕ → ℕ → ℕ → Plan
 receiving_error p h fd amax omax = Datagrams.error_plan p (alone h) fd amax omax
+
+-- how a disconnect is received
+abbrev pub receiving_disconnect : Providers → Held → ℕ → ℕ → Plan
+receiving_disconnect p h fd umax = Disconnect.receive_plan p (alone h) fd umax
 
 -- how the addresses of an endpoint and of its peer are shown
 abbrev pub showing_addresses : Providers → Held → ℕ → ℕ → ℕ → Plan

@@ -1,10 +1,10 @@
 //! A place and the endpoint that is open there.
 
 ghost use Rattle.std.specs.Prelude.{◌≡◌, ◌+◌, ◌<◌, None, Some, false, true};
-ghost use Rattle.xti_model.specs.Endpoint.{opened};
+ghost use Rattle.xti_model.specs.Endpoint.{opened, reset};
 ghost use Rattle.xti_model.specs.Provider.{profile, is_provider};
 ghost use Rattle.xti_model.specs.World.{last_generation};
-ghost use Rattle.xti_end.specs.Held.{is_open, is_open_as};
+ghost use Rattle.xti_end.specs.Held.{is_open, is_open_as, with_parts};
 
 use crate::parts::{Connection, Parts, Waiting};
 use crate::providers::profile;
@@ -93,6 +93,22 @@ impl Endpoint {
             rcvbuf: profile.rcvbuf,
             connection: Connection::none(),
         });
+    }
+
+    /// Nothing of a connection of the open endpoint is left. Takes no memory.
+    pub fn reset(&mut self)
+        requires { is_open self.old ≡ true }
+        ensures { self.new ≡ with_parts reset self.old }
+    {
+        self.waiting.disconnects.clear();
+        self.waiting.normal.discard_stream();
+        self.waiting.expedited.discard_stream();
+        if let Some(parts) = &mut self.body {
+            let last_seq = parts.connection.last_seq;
+            parts.connection = Connection::none();
+            parts.connection.last_seq = last_seq;
+            parts.mark = None;
+        }
     }
 
     /// The open endpoint closes, and all that waits there is gone. Takes no memory.

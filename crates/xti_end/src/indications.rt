@@ -1,24 +1,25 @@
 //! The requests to connect that wait at an endpoint, and what is told of its own.
 
-ghost use Rattle.std.specs.Prelude.{◌≡◌, ◌≤◌, ◌<◌, ◌+◌, [], true, Some, None, length, map, max, slice_get, IfSome, OnOk, OnErr};
+ghost use Rattle.std.specs.Prelude.{◌≡◌, ◌≤◌, ◌<◌, ◌+◌, [], true, Some, None, length, map, max, remove, slice_get, IfSome, IfNone, OnOk, OnErr};
 ghost use Rattle.std.specs.Option.{option_copied, option_map};
 ghost use Rattle.tpi_grammar.specs.declared.kind.Kind.TheVariants.{T_CONN_IND, T_CONN_CON, T_DISCON_IND};
 ghost use Rattle.tpi_prim.specs.Fields.{kind_in};
 ghost use Rattle.xti_base.specs.declared.limits.TheConstants.{MOST_TOUCHED};
 ghost use Rattle.xti_model.specs.Cells.{listed};
-ghost use Rattle.xti_model.specs.Endpoint.{find_number};
+ghost use Rattle.xti_model.specs.Calls.Listen.{taken_out};
+ghost use Rattle.xti_model.specs.Endpoint.{find_number, without_number};
 ghost use Rattle.xti_model.specs.Events.{some_wait};
 ghost use Rattle.xti_model.specs.Sound.{is_sound_body};
 ghost use Rattle.xti_model.specs.Touched.{of_some, caller_cells};
 ghost use Rattle.xti_end.specs.Callers.{caller_place, with_numbers};
 ghost use Rattle.xti_end.specs.Frames.{indication_of, request_in, confirmation_in, disconnect_in, AreRequests, IsRequest};
-ghost use Rattle.xti_end.specs.Held.{is_open, parts, with_parts, without_pending_at, without_outstanding_at, without_disconnect_at};
+ghost use Rattle.xti_end.specs.Held.{is_open, parts, with_parts, without_pending_at, without_outstanding, without_outstanding_at, without_disconnect_at};
 ghost use Rattle.xti_end.specs.Held.{AddsPending, AddsOutstanding, AddsDisconnect};
 
 use crate::endpoint::Endpoint;
 use std::alloc::AllocError;
 use tpi_prim::Frame;
-use xti_base::{Fd, Seq};
+use xti_base::{Fd, Seq, State};
 use xti_model::{Cells, Providers};
 
 /// A request to connect: a T_CONN_IND, and the descriptor of the endpoint that asks.
@@ -221,6 +222,28 @@ impl Endpoint {
         Some(ind.caller)
     }
 
+    /// The outstanding request with this sequence number is gone, if it is there. Takes no memory.
+    fn drop_number(&mut self, seq: Seq)
+        requires { is_open self.old ≡ true }
+        ensures { self.new ≡ with_parts (without_outstanding seq.0) self.old }
+    {
+        if let Some(place) = number_place(self.waiting.outstanding.as_slice(), seq) {
+            self.waiting.outstanding.discard(place);
+        }
+    }
+
+    /// The outstanding request with this sequence number is gone; where it was the last one the state is T_IDLE. Takes no memory.
+    pub fn take_out(&mut self, seq: Seq)
+        requires { is_open self.old ≡ true }
+        ensures { self.new ≡ with_parts (taken_out seq.0) self.old }
+    {
+        let is_last = self.waiting.outstanding.len() == 1;
+        self.drop_number(seq);
+        if is_last {
+            self.set_state(State::T_IDLE);
+        }
+    }
+
     /// The cells of those who ask it for a connection, and were not answered. Takes no memory.
     pub fn callers(&self, p: &Providers) -> Cells
         requires { is_sound_body self.now.body ≡ true }
@@ -240,6 +263,21 @@ fn find_number(inds: &[Ind], seq: Seq) -> Option<&Ind>
     for ind in inds {
         if ind.frame.seq() == seq.0 {
             return Some(ind);
+        }
+    }
+    None
+}
+
+/// Where the request with this sequence number stands; `None` exactly where there is none.
+fn number_place(inds: &[Ind], seq: Seq) -> Option<usize>
+    requires { AreRequests inds.now }
+    ensures found { IfSome result (λ place. without_number seq.0 (map indication_of inds.now) ≡ remove (map indication_of inds.now) place) }
+    ensures bound { IfSome result (λ place. place < length inds.now) }
+    ensures none { IfNone result (without_number seq.0 (map indication_of inds.now) ≡ map indication_of inds.now) }
+{
+    for (place, ind) in inds.iter().enumerate() {
+        if ind.frame.seq() == seq.0 {
+            return Some(place);
         }
     }
     None

@@ -68,6 +68,13 @@ impl<T: Drop> WaitingList<T> {
         self.held.is_empty()
     }
 
+    /// How many members there are.
+    pub(crate) fn len(&self) -> usize
+        ensures { result ≡ length self.now.items }
+    {
+        self.held.len()
+    }
+
     /// The members in their order.
     pub(crate) fn as_slice(&self) -> &[T]
         ensures { result.now ≡ self.now.items }
@@ -90,6 +97,15 @@ impl<T: Drop> WaitingList<T> {
         ensures spare { self.new.spare ≡ self.old.spare }
     {
         self.held.remove(place)
+    }
+
+    /// The member at a place is gone. Takes no memory.
+    pub(crate) fn discard(&mut self, place: usize)
+        requires { place < length self.old.items }
+        ensures items { self.new.items ≡ remove self.old.items place }
+        ensures spare { self.new.spare ≡ self.old.spare }
+    {
+        let _member = self.held.remove(place);
     }
 
     /// Takes all members out. Takes no memory.

@@ -23,6 +23,8 @@ impl Endpoint {
         ensures sure { may_run_out p.now (alone self.old) call.now _go ≡ false → IsOk result }
     {
         match call {
+            Call::TRcvDis { fd, umax } => self.rcvdis(p, *fd, *umax),
+            Call::TRcvRel { fd } => Ok(self.rcvrel(p, *fd)),
             Call::TRcvUData {
                 fd,
                 max,

@@ -1,8 +1,7 @@
 //! What a provider offers.
 
-ghost use Rattle.std.specs.Prelude.{◌≡◌};
-ghost use Rattle.xti_base.specs.declared.limits.TheConstants.{MOST_CONNECT_DATA, MOST_EXPEDITED_MESSAGE};
-ghost use Rattle.xti_model.specs.Provider.{connection_limit, expedited_limit, has_connections, has_datagrams, has_release, info, profile, service};
+ghost use Rattle.std.specs.Prelude.{◌≡◌, if◌then◌else◌};
+ghost use Rattle.xti_model.specs.Provider.{has_connections, has_datagrams, has_release, info, profile, service};
 
 use xti_base::limits::{MOST_ADDRESS, MOST_CONNECT_DATA, MOST_EXPEDITED_MESSAGE, MOST_OPTIONS};
 use xti_base::{Info, Limit, Prov, ServType};
@@ -59,8 +58,7 @@ fn service(prov: Prov) -> ServType
 
 /// A limit of a provider of connections; another has no such thing.
 fn with_connections(prov: Prov, most: u32) -> Limit
-    ensures expedited { most ≡ MOST_EXPEDITED_MESSAGE → result ≡ expedited_limit prov }
-    ensures connection { most ≡ MOST_CONNECT_DATA → result ≡ connection_limit prov }
+    ensures { result ≡ (if has_datagrams prov then Limit.Invalid else Limit.At most) }
 {
     match prov {
         Prov::Ticots | Prov::Ticotsord | Prov::Other => Limit::At(most),

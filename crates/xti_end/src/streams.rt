@@ -3,6 +3,7 @@
 ghost use Rattle.std.specs.Prelude.{◌≡◌, ◌≤◌, ◌+◌, [], true, false, max, is_some, IfSome, OnOk, OnErr};
 ghost use Rattle.tpi_grammar.specs.declared.kind.Kind.TheVariants.{T_DATA_IND, T_EXDATA_IND, T_ORDREL_IND};
 ghost use Rattle.tpi_prim.specs.Fields.{kind_in};
+ghost use Rattle.xti_model.specs.Events.{some_wait};
 ghost use Rattle.xti_queue.specs.Queue.{symbols};
 ghost use Rattle.xti_end.specs.Frames.{symbols_in};
 ghost use Rattle.xti_end.specs.Held.{is_open, parts, with_parts, normal_at, expedited_at, AddsNormal, AddsExpedited};
@@ -18,6 +19,14 @@ impl Endpoint {
         ensures { symbols result.now ≡ normal_at self.now.body }
     {
         &self.waiting.normal
+    }
+
+    /// Whether normal data wait at the open endpoint.
+    pub fn has_normal(&self) -> bool
+        requires { is_open self.now ≡ true }
+        ensures { result ≡ some_wait (parts self.now).normal }
+    {
+        self.waiting.normal.bytes_len() != 0 || self.waiting.normal.ends_len() != 0
     }
 
     /// Takes all normal data out. Takes no memory.
@@ -55,6 +64,14 @@ impl Endpoint {
         ensures { symbols result.now ≡ expedited_at self.now.body }
     {
         &self.waiting.expedited
+    }
+
+    /// Whether expedited data wait at the open endpoint.
+    pub fn has_expedited(&self) -> bool
+        requires { is_open self.now ≡ true }
+        ensures { result ≡ some_wait (parts self.now).expedited }
+    {
+        self.waiting.expedited.bytes_len() != 0 || self.waiting.expedited.ends_len() != 0
     }
 
     /// Takes all expedited data out. Takes no memory.
