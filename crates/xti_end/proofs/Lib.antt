@@ -6,3 +6,4 @@ pub mod Callers
 pub mod Numbers
 pub mod Disconnects
 pub mod Rows
+pub mod Requests

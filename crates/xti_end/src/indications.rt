@@ -1,6 +1,6 @@
 //! The requests to connect that wait at an endpoint, and what is told of its own.
 
-ghost use Rattle.std.specs.Prelude.{◌≡◌, ◌≤◌, ◌<◌, ◌+◌, [], true, Some, None, length, map, max, remove, slice_get, IfSome, IfNone, OnOk, OnErr};
+ghost use Rattle.std.specs.Prelude.{◌≡◌, ◌≤◌, ◌<◌, ◌+◌, [], true, Some, None, is_some, length, map, max, remove, slice_get, IfSome, IfNone, OnOk, OnErr};
 ghost use Rattle.std.specs.Option.{option_copied, option_map};
 ghost use Rattle.tpi_grammar.specs.declared.kind.Kind.TheVariants.{T_CONN_IND, T_CONN_CON, T_DISCON_IND};
 ghost use Rattle.tpi_prim.specs.Fields.{kind_in};
@@ -190,6 +190,14 @@ impl Endpoint {
             Some(parts) => parts.connection.confirmation.as_ref(),
             None => unreachable!(),
         }
+    }
+
+    /// Whether the confirmation of its own request waits.
+    pub fn has_confirmation(&self) -> bool
+        requires { is_open self.now ≡ true }
+        ensures { result ≡ is_some (parts self.now).confirmation }
+    {
+        self.confirmation().is_some()
     }
 
     /// Sets the confirmation of the open endpoint's own request, a T_CONN_CON. Takes no memory.

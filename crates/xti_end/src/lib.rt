@@ -2,10 +2,12 @@
 #![tactic(auto)]
 
 mod answers;
+mod confirming;
 mod datagrams;
 mod endpoint;
 mod fields;
 mod indications;
+mod listening;
 mod lists;
 mod local;
 mod parts;

@@ -51,6 +51,20 @@ impl<T: Drop> WaitingList<T> {
         Ok(())
     }
 
+    /// Makes room for one more member than before; where memory runs out the list is as before.
+    pub(crate) fn add_room(&mut self) -> Result<(), AllocError>
+        ensures items { self.new.items ≡ self.old.items }
+        ensures spare { OnOk result (self.new.spare ≡ self.old.spare + 1) }
+        ensures err { OnErr result (self.new ≡ self.old) }
+    {
+        let Some(spare) = self.spare.checked_add(1) else {
+            return Err(AllocError);
+        };
+        self.held.reserve(spare)?;
+        self.spare = spare;
+        Ok(())
+    }
+
     /// Adds a member at the end, for which there must be spare room. Takes no memory.
     pub(crate) fn push(&mut self, member: T)
         requires { 1 ≤ self.old.spare }

@@ -23,6 +23,18 @@ impl Endpoint {
         ensures sure { may_run_out p.now (alone self.old) call.now _go ≡ false → IsOk result }
     {
         match call {
+            Call::TListen {
+                fd,
+                amax,
+                omax,
+                umax,
+            } => self.listen(p, *fd, *amax, *omax, *umax),
+            Call::TRcvConnect {
+                fd,
+                amax,
+                omax,
+                umax,
+            } => self.rcvconnect(p, *fd, *amax, *omax, *umax),
             Call::TRcvDis { fd, umax } => self.rcvdis(p, *fd, *umax),
             Call::TRcvRel { fd } => Ok(self.rcvrel(p, *fd)),
             Call::TRcvUData {
