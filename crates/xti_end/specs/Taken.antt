@@ -8,12 +8,14 @@ use Rattle.xti_model.specs.declared.entry.Applied.TheVariants as applied
 use Rattle.xti_model.specs.declared.entry.Outcome.TheVariants.{Done}
 use Rattle.xti_model.specs.World.{World, place_of, at_endpoint}
 use Rattle.xti_model.specs.Endpoint.{Endpoint, Confirmation}
+use Rattle.xti_model.specs.Events.{some_wait}
 use Rattle.xti_model.specs.Plan.{Plan, Field, field, first, has_effect, overflows, plan_of}
 use Rattle.xti_model.specs.Step.{Step, step_by, step_of}
 use Rattle.xti_model.specs.Calls.Datagrams as Datagrams
 use Rattle.xti_model.specs.Calls.Connect as Connect
 use Rattle.xti_model.specs.Calls.Disconnect as Disconnect
 use Rattle.xti_model.specs.Calls.Listen as Listen
+use Rattle.xti_model.specs.Calls.Receive as Receive
 use Rattle.xti_model.specs.Calls.Show as Show
 use Rattle.xti_end.specs.Held.{Held, alone, parts}
 
@@ -25,6 +27,8 @@ taken applied.Blocked w = None
 abbrev pub IsAt : Providers → ℕ → Call → Type 0
 IsAt p place (call.TListen fd amax omax umax) = place_of p fd.0 ≡ place
 IsAt p place (call.TRcvConnect fd amax omax umax) = place_of p fd.0 ≡ place
+IsAt p place (call.TRcv fd max) = place_of p fd.0 ≡ place
+IsAt p place (call.TRcvV fd sizes) = place_of p fd.0 ≡ place
 IsAt p place (call.TRcvDis fd umax) = place_of p fd.0 ≡ place
 IsAt p place (call.TRcvRel fd) = place_of p fd.0 ≡ place
 IsAt p place (call.TRcvUData fd max amax omax) = place_of p fd.0 ≡ place
@@ -74,6 +78,11 @@ disconnect_step p w fd umax e =
     step_by p w (plan_of fd e (Disconnect.receive_rows umax e) (at_endpoint fd Disconnect.received ∷ []) (Done (Disconnect.receive_reply (Disconnect.oldest e) umax)))
     (first (overflows (field (Disconnect.oldest e).udata umax ∷ []) ∷ []))
 
+-- data wait: the next bytes are received, expedited ones first
+abbrev pub data_step : Providers → World → ℕ → ℕ → Endpoint → Option Step
+data_step p w fd max e =
+    step_by p w (plan_of fd e [] (at_endpoint fd (Receive.received p max) ∷ []) (Done (Receive.got p (some_wait e.expedited) max e))) None
+
 -- the answer, and the cell that is left, are those of the plan's step
 abbrev pub AnswersBy : Providers → Plan → Held → Held → Applied → Type 0
 AnswersBy p plan old new a = taken a (alone new) ≡ step_of p (alone old) plan
@@ -112,6 +121,10 @@ listening p h fd amax omax umax = Listen.listen_plan p (alone h) fd amax omax um
 -- how a confirmation is received
 abbrev pub confirming : Providers → Held → ℕ → ℕ → ℕ → ℕ → Plan
 confirming p h fd amax omax umax = Connect.confirm_plan p (alone h) fd amax omax umax
+
+-- how data are received, in so many sizes
+abbrev pub receiving_data : Providers → Held → ℕ → ℕ → ℕ → Plan
+receiving_data p h fd sizes max = Receive.plan p (alone h) fd sizes max
 
 -- how a disconnect is received
 abbrev pub receiving_disconnect : Providers → Held → ℕ → ℕ → Plan

@@ -13,6 +13,7 @@ mod local;
 mod parts;
 mod providers;
 mod receiving;
+mod receiving_data;
 mod receiving_disconnects;
 mod receiving_errors;
 mod receiving_release;

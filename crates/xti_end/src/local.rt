@@ -35,6 +35,8 @@ impl Endpoint {
                 omax,
                 umax,
             } => self.rcvconnect(p, *fd, *amax, *omax, *umax),
+            Call::TRcv { fd, max } => self.rcv(p, *fd, 1, *max as usize),
+            Call::TRcvV { fd, sizes } => self.rcvv(p, *fd, sizes.as_slice()),
             Call::TRcvDis { fd, umax } => self.rcvdis(p, *fd, *umax),
             Call::TRcvRel { fd } => Ok(self.rcvrel(p, *fd)),
             Call::TRcvUData {

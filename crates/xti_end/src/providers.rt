@@ -1,7 +1,7 @@
 //! What a provider offers.
 
 ghost use Rattle.std.specs.Prelude.{◌≡◌, if◌then◌else◌};
-ghost use Rattle.xti_model.specs.Provider.{has_connections, has_datagrams, has_release, info, profile, service};
+ghost use Rattle.xti_model.specs.Provider.{has_connections, has_datagrams, has_release, info, is_stream, profile, service};
 
 use xti_base::limits::{MOST_ADDRESS, MOST_CONNECT_DATA, MOST_EXPEDITED_MESSAGE, MOST_OPTIONS};
 use xti_base::{Info, Limit, Prov, ServType};
@@ -42,6 +42,16 @@ pub fn has_release(prov: Prov) -> bool
     match prov {
         Prov::Ticotsord => true,
         Prov::Ticots | Prov::Ticlts | Prov::Other => false,
+    }
+}
+
+/// Whether normal data are a stream of bytes, without ends.
+pub(crate) fn is_stream(p: &Providers, prov: Prov) -> bool
+    ensures { result ≡ is_stream p.now prov }
+{
+    match profile(p, prov).tsdu {
+        Limit::At(bytes) => bytes == 0,
+        Limit::Infinite | Limit::Invalid => false,
     }
 }
 

@@ -202,7 +202,7 @@ impl Endpoint {
 }
 
 /// The sum of the sizes, where there are not too many; those are refused whatever their sum is.
-fn total(sizes: &[u32]) -> usize
+pub(crate) fn total(sizes: &[u32]) -> usize
     ensures { is_too_many (length sizes.now) ≡ false → result ≡ sum sizes.now }
 {
     if sizes.len() > MOST_PARTS {
