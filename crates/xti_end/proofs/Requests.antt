@@ -1,20 +1,12 @@
 -- The fields of the frames of a request and of its answer; a request that is listened for.
-use Rattle.std.proofs.Common.{◌≡◌, ℕ, List, [], ◌∷◌, ◌++◌, drop, Option, Some, None, refl, sym, ap, ◌∙◌}
-use Rattle.std.specs.Prelude.{map, option_map, remove, slice_get}
+use Rattle.std.proofs.Common.{◌≡◌, ℕ, List, Some, refl}
 use Rattle.tpi_grammar.specs.declared.kind.Kind.TheVariants as kind
 use Rattle.tpi_prim.specs.declared.primitive.Prim.TheVariants as prim
 use Rattle.tpi_prim.specs.declared.primitive.Part.TheVariants.{Src, Res, Opt}
 use Rattle.tpi_prim.specs.Primitive.{part_of, seq_of, user_of}
 use Rattle.tpi_prim.specs.Fields.{kind_in, primitive_in, part_in, user_in, word_in}
-use Rattle.xti_base.specs.declared.kinds.State.TheVariants.{T_INCON}
-use Rattle.xti_model.specs.Endpoint.{Endpoint}
-use Rattle.xti_model.specs.Calls.Listen.{indication_or, listened}
 use Rattle.xti_end.specs.declared.indications.Ind.{Ind}
-use Rattle.xti_end.specs.declared.parts.Parts.{Parts}
-use Rattle.xti_end.specs.declared.parts.Waiting.{Waiting}
-use Rattle.xti_end.specs.WaitingList.{WaitingList as Listed}
 use Rattle.xti_end.specs.Frames.{confirmation_in, indication_of, IsRequest}
-use Rattle.xti_end.specs.Held.{body_of}
 use Rattle.xti_end.proofs.Callers.{request-is}
 
 pub address-is : (i : Ind) (r : List ℕ) → IsRequest i → part_of Src (primitive_in i.frame) ≡ Some r → r ≡ (indication_of i).address

@@ -1,6 +1,4 @@
 use Rattle.std.proofs.Common.{refl}
-use Rattle.std.specs.Prelude.{map}
-use Rattle.xti_end.specs.Frames.{indication_of}
 use Rattle.xti_end.proofs.Numbers.{number-dropped}
 use Rattle.xti_end.proofs.endpoint.Endpoint.drop_number.Goals as goal
 
