@@ -11,11 +11,13 @@ use Rattle.xti_model.specs.World.{Cell, Switch, cell_at, endpoint_cell, switch_c
 use Rattle.xti_registry.specs.Known.{Known}
 use Rattle.xti_end.specs.Held.{Held, cell}
 use Rattle.xti_sound.specs.Invariant.{SoundWorld}
-use Rattle.xti_sound.specs.Laws.{SoundWhenLent, OpenProvidersPass}
+use Rattle.xti_model.specs.Provider.{has_datagrams}
+use Rattle.xti_sound.specs.Laws.{SoundWhenLent, OpenProvidersPass, DatagramsAlone}
+use Rattle.xti_sound.proofs.SoundGives.{datagrams-alone}
 use Rattle.xti_sound.proofs.Lent.{lent-cell, cell-endpoint}
 use Rattle.xti_lent.specs.Kept.{Distinct, IsPlace}
 use Rattle.xti_lent.specs.Lending.{Lending, held_in, held_at, cell_lent, cells_by}
-use Rattle.xti_lent.specs.Fit.{IsSound, KnownTo, Agree, IsBuilt, IsOfTiclts, IsFit, place_of_held}
+use Rattle.xti_lent.specs.Fit.{IsSound, KnownTo, Agree, IsBuilt, IsOfDatagrams, IsFit, place_of_held}
 use Rattle.xti_lent.proofs.Worlds.{at_number, cell_at-is}
 use Rattle.xti_lent.proofs.Places.{place-cell}
 use Rattle.xti_lent.proofs.Lendings.{cell-is, lent-switch, switch-is}
@@ -81,12 +83,33 @@ of-ticlts Ticotsord h = absurd (false≢true h)
 of-ticlts Ticlts h = refl
 of-ticlts Other h = absurd (false≢true h)
 
-held-built : (at : ℕ → Option Cell) (l : Lending) (h : Held) → OpenProvidersPass is_served l.providers (cells_by l.providers at) → Sub (cell_lent l) at → IsLoan l → held_at l h.place ≡ Some h → IsBuilt h
-held-built at l h s u loan e = go h.body refl
+-- an endpoint of datagrams of a sound world has nothing of a connection
+of-datagrams : (e : Endpoint) → e.prov ≡ Ticlts → DatagramsAlone e → IsOfDatagrams e
+of-datagrams e t a = record {
+  of_ticlts = t;
+  pending = a.no_requests.1;
+  outstanding = a.no_requests.2;
+  target = a.no_requests.3;
+  peer = a.no_peer.0;
+  normal = a.no_data.0;
+  flow_normal = a.no_data.5;
+  flow_expedited = a.no_data.6;
+  disconnects = a.no_peer.3;
+  confirmation = a.no_peer.2;
+  expedited = a.no_data.1;
+  release = a.no_peer.4;
+}
+
+held-built : (at : ℕ → Option Cell) (l : Lending) (h : Held) → SoundWorld l.providers (cells_by l.providers at) → OpenProvidersPass is_served l.providers (cells_by l.providers at) → Sub (cell_lent l) at → IsLoan l → held_at l h.place ≡ Some h → IsBuilt h
+held-built at l h w s u loan e = go h.body refl
   where
-    go : (o : Option Endpoint) → h.body ≡ o → IfSome o IsOfTiclts
+    go : (o : Option Endpoint) → h.body ≡ o → IfSome o IsOfDatagrams
     go None i = tt
-    go (Some b) i = of-ticlts b.prov (s (descriptor l.providers h.generation h.place) b (cell-endpoint l.providers (cells_by l.providers at) h.place h.generation b (at_number h.place (cell h)) (place-of l h loan e) (lent-at at l h u loan e) (ap (endpoint_cell h.generation) i)))
+    go (Some b) i =
+        let fd = descriptor l.providers h.generation h.place in
+        let c = cell-endpoint l.providers (cells_by l.providers at) h.place h.generation b (at_number h.place (cell h)) (place-of l h loan e) (lent-at at l h u loan e) (ap (endpoint_cell h.generation) i) in
+        let t : b.prov ≡ Ticlts = of-ticlts b.prov (s fd b c) in
+        of-datagrams b t (datagrams-alone b (ap has_datagrams t) (w.endpoints fd b c) (w.links.good fd b c))
 
 pub sounds : (at : ℕ → Option Cell) (l : Lending) → SoundWorld l.providers (cells_by l.providers at) → Sub (cell_lent l) at → IsLoan l → AllByRecursion IsSound l.held
 sounds at l s u loan = each-held IsSound l.numbers l.held loan.kept.distinct loan.own (λ h e. (held-fits at l h s u loan e).is_sound_alone)
@@ -100,7 +123,7 @@ fits at l s q u loan = record {
   places = loan.own;
   sound = sounds at l s u loan;
   agree = agree l.registry refl;
-  built = each-held IsBuilt l.numbers l.held loan.kept.distinct loan.own (λ h e. held-built at l h q u loan e);
+  built = each-held IsBuilt l.numbers l.held loan.kept.distinct loan.own (λ h e. held-built at l h s q u loan e);
 }
   where
     agree : (o : Option Known) → l.registry ≡ o → Agree l.providers o l.held

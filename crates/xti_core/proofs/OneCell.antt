@@ -44,6 +44,14 @@ reads p w n (call.TRcvUDErr fd amax omax) g h = record { named = (own n (place_o
 reads p w n (call.TGetState fd) g h = record { named = (own n (place_of p fd.0) h, tt); told = own n _ (ap (place_of p) (told-fd p w (call.TGetState fd) g) ∙ h) }
 reads p w n (call.TSync fd) g h = record { named = (own n (place_of p fd.0) h, tt); told = own n _ (ap (place_of p) (told-fd p w (call.TSync fd) g) ∙ h) }
 reads p w n (call.SetMode fd nonblock) g h = record { named = (own n (place_of p fd.0) h, tt); told = own n _ (ap (place_of p) (told-fd p w (call.SetMode fd nonblock) g) ∙ h) }
+reads p w n (call.TRcvConnect fd amax omax umax) g h = record { named = (own n (place_of p fd.0) h, tt); told = own n _ (ap (place_of p) (told-fd p w (call.TRcvConnect fd amax omax umax) g) ∙ h) }
+reads p w n (call.TListen fd amax omax umax) g h = record { named = (own n (place_of p fd.0) h, tt); told = own n _ (ap (place_of p) (told-fd p w (call.TListen fd amax omax umax) g) ∙ h) }
+reads p w n (call.TRcv fd max) g h = record { named = (own n (place_of p fd.0) h, tt); told = own n _ (ap (place_of p) (told-fd p w (call.TRcv fd max) g) ∙ h) }
+reads p w n (call.TRcvV fd sizes) g h = record { named = (own n (place_of p fd.0) h, tt); told = own n _ (ap (place_of p) (told-fd p w (call.TRcvV fd sizes) g) ∙ h) }
+reads p w n (call.TRcvDis fd umax) g h = record { named = (own n (place_of p fd.0) h, tt); told = own n _ (ap (place_of p) (told-fd p w (call.TRcvDis fd umax) g) ∙ h) }
+reads p w n (call.TRcvRel fd) g h = record { named = (own n (place_of p fd.0) h, tt); told = own n _ (ap (place_of p) (told-fd p w (call.TRcvRel fd) g) ∙ h) }
+reads p w n (call.TGetInfo fd) g h = record { named = (own n (place_of p fd.0) h, tt); told = own n _ (ap (place_of p) (told-fd p w (call.TGetInfo fd) g) ∙ h) }
+reads p w n (call.TGetProtAddr fd amax pmax) g h = record { named = (own n (place_of p fd.0) h, tt); told = own n _ (ap (place_of p) (told-fd p w (call.TGetProtAddr fd amax pmax) g) ∙ h) }
 reads p w n other g h = absurd h
 
 -- one cell of those by number
@@ -98,6 +106,14 @@ takes-alike p v w n (call.TRcvUDErr fd amax omax) i = refl
 takes-alike p v w n (call.TGetState fd) i = refl
 takes-alike p v w n (call.TSync fd) i = refl
 takes-alike p v w n (call.SetMode fd nonblock) i = refl
+takes-alike p v w n (call.TRcvConnect fd amax omax umax) i = refl
+takes-alike p v w n (call.TListen fd amax omax umax) i = refl
+takes-alike p v w n (call.TRcv fd max) i = refl
+takes-alike p v w n (call.TRcvV fd sizes) i = refl
+takes-alike p v w n (call.TRcvDis fd umax) i = refl
+takes-alike p v w n (call.TRcvRel fd) i = refl
+takes-alike p v w n (call.TGetInfo fd) i = refl
+takes-alike p v w n (call.TGetProtAddr fd amax pmax) i = refl
 takes-alike p v w n other i = absurd i
 
 -- one cell tells whether its step may run out of memory

@@ -1,4 +1,4 @@
--- The first pending event of an endpoint without connections, and what showing it changes.
+-- The first pending event of an endpoint of datagrams, and what showing it changes.
 use Rattle.std.proofs.Common.{◌≡◌, Bool, true, false, ◌&&◌, cond, [], ◌∷◌, Option, Some, None, refl, ap, ◌∙◌}
 use Rattle.std.specs.Prelude.{is_some, IfSome}
 use Rattle.xti_end.specs.Held.{parts_of}
@@ -8,7 +8,7 @@ use Rattle.xti_model.specs.Endpoint.{Endpoint}
 use Rattle.xti_model.specs.Events.{Around, some_wait}
 use Rattle.xti_model.specs.Sending.{takes_datagram}
 use Rattle.xti_model.specs.Calls.Show as Show
-use Rattle.xti_end.specs.Unconnected.{IsUnconnected}
+use Rattle.xti_lent.specs.Fit.{IsOfDatagrams}
 use Rattle.xti_end.specs.Taken.{taken}
 use Rattle.xti_base.specs.declared.errno.Errno.TheVariants.{TBADF}
 use Rattle.xti_base.specs.declared.kinds.Fd.{Fd}
@@ -30,16 +30,16 @@ and-false : (b : Bool) → (b && false) ≡ false
 and-false true = refl
 and-false false = refl
 
-pub first-by : (a : Around) (e : Endpoint) → IsUnconnected e → (error waits again : Bool) → some_wait e.datagram_errors ≡ error → some_wait e.datagrams ≡ waits → (is_some e.flow_datagram && takes_datagram a.marked) ≡ again
+pub first-by : (a : Around) (e : Endpoint) → IsOfDatagrams e → (error waits again : Bool) → some_wait e.datagram_errors ≡ error → some_wait e.datagrams ≡ waits → (is_some e.flow_datagram && takes_datagram a.marked) ≡ again
     → Show.first_pending a e ≡ first_of_datagrams error waits again
 first-by a e h true waits again i j k = rw (h.disconnects, h.pending, h.confirmation, and-false, i) refl
 first-by a e h false true again i j k = rw (h.disconnects, h.pending, h.confirmation, and-false, i, h.expedited, h.normal, j) refl
 first-by a e h false false true i j k = rw (h.disconnects, h.pending, h.confirmation, and-false, i, h.expedited, h.normal, j, h.release, h.flow_expedited, h.flow_normal, k) refl
 first-by a e h false false false i j k = rw (h.disconnects, h.pending, h.confirmation, and-false, i, h.expedited, h.normal, j, h.release, h.flow_expedited, h.flow_normal, k) refl
 
-pub parts-unconnected : (o : Option Endpoint) → is_some o ≡ true → IfSome o IsUnconnected → IsUnconnected (parts_of o)
-parts-unconnected None i u = cc
-parts-unconnected (Some e) i u = u
+pub parts-built : (o : Option Endpoint) → is_some o ≡ true → IfSome o IsOfDatagrams → IsOfDatagrams (parts_of o)
+parts-built None i u = cc
+parts-built (Some e) i u = u
 
 -- a look at an endpoint that is open, and at none
 pub looked : (p : Providers) (w new : World) (fd : Fd) (event : Option Event) (e : Endpoint) (a : Applied) (g : Go) → endpoint p w fd.0 ≡ Some e → event ≡ Show.first_pending (around p w fd.0 e) e

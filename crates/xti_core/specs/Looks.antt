@@ -1,4 +1,4 @@
--- What look shows of an endpoint without connections.
+-- What look shows of an endpoint of datagrams.
 use Rattle.std.specs.Prelude.{ℕ, Bool, ◌&&◌, Option, Some, None, is_some}
 use Rattle.xti_base.specs.declared.kinds.Event.{Event}
 use Rattle.xti_base.specs.declared.kinds.Event.TheVariants.{T_DATA, T_UDERR, T_GODATA}

@@ -1,14 +1,14 @@
 //! t_look.
 
-ghost use Rattle.std.specs.Prelude.{◌≡◌, ◌∷◌, [], ℕ, true, is_some, IfSome};
+ghost use Rattle.std.specs.Prelude.{◌≡◌, ◌∷◌, [], ℕ, true, is_some};
+ghost use Rattle.std.specs.List.{AllByRecursion};
 ghost use Rattle.xti_model.specs.Calls.Show as Show;
 ghost use Rattle.xti_model.specs.Events.{around};
 ghost use Rattle.xti_model.specs.declared.entry.Go.{Go};
 ghost use Rattle.xti_model.specs.World.{change_endpoint, at_endpoint, place_of, generation_of};
 ghost use Rattle.xti_end.specs.Held.{cell, is_open, parts};
-ghost use Rattle.xti_end.specs.Unconnected.{IsUnconnected};
 ghost use Rattle.xti_lent.specs.Answers.{AnswersCall, Changed, StaysBlocked};
-ghost use Rattle.xti_lent.specs.Fit.{AtOwnPlaces, SameCells};
+ghost use Rattle.xti_lent.specs.Fit.{AtOwnPlaces, IsBuilt, SameCells};
 ghost use Rattle.xti_lent.specs.Lending.{cells, held_at};
 ghost use Rattle.xti_core.specs.Looks.{first_at, goes_again, IsShownHere};
 
@@ -36,11 +36,11 @@ fn goes_again(lent: &Lent, e: &Endpoint) -> bool
     }
 }
 
-/// The first event that is pending at an endpoint, which has no connection.
+/// The first event that is pending at an endpoint, which is one of datagrams.
 fn pending(lent: &Lent, fd: Fd, e: &Endpoint) -> Option<Event>
     requires own { AtOwnPlaces lent.now }
     requires open { is_open e.now ≡ true }
-    requires unconnected { IfSome e.now.body IsUnconnected }
+    requires built { IsBuilt e.now }
     ensures first { result ≡ first_at lent.now fd.0 (parts e.now) }
     ensures here { IsShownHere result }
 {
@@ -64,6 +64,7 @@ fn show_at(e: &mut Endpoint, p: &Providers, fd: Fd, event: Option<Event>)
 {
     if let Some(Event::T_GODATA) = event {
         if e.is(p, fd) {
+            e.set_flow_normal(false);
             e.set_mark(None);
         }
     }
@@ -83,7 +84,8 @@ fn show(lent: &mut Lent, fd: Fd, event: Option<Event>)
 
 /// t_look: the first pending event. Takes no memory.
 pub(crate) fn look(lent: &mut Lent, fd: Fd) -> Applied
-    requires { AtOwnPlaces lent.old }
+    requires places { AtOwnPlaces lent.old }
+    requires built { AllByRecursion IsBuilt lent.old.held }
     ensures step { (g : Go) → AnswersCall (Call.TLookAt fd) g lent.old lent.new result }
     ensures still { StaysBlocked lent.old lent.new result }
     ensures kept { SameCells lent.old lent.new }

@@ -1,5 +1,7 @@
-pub mod Held
+pub mod WaitingList
 pub mod Frames
+pub mod Waiting
+pub mod Held
 pub mod Kept
+pub mod Callers
 pub mod Taken
-pub mod Unconnected

@@ -7,10 +7,16 @@ use Rattle.xti_model.specs.declared.entry.Applied.{Applied}
 use Rattle.xti_model.specs.declared.entry.Applied.TheVariants as applied
 use Rattle.xti_model.specs.declared.entry.Outcome.TheVariants.{Done}
 use Rattle.xti_model.specs.World.{World, place_of, at_endpoint}
-use Rattle.xti_model.specs.Endpoint.{Endpoint}
+use Rattle.xti_model.specs.Endpoint.{Endpoint, Confirmation}
+use Rattle.xti_model.specs.Events.{some_wait}
 use Rattle.xti_model.specs.Plan.{Plan, Field, field, first, has_effect, overflows, plan_of}
 use Rattle.xti_model.specs.Step.{Step, step_by, step_of}
 use Rattle.xti_model.specs.Calls.Datagrams as Datagrams
+use Rattle.xti_model.specs.Calls.Connect as Connect
+use Rattle.xti_model.specs.Calls.Disconnect as Disconnect
+use Rattle.xti_model.specs.Calls.Listen as Listen
+use Rattle.xti_model.specs.Calls.Receive as Receive
+use Rattle.xti_model.specs.Calls.Show as Show
 use Rattle.xti_end.specs.Held.{Held, alone, parts}
 
 abbrev pub taken : Applied → World → Option Step
@@ -19,11 +25,19 @@ taken applied.Blocked w = None
 
 -- the call is one of those that touch one cell, and this is the cell
 abbrev pub IsAt : Providers → ℕ → Call → Type 0
+IsAt p place (call.TListen fd amax omax umax) = place_of p fd.0 ≡ place
+IsAt p place (call.TRcvConnect fd amax omax umax) = place_of p fd.0 ≡ place
+IsAt p place (call.TRcv fd max) = place_of p fd.0 ≡ place
+IsAt p place (call.TRcvV fd sizes) = place_of p fd.0 ≡ place
+IsAt p place (call.TRcvDis fd umax) = place_of p fd.0 ≡ place
+IsAt p place (call.TRcvRel fd) = place_of p fd.0 ≡ place
 IsAt p place (call.TRcvUData fd max amax omax) = place_of p fd.0 ≡ place
 IsAt p place (call.TRcvVUData fd sizes amax omax) = place_of p fd.0 ≡ place
 IsAt p place (call.TRcvUDErr fd amax omax) = place_of p fd.0 ≡ place
 IsAt p place (call.TGetState fd) = place_of p fd.0 ≡ place
 IsAt p place (call.TSync fd) = place_of p fd.0 ≡ place
+IsAt p place (call.TGetInfo fd) = place_of p fd.0 ≡ place
+IsAt p place (call.TGetProtAddr fd amax pmax) = place_of p fd.0 ≡ place
 IsAt p place (call.SetMode fd nonblock) = place_of p fd.0 ≡ place
 IsAt p place _ = ⊥
 
@@ -41,6 +55,33 @@ abbrev pub error_step : Providers → World → ℕ → ℕ → ℕ → Endpoint
 error_step p w fd amax omax e =
     step_by p w (plan_of fd e (Datagrams.error_rows amax omax e) (at_endpoint fd Datagrams.without_error ∷ []) (Done (Datagrams.error_reply (Datagrams.first_error e) amax omax)))
     (first (overflows (error_fields amax omax e) ∷ []))
+
+-- a request is pending: it is told, or its number alone where a field is too long
+abbrev pub request_step : Providers → World → ℕ → ℕ → ℕ → ℕ → Endpoint → Option Step
+request_step p w fd amax omax umax e =
+    step_by p w (record (plan_of fd e (Listen.listen_rows amax omax umax e) (at_endpoint fd Listen.listened ∷ []) (Done (Listen.listen_reply (Listen.oldest e) amax omax umax))) { lost_number = (Listen.oldest e).number })
+    (first (overflows (Listen.fields (Listen.oldest e) amax omax umax) ∷ []))
+
+-- the confirmation of an endpoint; an empty one where there is none
+abbrev pub confirmation_of : Endpoint → Confirmation
+confirmation_of e = Connect.confirmation_or e.confirmation
+
+-- a confirmation is there: it is told, or taken without being told where a field is too long
+abbrev pub confirmation_step : Providers → World → ℕ → ℕ → ℕ → ℕ → Endpoint → Option Step
+confirmation_step p w fd amax omax umax e =
+    step_by p w (plan_of fd e (Connect.confirm_rows amax omax umax e) (at_endpoint fd Connect.confirmed ∷ []) (Done (Connect.connected (confirmation_of e) amax omax umax)))
+    (first (overflows (Connect.fields (confirmation_of e) amax omax umax) ∷ []))
+
+-- a disconnect is there: it is told, or taken without its data where they are too long
+abbrev pub disconnect_step : Providers → World → ℕ → ℕ → Endpoint → Option Step
+disconnect_step p w fd umax e =
+    step_by p w (plan_of fd e (Disconnect.receive_rows umax e) (at_endpoint fd Disconnect.received ∷ []) (Done (Disconnect.receive_reply (Disconnect.oldest e) umax)))
+    (first (overflows (field (Disconnect.oldest e).udata umax ∷ []) ∷ []))
+
+-- data wait: the next bytes are received, expedited ones first
+abbrev pub data_step : Providers → World → ℕ → ℕ → Endpoint → Option Step
+data_step p w fd max e =
+    step_by p w (plan_of fd e [] (at_endpoint fd (Receive.received p max) ∷ []) (Done (Receive.got p (some_wait e.expedited) max e))) None
 
 -- the answer, and the cell that is left, are those of the plan's step
 abbrev pub AnswersBy : Providers → Plan → Held → Held → Applied → Type 0
@@ -72,6 +113,26 @@ receiving_all p h fd sizes amax omax = receiving p h fd (length sizes) (sum size
 
 abbrev pub receiving_error : Providers → Held → ℕ → ℕ → ℕ → Plan
 receiving_error p h fd amax omax = Datagrams.error_plan p (alone h) fd amax omax
+
+-- how a request is listened for
+abbrev pub listening : Providers → Held → ℕ → ℕ → ℕ → ℕ → Plan
+listening p h fd amax omax umax = Listen.listen_plan p (alone h) fd amax omax umax
+
+-- how a confirmation is received
+abbrev pub confirming : Providers → Held → ℕ → ℕ → ℕ → ℕ → Plan
+confirming p h fd amax omax umax = Connect.confirm_plan p (alone h) fd amax omax umax
+
+-- how data are received, in so many sizes
+abbrev pub receiving_data : Providers → Held → ℕ → ℕ → ℕ → Plan
+receiving_data p h fd sizes max = Receive.plan p (alone h) fd sizes max
+
+-- how a disconnect is received
+abbrev pub receiving_disconnect : Providers → Held → ℕ → ℕ → Plan
+receiving_disconnect p h fd umax = Disconnect.receive_plan p (alone h) fd umax
+
+-- how the addresses of an endpoint and of its peer are shown
+abbrev pub showing_addresses : Providers → Held → ℕ → ℕ → ℕ → Plan
+showing_addresses p h fd amax pmax = Show.addresses_plan p (alone h) fd amax pmax
 
 -- the first datagram was received or lost, in however many sizes
 abbrev pub Receives : {E : Type 0} → Providers → ℕ → ℕ → ℕ → ℕ → Held → Held → Result Applied E → Type 0

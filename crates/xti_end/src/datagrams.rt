@@ -1,13 +1,14 @@
-//! The datagrams that wait at an endpoint.
+//! The datagrams that wait at an endpoint, and the errors of those that it sent.
 
-ghost use Rattle.std.specs.Prelude.{◌≡◌, ◌≤◌, ◌+◌, ◌++◌, ◌∷◌, [], true, false, map, max, not, OnOk, OnErr};
-ghost use Rattle.tpi_grammar.specs.declared.kind.Kind.TheVariants.{T_UNITDATA_IND};
+ghost use Rattle.std.specs.Prelude.{◌≡◌, ◌≤◌, ◌<◌, ◌+◌, [], true, Some, length, map, max, slice_get, IfSome, OnOk, OnErr};
+ghost use Rattle.std.specs.Option.{option_copied, option_map};
+ghost use Rattle.tpi_grammar.specs.declared.kind.Kind.TheVariants.{T_UNITDATA_IND, T_UDERROR_IND};
 ghost use Rattle.tpi_prim.specs.Fields.{kind_in};
 ghost use Rattle.xti_model.specs.Events.{some_wait};
 ghost use Rattle.xti_model.specs.Sending.{takes_datagram};
 ghost use Rattle.xti_queue.specs.Queue.{frames};
-ghost use Rattle.xti_end.specs.Frames.{datagram_of, datagram_in, AreDatagrams};
-ghost use Rattle.xti_end.specs.Held.{is_open, parts, with_parts, datagrams_at, AddsDatagram};
+ghost use Rattle.xti_end.specs.Frames.{datagram_of, datagram_in, error_in, AreDatagrams};
+ghost use Rattle.xti_end.specs.Held.{is_open, parts, with_parts, datagrams_at, errors_at, without_error_at, AddsDatagram, AddsError};
 
 use crate::endpoint::Endpoint;
 use std::alloc::AllocError;
@@ -21,7 +22,7 @@ impl Endpoint {
         ensures datagrams { map datagram_of (frames result.now) ≡ datagrams_at self.now.body }
         ensures kind { AreDatagrams result.now.pushed }
     {
-        &self.datagrams
+        &self.waiting.datagrams
     }
 
     /// Whether a datagram waits at the open endpoint.
@@ -29,14 +30,14 @@ impl Endpoint {
         requires { is_open self.now ≡ true }
         ensures { result ≡ some_wait (parts self.now).datagrams }
     {
-        self.datagrams.frames_len() != 0
+        self.waiting.datagrams.frames_len() != 0
     }
 
     /// Whether the provider takes one more datagram for the endpoint; as at a closed place, where a datagram is lost.
     pub fn takes_datagram(&self) -> bool
         ensures { result ≡ takes_datagram self.now.body }
     {
-        self.datagrams.frames_len() < MOST_DATAGRAMS
+        self.waiting.datagrams.frames_len() < MOST_DATAGRAMS
     }
 
     /// Makes room for one more datagram; where memory runs out all is as before.
@@ -47,7 +48,7 @@ impl Endpoint {
         ensures most { self.new.spare_datagrams ≤ max self.old.spare_datagrams 1 }
         ensures err { OnErr result (self.new ≡ self.old) }
     {
-        self.datagrams.reserve(1)
+        self.waiting.datagrams.reserve(1)
     }
 
     /// Adds a datagram, a T_UNITDATA_IND for which there must be spare room. Takes no memory.
@@ -58,7 +59,7 @@ impl Endpoint {
         ensures added { AddsDatagram (datagram_in frame) self.old self.new }
         ensures spare { self.old.spare_datagrams ≤ self.new.spare_datagrams + 1 }
     {
-        self.datagrams.push(frame);
+        self.waiting.datagrams.push(frame);
     }
 
     /// Whether the first datagram of the open endpoint was begun, so that its address and options are no longer told.
@@ -80,5 +81,60 @@ impl Endpoint {
         if let Some(parts) = &mut self.body {
             parts.begun = begun;
         }
+    }
+
+    /// The datagram error at a place, as a T_UDERROR_IND frame; `None` exactly past the end. Takes no memory.
+    pub fn datagram_error(&self, place: usize) -> Option<&Frame>
+        ensures error { option_map error_in (option_copied result) ≡ slice_get (errors_at self.now.body) place }
+        ensures kind { IfSome result (λ frame. kind_in frame.now ≡ T_UDERROR_IND) }
+    {
+        self.waiting.datagram_errors.get(place)
+    }
+
+    /// Takes the datagram error at a place out, a T_UDERROR_IND frame; the others stay in their order. Takes no memory.
+    pub fn take_datagram_error(&mut self, place: usize) -> Frame
+        requires { place < length (errors_at self.old.body) }
+        ensures error { Some (error_in result) ≡ slice_get (errors_at self.old.body) place }
+        ensures kind { kind_in result ≡ T_UDERROR_IND }
+        ensures taken { self.new ≡ with_parts (without_error_at place) self.old }
+    {
+        self.waiting.datagram_errors.remove(place)
+    }
+
+    /// Takes all datagram errors out. Takes no memory.
+    pub fn clear_datagram_errors(&mut self)
+        ensures { self.new ≡ with_parts (λ e. record e { datagram_errors = [] }) self.old }
+    {
+        self.waiting.datagram_errors.clear();
+    }
+
+    /// Whether a datagram error waits.
+    pub fn has_datagram_error(&self) -> bool
+        requires { is_open self.now ≡ true }
+        ensures { result ≡ some_wait (parts self.now).datagram_errors }
+    {
+        !self.waiting.datagram_errors.is_empty()
+    }
+
+    /// Makes room for one more datagram error; where memory runs out all is as before.
+    pub fn reserve_datagram_errors(&mut self) -> Result<(), AllocError>
+        ensures same { self.new ≡ record self.old { spare_datagram_errors = self.new.spare_datagram_errors } }
+        ensures kept { self.old.spare_datagram_errors ≤ self.new.spare_datagram_errors }
+        ensures spare { OnOk result (1 ≤ self.new.spare_datagram_errors) }
+        ensures most { self.new.spare_datagram_errors ≤ max self.old.spare_datagram_errors 1 }
+        ensures err { OnErr result (self.new ≡ self.old) }
+    {
+        self.waiting.datagram_errors.reserve()
+    }
+
+    /// Adds a datagram error, a T_UDERROR_IND for which there must be spare room. Takes no memory.
+    pub fn push_datagram_error(&mut self, frame: Frame)
+        requires open { is_open self.old ≡ true }
+        requires room { 1 ≤ self.old.spare_datagram_errors }
+        requires kind { kind_in frame ≡ T_UDERROR_IND }
+        ensures added { AddsError (error_in frame) self.old self.new }
+        ensures spare { self.old.spare_datagram_errors ≤ self.new.spare_datagram_errors + 1 }
+    {
+        self.waiting.datagram_errors.push(frame);
     }
 }

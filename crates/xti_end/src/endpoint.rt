@@ -1,32 +1,28 @@
 //! A place and the endpoint that is open there.
 
-ghost use Rattle.std.specs.Prelude.{◌≡◌, ◌+◌, ◌<◌, None, Some, false, true, IfSome};
-ghost use Rattle.xti_model.specs.Endpoint.{opened};
+ghost use Rattle.std.specs.Prelude.{◌≡◌, ◌+◌, ◌<◌, None, Some, false, true};
+ghost use Rattle.xti_model.specs.Endpoint.{opened, reset};
 ghost use Rattle.xti_model.specs.Provider.{profile, is_provider};
 ghost use Rattle.xti_model.specs.World.{last_generation};
-ghost use Rattle.xti_end.specs.Held.{is_open, is_open_as};
-ghost use Rattle.xti_end.specs.Unconnected.{IsUnconnected};
+ghost use Rattle.xti_end.specs.Held.{is_open, is_open_as, with_parts};
 
-use crate::lists::FrameList;
-use crate::parts::Parts;
+use crate::parts::{Connection, Parts, Waiting};
 use crate::providers::profile;
 use std::alloc::Global;
 use std::default::MadeWith;
 use std::marker::Model;
 use xti_base::{Fd, Prov, State};
 use xti_model::Providers;
-use xti_queue::ReadQueue;
 
-/// A place, and the endpoint that is open there. Contracts see the place's cell, and how many more datagrams and datagram errors
-/// can be added with no memory.
+/// A place, and the endpoint that is open there. Contracts see the place's cell, and how many more members each of its lists takes
+/// with no memory.
 #[derive(Drop)]
 pub struct Endpoint {
     pub(crate) alloc: Global,
     pub(crate) place: u32,
     pub(crate) generation: u32,
     pub(crate) body: Option<Parts>,
-    pub(crate) datagrams: ReadQueue,
-    pub(crate) datagram_errors: FrameList,
+    pub(crate) waiting: Waiting,
 }
 
 impl Model for Endpoint {
@@ -38,12 +34,17 @@ impl Model for Endpoint {
     ghost view = { λ e. record {
       place = e.place;
       generation = e.generation;
-      body = body_of e.body e.datagrams e.datagram_errors;
-      spare_datagrams = e.datagrams.spare;
-      spare_datagram_errors = e.datagram_errors.spare;
+      body = body_of e.body e.waiting;
+      spare_pending = e.waiting.pending.spare;
+      spare_outstanding = e.waiting.outstanding.spare;
+      spare_disconnects = e.waiting.disconnects.spare;
+      spare_normal = e.waiting.normal.spare;
+      spare_expedited = e.waiting.expedited.spare;
+      spare_datagrams = e.waiting.datagrams.spare;
+      spare_datagram_errors = e.waiting.datagram_errors.spare;
     } };
 
-    ghost invariant = { λ e. IsKept e.generation e.body e.datagrams e.datagram_errors };
+    ghost invariant = { λ e. IsKept e.generation e.body e.waiting };
 }
 
 impl MadeWith<Global> for Endpoint {
@@ -68,8 +69,7 @@ impl Endpoint {
             place,
             generation: 0,
             body: None,
-            datagrams: ReadQueue::new(alloc),
-            datagram_errors: FrameList::new(alloc),
+            waiting: Waiting::new(alloc),
         }
     }
 
@@ -91,7 +91,24 @@ impl Endpoint {
             mark: None,
             sndbuf: profile.sndbuf,
             rcvbuf: profile.rcvbuf,
+            connection: Connection::none(),
         });
+    }
+
+    /// Nothing of a connection of the open endpoint is left. Takes no memory.
+    pub fn reset(&mut self)
+        requires { is_open self.old ≡ true }
+        ensures { self.new ≡ with_parts reset self.old }
+    {
+        self.waiting.disconnects.clear();
+        self.waiting.normal.discard_stream();
+        self.waiting.expedited.discard_stream();
+        if let Some(parts) = &mut self.body {
+            let last_seq = parts.connection.last_seq;
+            parts.connection = Connection::none();
+            parts.connection.last_seq = last_seq;
+            parts.mark = None;
+        }
     }
 
     /// The open endpoint closes, and all that waits there is gone. Takes no memory.
@@ -101,8 +118,7 @@ impl Endpoint {
     {
         self.generation += 1;
         self.body = None;
-        self.datagrams.discard_stream();
-        self.datagram_errors.clear();
+        self.waiting.discard();
     }
 
     /// The place.
@@ -112,10 +128,9 @@ impl Endpoint {
         self.place
     }
 
-    /// Whether the endpoint is open with this descriptor. It has nothing of a connection, since none are made yet.
+    /// Whether the endpoint is open with this descriptor.
     pub fn is(&self, p: &Providers, fd: Fd) -> bool
-        ensures is { result ≡ is_open_as p.now fd.0 self.now }
-        ensures unconnected { IfSome self.now.body IsUnconnected }
+        ensures { result ≡ is_open_as p.now fd.0 self.now }
     {
         self.body.is_some()
             && self.generation == p.generation_of(fd)

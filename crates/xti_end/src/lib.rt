@@ -2,19 +2,26 @@
 #![tactic(auto)]
 
 mod answers;
-mod connections;
-mod datagram_errors;
+mod confirming;
 mod datagrams;
 mod endpoint;
 mod fields;
+mod indications;
+mod listening;
 mod lists;
 mod local;
 mod parts;
 mod providers;
 mod receiving;
+mod receiving_data;
+mod receiving_disconnects;
 mod receiving_errors;
+mod receiving_release;
+mod showing;
+mod streams;
 mod values;
 
 pub use endpoint::Endpoint;
 pub use fields::{is_too_long, trimmed, trimmed_copy};
+pub use indications::Ind;
 pub use providers::{has_datagrams, profile};

@@ -1,4 +1,4 @@
-//! Lists of frames with spare room.
+//! Lists with spare room.
 
 ghost use Rattle.std.specs.Prelude.{◌≡◌, ◌≤◌, ◌<◌, ◌+◌, ◌++◌, ◌∷◌, [], not, Some, OnOk, OnErr, length, slice_get, remove, max, vec_capacity};
 ghost use Rattle.std.specs.Option.{option_copied};
@@ -6,40 +6,39 @@ ghost use Rattle.xti_model.specs.Events.{some_wait};
 
 use std::alloc::{AllocError, Global};
 use std::marker::Model;
-use tpi_prim::Frame;
 
-/// A list of frames.
+/// A list of what waits.
 #[derive(Drop)]
-pub(crate) struct FrameList {
-    held: Vec<Frame>,
+pub(crate) struct WaitingList<T> {
+    held: Vec<T>,
     spare: usize,
 }
 
-impl Model for FrameList {
+impl<T> Model for WaitingList<T> {
     ghost use Rattle.std.specs.Prelude.{length, vec_capacity, ◌≤◌, ◌+◌};
-    ghost use Rattle.xti_end.specs.Frames.{FrameList};
+    ghost use Rattle.xti_end.specs.WaitingList.{WaitingList as Listed};
 
-    ghost Value = { FrameList };
+    ghost Value = { Listed T };
 
-    ghost view = { λ l. record { frames = l.held.items; spare = l.spare } };
+    ghost view = { λ l. record { items = l.held.items; spare = l.spare } };
 
     ghost invariant = { λ l. length l.held.items + l.spare ≤ vec_capacity l.held };
 }
 
-impl FrameList {
+impl<T: Drop> WaitingList<T> {
     /// The empty list. Takes no memory.
-    pub(crate) fn new(alloc: Global) -> FrameList
-        ensures { result ≡ record { frames = []; spare = 0 } }
+    pub(crate) fn new(alloc: Global) -> WaitingList<T>
+        ensures { result ≡ record { items = []; spare = 0 } }
     {
-        FrameList {
+        WaitingList {
             held: Vec::new(alloc),
             spare: 0,
         }
     }
 
-    /// Makes room for one more frame; where memory runs out the list is as before.
+    /// Makes room for one more member; where memory runs out the list is as before.
     pub(crate) fn reserve(&mut self) -> Result<(), AllocError>
-        ensures frames { self.new.frames ≡ self.old.frames }
+        ensures items { self.new.items ≡ self.old.items }
         ensures kept { self.old.spare ≤ self.new.spare }
         ensures spare { OnOk result (1 ≤ self.new.spare) }
         ensures most { self.new.spare ≤ max self.old.spare 1 }
@@ -52,43 +51,80 @@ impl FrameList {
         Ok(())
     }
 
-    /// Adds a frame at the end, for which there must be spare room. Takes no memory.
-    pub(crate) fn push(&mut self, frame: Frame)
+    /// Makes room for one more member than before; where memory runs out the list is as before.
+    pub(crate) fn add_room(&mut self) -> Result<(), AllocError>
+        ensures items { self.new.items ≡ self.old.items }
+        ensures spare { OnOk result (self.new.spare ≡ self.old.spare + 1) }
+        ensures err { OnErr result (self.new ≡ self.old) }
+    {
+        let Some(spare) = self.spare.checked_add(1) else {
+            return Err(AllocError);
+        };
+        self.held.reserve(spare)?;
+        self.spare = spare;
+        Ok(())
+    }
+
+    /// Adds a member at the end, for which there must be spare room. Takes no memory.
+    pub(crate) fn push(&mut self, member: T)
         requires { 1 ≤ self.old.spare }
-        ensures frames { self.new.frames ≡ self.old.frames ++ frame ∷ [] }
+        ensures items { self.new.items ≡ self.old.items ++ member ∷ [] }
         ensures spare { self.old.spare ≡ self.new.spare + 1 }
     {
         self.spare -= 1;
-        self.held.push_reserved(frame);
+        self.held.push_reserved(member);
     }
 
-    /// Whether there are no frames.
+    /// Whether there are no members.
     pub(crate) fn is_empty(&self) -> bool
-        ensures { result ≡ not (some_wait self.now.frames) }
+        ensures { result ≡ not (some_wait self.now.items) }
     {
         self.held.is_empty()
     }
 
-    /// The frame at a place; `None` exactly past the end.
-    pub(crate) fn get(&self, place: usize) -> Option<&Frame>
-        ensures { option_copied result ≡ slice_get self.now.frames place }
+    /// How many members there are.
+    pub(crate) fn len(&self) -> usize
+        ensures { result ≡ length self.now.items }
+    {
+        self.held.len()
+    }
+
+    /// The members in their order.
+    pub(crate) fn as_slice(&self) -> &[T]
+        ensures { result.now ≡ self.now.items }
+    {
+        self.held.as_slice()
+    }
+
+    /// The member at a place; `None` exactly past the end.
+    pub(crate) fn get(&self, place: usize) -> Option<&T>
+        ensures { option_copied result ≡ slice_get self.now.items place }
     {
         self.held.get(place)
     }
 
-    /// Takes the frame at a place out. Takes no memory.
-    pub(crate) fn remove(&mut self, place: usize) -> Frame
-        requires { place < length self.old.frames }
-        ensures taken { Some result ≡ slice_get self.old.frames place }
-        ensures frames { self.new.frames ≡ remove self.old.frames place }
+    /// Takes the member at a place out. Takes no memory.
+    pub(crate) fn remove(&mut self, place: usize) -> T
+        requires { place < length self.old.items }
+        ensures taken { Some result ≡ slice_get self.old.items place }
+        ensures items { self.new.items ≡ remove self.old.items place }
         ensures spare { self.new.spare ≡ self.old.spare }
     {
         self.held.remove(place)
     }
 
-    /// Takes all frames out. Takes no memory.
+    /// The member at a place is gone. Takes no memory.
+    pub(crate) fn discard(&mut self, place: usize)
+        requires { place < length self.old.items }
+        ensures items { self.new.items ≡ remove self.old.items place }
+        ensures spare { self.new.spare ≡ self.old.spare }
+    {
+        let _member = self.held.remove(place);
+    }
+
+    /// Takes all members out. Takes no memory.
     pub(crate) fn clear(&mut self)
-        ensures frames { self.new.frames ≡ [] }
+        ensures items { self.new.items ≡ [] }
         ensures spare { self.new.spare ≡ self.old.spare }
     {
         self.held.clear();

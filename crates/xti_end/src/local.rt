@@ -1,18 +1,14 @@
 //! The calls that touch one cell.
 
-ghost use Rattle.std.specs.Prelude.{◌≡◌, [], true, false, IsOk, OnErr, None};
+ghost use Rattle.std.specs.Prelude.{◌≡◌, false, IsOk, OnErr};
 ghost use Rattle.xti_model.specs.Memory.{may_run_out};
 ghost use Rattle.xti_model.specs.Step.{step};
-ghost use Rattle.xti_model.specs.World.{place_of};
-ghost use Rattle.xti_model.specs.Calls.Show as Show;
 ghost use Rattle.xti_end.specs.Held.{alone, SameRoom};
-ghost use Rattle.xti_end.specs.Taken.{taken, IsAt, AnswersBy, Makes, StillBlocked};
+ghost use Rattle.xti_end.specs.Taken.{IsAt, Makes, StillBlocked};
 
-use crate::answers::{done, refused};
 use crate::endpoint::Endpoint;
 use std::alloc::AllocError;
-use xti_base::{Errno, Fd};
-use xti_model::{Applied, Call, Go, Providers, Reply};
+use xti_model::{Applied, Call, Go, Providers};
 
 impl Endpoint {
     /// One step of a call that touches this cell alone: what it answers, and the state of its endpoint afterwards. Where it is
@@ -27,6 +23,22 @@ impl Endpoint {
         ensures sure { may_run_out p.now (alone self.old) call.now _go ≡ false → IsOk result }
     {
         match call {
+            Call::TListen {
+                fd,
+                amax,
+                omax,
+                umax,
+            } => self.listen(p, *fd, *amax, *omax, *umax),
+            Call::TRcvConnect {
+                fd,
+                amax,
+                omax,
+                umax,
+            } => self.rcvconnect(p, *fd, *amax, *omax, *umax),
+            Call::TRcv { fd, max } => self.rcv(p, *fd, 1, *max as usize),
+            Call::TRcvV { fd, sizes } => self.rcvv(p, *fd, sizes.as_slice()),
+            Call::TRcvDis { fd, umax } => self.rcvdis(p, *fd, *umax),
+            Call::TRcvRel { fd } => Ok(self.rcvrel(p, *fd)),
             Call::TRcvUData {
                 fd,
                 max,
@@ -42,34 +54,10 @@ impl Endpoint {
             Call::TRcvUDErr { fd, amax, omax } => self.rcvuderr(p, *fd, *amax, *omax),
             Call::TGetState { fd } => Ok(self.getstate(p, *fd)),
             Call::TSync { fd } => Ok(self.getstate(p, *fd)),
+            Call::TGetInfo { fd } => Ok(self.getinfo(p, *fd)),
+            Call::TGetProtAddr { fd, amax, pmax } => self.getprotaddr(p, *fd, *amax, *pmax),
             Call::SetMode { fd, nonblock } => Ok(self.set_mode(p, *fd, *nonblock)),
             _ => unreachable!(),
         }
-    }
-
-    /// t_getstate and t_sync.
-    fn getstate(&self, p: &Providers, fd: Fd) -> Applied
-        requires { place_of p.now fd.0 ≡ self.now.place }
-        ensures { AnswersBy p.now (Show.state_plan p.now (alone self.now) fd.0) self.now self.now result }
-    {
-        if !self.is(p, fd) {
-            return refused(self, p, fd, Errno::TBADF);
-        }
-        let state = self.state();
-        done(self, p, fd, Reply::Stands { state })
-    }
-
-    /// Sets O_NONBLOCK, or clears it.
-    fn set_mode(&mut self, p: &Providers, fd: Fd, nonblock: bool) -> Applied
-        requires { place_of p.now fd.0 ≡ self.old.place }
-        ensures step { AnswersBy p.now (Show.mode_plan p.now (alone self.old) fd.0 nonblock) self.old self.new result }
-        ensures still { taken result (alone self.new) ≡ None → self.new ≡ self.old }
-        ensures room { SameRoom self.old self.new }
-    {
-        if !self.is(p, fd) {
-            return refused(self, p, fd, Errno::TBADF);
-        }
-        self.set_nonblock(nonblock);
-        done(self, p, fd, Reply::Plain)
     }
 }

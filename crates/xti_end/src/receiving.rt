@@ -43,7 +43,7 @@ impl Endpoint {
         if self.begun() {
             return &[];
         }
-        match self.datagrams.front() {
+        match self.waiting.datagrams.front() {
             Some(frame) => frame.part(Part::Src),
             None => &[],
         }
@@ -57,7 +57,7 @@ impl Endpoint {
         if self.begun() {
             return &[];
         }
-        match self.datagrams.front() {
+        match self.waiting.datagrams.front() {
             Some(frame) => frame.part(Part::Opt),
             None => &[],
         }
@@ -68,7 +68,7 @@ impl Endpoint {
         requires { is_open self.now ≡ true }
         ensures { result.now ≡ (Datagrams.first_of (parts self.now)).bytes }
     {
-        match self.datagrams.front_rest() {
+        match self.waiting.datagrams.front_rest() {
             Some(rest) => rest,
             None => &[],
         }
@@ -79,7 +79,7 @@ impl Endpoint {
         requires { is_open self.old ≡ true }
         ensures { self.new ≡ with_parts Datagrams.dropped self.old }
     {
-        self.datagrams.drop_front();
+        self.waiting.datagrams.drop_front();
         if let Some(parts) = &mut self.body {
             parts.begun = false;
         }
@@ -95,7 +95,7 @@ impl Endpoint {
         ensures err { OnErr result (self.new ≡ self.old) }
     {
         let begun = is_more(self.rest(), max);
-        let piece = self.datagrams.take(max)?;
+        let piece = self.waiting.datagrams.take(max)?;
         self.set_begun(begun);
         Ok(Received {
             bytes: piece.bytes,
@@ -202,7 +202,7 @@ impl Endpoint {
 }
 
 /// The sum of the sizes, where there are not too many; those are refused whatever their sum is.
-fn total(sizes: &[u32]) -> usize
+pub(crate) fn total(sizes: &[u32]) -> usize
     ensures { is_too_many (length sizes.now) ≡ false → result ≡ sum sizes.now }
 {
     if sizes.len() > MOST_PARTS {

@@ -4,11 +4,12 @@ ghost use Rattle.std.specs.Prelude.{◌≡◌, true, false};
 ghost use Rattle.std.specs.Option.{option_copied, option_map};
 ghost use Rattle.xti_base.specs.Kinds.{same_state};
 ghost use Rattle.xti_base.specs.declared.kinds.State.TheVariants.{T_UNINIT};
+ghost use Rattle.xti_model.specs.Provider.{is_provider};
 ghost use Rattle.xti_model.specs.Spot.{spot_bytes};
-ghost use Rattle.xti_end.specs.Held.{is_open, parts, with_parts, mark_at};
+ghost use Rattle.xti_end.specs.Held.{is_open, parts, with_parts, mark_at, peer_at, target_at, target_number_at, target_of};
 
 use crate::endpoint::Endpoint;
-use xti_base::{Octets, Prov, State};
+use xti_base::{Fd, Octets, Prov, Seq, State};
 use xti_model::Spot;
 
 impl Endpoint {
@@ -20,6 +21,17 @@ impl Endpoint {
         match &self.body {
             Some(parts) => parts.prov,
             None => unreachable!(),
+        }
+    }
+
+    /// Sets the provider of the open endpoint.
+    pub fn set_prov(&mut self, prov: Prov)
+        requires open { is_open self.old ≡ true }
+        requires provider { is_provider prov ≡ true }
+        ensures { self.new ≡ with_parts (λ e. record e { prov = prov }) self.old }
+    {
+        if let Some(parts) = &mut self.body {
+            parts.prov = prov;
         }
     }
 
@@ -87,7 +99,7 @@ impl Endpoint {
         }
     }
 
-    /// How many indications the open endpoint queues.
+    /// How many requests to connect the open endpoint queues.
     pub fn qlen(&self) -> u32
         requires { is_open self.now ≡ true }
         ensures { result ≡ (parts self.now).qlen }
@@ -98,7 +110,7 @@ impl Endpoint {
         }
     }
 
-    /// Sets how many indications the open endpoint queues.
+    /// Sets how many requests to connect the open endpoint queues.
     pub fn set_qlen(&mut self, qlen: u32)
         requires { is_open self.old ≡ true }
         ensures { self.new ≡ with_parts (λ e. record e { qlen = qlen }) self.old }
@@ -166,6 +178,196 @@ impl Endpoint {
     {
         if let Some(parts) = &mut self.body {
             parts.mark = to;
+        }
+    }
+
+    /// The sequence number that the open endpoint gave last; 0 where it gave none.
+    pub fn last_seq(&self) -> Seq
+        requires { is_open self.now ≡ true }
+        ensures { result.0 ≡ (parts self.now).last_number }
+    {
+        match &self.body {
+            Some(parts) => parts.connection.last_seq,
+            None => unreachable!(),
+        }
+    }
+
+    /// Sets the sequence number that the open endpoint gave last.
+    pub fn set_last_seq(&mut self, seq: Seq)
+        requires { is_open self.old ≡ true }
+        ensures { self.new ≡ with_parts (λ e. record e { last_number = seq.0 }) self.old }
+    {
+        if let Some(parts) = &mut self.body {
+            parts.connection.last_seq = seq;
+        }
+    }
+
+    /// The descriptor of the listener that it asks for a connection; `None` exactly where it asks none. Takes no memory.
+    pub fn target(&self) -> Option<Fd>
+        ensures { option_map (λ fd. fd.0) result ≡ target_at self.now.body }
+    {
+        let (listener, _) = self.body.as_ref()?.connection.target?;
+        Some(listener)
+    }
+
+    /// The sequence number of its request to that listener; `None` exactly where it asks none. Takes no memory.
+    pub fn target_seq(&self) -> Option<Seq>
+        ensures { option_map (λ seq. seq.0) result ≡ target_number_at self.now.body }
+    {
+        let (_, number) = self.body.as_ref()?.connection.target?;
+        Some(number)
+    }
+
+    /// Sets the listener that the open endpoint asks for a connection, with the number of its request, or that it asks none.
+    pub fn set_target(&mut self, target: Option<(Fd, Seq)>)
+        requires { is_open self.old ≡ true }
+        ensures { self.new ≡ with_parts (λ e. record e { target = option_map target_of target }) self.old }
+    {
+        if let Some(parts) = &mut self.body {
+            parts.connection.target = target;
+        }
+    }
+
+    /// The descriptor of the other side of its connection; `None` exactly where there is none. Takes no memory.
+    pub fn peer(&self) -> Option<Fd>
+        ensures { option_map (λ fd. fd.0) result ≡ peer_at self.now.body }
+    {
+        self.body.as_ref()?.connection.peer
+    }
+
+    /// Sets the other side of the open endpoint's connection, or that there is none.
+    pub fn set_peer(&mut self, peer: Option<Fd>)
+        requires { is_open self.old ≡ true }
+        ensures { self.new ≡ with_parts (λ e. record e { peer = option_map (λ fd. fd.0) peer }) self.old }
+    {
+        if let Some(parts) = &mut self.body {
+            parts.connection.peer = peer;
+        }
+    }
+
+    /// The address of the other side of its connection; `None` exactly where there is none.
+    pub fn peer_address(&self) -> Option<&Octets>
+        requires { is_open self.now ≡ true }
+        ensures { option_copied result ≡ (parts self.now).peer_address }
+    {
+        match &self.body {
+            Some(parts) => parts.connection.peer_address.as_ref(),
+            None => unreachable!(),
+        }
+    }
+
+    /// Sets the address of the other side of the open endpoint's connection.
+    pub fn set_peer_address(&mut self, address: Option<Octets>)
+        requires { is_open self.old ≡ true }
+        ensures { self.new ≡ with_parts (λ e. record e { peer_address = address }) self.old }
+    {
+        if let Some(parts) = &mut self.body {
+            parts.connection.peer_address = address;
+        }
+    }
+
+    /// Whether the open endpoint is in the middle of an expedited message.
+    pub fn mid_expedited(&self) -> bool
+        requires { is_open self.now ≡ true }
+        ensures { result ≡ (parts self.now).mid_expedited }
+    {
+        match &self.body {
+            Some(parts) => parts.connection.mid_expedited,
+            None => unreachable!(),
+        }
+    }
+
+    /// Sets whether the open endpoint is in the middle of an expedited message.
+    pub fn set_mid_expedited(&mut self, on: bool)
+        requires { is_open self.old ≡ true }
+        ensures { self.new ≡ with_parts (λ e. record e { mid_expedited = on }) self.old }
+    {
+        if let Some(parts) = &mut self.body {
+            parts.connection.mid_expedited = on;
+        }
+    }
+
+    /// The bytes so far of the normal message that the open endpoint sends, whose end was not sent.
+    pub fn unfinished_normal(&self) -> u32
+        requires { is_open self.now ≡ true }
+        ensures { result ≡ (parts self.now).unfinished_normal }
+    {
+        match &self.body {
+            Some(parts) => parts.connection.unfinished_normal,
+            None => unreachable!(),
+        }
+    }
+
+    /// Sets the bytes so far of the normal message that the open endpoint sends.
+    pub fn set_unfinished_normal(&mut self, bytes: u32)
+        requires { is_open self.old ≡ true }
+        ensures { self.new ≡ with_parts (λ e. record e { unfinished_normal = bytes }) self.old }
+    {
+        if let Some(parts) = &mut self.body {
+            parts.connection.unfinished_normal = bytes;
+        }
+    }
+
+    /// The bytes so far of the expedited message that the open endpoint sends, whose end was not sent.
+    pub fn unfinished_expedited(&self) -> u32
+        requires { is_open self.now ≡ true }
+        ensures { result ≡ (parts self.now).unfinished_expedited }
+    {
+        match &self.body {
+            Some(parts) => parts.connection.unfinished_expedited,
+            None => unreachable!(),
+        }
+    }
+
+    /// Sets the bytes so far of the expedited message that the open endpoint sends.
+    pub fn set_unfinished_expedited(&mut self, bytes: u32)
+        requires { is_open self.old ≡ true }
+        ensures { self.new ≡ with_parts (λ e. record e { unfinished_expedited = bytes }) self.old }
+    {
+        if let Some(parts) = &mut self.body {
+            parts.connection.unfinished_expedited = bytes;
+        }
+    }
+
+    /// Whether the open endpoint waits to send normal data.
+    pub fn flow_normal(&self) -> bool
+        requires { is_open self.now ≡ true }
+        ensures { result ≡ (parts self.now).flow_normal }
+    {
+        match &self.body {
+            Some(parts) => parts.connection.flow_normal,
+            None => unreachable!(),
+        }
+    }
+
+    /// Sets the normal flow mark of the open endpoint, or clears it.
+    pub fn set_flow_normal(&mut self, on: bool)
+        requires { is_open self.old ≡ true }
+        ensures { self.new ≡ with_parts (λ e. record e { flow_normal = on }) self.old }
+    {
+        if let Some(parts) = &mut self.body {
+            parts.connection.flow_normal = on;
+        }
+    }
+
+    /// Whether the open endpoint waits to send expedited data.
+    pub fn flow_expedited(&self) -> bool
+        requires { is_open self.now ≡ true }
+        ensures { result ≡ (parts self.now).flow_expedited }
+    {
+        match &self.body {
+            Some(parts) => parts.connection.flow_expedited,
+            None => unreachable!(),
+        }
+    }
+
+    /// Sets the expedited flow mark of the open endpoint, or clears it.
+    pub fn set_flow_expedited(&mut self, on: bool)
+        requires { is_open self.old ≡ true }
+        ensures { self.new ≡ with_parts (λ e. record e { flow_expedited = on }) self.old }
+    {
+        if let Some(parts) = &mut self.body {
+            parts.connection.flow_expedited = on;
         }
     }
 }

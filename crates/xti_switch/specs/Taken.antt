@@ -1,26 +1,21 @@
 -- What a call answers that is not refused, and the world that it leaves.
-use Rattle.std.specs.Prelude.{◌≡◌, ℕ, Bool, true, List, [], ◌∷◌, Option, None, is_some, IfSome, if◌then◌else◌}
+use Rattle.std.specs.Prelude.{◌≡◌, ℕ, Bool, true, List, [], ◌∷◌, Option, None, is_some, if◌then◌else◌}
 use Rattle.xti_base.specs.declared.kinds.Prov.{Prov}
 use Rattle.xti_model.specs.declared.entry.Applied.{Applied}
 use Rattle.xti_model.specs.declared.entry.Reply.{Reply}
 use Rattle.xti_model.specs.declared.entry.Reply.TheVariants.{Overflow}
-use Rattle.xti_model.specs.World.{Change, endpoint, the_switch, place_of, at_endpoint, at_switch}
+use Rattle.xti_model.specs.World.{Change, endpoint, the_switch, at_endpoint, at_switch}
 use Rattle.xti_model.specs.Switch.{give_up_address, is_free, place_at}
 use Rattle.xti_model.specs.Plan.{Plan, field, is_too_long}
 use Rattle.xti_model.specs.Calls.Bind as Bind
 use Rattle.xti_model.specs.Calls.Open as Open
 use Rattle.xti_model.specs.Step.{Step, step_by}
-use Rattle.xti_end.specs.Unconnected.{IsUnconnected}
 use Rattle.xti_lent.specs.Answers.{IsDoneAfter}
-use Rattle.xti_lent.specs.Lending.{Lending, held_at, cells}
+use Rattle.xti_lent.specs.Lending.{Lending, cells}
 
 -- an endpoint is open with the descriptor
 abbrev pub IsOpen : Lending → ℕ → Type 0
 IsOpen l fd = is_some (endpoint l.providers (cells l) fd) ≡ true
-
--- what is open at the descriptor's place has nothing of a connection
-abbrev pub HasNoConnection : Lending → ℕ → Type 0
-HasNoConnection l fd = IfSome (held_at l (place_of l.providers fd)) (λ h. IfSome h.body IsUnconnected)
 
 -- the place can be opened, as the switch knows it
 abbrev pub IsFreeAt : Lending → ℕ → Type 0

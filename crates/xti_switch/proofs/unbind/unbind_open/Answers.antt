@@ -1,11 +1,9 @@
-use Rattle.std.proofs.Common.{subst, Option, Some, sym, ap, ◌∙◌, ◌≡◌}
-use Rattle.xti_model.specs.World.{change_endpoint, generation_of, place_of}
+use Rattle.std.proofs.Common.{sym, ap, ◌∙◌, ◌≡◌}
+use Rattle.xti_model.specs.World.{change_endpoint, generation_of}
 use Rattle.xti_model.specs.Switch.{give_up_address}
 use Rattle.xti_model.specs.Calls.Bind as Bind
-use Rattle.std.specs.Prelude.{IfSome}
-use Rattle.xti_end.specs.Unconnected.{IsUnconnected}
 use Rattle.xti_end.specs.Held.{Held, cell}
-use Rattle.xti_lent.specs.Lending.{held_at, with_held, with_registry}
+use Rattle.xti_lent.specs.Lending.{with_held, with_registry}
 use Rattle.xti_lent.proofs.Open.{fd-lent, fd-open}
 use Rattle.xti_lent.proofs.Written.{both-same, fd-both, parts-changed, own-kept}
 use Rattle.xti_switch.proofs.Openings.{done-step}
@@ -14,13 +12,8 @@ use Rattle.xti_switch.proofs.unbind.unbind_open.Goals as goal
 pub endpoint-requires : goal.endpoint-requires
 endpoint-requires c = fd-lent c.args.lent.now c.args.fd.0 c.place_of-place.result c.requires.«open» c.place_of-place.ensures.place
 
-pub unbind_endpoint-requires-clause-open : goal.unbind_endpoint-requires-clause-open
-unbind_endpoint-requires-clause-open c = (fd-open c.args.lent.now c.args.fd.0 c.place_of-place.result c.endpoint.result.now c.requires.fit.places c.requires.«open» c.place_of-place.ensures.place (sym c.endpoint.ensures.now)).is_there
-
-pub unbind_endpoint-requires-clause-unconnected : goal.unbind_endpoint-requires-clause-unconnected
-unbind_endpoint-requires-clause-unconnected c =
-    let e : held_at c.args.lent.now (place_of c.args.lent.now.providers c.args.fd.0) ≡ Some c.endpoint.result.now = rw c.place_of-place.ensures.place at (sym c.endpoint.ensures.now) in
-    subst (λ (o : Option Held). IfSome o (λ h. IfSome h.body IsUnconnected)) e c.requires.unconnected
+pub unbind_endpoint-requires : goal.unbind_endpoint-requires
+unbind_endpoint-requires c = (fd-open c.args.lent.now c.args.fd.0 c.place_of-place.result c.endpoint.result.now c.requires.fit.places c.requires.«open» c.place_of-place.ensures.place (sym c.endpoint.ensures.now)).is_there
 
 pub done-requires : goal.done-requires
 done-requires c =

@@ -1,6 +1,6 @@
 use Rattle.std.proofs.Common.{refl}
-use Rattle.xti_end.proofs.Views.{removed-is}
+use Rattle.xti_end.proofs.Views.{error-removed}
 use Rattle.xti_end.proofs.endpoint.Endpoint.take_datagram_error.Goals as goal
 
 pub returns-clause-taken : goal.returns-clause-taken
-returns-clause-taken c = rw (← c.self.view_is, c.remove.ensures.spare, removed-is c.self.inside.body c.self.inside.datagrams c.self.inside.datagram_errors c.remove.new.self c.args.place c.remove.ensures.frames) refl
+returns-clause-taken c = rw (← c.self.view_is, c.remove.ensures.spare, error-removed c.self.inside.body c.self.inside.waiting c.remove.new.self c.args.place c.remove.ensures.items) refl

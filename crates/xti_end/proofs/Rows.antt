@@ -1,0 +1,47 @@
+-- The plan of a call on an open endpoint, once its refusals are passed.
+use Rattle.std.proofs.Common.{◌≡◌, ℕ, Bool, true, false, ◌&&◌, eqb, [], ◌∷◌, Option, Some, None, refl}
+use Rattle.std.specs.Prelude.{is_some, is_none}
+use Rattle.xti_base.specs.Kinds.{same_state}
+use Rattle.xti_base.specs.declared.kinds.State.TheVariants.{T_IDLE, T_INCON, T_OUTCON}
+use Rattle.xti_model.specs.declared.profile.Providers.{Providers}
+use Rattle.xti_model.specs.Endpoint.{Endpoint, ocnt}
+use Rattle.xti_model.specs.Events.{is_state, some_wait, connected_or_asking}
+use Rattle.xti_model.specs.Provider.{has_connections}
+use Rattle.xti_model.specs.Step.{step_of}
+use Rattle.xti_model.specs.World.{endpoint, place_of, generation_of}
+use Rattle.xti_end.specs.Held.{Held, alone, is_open_as, parts, parts_of}
+use Rattle.xti_end.specs.Taken.{confirmation_step, confirming, disconnect_step, receiving_disconnect, listening, request_step}
+
+and-parts : (a b : Bool) → (a && b) ≡ true → (a ≡ true) × (b ≡ true)
+and-parts true true h = (refl, refl)
+and-parts true false h = cc
+and-parts false b h = cc
+
+some-parts : (o : Option Endpoint) → is_some o ≡ true → o ≡ Some (parts_of o)
+some-parts None h = cc
+some-parts (Some e) h = refl
+
+-- an endpoint is open with the descriptor in the world of its cell alone
+pub alone-open : (p : Providers) (fd : ℕ) (h : Held) → is_open_as p fd h ≡ true → endpoint p (alone h) fd ≡ Some (parts h)
+alone-open p fd h o =
+    let a = and-parts (is_some h.body && eqb h.generation (generation_of p fd)) (eqb h.place (place_of p fd)) o in
+    let b = and-parts (is_some h.body) (eqb h.generation (generation_of p fd)) a.0 in
+    rw (a.1, b.1) (some-parts h.body b.0)
+
+pub disconnect-told : (p : Providers) (h : Held) (fd umax : ℕ) → is_open_as p fd h ≡ true → has_connections (parts h).prov ≡ true → is_state connected_or_asking (parts h) ≡ true → some_wait (parts h).disconnects ≡ true
+    → disconnect_step p (alone h) fd umax (parts h) ≡ step_of p (alone h) (receiving_disconnect p h fd umax)
+disconnect-told p h fd umax o a b c = rw (alone-open p fd h o, a, b, c) refl
+
+none-waits : {A : Type 0} (o : Option A) → is_some o ≡ true → is_none o ≡ false
+none-waits None h = cc
+none-waits (Some x) h = refl
+
+pub request-told : (p : Providers) (h : Held) (fd amax omax umax : ℕ) → is_open_as p fd h ≡ true → has_connections (parts h).prov ≡ true → is_state (T_IDLE ∷ T_INCON ∷ []) (parts h) ≡ true
+    → eqb (parts h).qlen 0 ≡ false → eqb (ocnt (parts h)) (parts h).qlen ≡ false → some_wait (parts h).disconnects ≡ false → some_wait (parts h).pending ≡ true
+    → request_step p (alone h) fd amax omax umax (parts h) ≡ step_of p (alone h) (listening p h fd amax omax umax)
+request-told p h fd amax omax umax o a b q f d w = rw (alone-open p fd h o, a, b, q, f, d, w) refl
+
+pub confirmation-told : (p : Providers) (h : Held) (fd amax omax umax : ℕ) → is_open_as p fd h ≡ true → has_connections (parts h).prov ≡ true → same_state (parts h).state T_OUTCON ≡ true
+    → some_wait (parts h).disconnects ≡ false → is_some (parts h).confirmation ≡ true
+    → confirmation_step p (alone h) fd amax omax umax (parts h) ≡ step_of p (alone h) (confirming p h fd amax omax umax)
+confirmation-told p h fd amax omax umax o a b d w = rw (alone-open p fd h o, a, b, d, none-waits (parts h).confirmation w) refl

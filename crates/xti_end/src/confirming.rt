@@ -1,0 +1,160 @@
+//! t_rcvconnect.
+
+ghost use Rattle.std.specs.Prelude.{◌≡◌, true, is_some, IfOk, OnErr};
+ghost use Rattle.std.specs.List.{list_any};
+ghost use Rattle.tpi_grammar.specs.declared.kind.Kind.TheVariants.{T_CONN_CON};
+ghost use Rattle.tpi_prim.specs.Fields.{kind_in};
+ghost use Rattle.xti_model.specs.Plan.{is_too_long};
+ghost use Rattle.xti_model.specs.World.{place_of};
+ghost use Rattle.xti_model.specs.Calls.Connect as Connect;
+ghost use Rattle.xti_end.specs.Frames.{confirmation_in};
+ghost use Rattle.xti_end.specs.Held.{alone, is_open, is_open_as, parts, with_parts, SameRoom};
+ghost use Rattle.xti_end.specs.Taken.{confirmation_of, confirming, confirmation_step, IsSureBy, Makes, MakesBy, StillBlocked};
+
+use crate::answers::{done, refused};
+use crate::endpoint::Endpoint;
+use crate::fields::{is_too_long, trimmed_copy};
+use crate::providers::has_connections;
+use std::alloc::AllocError;
+use tpi_prim::Frame;
+use tpi_prim::primitive::Part;
+use xti_base::{Errno, Event, Fd, Seq, State};
+use xti_model::{Applied, Providers, Reply};
+
+/// The address of who answered.
+fn address(frame: &Frame) -> &[u8]
+    requires { kind_in frame.now ≡ T_CONN_CON }
+    ensures { result.now ≡ (confirmation_in frame.now).address }
+{
+    frame.part(Part::Res)
+}
+
+/// The options of the answer.
+fn options(frame: &Frame) -> &[u8]
+    requires { kind_in frame.now ≡ T_CONN_CON }
+    ensures { result.now ≡ (confirmation_in frame.now).options }
+{
+    frame.part(Part::Opt)
+}
+
+/// The data of the answer.
+fn data(frame: &Frame) -> &[u8]
+    requires { kind_in frame.now ≡ T_CONN_CON }
+    ensures { result.now ≡ (confirmation_in frame.now).udata }
+{
+    frame.user()
+}
+
+impl Endpoint {
+    /// The confirmation, which must be there.
+    fn the_confirmation(&self) -> &Frame
+        requires open { is_open self.now ≡ true }
+        requires waits { is_some (parts self.now).confirmation ≡ true }
+        ensures confirmation { confirmation_in result.now ≡ confirmation_of (parts self.now) }
+        ensures kind { kind_in result.now ≡ T_CONN_CON }
+    {
+        match self.confirmation() {
+            Some(frame) => frame,
+            None => unreachable!(),
+        }
+    }
+
+    /// Whether a field of the confirmation is longer than the caller takes.
+    fn confirmation_overflows(&self, amax: u32, omax: u32, umax: u32) -> bool
+        requires open { is_open self.now ≡ true }
+        requires waits { is_some (parts self.now).confirmation ≡ true }
+        ensures { result ≡ list_any is_too_long (Connect.fields (confirmation_of (parts self.now)) amax omax umax) }
+    {
+        let frame = self.the_confirmation();
+        is_too_long(address(frame), amax)
+            || is_too_long(options(frame), omax)
+            || is_too_long(data(frame), umax)
+    }
+
+    /// What is told of the confirmation.
+    fn confirmation_reply(&self, amax: u32, omax: u32, umax: u32) -> Result<Reply, AllocError>
+        requires open { is_open self.now ≡ true }
+        requires waits { is_some (parts self.now).confirmation ≡ true }
+        ensures { IfOk result (λ r. r ≡ Connect.connected (confirmation_of (parts self.now)) amax omax umax) }
+    {
+        let frame = self.the_confirmation();
+        Ok(Reply::Connected {
+            addr: trimmed_copy(self.alloc, address(frame), amax)?,
+            opt: trimmed_copy(self.alloc, options(frame), omax)?,
+            udata: trimmed_copy(self.alloc, data(frame), umax)?,
+        })
+    }
+
+    /// The confirmation is taken, and data can be sent. Takes no memory.
+    fn take_confirmation(&mut self)
+        requires { is_open self.old ≡ true }
+        ensures { self.new ≡ with_parts Connect.confirmed self.old }
+    {
+        self.clear_confirmation();
+        self.set_state(State::T_DATAXFER);
+    }
+
+    /// Tells the confirmation, which must be there, or takes it without telling it where a field is too long.
+    fn tell_confirmation(
+        &mut self,
+        p: &Providers,
+        fd: Fd,
+        amax: u32,
+        omax: u32,
+        umax: u32,
+    ) -> Result<Applied, AllocError>
+        requires place { place_of p.now fd.0 ≡ self.old.place }
+        requires open { is_open_as p.now fd.0 self.old ≡ true }
+        requires waits { is_some (parts self.old).confirmation ≡ true }
+        ensures step { Makes (confirmation_step p.now (alone self.old) fd.0 amax omax umax (parts self.old)) self.new result }
+        ensures still { StillBlocked self.old self.new result }
+        ensures room { SameRoom self.old self.new }
+        ensures err { OnErr result (self.new ≡ self.old) }
+    {
+        if self.confirmation_overflows(amax, omax, umax) {
+            self.take_confirmation();
+            return Ok(done(self, p, fd, Reply::Overflow { seq: Seq(0) }));
+        }
+        let reply = self.confirmation_reply(amax, omax, umax)?;
+        self.take_confirmation();
+        Ok(done(self, p, fd, reply))
+    }
+
+    /// t_rcvconnect, and the second step of t_connect.
+    pub(crate) fn rcvconnect(
+        &mut self,
+        p: &Providers,
+        fd: Fd,
+        amax: u32,
+        omax: u32,
+        umax: u32,
+    ) -> Result<Applied, AllocError>
+        requires { place_of p.now fd.0 ≡ self.old.place }
+        ensures step { MakesBy p.now (confirming p.now self.old fd.0 amax omax umax) self.old self.new result }
+        ensures still { StillBlocked self.old self.new result }
+        ensures room { SameRoom self.old self.new }
+        ensures err { OnErr result (self.new ≡ self.old) }
+        ensures sure { IsSureBy (confirming p.now self.old fd.0 amax omax umax) result }
+    {
+        if !self.is(p, fd) {
+            return Ok(refused(self, p, fd, Errno::TBADF));
+        }
+        if !has_connections(self.prov()) {
+            return Ok(refused(self, p, fd, Errno::TNOTSUPPORT));
+        }
+        if !self.state().is(State::T_OUTCON) {
+            return Ok(refused(self, p, fd, Errno::TOUTSTATE));
+        }
+        if self.has_disconnect() {
+            let event = Event::T_DISCONNECT;
+            return Ok(done(self, p, fd, Reply::Look { event }));
+        }
+        if self.has_confirmation() {
+            self.tell_confirmation(p, fd, amax, omax, umax)
+        } else if self.nonblock() {
+            Ok(refused(self, p, fd, Errno::TNODATA))
+        } else {
+            Ok(Applied::Blocked)
+        }
+    }
+}

@@ -1,0 +1,198 @@
+//! t_listen.
+
+ghost use Rattle.std.specs.Prelude.{◌≡◌, ◌∷◌, [], true, IfOk, OnOk, OnErr};
+ghost use Rattle.std.specs.List.{list_any};
+ghost use Rattle.xti_base.specs.Kinds.{same_state};
+ghost use Rattle.xti_base.specs.declared.kinds.State.TheVariants.{T_IDLE, T_INCON};
+ghost use Rattle.xti_model.specs.Endpoint.{ocnt};
+ghost use Rattle.xti_model.specs.Events.{some_wait};
+ghost use Rattle.xti_model.specs.Plan.{is_too_long};
+ghost use Rattle.xti_model.specs.World.{place_of};
+ghost use Rattle.xti_model.specs.Calls.Listen as Listen;
+ghost use Rattle.xti_end.specs.Frames.{indication_of, IsRequest};
+ghost use Rattle.xti_end.specs.Held.{alone, is_open, is_open_as, parts, with_parts, SameRoom};
+ghost use Rattle.xti_end.specs.Taken.{listening, request_step, IsSureBy, Makes, MakesBy, StillBlocked};
+
+use crate::answers::{done, refused};
+use crate::endpoint::Endpoint;
+use crate::fields::{is_too_long, trimmed_copy};
+use crate::indications::Ind;
+use crate::providers::has_connections;
+use std::alloc::AllocError;
+use tpi_prim::primitive::Part;
+use xti_base::{Errno, Event, Fd, Seq, State};
+use xti_model::{Applied, Providers, Reply};
+
+/// Whether requests are listened for in the state.
+fn is_listening(state: State) -> bool
+    ensures { result ≡ list_any (same_state state) (T_IDLE ∷ T_INCON ∷ []) }
+{
+    state.is(State::T_IDLE) || state.is(State::T_INCON)
+}
+
+/// The address of the caller of a request.
+fn address(ind: &Ind) -> &[u8]
+    requires { IsRequest ind.now }
+    ensures { result.now ≡ (indication_of ind.now).address }
+{
+    ind.frame.part(Part::Src)
+}
+
+/// The options of a request.
+fn options(ind: &Ind) -> &[u8]
+    requires { IsRequest ind.now }
+    ensures { result.now ≡ (indication_of ind.now).options }
+{
+    ind.frame.part(Part::Opt)
+}
+
+/// The sequence number of a request.
+fn number(ind: &Ind) -> Seq
+    requires { IsRequest ind.now }
+    ensures { result.0 ≡ (indication_of ind.now).number }
+{
+    Seq(ind.frame.seq())
+}
+
+/// The data of a request.
+fn data(ind: &Ind) -> &[u8]
+    requires { IsRequest ind.now }
+    ensures { result.now ≡ (indication_of ind.now).udata }
+{
+    ind.frame.user()
+}
+
+impl Endpoint {
+    /// How many requests are outstanding.
+    fn ocnt(&self) -> usize
+        requires { is_open self.now ≡ true }
+        ensures { result ≡ ocnt (parts self.now) }
+    {
+        self.waiting.outstanding.len()
+    }
+
+    /// The oldest pending request, which must be there.
+    fn oldest_request(&self) -> &Ind
+        requires open { is_open self.now ≡ true }
+        requires waits { some_wait (parts self.now).pending ≡ true }
+        ensures request { indication_of result.now ≡ Listen.oldest (parts self.now) }
+        ensures kind { IsRequest result.now }
+    {
+        match self.pending(0) {
+            Some(ind) => ind,
+            None => unreachable!(),
+        }
+    }
+
+    /// Whether a field of the oldest pending request is longer than the caller takes.
+    fn request_overflows(&self, amax: u32, omax: u32, umax: u32) -> bool
+        requires open { is_open self.now ≡ true }
+        requires waits { some_wait (parts self.now).pending ≡ true }
+        ensures { result ≡ list_any is_too_long (Listen.fields (Listen.oldest (parts self.now)) amax omax umax) }
+    {
+        let ind = self.oldest_request();
+        is_too_long(address(ind), amax)
+            || is_too_long(options(ind), omax)
+            || is_too_long(data(ind), umax)
+    }
+
+    /// What is told of the oldest pending request.
+    fn request_reply(&self, amax: u32, omax: u32, umax: u32) -> Result<Reply, AllocError>
+        requires open { is_open self.now ≡ true }
+        requires waits { some_wait (parts self.now).pending ≡ true }
+        ensures { IfOk result (λ r. r ≡ Listen.listen_reply (Listen.oldest (parts self.now)) amax omax umax) }
+    {
+        let ind = self.oldest_request();
+        Ok(Reply::Listened {
+            seq: number(ind),
+            addr: trimmed_copy(self.alloc, address(ind), amax)?,
+            opt: trimmed_copy(self.alloc, options(ind), omax)?,
+            udata: trimmed_copy(self.alloc, data(ind), umax)?,
+        })
+    }
+
+    /// The oldest pending request is outstanding; where memory runs out all is as before.
+    fn take_request(&mut self) -> Result<(), AllocError>
+        requires open { is_open self.old ≡ true }
+        requires waits { some_wait (parts self.old).pending ≡ true }
+        ensures ok { OnOk result (self.new ≡ with_parts Listen.listened self.old) }
+        ensures err { OnErr result (self.new ≡ self.old) }
+    {
+        self.waiting.outstanding.add_room()?;
+        let ind = self.waiting.pending.remove(0);
+        self.waiting.outstanding.push(ind);
+        self.set_state(State::T_INCON);
+        Ok(())
+    }
+
+    /// Tells the oldest pending request, which must be there, or its number alone where a field is too long.
+    fn tell_request(
+        &mut self,
+        p: &Providers,
+        fd: Fd,
+        amax: u32,
+        omax: u32,
+        umax: u32,
+    ) -> Result<Applied, AllocError>
+        requires place { place_of p.now fd.0 ≡ self.old.place }
+        requires open { is_open_as p.now fd.0 self.old ≡ true }
+        requires waits { some_wait (parts self.old).pending ≡ true }
+        ensures step { Makes (request_step p.now (alone self.old) fd.0 amax omax umax (parts self.old)) self.new result }
+        ensures still { StillBlocked self.old self.new result }
+        ensures room { SameRoom self.old self.new }
+        ensures err { OnErr result (self.new ≡ self.old) }
+    {
+        if self.request_overflows(amax, omax, umax) {
+            let seq = number(self.oldest_request());
+            self.take_request()?;
+            return Ok(done(self, p, fd, Reply::Overflow { seq }));
+        }
+        let reply = self.request_reply(amax, omax, umax)?;
+        self.take_request()?;
+        Ok(done(self, p, fd, reply))
+    }
+
+    /// t_listen.
+    pub(crate) fn listen(
+        &mut self,
+        p: &Providers,
+        fd: Fd,
+        amax: u32,
+        omax: u32,
+        umax: u32,
+    ) -> Result<Applied, AllocError>
+        requires { place_of p.now fd.0 ≡ self.old.place }
+        ensures step { MakesBy p.now (listening p.now self.old fd.0 amax omax umax) self.old self.new result }
+        ensures still { StillBlocked self.old self.new result }
+        ensures room { SameRoom self.old self.new }
+        ensures err { OnErr result (self.new ≡ self.old) }
+        ensures sure { IsSureBy (listening p.now self.old fd.0 amax omax umax) result }
+    {
+        if !self.is(p, fd) {
+            return Ok(refused(self, p, fd, Errno::TBADF));
+        }
+        if !has_connections(self.prov()) {
+            return Ok(refused(self, p, fd, Errno::TNOTSUPPORT));
+        }
+        if !is_listening(self.state()) {
+            return Ok(refused(self, p, fd, Errno::TOUTSTATE));
+        }
+        if self.qlen() == 0 {
+            return Ok(refused(self, p, fd, Errno::TBADQLEN));
+        }
+        if self.ocnt() == self.qlen() as usize {
+            return Ok(refused(self, p, fd, Errno::TQFULL));
+        }
+        if self.has_disconnect() {
+            let event = Event::T_DISCONNECT;
+            return Ok(done(self, p, fd, Reply::Look { event }));
+        }
+        if self.has_pending() {
+            self.tell_request(p, fd, amax, omax, umax)
+        } else if self.nonblock() {
+            Ok(refused(self, p, fd, Errno::TNODATA))
+        } else {
+            Ok(Applied::Blocked)
+        }
+    }
+}
