@@ -4,16 +4,16 @@ use Rattle.xti_base.specs.declared.errno.Errno.{Errno}
 use Rattle.xti_base.specs.declared.errno.Errno.TheVariants.{TNOTSUPPORT, TOUTSTATE, TBADDATA}
 use Rattle.xti_base.specs.declared.kinds.State.TheVariants.{T_IDLE}
 use Rattle.xti_model.specs.declared.profile.Providers.{Providers}
+use Rattle.xti_model.specs.declared.entry.Outcome.TheVariants.{Done}
 use Rattle.xti_model.specs.Arguments.{is_too_many}
 use Rattle.xti_model.specs.Endpoint.{Endpoint}
-use Rattle.xti_model.specs.declared.entry.Outcome.TheVariants.{Done}
 use Rattle.xti_model.specs.Events.{is_state, receiving, some_wait}
 use Rattle.xti_model.specs.Plan.{Plan, Row, first, refuses, if_open, plan_of}
 use Rattle.xti_model.specs.Provider.{has_connections, has_datagrams}
 use Rattle.xti_model.specs.Step.{step_by, step_of}
-use Rattle.xti_model.specs.World.{World, at_endpoint, endpoint}
-use Rattle.xti_model.specs.Calls.Receive as Receive
+use Rattle.xti_model.specs.World.{World, endpoint, at_endpoint}
 use Rattle.xti_model.specs.Calls.Datagrams.{receive_from, receive_plan, receive_rows}
+use Rattle.xti_model.specs.Calls.Receive as Receive
 
 third-refuses : (p : Providers) (w : World) (x y : Plan) → x.fd ≡ y.fd → (a b c : Bool) → c ≡ true → (r s t : Errno) (rows : List Row)
     → step_by p w x (first (refuses a r ∷ refuses b s ∷ refuses c t ∷ rows)) ≡ step_by p w y (first (refuses a r ∷ refuses b s ∷ refuses c t ∷ rows))
@@ -44,26 +44,21 @@ rows-alike p w fd n m k amax omax = go (endpoint p w fd)
     go None = refl
     go (Some e) = refl
 
--- the same of data
-abbrev data-from : Providers → ℕ → ℕ → ℕ → Endpoint → Plan
-data-from p fd n m e = plan_of fd e (Receive.rows n e) (at_endpoint fd (Receive.received p m) ∷ []) (Done (Receive.got p (some_wait e.expedited) m e))
+-- t_rcv of the endpoint in so many sizes with that sum
+abbrev data_from : Providers → ℕ → ℕ → ℕ → Endpoint → Plan
+data_from p fd n m e = plan_of fd e (Receive.rows n e) (at_endpoint fd (Receive.received p m) ∷ []) (Done (Receive.got p (some_wait e.expedited) m e))
 
-too-many-data : (p : Providers) (w : World) (fd n m k : ℕ) (o : Option Endpoint) → is_too_many n ≡ true
-    → step_of p w (if_open fd o (data-from p fd n m)) ≡ step_of p w (if_open fd o (data-from p fd n k))
-too-many-data p w fd n m k None h = refl
-too-many-data p w fd n m k (Some e) h =
-    third-refuses p w (data-from p fd n m e) (data-from p fd n k e) refl (not (has_connections e.prov)) (not (is_state receiving e)) (is_too_many n) h TNOTSUPPORT TOUTSTATE TBADDATA (drop 3 (Receive.rows n e))
+data-too-many : (p : Providers) (w : World) (fd n m k : ℕ) (o : Option Endpoint) → is_too_many n ≡ true
+    → step_of p w (if_open fd o (data_from p fd n m)) ≡ step_of p w (if_open fd o (data_from p fd n k))
+data-too-many p w fd n m k None h = refl
+data-too-many p w fd n m k (Some e) h =
+    third-refuses p w (data_from p fd n m e) (data_from p fd n k e) refl (not (has_connections e.prov)) (not (is_state receiving e)) (is_too_many n) h TNOTSUPPORT TOUTSTATE TBADDATA (drop 3 (Receive.rows n e))
 
-pub data-where-few : (p : Providers) (w : World) (fd n m k : ℕ) → (is_too_many n ≡ false → m ≡ k) → step_of p w (Receive.plan p w fd n m) ≡ step_of p w (Receive.plan p w fd n k)
-data-where-few p w fd n m k h = go (is_too_many n) refl
+-- the sum counts only where the sizes are few, also in t_rcvv
+pub data-sum-where-few : (p : Providers) (w : World) (fd n m k : ℕ) → (is_too_many n ≡ false → m ≡ k)
+    → step_of p w (Receive.plan p w fd n m) ≡ step_of p w (Receive.plan p w fd n k)
+data-sum-where-few p w fd n m k h = go (is_too_many n) refl
   where
     go : (b : Bool) → is_too_many n ≡ b → step_of p w (Receive.plan p w fd n m) ≡ step_of p w (Receive.plan p w fd n k)
     go false e = rw (h e) refl
-    go true e = too-many-data p w fd n m k (endpoint p w fd) e
-
-pub data-rows-alike : (p : Providers) (w : World) (fd n m k : ℕ) → (Receive.plan p w fd n m).rows ≡ (Receive.plan p w fd n k).rows
-data-rows-alike p w fd n m k = go (endpoint p w fd)
-  where
-    go : (o : Option Endpoint) → (if_open fd o (data-from p fd n m)).rows ≡ (if_open fd o (data-from p fd n k)).rows
-    go None = refl
-    go (Some e) = refl
+    go true e = data-too-many p w fd n m k (endpoint p w fd) e

@@ -8,7 +8,6 @@ use Rattle.xti_model.specs.declared.entry.Applied.TheVariants as applied
 use Rattle.xti_model.specs.declared.entry.Outcome.TheVariants.{Done}
 use Rattle.xti_model.specs.World.{World, place_of, at_endpoint}
 use Rattle.xti_model.specs.Endpoint.{Endpoint, Confirmation}
-use Rattle.xti_model.specs.Events.{some_wait}
 use Rattle.xti_model.specs.Plan.{Plan, Field, field, first, has_effect, overflows, plan_of}
 use Rattle.xti_model.specs.Step.{Step, step_by, step_of}
 use Rattle.xti_model.specs.Calls.Datagrams as Datagrams
@@ -78,11 +77,6 @@ disconnect_step p w fd umax e =
     step_by p w (plan_of fd e (Disconnect.receive_rows umax e) (at_endpoint fd Disconnect.received ∷ []) (Done (Disconnect.receive_reply (Disconnect.oldest e) umax)))
     (first (overflows (field (Disconnect.oldest e).udata umax ∷ []) ∷ []))
 
--- data wait: the next bytes are received, expedited ones first
-abbrev pub data_step : Providers → World → ℕ → ℕ → Endpoint → Option Step
-data_step p w fd max e =
-    step_by p w (plan_of fd e [] (at_endpoint fd (Receive.received p max) ∷ []) (Done (Receive.got p (some_wait e.expedited) max e))) None
-
 -- the answer, and the cell that is left, are those of the plan's step
 abbrev pub AnswersBy : Providers → Plan → Held → Held → Applied → Type 0
 AnswersBy p plan old new a = taken a (alone new) ≡ step_of p (alone old) plan
@@ -122,9 +116,12 @@ listening p h fd amax omax umax = Listen.listen_plan p (alone h) fd amax omax um
 abbrev pub confirming : Providers → Held → ℕ → ℕ → ℕ → ℕ → Plan
 confirming p h fd amax omax umax = Connect.confirm_plan p (alone h) fd amax omax umax
 
--- how data are received, in so many sizes
+-- how data are received in so many sizes, and in all these sizes
 abbrev pub receiving_data : Providers → Held → ℕ → ℕ → ℕ → Plan
 receiving_data p h fd sizes max = Receive.plan p (alone h) fd sizes max
+
+abbrev pub receiving_data_all : Providers → Held → ℕ → List ℕ → Plan
+receiving_data_all p h fd sizes = receiving_data p h fd (length sizes) (sum sizes)
 
 -- how a disconnect is received
 abbrev pub receiving_disconnect : Providers → Held → ℕ → ℕ → Plan

@@ -1,12 +1,12 @@
 //! t_rcv and t_rcvv.
 
-ghost use Rattle.std.specs.Prelude.{◌≡◌, true, false, length, sum, IfOk, OnOk, OnErr};
+ghost use Rattle.std.specs.Prelude.{◌≡◌, true, IfOk, OnOk, OnErr};
 ghost use Rattle.xti_model.specs.Events.{looked, looks_data, some_wait};
-ghost use Rattle.xti_model.specs.Sending.{has_ends};
+ghost use Rattle.xti_model.specs.Symbols as waiting;
 ghost use Rattle.xti_model.specs.World.{place_of};
 ghost use Rattle.xti_model.specs.Calls.Receive as Receive;
-ghost use Rattle.xti_end.specs.Held.{alone, is_open, is_open_as, parts, with_parts, SameRoom};
-ghost use Rattle.xti_end.specs.Taken.{data_step, receiving_data, IsSureBy, Makes, MakesBy, StillBlocked};
+ghost use Rattle.xti_end.specs.Held.{is_open, parts, with_parts, SameRoom};
+ghost use Rattle.xti_end.specs.Taken.{receiving_data, receiving_data_all, IsSureBy, MakesBy, StillBlocked};
 
 use crate::answers::{done, refused};
 use crate::endpoint::Endpoint;
@@ -17,18 +17,18 @@ use std::alloc::AllocError;
 use xti_base::limits::MOST_PARTS;
 use xti_base::{Errno, Event, Fd};
 use xti_model::{Applied, Providers, Reply};
+use xti_queue::Piece;
 
-/// T_EXPEDITED and T_MORE.
+/// T_EXPEDITED, 2, and T_MORE, 1.
 fn flags(expedited: bool, more: bool) -> u32
     ensures { result ≡ Receive.flags expedited more }
 {
-    let kind = if expedited { 2 } else { 0 };
-    kind + u32::from(more)
+    2 * u32::from(expedited) + u32::from(more)
 }
 
 impl Endpoint {
-    /// The event that a receive tells in place of data.
-    fn looked_data(&self) -> Option<Event>
+    /// The event that is told instead of data.
+    fn event_before_data(&self) -> Option<Event>
         requires { is_open self.now ≡ true }
         ensures { result ≡ looked looks_data (parts self.now) }
     {
@@ -41,7 +41,7 @@ impl Endpoint {
         }
     }
 
-    /// Whether nothing can be received now: no expedited data, and no normal data or those of an expedited message that goes on.
+    /// Whether nothing can be received now; normal data wait until an expedited message has ended.
     fn has_nothing(&self) -> bool
         requires { is_open self.now ≡ true }
         ensures { result ≡ Receive.has_nothing (parts self.now) }
@@ -49,72 +49,45 @@ impl Endpoint {
         !self.has_expedited() && (self.mid_expedited() || !self.has_normal())
     }
 
-    /// The next bytes of the expedited data, which must be there; where memory runs out all is as before.
-    fn take_expedited(&mut self, _p: &Providers, max: usize) -> Result<Reply, AllocError>
-        requires open { is_open self.old ≡ true }
-        requires waits { some_wait (parts self.old).expedited ≡ true }
-        ensures reply { IfOk result (λ r. r ≡ Receive.got _p.now true max (parts self.old)) }
-        ensures left { OnOk result (self.new ≡ with_parts (Receive.received _p.now max) self.old) }
+    /// The next `max` bytes of the normal message at the start; where memory runs out all is as before.
+    fn take_normal(&mut self, max: usize) -> Result<Piece, AllocError>
+        requires { is_open self.old ≡ true }
+        ensures bytes { IfOk result (λ r. r.bytes ≡ waiting.front max (parts self.old).normal) }
+        ensures ended { IfOk result (λ r. r.ended ≡ waiting.ended max (parts self.old).normal) }
+        ensures left { OnOk result (self.new ≡ with_parts (λ e. record e { normal = waiting.rest max e.normal }) self.old) }
         ensures err { OnErr result (self.new ≡ self.old) }
     {
-        let piece = self.waiting.expedited.take(max)?;
-        let more = !piece.ended;
-        self.set_mid_expedited(more);
-        Ok(Reply::Got {
-            bytes: piece.bytes,
-            flags: flags(true, more),
-        })
+        self.waiting.normal.take(max)
     }
 
-    /// Whether normal messages have ends.
-    fn has_ends(&self, p: &Providers) -> bool
-        requires { is_open self.now ≡ true }
-        ensures { result ≡ has_ends p.now (parts self.now) false }
-    {
-        !is_stream(p, self.prov())
-    }
-
-    /// The next bytes of the normal data, where there are no expedited ones; where memory runs out all is as before.
-    fn take_normal(&mut self, p: &Providers, max: usize) -> Result<Reply, AllocError>
-        requires open { is_open self.old ≡ true }
-        requires alone { some_wait (parts self.old).expedited ≡ false }
-        ensures reply { IfOk result (λ r. r ≡ Receive.got p.now false max (parts self.old)) }
-        ensures left { OnOk result (self.new ≡ with_parts (Receive.received p.now max) self.old) }
+    /// The next `max` bytes of the expedited message at the start; where memory runs out all is as before.
+    fn take_expedited(&mut self, max: usize) -> Result<Piece, AllocError>
+        requires { is_open self.old ≡ true }
+        ensures bytes { IfOk result (λ r. r.bytes ≡ waiting.front max (parts self.old).expedited) }
+        ensures ended { IfOk result (λ r. r.ended ≡ waiting.ended max (parts self.old).expedited) }
+        ensures left { OnOk result (self.new ≡ with_parts (λ e. record e { expedited = waiting.rest max e.expedited }) self.old) }
         ensures err { OnErr result (self.new ≡ self.old) }
     {
-        let has_ends = self.has_ends(p);
-        let piece = self.waiting.normal.take(max)?;
-        Ok(Reply::Got {
-            bytes: piece.bytes,
-            flags: flags(false, !piece.ended && has_ends),
-        })
+        self.waiting.expedited.take(max)
     }
 
-    /// The next bytes, expedited ones first; where memory runs out all is as before.
-    fn take_data(&mut self, p: &Providers, max: usize) -> Result<Reply, AllocError>
+    /// Receives at most `max` bytes, expedited ones where there are any; where memory runs out all is as before.
+    fn receive_data(&mut self, p: &Providers, max: usize) -> Result<Reply, AllocError>
         requires { is_open self.old ≡ true }
         ensures reply { IfOk result (λ r. r ≡ Receive.got p.now (some_wait (parts self.old).expedited) max (parts self.old)) }
         ensures left { OnOk result (self.new ≡ with_parts (Receive.received p.now max) self.old) }
         ensures err { OnErr result (self.new ≡ self.old) }
     {
         if self.has_expedited() {
-            self.take_expedited(p, max)
-        } else {
-            self.take_normal(p, max)
+            let Piece { bytes, ended } = self.take_expedited(max)?;
+            self.set_mid_expedited(!ended);
+            let flags = flags(true, !ended);
+            return Ok(Reply::Got { bytes, flags });
         }
-    }
-
-    /// Receives of the data that wait.
-    fn receive_data(&mut self, p: &Providers, fd: Fd, max: usize) -> Result<Applied, AllocError>
-        requires place { place_of p.now fd.0 ≡ self.old.place }
-        requires open { is_open_as p.now fd.0 self.old ≡ true }
-        ensures step { Makes (data_step p.now (alone self.old) fd.0 max (parts self.old)) self.new result }
-        ensures still { StillBlocked self.old self.new result }
-        ensures room { SameRoom self.old self.new }
-        ensures err { OnErr result (self.new ≡ self.old) }
-    {
-        let reply = self.take_data(p, max)?;
-        Ok(done(self, p, fd, reply))
+        let Piece { bytes, ended } = self.take_normal(max)?;
+        let more = !ended && !is_stream(p, self.prov());
+        let flags = flags(false, more);
+        Ok(Reply::Got { bytes, flags })
     }
 
     /// t_rcv of at most `max` bytes, or t_rcvv into so many sizes with that sum.
@@ -144,11 +117,12 @@ impl Endpoint {
         if sizes > MOST_PARTS {
             return Ok(refused(self, p, fd, Errno::TBADDATA));
         }
-        if let Some(event) = self.looked_data() {
+        if let Some(event) = self.event_before_data() {
             return Ok(done(self, p, fd, Reply::Look { event }));
         }
         if !self.has_nothing() {
-            self.receive_data(p, fd, max)
+            let reply = self.receive_data(p, max)?;
+            Ok(done(self, p, fd, reply))
         } else if self.nonblock() {
             Ok(refused(self, p, fd, Errno::TNODATA))
         } else {
@@ -164,11 +138,11 @@ impl Endpoint {
         sizes: &[u32],
     ) -> Result<Applied, AllocError>
         requires { place_of p.now fd.0 ≡ self.old.place }
-        ensures step { MakesBy p.now (receiving_data p.now self.old fd.0 (length sizes.now) (sum sizes.now)) self.old self.new result }
+        ensures step { MakesBy p.now (receiving_data_all p.now self.old fd.0 sizes.now) self.old self.new result }
         ensures still { StillBlocked self.old self.new result }
         ensures room { SameRoom self.old self.new }
         ensures err { OnErr result (self.new ≡ self.old) }
-        ensures sure { IsSureBy (receiving_data p.now self.old fd.0 (length sizes.now) (sum sizes.now)) result }
+        ensures sure { IsSureBy (receiving_data_all p.now self.old fd.0 sizes.now) result }
     {
         self.rcv(p, fd, sizes.len(), total(sizes))
     }
