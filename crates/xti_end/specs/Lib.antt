@@ -5,3 +5,4 @@ pub mod Held
 pub mod Kept
 pub mod Callers
 pub mod Taken
+pub mod Negotiating

@@ -37,6 +37,7 @@ IsAt p place (call.TGetState fd) = place_of p fd.0 ≡ place
 IsAt p place (call.TSync fd) = place_of p fd.0 ≡ place
 IsAt p place (call.TGetInfo fd) = place_of p fd.0 ≡ place
 IsAt p place (call.TGetProtAddr fd amax pmax) = place_of p fd.0 ≡ place
+IsAt p place (call.TOptMgmt fd action opt omax) = place_of p fd.0 ≡ place
 IsAt p place (call.SetMode fd nonblock) = place_of p fd.0 ≡ place
 IsAt p place _ = ⊥
 

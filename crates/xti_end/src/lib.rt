@@ -10,6 +10,7 @@ mod indications;
 mod listening;
 mod lists;
 mod local;
+mod negotiating;
 mod parts;
 mod providers;
 mod receiving;

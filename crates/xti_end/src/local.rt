@@ -56,6 +56,12 @@ impl Endpoint {
             Call::TSync { fd } => Ok(self.getstate(p, *fd)),
             Call::TGetInfo { fd } => Ok(self.getinfo(p, *fd)),
             Call::TGetProtAddr { fd, amax, pmax } => self.getprotaddr(p, *fd, *amax, *pmax),
+            Call::TOptMgmt {
+                fd,
+                action,
+                opt,
+                omax,
+            } => self.optmgmt(p, *fd, *action, opt.as_slice(), *omax),
             Call::SetMode { fd, nonblock } => Ok(self.set_mode(p, *fd, *nonblock)),
             _ => unreachable!(),
         }
