@@ -26,14 +26,16 @@ returns-then-is_some-clause-goes_on c = λ past k through.
 
 pub loop-asked-preserved : goal.loop-asked-preserved
 loop-asked-preserved c =
-    let none = none-made c.ask_first.new.self.made (sym c.is_some.ensures ∙ c.if-is_some.false) in
-    (none, λ past k through.
-    let lt : c.loop-asked._asked < length c.args.self.now.turns.items = omega arith in
-    let a = c.loop-asked.invariant.1 past k through in
-    let n = next-asked past c.args.self.now c.loop-asked.self (length c.args.self.now.turns.items) c.loop-asked._asked a lt in
-    asked-next past c.args.self.now c.loop-asked.self c.ask_first.new.self (length c.args.self.now.turns.items) c.loop-asked._asked c.ask_first.new.self.made a n
-    (c.in_ok-ask_first.ensures.asked past n.number (n.rest ++ n.lasts) (asks-others past c.args.self.now c.loop-asked.self (length c.args.self.now.turns.items) c.loop-asked._asked k through a) n.items)
-    c.ask_first.ensures.lines none)
+    let none = none-made c.ask_first.new.self.made (sym c.is_some.ensures ∙ c.if-is_some.false) in (
+      none,
+      λ past k through.
+          let lt : c.loop-asked._asked < length c.args.self.now.turns.items = omega arith in
+          let a = c.loop-asked.invariant.1 past k through in
+          let n = next-asked past c.args.self.now c.loop-asked.self (length c.args.self.now.turns.items) c.loop-asked._asked a lt in
+          asked-next past c.args.self.now c.loop-asked.self c.ask_first.new.self (length c.args.self.now.turns.items) c.loop-asked._asked c.ask_first.new.self.made a n
+          (c.in_ok-ask_first.ensures.asked past n.number (n.rest ++ n.lasts) (asks-others past c.args.self.now c.loop-asked.self (length c.args.self.now.turns.items) c.loop-asked._asked k through a) n.items)
+          c.ask_first.ensures.lines none,
+    )
 
 pub returns-clause-goes_on : goal.returns-clause-goes_on
 returns-clause-goes_on c = λ past k through.
