@@ -52,6 +52,7 @@ reads p w n (call.TRcvDis fd umax) g h = record { named = (own n (place_of p fd.
 reads p w n (call.TRcvRel fd) g h = record { named = (own n (place_of p fd.0) h, tt); told = own n _ (ap (place_of p) (told-fd p w (call.TRcvRel fd) g) ∙ h) }
 reads p w n (call.TGetInfo fd) g h = record { named = (own n (place_of p fd.0) h, tt); told = own n _ (ap (place_of p) (told-fd p w (call.TGetInfo fd) g) ∙ h) }
 reads p w n (call.TGetProtAddr fd amax pmax) g h = record { named = (own n (place_of p fd.0) h, tt); told = own n _ (ap (place_of p) (told-fd p w (call.TGetProtAddr fd amax pmax) g) ∙ h) }
+reads p w n (call.TOptMgmt fd action opt omax) g h = record { named = (own n (place_of p fd.0) h, tt); told = own n _ (ap (place_of p) (told-fd p w (call.TOptMgmt fd action opt omax) g) ∙ h) }
 reads p w n other g h = absurd h
 
 -- one cell of those by number
@@ -114,6 +115,7 @@ takes-alike p v w n (call.TRcvDis fd umax) i = refl
 takes-alike p v w n (call.TRcvRel fd) i = refl
 takes-alike p v w n (call.TGetInfo fd) i = refl
 takes-alike p v w n (call.TGetProtAddr fd amax pmax) i = refl
+takes-alike p v w n (call.TOptMgmt fd action opt omax) i = refl
 takes-alike p v w n other i = absurd i
 
 -- one cell tells whether its step may run out of memory
