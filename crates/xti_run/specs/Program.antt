@@ -1,6 +1,7 @@
 -- What the program answers.
 use Rattle.std.specs.Prelude.{◌≡◌, Bool, true, false, ℕ, ◌+◌, ◌<◌, ◌≤◌, List, [], ◌∷◌, ◌++◌, length, take, codes, decimal, Option, Some, None, ◌⊎◌, if◌then◌else◌}
 use Rattle.std.specs.Str.{bytes_eq}
+use Rattle.xti_base.specs.declared.limits.TheConstants.{MOST_INPUT}
 use Rattle.xti_io.specs.Faults.{Rose}
 use Rattle.xti_io.specs.Sink.{Takes}
 use Rattle.xti_model.specs.declared.script.Script.{Script}
@@ -20,7 +21,7 @@ use Rattle.xti_run.specs.declared.words.Command.TheVariants.{Replay, Frames}
 
 -- the most bytes of an input
 abbrev pub limit : ℕ
-limit = 67108864
+limit = MOST_INPUT
 
 -- the journal of the round-robin run
 abbrev pub replayed : Script → Journal
