@@ -9,7 +9,7 @@ ghost use Rattle.tpi_grammar.specs.Frame.{text, AreBytes, IsFilled, spelling, wo
 ghost use Rattle.tpi_prim.specs.Primitive.{filled, Spells};
 ghost use Rattle.tpi_prim.specs.Fields.{primitive_in};
 ghost use Rattle.tpi_prim.specs.declared.frames.TheConstants.{INLINE};
-ghost use Rattle.tpi_prim.specs.declared.primitive.Prim.TheVariants.{T_UNITDATA_IND, T_UDERROR_IND};
+ghost use Rattle.tpi_prim.specs.declared.primitive.Prim.TheVariants.{T_CONN_IND, T_CONN_CON, T_DISCON_IND, T_UNITDATA_IND, T_UDERROR_IND};
 ghost use Rattle.tpi_prim.specs.Lent.{value_of, values_of, parts_size, filled_by, front_of, HasShape, IsTooBig};
 
 use crate::frames::{Frame, FrameBytes, INLINE};
@@ -60,6 +60,64 @@ pub fn encode(alloc: Global, prim: &Prim) -> Result<Frame, EncodeFail>
     ensures too_big { IsErrOf result EncodeFail.TooBig ↔ IsTooBig (filled prim.now) }
 {
     Lent::of(prim).frame(alloc)
+}
+
+/// The frame of a T_CONN_IND with these fields. They are lent, so that none is copied on the way to the frame.
+pub fn encode_conn_ind<'a>(
+    alloc: Global,
+    src: &'a [u8],
+    opt: &'a [u8],
+    seq: u32,
+    user: &'a [u8],
+) -> Result<Frame, EncodeFail>
+    ensures spelled { IfOk result (λ frame. Spells (T_CONN_IND src.now opt.now seq user.now) frame) }
+    ensures read { IfOk result (λ frame. primitive_in frame ≡ T_CONN_IND src.now opt.now seq user.now) }
+    ensures too_big { IsErrOf result EncodeFail.TooBig ↔ IsTooBig (filled (T_CONN_IND src.now opt.now seq user.now)) }
+{
+    let lent = Lent {
+        kind: Kind::T_CONN_IND,
+        fields: [Field::Bytes(src), Field::Bytes(opt), Field::Number(seq)],
+        user,
+    };
+    lent.frame(alloc)
+}
+
+/// The frame of a T_CONN_CON with these fields. They are lent, so that none is copied on the way to the frame.
+pub fn encode_conn_con<'a>(
+    alloc: Global,
+    res: &'a [u8],
+    opt: &'a [u8],
+    user: &'a [u8],
+) -> Result<Frame, EncodeFail>
+    ensures spelled { IfOk result (λ frame. Spells (T_CONN_CON res.now opt.now user.now) frame) }
+    ensures read { IfOk result (λ frame. primitive_in frame ≡ T_CONN_CON res.now opt.now user.now) }
+    ensures too_big { IsErrOf result EncodeFail.TooBig ↔ IsTooBig (filled (T_CONN_CON res.now opt.now user.now)) }
+{
+    let lent = Lent {
+        kind: Kind::T_CONN_CON,
+        fields: [Field::Bytes(res), Field::Bytes(opt), Field::Nothing],
+        user,
+    };
+    lent.frame(alloc)
+}
+
+/// The frame of a T_DISCON_IND with these fields. They are lent, so that none is copied on the way to the frame.
+pub fn encode_discon_ind<'a>(
+    alloc: Global,
+    reason: u32,
+    seq: u32,
+    user: &'a [u8],
+) -> Result<Frame, EncodeFail>
+    ensures spelled { IfOk result (λ frame. Spells (T_DISCON_IND reason seq user.now) frame) }
+    ensures read { IfOk result (λ frame. primitive_in frame ≡ T_DISCON_IND reason seq user.now) }
+    ensures too_big { IsErrOf result EncodeFail.TooBig ↔ IsTooBig (filled (T_DISCON_IND reason seq user.now)) }
+{
+    let lent = Lent {
+        kind: Kind::T_DISCON_IND,
+        fields: [Field::Number(reason), Field::Number(seq), Field::Nothing],
+        user,
+    };
+    lent.frame(alloc)
 }
 
 /// The frame of a T_UNITDATA_IND with these fields. They are lent, so that none is copied on the way to the frame.

@@ -10,7 +10,10 @@ mod prims;
 mod reading;
 
 pub use decoding::{Decoded, decode};
-pub use encoding::{EncodeFail, encode, encode_uderror_ind, encode_unitdata_ind};
+pub use encoding::{
+    EncodeFail, encode, encode_conn_con, encode_conn_ind, encode_discon_ind, encode_uderror_ind,
+    encode_unitdata_ind,
+};
 pub use frames::Frame;
 pub use laws::{pieces_law, primitives_law};
 pub use prims::Prims;

@@ -47,3 +47,7 @@ IsDoneAfter cs old new fd reply a = Answers (Some (made old.providers fd (Done r
 -- the lent cells changed so
 abbrev pub Changed : List Change → Lending → Lending → Type 0
 Changed cs old new = cells new ≡ changed old.providers (cells old) cs
+
+-- the lent cells are as they were; at most room for more was taken
+abbrev pub IsUnchanged : Lending → Lending → Type 0
+IsUnchanged old new = cells new ≡ cells old
