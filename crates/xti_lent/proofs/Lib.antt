@@ -8,3 +8,4 @@ pub mod Written
 pub mod Named
 pub mod Agreeing
 pub mod Opened
+pub mod Sound

@@ -1,9 +1,10 @@
 -- Changes of the endpoint that is open with a descriptor, if there is one.
-use Rattle.std.proofs.Common.{◌≡◌, ℕ, ◌+◌, ◌<◌, Bool, true, false, cond, eqb, [], ◌∷◌, Option, Some, None, refl, sym, ap, ◌∙◌, arith}
-use Rattle.std.specs.Prelude.{option_map, is_some}
+use Rattle.std.proofs.Common.{◌≡◌, ℕ, Bool, true, false, cond, eqb, List, [], ◌∷◌, Option, Some, None, refl, sym, ap, ◌∙◌, arith}
+use Rattle.std.specs.Prelude.{option_map}
 use Rattle.std.proofs.lemmas.Bool.Decides.{nat_tests}
+use Rattle.xti_model.specs.declared.profile.Providers.{Providers}
 use Rattle.xti_model.specs.Endpoint.{Endpoint}
-use Rattle.xti_model.specs.World.{Cell, endpoint_cell, switch_cell, places, place_of, generation_of, endpoint, endpoint_in, change_endpoint, at_endpoint}
+use Rattle.xti_model.specs.World.{World, Cell, Change, endpoint_cell, switch_cell, place_of, generation_of, endpoint, endpoint_in, change_endpoint, changed, at_endpoint}
 use Rattle.xti_end.specs.Held.{Held, cell, is_open, with_parts}
 use Rattle.xti_lent.specs.Answers.{Changed}
 use Rattle.xti_lent.specs.Fit.{AtOwnPlaces, SameCells}
@@ -53,3 +54,35 @@ closed_unchanged l fd f n =
 -- the same cells are lent
 pub open_same : (l : Lending) (n : ℕ) (h new : Held) → held_at l n ≡ Some h → new.place ≡ h.place → SameCells l (with_held l n new)
 open_same l n h new e p = written-same l n h new e p
+
+-- two changes that do the same at the open endpoint
+alike-step : (b : Bool) (k : ℕ) (f g : Endpoint → Endpoint) (e : Endpoint) → (cond b (Some e) None ≡ Some e → f e ≡ g e) → endpoint_cell k (Some (cond b (f e) e)) ≡ endpoint_cell k (Some (cond b (g e) e))
+alike-step true k f g e h = let s : f e ≡ g e = h refl in rw s refl
+alike-step false k f g e h = refl
+
+alike-cell : (n : ℕ) (f g : Endpoint → Endpoint) (c : Cell) → ((e : Endpoint) → endpoint_in n c ≡ Some e → f e ≡ g e) → change_endpoint n f c ≡ change_endpoint n g c
+alike-cell n f g (endpoint_cell k None) h = refl
+alike-cell n f g (endpoint_cell k (Some e)) h = alike-step (eqb k n) k f g e (h e)
+alike-cell n f g (switch_cell s) h = refl
+
+alike-here : (l : Lending) (fd : ℕ) (f g : Endpoint → Endpoint) (o : Option Held) → held_at l (place_of l.providers fd) ≡ o → ((e : Endpoint) → endpoint l.providers (cells l) fd ≡ Some e → f e ≡ g e)
+    → option_map (change_endpoint (generation_of l.providers fd) f) (cell_lent l (place_of l.providers fd)) ≡ option_map (change_endpoint (generation_of l.providers fd) g) (cell_lent l (place_of l.providers fd))
+alike-here l fd f g None e h = rw (cell-gone l (place_of l.providers fd) (place-below l.providers fd) e) refl
+alike-here l fd f g (Some x) e h =
+    let q = alike-cell (generation_of l.providers fd) f g (cell x) (λ y i. h y (endpoint-is l fd x e ∙ i)) in
+    rw (cell-is l (place_of l.providers fd) x (place-below l.providers fd) e) (ap (λ (c : Cell). Some c) q)
+
+alike-at : (b : Bool) (l : Lending) (k m : ℕ) (f g : Cell → Cell) → eqb k m ≡ b → option_map f (cell_lent l m) ≡ option_map g (cell_lent l m) → cond b (option_map f (cell_lent l k)) (cell_lent l k) ≡ cond b (option_map g (cell_lent l k)) (cell_lent l k)
+alike-at true l k m f g t q = let s : k ≡ m = grind (arith, nat_tests) in rw s q
+alike-at false l k m f g t q = refl
+
+pub open_alike : (l : Lending) (fd : ℕ) (f g : Endpoint → Endpoint) → ((e : Endpoint) → endpoint l.providers (cells l) fd ≡ Some e → f e ≡ g e) → changed l.providers (cells l) (at_endpoint fd f ∷ []) ≡ changed l.providers (cells l) (at_endpoint fd g ∷ [])
+open_alike l fd f g h =
+    let m = place_of l.providers fd in
+    let a = change_endpoint (generation_of l.providers fd) f in
+    let b = change_endpoint (generation_of l.providers fd) g in
+    change-is l.providers (cell_lent l) m a ∙ same-is l.providers (changed_at (cell_lent l) m a) (changed_at (cell_lent l) m b) (λ k small. alike-at (eqb k m) l k m a b refl (alike-here l fd f g (held_at l m) refl h)) ∙ sym (change-is l.providers (cell_lent l) m b)
+
+-- one change after another
+pub then_changed : (l m k : Lending) (c : Change) (cs : List Change) → Changed (c ∷ []) l m → m.providers ≡ l.providers → Changed cs m k → Changed (c ∷ cs) l k
+then_changed l m k c cs a p b = b ∙ ap (λ (q : Providers). changed q (cells m) cs) p ∙ ap (λ (w : World). changed l.providers w cs) a

@@ -35,9 +35,9 @@ abbrev pub IsRequestOf : Option Endpoint → ℕ → ℕ → List ℕ → List �
 IsRequestOf o fd number options udata frame =
     IfSome o (λ e. request_in fd frame ≡ record { number = number; caller = fd; address = address_of e; options = options; udata = udata })
 
--- one more request is pending, under the last number that was given
-abbrev pub queued : Indication → Endpoint → Endpoint
-queued i l = record l { last_number = i.number; pending = l.pending ++ i ∷ [] }
+-- one more request is pending, and this number is the last one that was given
+abbrev pub queued : Indication → ℕ → Endpoint → Endpoint
+queued i number l = record l { last_number = number; pending = l.pending ++ i ∷ [] }
 
 -- the request of the endpoint is pending at the listener, under this number
 abbrev pub Asks : Lending → Lending → ℕ → ℕ → ℕ → List ℕ → List ℕ → Type 0

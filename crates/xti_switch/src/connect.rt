@@ -85,7 +85,7 @@ fn ask(
     ensures err { OnErr result (lent.new ≡ lent.old) }
 {
     let frame = request_frame(lent, fd, seq, opt, udata)?;
-    queue(lent, listener, fd, frame)?;
+    queue(lent, listener, fd, seq, frame)?;
     set_target(lent, fd, listener, seq);
     Ok(())
 }

@@ -29,13 +29,7 @@ pub(crate) fn request(
     ensures kind { IfOk result (λ frame. kind_in frame ≡ T_CONN_IND) }
     ensures request { IfOk result (λ frame. (caller : ℕ) → request_in caller frame ≡ record { number = seq.0; caller = caller; address = address_of (Held.parts e.now); options = options.now; udata = udata.now }) }
 {
-    unless_too_big(encode_conn_ind(
-        alloc,
-        address_of(e),
-        options,
-        seq.0,
-        udata,
-    ))
+    unless_too_big(encode_conn_ind(alloc, address_of(e), options, seq.0, udata))
 }
 
 /// The T_CONN_CON of an endpoint with this address.

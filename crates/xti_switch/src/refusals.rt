@@ -29,12 +29,7 @@ fn looked(e: &Endpoint) -> Option<Reply>
 }
 
 /// What refuses the request of an open endpoint.
-pub(crate) fn connect_refusal(
-    e: &Endpoint,
-    addr: &[u8],
-    opt: &[u8],
-    udata: &[u8],
-) -> Option<Reply>
+pub(crate) fn connect_refusal(e: &Endpoint, addr: &[u8], opt: &[u8], udata: &[u8]) -> Option<Reply>
     requires { is_open e.now ≡ true }
     ensures { option_map (λ reply. answers reply) result ≡ first (Connect.rows addr.now opt.now udata.now (parts e.now)) }
 {

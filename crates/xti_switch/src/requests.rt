@@ -18,16 +18,15 @@ use xti_base::{Fd, Seq, State};
 use xti_end::Endpoint;
 use xti_lent::Lent;
 
-/// One more request is pending at the open endpoint, under the frame's number; where memory runs out all is as before.
-fn push_request(l: &mut Endpoint, caller: Fd, frame: Frame) -> Result<(), AllocError>
+/// One more request is pending at the open endpoint, under this number; where memory runs out all is as before.
+fn push_request(l: &mut Endpoint, caller: Fd, seq: Seq, frame: Frame) -> Result<(), AllocError>
     requires open { is_open l.old ≡ true }
     requires kind { kind_in frame ≡ T_CONN_IND }
-    ensures cell { OnOk result (cell l.new ≡ cell (with_parts (queued (request_in caller.0 frame)) l.old)) }
+    ensures cell { OnOk result (cell l.new ≡ cell (with_parts (queued (request_in caller.0 frame) seq.0) l.old)) }
     ensures place { l.new.place ≡ l.old.place }
     ensures err { OnErr result (l.new ≡ l.old) }
 {
     l.reserve_pending()?;
-    let seq = Seq(frame.seq());
     l.push_pending(caller, frame);
     l.set_last_seq(seq);
     Ok(())
@@ -56,21 +55,22 @@ fn ask(e: &mut Endpoint, listener: Fd, seq: Seq)
     e.set_target(Some((listener, seq)));
 }
 
-/// A request is pending at the listener, where that is open; where memory runs out all is as before.
+/// A request is pending at the listener, where that is open, under this number; where memory runs out all is as before.
 pub(crate) fn queue(
     lent: &mut Lent,
     listener: Fd,
     caller: Fd,
+    seq: Seq,
     frame: Frame,
 ) -> Result<(), AllocError>
     requires own { AtOwnPlaces lent.old }
     requires kind { kind_in frame ≡ T_CONN_IND }
-    ensures ok { OnOk result (Changed (at_endpoint listener.0 (queued (request_in caller.0 frame)) ∷ []) lent.old lent.new) }
+    ensures ok { OnOk result (Changed (at_endpoint listener.0 (queued (request_in caller.0 frame) seq.0) ∷ []) lent.old lent.new) }
     ensures kept { SameCells lent.old lent.new }
     ensures err { OnErr result (lent.new ≡ lent.old) }
 {
     match lent.open_place(listener) {
-        Some(place) => push_request(lent.endpoint(place), caller, frame),
+        Some(place) => push_request(lent.endpoint(place), caller, seq, frame),
         None => Ok(()),
     }
 }
