@@ -23,3 +23,6 @@ bind-requires-clause-switch c = switch-lent c.args.lent.now c.args.call.now (cal
 
 pub unbind-requires-clause-switch : goal.unbind-requires-clause-switch
 unbind-requires-clause-switch c = switch-lent c.args.lent.now c.args.call.now (call.TUnbind c.in-TUnbind.fd) c.in-TUnbind.is c.requires.lent (second-among (place_of c.args.lent.now.providers c.in-TUnbind.fd.0) (switch_number c.args.lent.now.providers) (drop 1 (others c.args.lent.now.providers (cells c.args.lent.now) (call.TUnbind c.in-TUnbind.fd))))
+
+pub connect-requires-clause-switch : goal.connect-requires-clause-switch
+connect-requires-clause-switch c = ?
