@@ -2,3 +2,4 @@ pub mod Openings
 pub mod Touches
 pub mod Binds
 pub mod Asking
+pub mod Accepting

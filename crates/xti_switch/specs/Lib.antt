@@ -1,3 +1,4 @@
+pub mod Accepts
 pub mod Calls
 pub mod Connects
 pub mod Taken

@@ -1,10 +1,12 @@
 //! The calls that change the switch: t_open, t_close, t_bind and t_unbind.
 #![tactic(auto)]
 
+mod accept;
 mod bind;
 mod close;
 mod connect;
 mod frames;
+mod links;
 mod open;
 mod refusals;
 mod requests;
