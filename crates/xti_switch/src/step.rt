@@ -47,13 +47,7 @@ pub fn switch_step(lent: &mut Lent, call: &Call) -> Result<Applied, AllocError>
             opt,
             udata,
             ..
-        } => connect(
-            lent,
-            *fd,
-            addr.as_slice(),
-            opt.as_slice(),
-            udata.as_slice(),
-        ),
+        } => connect(lent, *fd, addr.as_slice(), opt.as_slice(), udata.as_slice()),
         _ => unreachable!(),
     }
 }
