@@ -1,2 +1,4 @@
 pub mod Calls
 pub mod Taken
+pub mod Hearing
+pub mod Disconnects

@@ -2,7 +2,10 @@
 #![tactic(auto)]
 
 mod bind;
+mod breaking;
 mod close;
+mod disconnect;
+mod notices;
 mod open;
 mod step;
 mod unbind;
