@@ -4,7 +4,7 @@ use Rattle.xti_model.specs.Endpoint.{Endpoint}
 use Rattle.xti_model.specs.Switch.{bound}
 use Rattle.xti_model.specs.World.{endpoint, the_switch}
 use Rattle.xti_lent.specs.Lending.{Lending, cells}
-use Rattle.xti_lent.specs.Places.{IsHeld}
+use Rattle.xti_lent.specs.Lends.{IsHeld}
 
 -- the switch's table is lent, and the place of whoever is bound to the address
 pub record CanReach (l : Lending) (fd : ℕ) (address : List ℕ) : Type 0 where

@@ -9,7 +9,7 @@ ghost use Rattle.xti_model.specs.Cells.{listed};
 ghost use Rattle.xti_model.specs.Calls.Listen.{taken_out};
 ghost use Rattle.xti_model.specs.Endpoint.{find_number, without_number};
 ghost use Rattle.xti_model.specs.Events.{some_wait};
-ghost use Rattle.xti_model.specs.Sound.{is_sound_body};
+ghost use Rattle.xti_model.specs.Sound.{is_sound_body, requests};
 ghost use Rattle.xti_model.specs.Touched.{of_some, caller_cells};
 ghost use Rattle.xti_end.specs.Callers.{caller_and_number, caller_place, numbers_of, with_numbers};
 ghost use Rattle.xti_end.specs.Frames.{indication_of, request_in, confirmation_in, disconnect_in, AreRequests, IsRequest};
@@ -221,6 +221,24 @@ impl Endpoint {
         }
     }
 
+    /// How many requests to connect the open endpoint hasn't answered.
+    pub fn requests(&self) -> usize
+        requires open { is_open self.now ≡ true }
+        requires sound { is_sound_body self.now.body ≡ true }
+        ensures { result ≡ requests (parts self.now) }
+    {
+        self.waiting.pending.len() + self.waiting.outstanding.len()
+    }
+
+    /// The outstanding request with this sequence number, a T_CONN_IND; `None` exactly where there is none. Takes no memory.
+    pub fn request(&self, seq: Seq) -> Option<&Ind>
+        requires { is_open self.now ≡ true }
+        ensures request { option_map indication_of (option_copied result) ≡ find_number seq.0 (parts self.now).outstanding }
+        ensures kind { IfSome result (λ ind. IsRequest ind.now) }
+    {
+        find_number(self.waiting.outstanding.as_slice(), seq)
+    }
+
     /// The caller of the outstanding request with this sequence number; `None` exactly where there is none. Takes no memory.
     pub fn caller(&self, seq: Seq) -> Option<Fd>
         requires { is_open self.now ≡ true }
@@ -250,7 +268,7 @@ impl Endpoint {
 
     /// The caller and the sequence number of the request at a place, where the outstanding ones stand after the pending ones;
     /// `None` exactly past the end. Takes no memory.
-    pub fn request(&self, place: usize) -> Option<(Fd, Seq)>
+    pub fn request_at(&self, place: usize) -> Option<(Fd, Seq)>
         requires { is_open self.now ≡ true }
         ensures { option_map numbers_of result ≡ option_map caller_and_number (slice_get ((parts self.now).pending ++ (parts self.now).outstanding) place) }
     {

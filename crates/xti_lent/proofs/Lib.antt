@@ -7,4 +7,6 @@ pub mod Removals
 pub mod Written
 pub mod Named
 pub mod Agreeing
+pub mod Opened
+pub mod Sound
 pub mod Sequences

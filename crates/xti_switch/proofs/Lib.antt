@@ -1,4 +1,5 @@
 pub mod Openings
 pub mod Touches
 pub mod Binds
+pub mod Asking
 pub mod Hearings

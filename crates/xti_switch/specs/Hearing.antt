@@ -13,7 +13,7 @@ use Rattle.xti_end.specs.Held.{Held, is_open_as, parts, with_parts, with_disconn
 use Rattle.xti_lent.specs.Answers.{Changed, IsUnchanged}
 use Rattle.xti_lent.specs.Fit.{SameCells}
 use Rattle.xti_lent.specs.Lending.{Lending, cells, held_at}
-use Rattle.xti_lent.specs.Places.{IsHeld}
+use Rattle.xti_lent.specs.Lends.{IsHeld}
 use Rattle.xti_switch.specs.declared.notices.News.{News}
 use Rattle.xti_switch.specs.declared.notices.News.TheVariants as news
 use Rattle.xti_switch.specs.declared.notices.Notice.{Notice}

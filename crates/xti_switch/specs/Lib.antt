@@ -1,4 +1,5 @@
 pub mod Calls
+pub mod Connects
 pub mod Taken
 pub mod Hearing
 pub mod Disconnects

@@ -11,7 +11,7 @@ ghost use Rattle.xti_end.specs.Held.{is_open, parts};
 ghost use Rattle.xti_lent.specs.Answers.{AnswersBy, Changed, IsSureBy, IsUnchanged, StaysBlocked};
 ghost use Rattle.xti_lent.specs.Fit.{AllLent, AtOwnPlaces, IsFit, SameCells};
 ghost use Rattle.xti_lent.specs.Lending.{cells};
-ghost use Rattle.xti_lent.specs.Places.{ChangesAt, IsHeld, IsPlaceOf};
+ghost use Rattle.xti_lent.specs.Lends.{ChangesAt, IsHeld, IsPlaceOf};
 ghost use Rattle.xti_switch.specs.Hearing.{CanBreak, IsReady};
 ghost use Rattle.xti_switch.specs.Disconnects.{asked, disconnecting, EndsOwn};
 ghost use Rattle.xti_switch.specs.declared.notices.News.TheVariants as news;

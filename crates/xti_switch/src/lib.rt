@@ -4,9 +4,13 @@
 mod bind;
 mod breaking;
 mod close;
+mod connect;
+mod frames;
 mod disconnect;
 mod notices;
 mod open;
+mod refusals;
+mod requests;
 mod step;
 mod unbind;
 

@@ -10,7 +10,7 @@ ghost use Rattle.xti_model.specs.Links.{names};
 ghost use Rattle.xti_end.specs.Held.{is_open, parts};
 ghost use Rattle.xti_lent.specs.Answers.{Changed};
 ghost use Rattle.xti_lent.specs.Fit.{AtOwnPlaces, SameCells};
-ghost use Rattle.xti_lent.specs.Places.{IsHeld, IsPlaceOf};
+ghost use Rattle.xti_lent.specs.Lends.{IsHeld, IsPlaceOf};
 ghost use Rattle.xti_switch.specs.Hearing.{told_number, is_told, telling, telling_any, HasRoom, Hears, IsNotice, IsNoticeOf, IsReady, Silences, TakesRoom};
 
 use std::alloc::{AllocError, Global};
