@@ -3,3 +3,5 @@ pub mod Touches
 pub mod Binds
 pub mod Asking
 pub mod Hearings
+pub mod Reaching
+pub mod Breakings

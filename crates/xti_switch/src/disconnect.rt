@@ -146,12 +146,7 @@ fn end_own(lent: &mut Lent, fd: Fd, udata: &[u8]) -> Result<(), AllocError>
     Ok(())
 }
 
-pub(crate) fn snddis(
-    lent: &mut Lent,
-    fd: Fd,
-    seq: Seq,
-    udata: &[u8],
-) -> Result<Applied, AllocError>
+pub(crate) fn snddis(lent: &mut Lent, fd: Fd, seq: Seq, udata: &[u8]) -> Result<Applied, AllocError>
     requires fit { IsFit lent.old }
     requires lent { AllLent lent.old (touched lent.old.providers (cells lent.old) (Call.TSndDis fd seq udata.now)) }
     ensures step { IfOk result (AnswersBy (disconnecting lent.old fd.0 seq.0 udata.now) lent.old lent.new) }
