@@ -3,10 +3,13 @@
 
 mod accept;
 mod bind;
+mod breaking;
 mod close;
 mod connect;
+mod disconnect;
 mod frames;
 mod links;
+mod notices;
 mod open;
 mod refusals;
 mod requests;
