@@ -8,10 +8,10 @@ ghost use Rattle.xti_model.specs.Plan.{answers};
 ghost use Rattle.xti_end.specs.Held as Held;
 ghost use Rattle.xti_dgram.specs.Sends.{refusal_of};
 
-use crate::indications::total;
 use xti_base::limits::{MOST_ADDRESS, MOST_OPTIONS, MOST_PARTS};
 use xti_base::{Errno, Event, Limit, Octets, State, is_option_list};
 use xti_end::{Endpoint, has_datagrams, profile};
+use xti_lent::total;
 use xti_model::{Profile, Providers, Reply};
 
 /// Whether the bytes can't be an address.

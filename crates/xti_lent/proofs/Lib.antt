@@ -7,3 +7,4 @@ pub mod Removals
 pub mod Written
 pub mod Named
 pub mod Agreeing
+pub mod Joined

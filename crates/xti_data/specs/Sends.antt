@@ -1,0 +1,47 @@
+-- The calls that send data and releases, and what they make of lent cells.
+use Rattle.std.specs.Prelude.{◌≡◌, ◌∷◌, ◌++◌, ℕ, List, [], length, Option, option_map}
+use Rattle.std.specs.List.{concat}
+use Rattle.xti_base.specs.declared.kinds.Fd.{Fd}
+use Rattle.xti_model.specs.declared.call.Call.{Call}
+use Rattle.xti_model.specs.declared.call.Call.TheVariants as call
+use Rattle.xti_model.specs.declared.profile.Providers.{Providers}
+use Rattle.xti_model.specs.Calls.Release as Release
+use Rattle.xti_model.specs.Endpoint.{Endpoint}
+use Rattle.xti_model.specs.Links.{at_linked}
+use Rattle.xti_model.specs.Plan.{Plan, Refusal, first}
+use Rattle.xti_model.specs.World.{Change, endpoint, place_of, generation_of, at_endpoint, change_endpoint}
+use Rattle.xti_end.specs.Held.{Held, cell, parts_of}
+use Rattle.xti_lent.specs.Lending.{Lending, cells}
+
+abbrev pub IsData : Call → Type 0
+IsData (call.TSnd fd bytes flags) = Unit {0}
+IsData (call.TSndV fd parts flags) = Unit {0}
+IsData (call.TSndRel fd) = Unit {0}
+IsData _ = ⊥
+
+-- the endpoint that is open with the descriptor among lent cells
+abbrev pub sender : Lending → ℕ → Option Endpoint
+sender l fd = endpoint l.providers (cells l) fd
+
+abbrev pub number_of : Option Fd → Option ℕ
+number_of fd = option_map (λ (x : Fd). x.0) fd
+
+-- how a release is sent
+abbrev pub releasing : Lending → ℕ → Plan
+releasing l fd = Release.send_plan l.providers (cells l) fd
+
+-- what refuses it at the open endpoint
+abbrev pub release_refusal : Held → Option Refusal
+release_refusal h = first (Release.send_rows (parts_of h.body))
+
+-- the linked peer is told of the release, and the sender sends no more
+abbrev pub telling : ℕ → Option ℕ → List Change
+telling fd peer = at_linked fd peer Release.released ++ at_endpoint fd Release.after_send ∷ []
+
+-- the endpoint changes, where it is open at the place with this descriptor
+abbrev pub ChangesAt : Providers → ℕ → (Endpoint → Endpoint) → Held → Held → Type 0
+ChangesAt p fd f old new = cell new ≡ change_endpoint (generation_of p fd) f (cell old)
+
+-- the place is that of the descriptor
+abbrev pub IsPlaceOf : Providers → ℕ → Held → Type 0
+IsPlaceOf p fd h = h.place ≡ place_of p fd

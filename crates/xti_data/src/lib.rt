@@ -1,0 +1,9 @@
+//! The steps that send data and releases on connections, on lent cells.
+#![tactic(auto)]
+
+mod places;
+mod releasing;
+mod step;
+mod writes;
+
+pub use step::data_step;
