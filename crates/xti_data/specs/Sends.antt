@@ -1,6 +1,5 @@
 -- The calls that send data and releases, and what they make of lent cells.
-use Rattle.std.specs.Prelude.{◌≡◌, ◌∷◌, ◌++◌, ℕ, List, [], length, Option, option_map}
-use Rattle.std.specs.List.{concat}
+use Rattle.std.specs.Prelude.{◌≡◌, ◌∷◌, ◌++◌, ℕ, List, [], Option, option_map}
 use Rattle.xti_base.specs.declared.kinds.Fd.{Fd}
 use Rattle.xti_model.specs.declared.call.Call.{Call}
 use Rattle.xti_model.specs.declared.call.Call.TheVariants as call
@@ -14,8 +13,6 @@ use Rattle.xti_end.specs.Held.{Held, cell, parts_of}
 use Rattle.xti_lent.specs.Lending.{Lending, cells}
 
 abbrev pub IsData : Call → Type 0
-IsData (call.TSnd fd bytes flags) = Unit {0}
-IsData (call.TSndV fd parts flags) = Unit {0}
 IsData (call.TSndRel fd) = Unit {0}
 IsData _ = ⊥
 

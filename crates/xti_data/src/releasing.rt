@@ -1,6 +1,7 @@
 //! t_sndrel.
 
-ghost use Rattle.std.specs.Prelude.{◌≡◌, true, IfOk, IfSome, OnOk, OnErr, list_any, option_map};
+ghost use Rattle.std.specs.Prelude.{◌≡◌, true, IfOk, IfSome, OnOk, OnErr, option_map};
+ghost use Rattle.std.specs.List.{list_any};
 ghost use Rattle.tpi_grammar.specs.declared.kind.Kind.TheVariants.{T_ORDREL_IND};
 ghost use Rattle.tpi_prim.specs.Fields.{kind_in};
 ghost use Rattle.xti_base.specs.Kinds.{same_state};
