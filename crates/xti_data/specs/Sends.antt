@@ -1,15 +1,19 @@
 -- The calls that send data and releases, and what they make of lent cells.
-use Rattle.std.specs.Prelude.{◌≡◌, ◌∷◌, ◌++◌, ℕ, List, [], Option, option_map}
+use Rattle.std.specs.Prelude.{◌≡◌, ◌∷◌, ◌++◌, ℕ, true, List, [], length, take, Option, None, IfSome, option_map, option_and_then}
+use Rattle.std.specs.Borrow.{Bor}
+use Rattle.std.specs.List.{concat}
+use Rattle.std.specs.Option.{option_copied}
 use Rattle.xti_base.specs.declared.kinds.Fd.{Fd}
 use Rattle.xti_model.specs.declared.call.Call.{Call}
 use Rattle.xti_model.specs.declared.call.Call.TheVariants as call
 use Rattle.xti_model.specs.declared.profile.Providers.{Providers}
 use Rattle.xti_model.specs.Calls.Release as Release
+use Rattle.xti_model.specs.Calls.Send as Send
 use Rattle.xti_model.specs.Endpoint.{Endpoint}
-use Rattle.xti_model.specs.Links.{at_linked}
+use Rattle.xti_model.specs.Links.{at_linked, if_back}
 use Rattle.xti_model.specs.Plan.{Plan, Refusal, first}
 use Rattle.xti_model.specs.World.{Change, endpoint, place_of, generation_of, at_endpoint, change_endpoint}
-use Rattle.xti_end.specs.Held.{Held, cell, parts_of}
+use Rattle.xti_end.specs.Held.{Held, cell, is_open, parts, parts_of}
 use Rattle.xti_lent.specs.Lending.{Lending, cells}
 
 abbrev pub IsData : Call → Type 0
@@ -22,6 +26,21 @@ sender l fd = endpoint l.providers (cells l) fd
 
 abbrev pub number_of : Option Fd → Option ℕ
 number_of fd = option_map (λ (x : Fd). x.0) fd
+
+-- the endpoint behind a reference, if there is one; it is open
+abbrev pub peer_seen : Option (Bor Held) → Option Endpoint
+peer_seen o = option_map parts (option_copied o)
+
+abbrev pub IsSeen : Option (Bor Held) → Type 0
+IsSeen o = IfSome o (λ e. is_open e.now ≡ true)
+
+-- the endpoint that is linked with one that names this peer
+abbrev pub linked_with : Lending → ℕ → Option ℕ → Option Endpoint
+linked_with l fd peer = option_and_then (λ number. option_and_then (if_back fd) (sender l number)) peer
+
+-- what refuses a send of these parts at the open endpoint, before its flow is looked at; so many of their bytes were taken before
+abbrev pub refusal_of : Providers → List (List ℕ) → ℕ → ℕ → Held → Option Refusal
+refusal_of p parts flags taken h = first (take 6 (Send.rows p (length parts) (concat parts) flags taken None (parts_of h.body)))
 
 -- how a release is sent
 abbrev pub releasing : Lending → ℕ → Plan

@@ -1,7 +1,10 @@
 //! The steps that send data and releases on connections, on lent cells.
 #![tactic(auto)]
 
+mod limits;
 mod places;
+mod readiness;
+mod refusals;
 mod releasing;
 mod step;
 mod writes;
