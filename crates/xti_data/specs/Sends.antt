@@ -6,12 +6,18 @@ use Rattle.std.specs.Option.{option_copied}
 use Rattle.xti_base.specs.declared.kinds.Fd.{Fd}
 use Rattle.xti_model.specs.declared.call.Call.{Call}
 use Rattle.xti_model.specs.declared.call.Call.TheVariants as call
+use Rattle.xti_model.specs.declared.entry.Go.{Go}
+use Rattle.xti_model.specs.declared.entry.Go.TheVariants as go
+use Rattle.xti_model.specs.declared.entry.Reply.{Reply}
+use Rattle.xti_model.specs.declared.entry.Reply.TheVariants.{Sent}
 use Rattle.xti_model.specs.declared.profile.Providers.{Providers}
+use Rattle.xti_model.specs.Arguments.{is_expedited}
 use Rattle.xti_model.specs.Calls.Release as Release
 use Rattle.xti_model.specs.Calls.Send as Send
 use Rattle.xti_model.specs.Endpoint.{Endpoint}
 use Rattle.xti_model.specs.Links.{at_linked, if_back}
 use Rattle.xti_model.specs.Plan.{Plan, Refusal, first}
+use Rattle.xti_model.specs.Step.{send}
 use Rattle.xti_model.specs.World.{Change, endpoint, place_of, generation_of, at_endpoint, change_endpoint}
 use Rattle.xti_end.specs.Held.{Held, cell, is_open, parts, parts_of}
 use Rattle.xti_lent.specs.Lending.{Lending, cells}
@@ -37,6 +43,25 @@ IsSeen o = IfSome o (λ e. is_open e.now ≡ true)
 -- the endpoint that is linked with one that names this peer
 abbrev pub linked_with : Lending → ℕ → Option ℕ → Option Endpoint
 linked_with l fd peer = option_and_then (λ number. option_and_then (if_back fd) (sender l number)) peer
+
+-- how these parts are sent
+abbrev pub sending : Lending → ℕ → List (List ℕ) → ℕ → Go → Plan
+sending l fd parts flags go = send l.providers (cells l) fd (length parts) (concat parts) flags go
+
+-- how many bytes were taken before
+abbrev pub taken_before : Go → ℕ
+taken_before go.Begin = 0
+taken_before (go.More n) = n
+
+-- what a refused step answers: a later one how many bytes were taken before
+abbrev pub told : Go → Reply → Reply
+told go.Begin reply = reply
+told (go.More n) reply = Sent n
+
+-- where there is no room, the first step sets the flow mark
+abbrev pub flow_marks : ℕ → ℕ → Go → List Change
+flow_marks fd flags go.Begin = at_endpoint fd (Send.mark_flow (is_expedited flags) true) ∷ []
+flow_marks fd flags (go.More n) = []
 
 -- what refuses a send of these parts at the open endpoint, before its flow is looked at; so many of their bytes were taken before
 abbrev pub refusal_of : Providers → List (List ℕ) → ℕ → ℕ → Held → Option Refusal

@@ -3,9 +3,11 @@
 
 mod limits;
 mod places;
+mod portions;
 mod readiness;
 mod refusals;
 mod releasing;
+mod sending;
 mod step;
 mod writes;
 

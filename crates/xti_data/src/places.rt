@@ -1,13 +1,21 @@
 //! What a send makes of one place.
 
-ghost use Rattle.std.specs.Prelude.{◌≡◌, ◌&&◌, true};
+ghost use Rattle.std.specs.Prelude.{◌≡◌, ◌&&◌, true, IfSome, OnOk, OnErr};
 ghost use Rattle.tpi_grammar.specs.declared.kind.Kind.TheVariants.{T_ORDREL_IND};
 ghost use Rattle.tpi_prim.specs.Fields.{kind_in};
+ghost use Rattle.tpi_prim.specs.Gathering.{kind_for};
 ghost use Rattle.xti_model.specs.Calls.Release as Release;
+ghost use Rattle.xti_model.specs.Calls.Send as Send;
 ghost use Rattle.xti_model.specs.Links.{if_names, names};
-ghost use Rattle.xti_end.specs.Held.{is_open, is_open_as, peer_at, with_parts};
+ghost use Rattle.xti_model.specs.World.{endpoint_in, generation_of};
+ghost use Rattle.xti_end.specs.Frames.{symbols_in};
+ghost use Rattle.xti_end.specs.Held.{cell, is_open, is_open_as, parts, peer_at, with_parts};
+ghost use Rattle.xti_data.specs.Portions.{IsWithin};
 ghost use Rattle.xti_data.specs.Sends.{ChangesAt, IsPlaceOf};
 
+use crate::limits::count_more;
+use crate::portions::Portion;
+use std::alloc::AllocError;
 use tpi_prim::Frame;
 use xti_base::{Fd, State};
 use xti_end::Endpoint;
@@ -57,5 +65,78 @@ pub(crate) fn release(at: &mut Endpoint, p: &Providers, fd: Fd)
 {
     if at.is(p, fd) {
         end_sending(at);
+    }
+}
+
+/// Data wait at the endpoint with this descriptor, where it is open and names `from` as its peer; where memory runs out all is as
+/// before.
+pub(crate) fn push_data(
+    at: &mut Endpoint,
+    p: &Providers,
+    fd: Fd,
+    from: Fd,
+    expedited: bool,
+    frame: Frame,
+) -> Result<(), AllocError>
+    requires place { IsPlaceOf p.now fd.0 at.old }
+    requires kind { kind_in frame ≡ kind_for expedited }
+    ensures cell { OnOk result (ChangesAt p.now fd.0 (if_names from.0 (Send.received expedited (symbols_in frame))) at.old at.new) }
+    ensures place { at.new.place ≡ at.old.place }
+    ensures err { OnErr result (at.new ≡ at.old) }
+{
+    if !names(at, p, fd, from) {
+        return Ok(());
+    }
+    if expedited {
+        at.reserve_expedited()?;
+        at.push_expedited(frame);
+    } else {
+        at.reserve_normal()?;
+        at.push_normal(frame);
+    }
+    Ok(())
+}
+
+/// The open endpoint counts what it sent, and waits to send no more. Takes no memory.
+fn count(e: &mut Endpoint, p: &Providers, portion: Portion)
+    requires open { is_open e.old ≡ true }
+    requires within { IsWithin p.now portion (parts e.old) }
+    ensures { e.new ≡ with_parts (Send.sent p.now portion.expedited portion.ends portion.count) e.old }
+{
+    let bytes = count_more(p, e, portion.expedited, portion.ends, portion.count);
+    if portion.expedited {
+        e.set_flow_expedited(false);
+        e.set_unfinished_expedited(bytes);
+    } else {
+        e.set_flow_normal(false);
+        e.set_unfinished_normal(bytes);
+    }
+}
+
+/// The endpoint with this descriptor counts what it sent, where it is open. Takes no memory.
+pub(crate) fn count_sent(at: &mut Endpoint, p: &Providers, fd: Fd, portion: Portion)
+    requires place { IsPlaceOf p.now fd.0 at.old }
+    requires within { IfSome (endpoint_in (generation_of p.now fd.0) (cell at.old)) (IsWithin p.now portion) }
+    ensures cell { ChangesAt p.now fd.0 (Send.sent p.now portion.expedited portion.ends portion.count) at.old at.new }
+    ensures place { at.new.place ≡ at.old.place }
+{
+    if at.is(p, fd) {
+        count(at, p, portion);
+    }
+}
+
+/// The endpoint with this descriptor waits to send data of the kind, where it is open. Takes no memory.
+pub(crate) fn mark_flow(at: &mut Endpoint, p: &Providers, fd: Fd, expedited: bool)
+    requires { IsPlaceOf p.now fd.0 at.old }
+    ensures cell { ChangesAt p.now fd.0 (Send.mark_flow expedited true) at.old at.new }
+    ensures place { at.new.place ≡ at.old.place }
+{
+    if !at.is(p, fd) {
+        return;
+    }
+    if expedited {
+        at.set_flow_expedited(true);
+    } else {
+        at.set_flow_normal(true);
     }
 }
