@@ -1,7 +1,6 @@
 -- What a send answers, by its rows.
-use Rattle.std.proofs.Common.{◌≡◌, ◌+◌, ◌-◌, ℕ, Bool, true, false, not, cond, List, [], ◌∷◌, ◌++◌, length, map, take, Option, Some, None, refl, sym, ap, ◌∙◌}
+use Rattle.std.proofs.Common.{◌≡◌, ℕ, Bool, true, false, not, cond, List, [], ◌∷◌, ◌++◌, map, take, Option, Some, None, refl, ap, ◌∙◌}
 use Rattle.std.specs.Prelude.{option_map}
-use Rattle.std.specs.List.{concat}
 use Rattle.xti_base.specs.declared.errno.Errno.TheVariants.{TFLOW}
 use Rattle.xti_model.specs.declared.entry.Go.{Go}
 use Rattle.xti_model.specs.declared.entry.Go.TheVariants as go
@@ -14,8 +13,8 @@ use Rattle.xti_model.specs.Endpoint.{Endpoint}
 use Rattle.xti_model.specs.Links.{linked}
 use Rattle.xti_model.specs.Sending.{ready_for}
 use Rattle.xti_model.specs.World.{World, endpoint, changed}
-use Rattle.xti_model.specs.Plan.{Row, Refusal, answers, waits, Plan, first, later, later_row, later_plan, if_open, has_effect}
-use Rattle.xti_model.specs.Step.{Step, step_of, step_by, made, send}
+use Rattle.xti_model.specs.Plan.{Row, Refusal, answers, waits, Plan, first, later, later_row, later_plan, if_open}
+use Rattle.xti_model.specs.Step.{step_of, step_by, made, send}
 use Rattle.xti_model.specs.Calls.Send as Send
 use Rattle.xti_data.specs.Sends.{taken_before, told, flow_marks}
 

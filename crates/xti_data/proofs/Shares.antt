@@ -1,8 +1,8 @@
 -- Portions of joined parts, part by part.
-use Rattle.std.proofs.Common.{◌≡◌, ◌≤◌, ◌<◌, ◌+◌, ◌-◌, ℕ, zero, suc, Bool, true, false, not, List, [], ◌∷◌, ◌++◌, length, take, drop, refl, sym, ap, ◌∙◌, arith}
+use Rattle.std.proofs.Common.{◌≡◌, ◌+◌, ◌-◌, ℕ, zero, suc, Bool, true, false, not, List, [], ◌∷◌, ◌++◌, length, take, drop, refl, sym, ap, ◌∙◌, arith}
 use Rattle.std.specs.Prelude.{min}
 use Rattle.std.proofs.lemmas.Bool.Decides.{nat_tests}
-use Rattle.std.proofs.lemmas.List.{length-append, length-take, length-drop, drop_min, take_min}
+use Rattle.std.proofs.lemmas.List.{length-take, length-drop, drop_min, take_min}
 use Rattle.tpi_prim.specs.Gathering.{data_ind, kind_for}
 use Rattle.tpi_prim.specs.Primitive.{kind_of}
 use Rattle.xti_model.specs.Symbols.{piece}

@@ -23,6 +23,8 @@ use Rattle.xti_end.specs.Held.{Held, cell, is_open, parts, parts_of}
 use Rattle.xti_lent.specs.Lending.{Lending, cells}
 
 abbrev pub IsData : Call → Type 0
+IsData (call.TSnd fd bytes flags) = Unit {0}
+IsData (call.TSndV fd parts flags) = Unit {0}
 IsData (call.TSndRel fd) = Unit {0}
 IsData _ = ⊥
 

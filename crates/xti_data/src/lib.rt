@@ -1,6 +1,7 @@
 //! The steps that send data and releases on connections, on lent cells.
 #![tactic(auto)]
 
+mod gather;
 mod limits;
 mod places;
 mod portions;
@@ -11,4 +12,5 @@ mod sending;
 mod step;
 mod writes;
 
+pub use gather::Gather;
 pub use step::data_step;

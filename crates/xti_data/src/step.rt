@@ -8,7 +8,9 @@ ghost use Rattle.xti_lent.specs.Lending.{cells};
 ghost use Rattle.xti_data.specs.Sends.{IsData};
 
 use crate::releasing::sndrel;
+use crate::sending::send;
 use std::alloc::AllocError;
+use std::slice;
 use xti_lent::Lent;
 use xti_model::{Applied, Call, Go};
 
@@ -25,8 +27,9 @@ pub fn data_step(lent: &mut Lent, call: &Call, go: Go) -> Result<Applied, AllocE
     ensures err { OnErr result (lent.new ≡ lent.old) }
     ensures sure { IsSureOf call.now go lent.old result }
 {
-    let _go = go;
     match call {
+        Call::TSnd { fd, bytes, flags } => send(lent, *fd, slice::from_ref(bytes), *flags, go),
+        Call::TSndV { fd, parts, flags } => send(lent, *fd, parts.as_slice(), *flags, go),
         Call::TSndRel { fd } => sndrel(lent, *fd),
         _ => unreachable!(),
     }

@@ -1,4 +1,4 @@
-use Rattle.std.proofs.Common.{◌≡◌, sym, subst, Option}
+use Rattle.std.proofs.Common.{sym, subst, Option}
 use Rattle.std.specs.List.{concat}
 use Rattle.xti_base.specs.declared.kinds.Fd.{Fd}
 use Rattle.xti_lent.specs.Answers.{Changed}

@@ -1,9 +1,9 @@
-use Rattle.std.proofs.Common.{sym, subst, refl}
+use Rattle.std.proofs.Common.{sym, subst}
 use Rattle.xti_base.specs.declared.errno.Errno.TheVariants.{TFLOW}
 use Rattle.xti_model.specs.declared.entry.Go.{Go}
 use Rattle.xti_model.specs.declared.entry.Go.TheVariants as go
 use Rattle.xti_model.specs.declared.entry.Outcome.TheVariants.{Done}
-use Rattle.xti_model.specs.declared.entry.Reply.TheVariants.{Refused, Sent}
+use Rattle.xti_model.specs.declared.entry.Reply.TheVariants.{Refused}
 use Rattle.xti_lent.specs.Answers.{IsDoneAfter}
 use Rattle.xti_data.specs.Sends.{flow_marks, told}
 use Rattle.xti_data.proofs.Changes.{made-after}

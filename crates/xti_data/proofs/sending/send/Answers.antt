@@ -1,4 +1,4 @@
-use Rattle.std.proofs.Common.{◌≡◌, ◌∙◌, sym, ap, length, Some}
+use Rattle.std.proofs.Common.{◌≡◌, ◌∙◌, sym, length, Some}
 use Rattle.std.specs.List.{concat}
 use Rattle.xti_model.specs.World.{endpoint}
 use Rattle.xti_model.specs.Plan.{first, answers}
