@@ -7,6 +7,8 @@ mod field_calls;
 mod fields;
 mod laws;
 mod names;
+mod operands;
+mod options;
 mod script_text;
 mod texts;
 mod values;
