@@ -10,3 +10,4 @@ pub mod Agreeing
 pub mod Opened
 pub mod Sound
 pub mod Sequences
+pub mod Joined

@@ -2,8 +2,8 @@ use Rattle.std.proofs.Common.{◌≡◌, ◌∙◌, ◌+◌, sym, ap, ℕ, lengt
 use Rattle.std.specs.Prelude.{min}
 use Rattle.std.specs.List.{concat}
 use Rattle.std.proofs.lemmas.List.{length-append}
-use Rattle.xti_dgram.proofs.Sizes.{most, capped-sum, longer}
-use Rattle.xti_dgram.proofs.indications.total.Goals as goal
+use Rattle.xti_lent.proofs.Joined.{most, capped-sum, longer}
+use Rattle.xti_lent.proofs.parts.total.Goals as goal
 
 pub loop-part-preserved : goal.loop-part-preserved
 loop-part-preserved c =
