@@ -21,10 +21,6 @@ IsMade l fd outcome a = taken a (cells l) ≡ Some (made l.providers fd outcome 
 abbrev pub IsDone : Lending → ℕ → Reply → Applied → Type 0
 IsDone l fd reply a = IsMade l fd (Done reply) a
 
--- the step has this outcome, and the lent cells are as they were
-abbrev pub IsMade : Lending → ℕ → Outcome → Applied → Type 0
-IsMade l fd outcome a = taken a (cells l) ≡ Some (made l.providers fd outcome (cells l))
-
 -- the answer, and the cells that are left, are those of this step
 abbrev pub Answers : Option Step → Lending → Applied → Type 0
 Answers s new a = taken a (cells new) ≡ s

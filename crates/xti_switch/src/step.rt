@@ -12,14 +12,15 @@ use crate::accept::accept;
 use crate::bind::bind;
 use crate::close::close;
 use crate::connect::connect;
+use crate::disconnect::snddis;
 use crate::open::open;
 use crate::unbind::unbind;
 use std::alloc::AllocError;
 use xti_lent::Lent;
 use xti_model::{Applied, Call};
 
-/// One step of t_open, t_close, t_bind, t_unbind or t_accept, or the first step of t_connect, on the cells that the call touches: what it
-/// answers, and the state of its endpoint afterwards. None of them is ever blocked. Where memory runs out the cells are as before,
+/// One step of t_open, t_close, t_bind, t_unbind, t_accept or t_snddis, or the first step of t_connect, on the cells that the call
+/// touches: what it answers, and the state of its endpoint afterwards. None of them is ever blocked. Where memory runs out the cells are as before,
 /// and room for more may have been taken.
 #[tactic(auto, unfolding(xti_model::specs::Step::step, xti_model::specs::Step::plan))]
 pub fn switch_step(lent: &mut Lent, call: &Call) -> Result<Applied, AllocError>
@@ -56,6 +57,7 @@ pub fn switch_step(lent: &mut Lent, call: &Call) -> Result<Applied, AllocError>
             opt,
             udata,
         } => accept(lent, *fd, *resfd, *seq, opt.as_slice(), udata.as_slice()),
+        Call::TSndDis { fd, seq, udata } => snddis(lent, *fd, *seq, udata.as_slice()),
         _ => unreachable!(),
     }
 }
