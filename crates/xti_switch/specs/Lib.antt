@@ -2,3 +2,5 @@ pub mod Accepts
 pub mod Calls
 pub mod Connects
 pub mod Taken
+pub mod Hearing
+pub mod Disconnects

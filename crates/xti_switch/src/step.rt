@@ -8,17 +8,19 @@ ghost use Rattle.xti_lent.specs.Lending.{cells};
 ghost use Rattle.xti_lent.specs.Fit.{IsFit, AllLent, SameCells};
 ghost use Rattle.xti_switch.specs.Calls.{goes_through_switch};
 
+use crate::accept::accept;
 use crate::bind::bind;
 use crate::close::close;
 use crate::connect::connect;
+use crate::disconnect::snddis;
 use crate::open::open;
 use crate::unbind::unbind;
 use std::alloc::AllocError;
 use xti_lent::Lent;
 use xti_model::{Applied, Call};
 
-/// One step of t_open, t_close, t_bind or t_unbind, or the first step of t_connect, on the cells that the call touches: what it
-/// answers, and the state of its endpoint afterwards. None of them is ever blocked. Where memory runs out the cells are as before,
+/// One step of t_open, t_close, t_bind, t_unbind, t_accept or t_snddis, or the first step of t_connect, on the cells that the call
+/// touches: what it answers, and the state of its endpoint afterwards. None of them is ever blocked. Where memory runs out the cells are as before,
 /// and room for more may have been taken.
 #[tactic(auto, unfolding(xti_model::specs::Step::step, xti_model::specs::Step::plan))]
 pub fn switch_step(lent: &mut Lent, call: &Call) -> Result<Applied, AllocError>
@@ -48,6 +50,14 @@ pub fn switch_step(lent: &mut Lent, call: &Call) -> Result<Applied, AllocError>
             udata,
             ..
         } => connect(lent, *fd, addr.as_slice(), opt.as_slice(), udata.as_slice()),
+        Call::TAccept {
+            fd,
+            resfd,
+            seq,
+            opt,
+            udata,
+        } => accept(lent, *fd, *resfd, *seq, opt.as_slice(), udata.as_slice()),
+        Call::TSndDis { fd, seq, udata } => snddis(lent, *fd, *seq, udata.as_slice()),
         _ => unreachable!(),
     }
 }
