@@ -1,4 +1,4 @@
-use Rattle.std.proofs.Common.{◌≡◌, ◌∙◌, Some, sym, ap}
+use Rattle.std.proofs.Common.{◌≡◌, ◌∙◌, Some, sym}
 use Rattle.xti_model.specs.Endpoint.{find_number}
 use Rattle.xti_end.specs.Frames.{indication_of}
 use Rattle.xti_end.specs.Held.{parts}

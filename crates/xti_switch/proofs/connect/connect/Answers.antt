@@ -1,4 +1,4 @@
-use Rattle.std.proofs.Common.{◌≡◌, ◌∙◌, sym}
+use Rattle.std.proofs.Common.{◌≡◌, sym}
 use Rattle.xti_model.specs.Switch.{listener}
 use Rattle.xti_model.specs.World.{the_switch}
 use Rattle.xti_end.specs.Held.{parts}

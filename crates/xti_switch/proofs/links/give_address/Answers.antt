@@ -1,5 +1,4 @@
-use Rattle.std.proofs.Common.{sym, ap, ◌∙◌, false, ◌∷◌, []}
-use Rattle.xti_model.specs.declared.profile.Providers.{Providers}
+use Rattle.std.proofs.Common.{sym, false, ◌∷◌, []}
 use Rattle.xti_model.specs.Switch.{give_address}
 use Rattle.xti_model.specs.World.{at_endpoint, at_switch}
 use Rattle.xti_lent.specs.Lending.{with_registry}

@@ -1,6 +1,6 @@
 use Rattle.std.proofs.Common.{sym, ap}
 use Rattle.xti_end.specs.Held.{Held}
-use Rattle.xti_switch.proofs.Hearings.{room-taken, no-room-taken, prepared}
+use Rattle.xti_switch.proofs.Hearings.{room-taken, prepared}
 use Rattle.xti_switch.proofs.notices.prepare.Goals as goal
 
 pub returns-in_err-reserve_disconnects-clause-room : goal.returns-in_err-reserve_disconnects-clause-room
