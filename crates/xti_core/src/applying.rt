@@ -19,7 +19,7 @@ use xti_switch::switch_step;
 
 /// One step of a call that touches the cell of its descriptor alone.
 pub(crate) fn local(lent: &mut Lent, call: &Call, fd: Fd, _go: Go) -> Result<Applied, AllocError>
-    requires at { IsAt lent.old.providers (place_of lent.old.providers fd.0) call.now }
+    requires at { IsAt lent.old.providers (place_of lent.old.providers fd.0) call.now _go }
     requires places { AtOwnPlaces lent.old }
     requires lent { is_lent lent.old (place_of lent.old.providers fd.0) ≡ true }
     ensures step { IfOk result (AnswersCall call.now _go lent.old lent.new) }
