@@ -5,3 +5,5 @@ pub mod Asking
 pub mod Hearings
 pub mod Reaching
 pub mod Breakings
+pub mod GivingUp
+pub mod Closing

@@ -9,4 +9,5 @@ changes_switch (call.TOpen prov nonblock) = true
 changes_switch (call.TClose fd) = true
 changes_switch (call.TBind fd addr qlen amax) = true
 changes_switch (call.TUnbind fd) = true
+changes_switch (call.TSndDis fd seq udata) = true
 changes_switch _ = false

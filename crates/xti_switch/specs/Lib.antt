@@ -1,5 +1,6 @@
 pub mod Calls
-pub mod Connects
 pub mod Taken
+pub mod Connects
 pub mod Hearing
 pub mod Disconnects
+pub mod Closes

@@ -1,8 +1,9 @@
-//! The calls that change the switch: t_open, t_close, t_bind and t_unbind.
+//! The calls that change the switch, t_open, t_close, t_bind and t_unbind, and those that begin or end connections.
 #![tactic(auto)]
 
 mod bind;
 mod breaking;
+mod callers;
 mod close;
 mod connect;
 mod disconnect;
