@@ -13,8 +13,9 @@ ghost use Rattle.xti_lent.specs.Fit.{AtOwnPlaces, SameCells};
 ghost use Rattle.xti_lent.specs.Lends.{IsHeld, IsPlaceOf};
 ghost use Rattle.xti_switch.specs.Hearing.{told_number, is_told, telling, telling_any, HasRoom, Hears, IsNotice, IsNoticeOf, IsReady, Silences, TakesRoom};
 
+use crate::frames::disconnect;
 use std::alloc::{AllocError, Global};
-use tpi_prim::{EncodeFail, Frame, encode_discon_ind};
+use tpi_prim::Frame;
 use xti_base::{Fd, Seq};
 use xti_end::Endpoint;
 use xti_lent::Lent;
@@ -48,19 +49,6 @@ fn told_number(news: News) -> u32
     match news {
         News::TakenBack { number } => number.0,
         News::Broken { .. } | News::GivenUp { .. } | News::Rejected => 0,
-    }
-}
-
-/// The frame of a disconnect.
-fn disconnect(alloc: Global, reason: u32, number: u32, udata: &[u8]) -> Result<Frame, AllocError>
-    requires { length udata.now ≤ MOST_CONNECT_DATA }
-    ensures kind { IfOk result (λ frame. kind_in frame ≡ T_DISCON_IND) }
-    ensures disconnect { IfOk result (λ frame. disconnect_in frame ≡ record { reason = reason; number = number; udata = udata.now }) }
-{
-    match encode_discon_ind(alloc, reason, number, udata) {
-        Ok(frame) => Ok(frame),
-        Err(EncodeFail::OutOfMemory) => Err(AllocError),
-        Err(EncodeFail::TooBig) => unreachable!(),
     }
 }
 

@@ -1,7 +1,0 @@
-use Rattle.std.proofs.Common.{sym, ap, ◌∙◌}
-use Rattle.tpi_prim.specs.Primitive.{kind_of}
-use Rattle.tpi_prim.proofs.FrameReads.{kind_of-primitive_in}
-use Rattle.xti_switch.proofs.notices.disconnect.Goals as goal
-
-pub returns-in-Ok-clause-kind : goal.returns-in-Ok-clause-kind
-returns-in-Ok-clause-kind c = sym (kind_of-primitive_in c.in-Ok.frame) ∙ ap kind_of c.in-Ok.ensures.read
