@@ -39,7 +39,7 @@ pub sound-open : (l : Lending) (fd : ℕ) (x : Endpoint) → IsFit l → endpoin
 sound-open l fd x fit e = sound-step l fd x (held_at l (place_of l.providers fd)) refl fit e
 
 -- with a peer it is asked for nothing
-last-true : (a d : Bool) → (a && d) ≡ true → d ≡ true
+pub last-true : (a d : Bool) → (a && d) ≡ true → d ≡ true
 last-true true d e = e
 last-true false d e = cc
 

@@ -6,3 +6,5 @@ pub mod Accepting
 pub mod Hearings
 pub mod Reaching
 pub mod Breakings
+pub mod GivingUp
+pub mod Closing

@@ -101,6 +101,11 @@ pub record CanBreak (l : Lending) (e : Endpoint) : Type 0 where
   pub peer : IfSome e.peer (IsHeld l)
   pub listener : IfSome e.target (λ t. IsHeld l t.listener)
 
+-- it has no peer and asks nobody
+pub record HasNoLinks (e : Endpoint) : Type 0 where
+  pub peer : e.peer ≡ None
+  pub target : e.target ≡ None
+
 -- the open endpoint's connection or request ended so
 abbrev pub Breaks : Lending → Lending → ℕ → ℕ → List ℕ → Type 0
 Breaks old new fd reason udata = IfSome (endpoint old.providers (cells old) fd) (λ e. Changed (break fd e reason udata) old new)

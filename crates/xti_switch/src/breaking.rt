@@ -1,13 +1,13 @@
 //! An endpoint ends its connection, or takes its request back.
 
-ghost use Rattle.std.specs.Prelude.{◌≡◌, ◌≤◌, true, length, IfSome, OnErr, OnOk};
+ghost use Rattle.std.specs.Prelude.{◌≡◌, ◌≤◌, true, length, IfSome, IsOk, OnErr, OnOk};
 ghost use Rattle.xti_base.specs.declared.limits.TheConstants.{MOST_CONNECT_DATA};
 ghost use Rattle.xti_model.specs.World.{endpoint};
 ghost use Rattle.xti_end.specs.Held.{is_open, parts};
 ghost use Rattle.xti_lent.specs.Answers.{IsUnchanged};
 ghost use Rattle.xti_lent.specs.Fit.{IsFit, SameCells};
 ghost use Rattle.xti_lent.specs.Lending.{cells};
-ghost use Rattle.xti_switch.specs.Hearing.{listener_news, peer_news, Breaks, CanBreak};
+ghost use Rattle.xti_switch.specs.Hearing.{listener_news, peer_news, Breaks, CanBreak, HasNoLinks};
 ghost use Rattle.xti_switch.specs.Taken.{IsOpen};
 
 use crate::notices::{News, prepare_any, tell_any};
@@ -51,6 +51,7 @@ pub(crate) fn break_off(
     ensures kept { SameCells lent.old lent.new }
     ensures registry { lent.new.registry ≡ lent.old.registry }
     ensures err { OnErr result (IsUnchanged lent.old lent.new) }
+    ensures sure { IfSome (endpoint lent.old.providers (cells lent.old) fd.0) HasNoLinks → IsOk result }
 {
     let (peer, listener) = match lent.open_endpoint(fd) {
         Some(e) => (peer_news(e, fd), listener_news(e)),

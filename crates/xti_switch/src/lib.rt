@@ -4,6 +4,7 @@
 mod accept;
 mod bind;
 mod breaking;
+mod callers;
 mod close;
 mod connect;
 mod disconnect;

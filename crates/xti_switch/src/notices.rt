@@ -1,6 +1,6 @@
 //! What endpoints are told of a connection or a request that ended.
 
-ghost use Rattle.std.specs.Prelude.{◌≡◌, ◌≤◌, ◌∷◌, [], true, length, IfOk, IfSome};
+ghost use Rattle.std.specs.Prelude.{◌≡◌, ◌≤◌, ◌∷◌, [], None, true, length, IfOk, IfSome, IsOk};
 ghost use Rattle.tpi_grammar.specs.declared.kind.Kind.TheVariants.{T_DISCON_IND};
 ghost use Rattle.tpi_prim.specs.Fields.{kind_in};
 ghost use Rattle.xti_base.specs.declared.limits.TheConstants.{MOST_CONNECT_DATA};
@@ -156,6 +156,7 @@ pub(crate) fn prepare_any(
     ensures room { TakesRoom lent.old lent.new }
     ensures notice { IfOk result (IsNoticeOf news reason udata.now) }
     ensures ready { IfOk result (λ n. IfSome n (IsReady lent.new)) }
+    ensures sure { news ≡ None → IsOk result }
 {
     match news {
         Some((to, news)) => Ok(Some(prepare(lent, to, news, reason, udata)?)),

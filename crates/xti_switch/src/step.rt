@@ -35,7 +35,7 @@ pub fn switch_step(lent: &mut Lent, call: &Call) -> Result<Applied, AllocError>
 {
     match call {
         Call::TOpen { prov, nonblock } => Ok(open(lent, *prov, *nonblock)),
-        Call::TClose { fd } => Ok(close(lent, *fd)),
+        Call::TClose { fd } => close(lent, *fd),
         Call::TBind {
             fd,
             addr,

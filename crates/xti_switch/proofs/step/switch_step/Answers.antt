@@ -15,8 +15,12 @@ open-requires-clause-switch c = switch-lent c.args.lent.now c.args.call.now (cal
 pub open-requires-clause-lent : goal.open-requires-clause-lent
 open-requires-clause-lent c = subst (λ (x : Call). AllLent c.args.lent.now (touched c.args.lent.now.providers (cells c.args.lent.now) x)) c.in-TOpen.is c.requires.lent
 
-pub close-requires-clause-switch : goal.close-requires-clause-switch
-close-requires-clause-switch c = switch-lent c.args.lent.now c.args.call.now (call.TClose c.in-TClose.fd) c.in-TClose.is c.requires.lent (second-among (place_of c.args.lent.now.providers c.in-TClose.fd.0) (switch_number c.args.lent.now.providers) (drop 1 (others c.args.lent.now.providers (cells c.args.lent.now) (call.TClose c.in-TClose.fd))))
+pub close-requires-clause-lent : goal.close-requires-clause-lent
+close-requires-clause-lent c = subst (λ (x : Call). AllLent c.args.lent.now (touched c.args.lent.now.providers (cells c.args.lent.now) x)) c.in-TClose.is c.requires.lent
+
+pub snddis-requires-clause-lent : goal.snddis-requires-clause-lent
+snddis-requires-clause-lent c =
+    subst (λ (x : Call). AllLent c.args.lent.now (touched c.args.lent.now.providers (cells c.args.lent.now) x)) c.in-TSndDis.is c.requires.lent
 
 pub bind-requires-clause-switch : goal.bind-requires-clause-switch
 bind-requires-clause-switch c = switch-lent c.args.lent.now c.args.call.now (call.TBind c.in-TBind.fd c.in-TBind.addr c.in-TBind.qlen c.in-TBind.amax) c.in-TBind.is c.requires.lent (second-among (place_of c.args.lent.now.providers c.in-TBind.fd.0) (switch_number c.args.lent.now.providers) (drop 1 (others c.args.lent.now.providers (cells c.args.lent.now) (call.TBind c.in-TBind.fd c.in-TBind.addr c.in-TBind.qlen c.in-TBind.amax))))
