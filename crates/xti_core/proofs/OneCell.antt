@@ -6,12 +6,13 @@ use Rattle.std.proofs.lemmas.Bool.Decides.{nat_tests}
 use Rattle.xti_model.specs.declared.call.Call.{Call}
 use Rattle.xti_model.specs.declared.call.Call.TheVariants as call
 use Rattle.xti_model.specs.declared.entry.Go.{Go}
+use Rattle.xti_model.specs.declared.entry.Go.TheVariants as go
 use Rattle.xti_model.specs.declared.entry.Applied.{Applied}
 use Rattle.xti_model.specs.declared.profile.Providers.{Providers}
 use Rattle.xti_model.specs.World.{World, Cell, switch_cell, switch_number, is_among, only, place_of, places}
 use Rattle.xti_model.specs.Memory.{takes_memory, may_run_out}
 use Rattle.xti_model.specs.Plan.{Plan, Refusal, first, has_effect}
-use Rattle.xti_model.specs.Step.{plan, step, first_refusal}
+use Rattle.xti_model.specs.Step.{plan, step, step_of, first_refusal}
 use Rattle.xti_model.specs.Touched.{named}
 use Rattle.xti_end.specs.Held.{Held, cell, alone, SameRoom}
 use Rattle.xti_registry.specs.Known.{Known}
@@ -37,7 +38,23 @@ record Reads (p : Providers) (w : World) (n : ℕ) (c : Call) (g : Go) : Type 0 
 own : (n m : ℕ) → m ≡ n → is_among (n ∷ []) m ≡ true
 own n m e = rw (eq-eqb n m (sym e)) refl
 
-reads : (p : Providers) (w : World) (n : ℕ) (c : Call) (g : Go) → IsAt p n c → Reads p w n c g
+-- once it has asked, t_connect goes on as t_rcvconnect
+abbrev goes_on_as : Call → Go → Call
+goes_on_as (call.TConnect fd addr opt udata amax omax umax) (go.More n) = call.TRcvConnect fd amax omax umax
+goes_on_as c g = c
+
+plan-alike : (p : Providers) (w : World) (c : Call) (g : Go) → plan p w c g ≡ plan p w (goes_on_as c g) g
+unfolding plan
+plan-alike p w (call.TConnect fd addr opt udata amax omax umax) (go.More n) = refl
+plan-alike p w (call.TConnect fd addr opt udata amax omax umax) go.Begin = refl
+plan-alike p w other g = refl
+
+step-alike : (p : Providers) (w : World) (c : Call) (g : Go) → step p w c g ≡ step p w (goes_on_as c g) g
+unfolding step
+step-alike p w c g = ap (step_of p w) (plan-alike p w c g)
+
+reads : (p : Providers) (w : World) (n : ℕ) (c : Call) (g : Go) → IsAt p n c g → Reads p w n (goes_on_as c g) g
+reads p w n (call.TConnect fd addr opt udata amax omax umax) (go.More m) h = record { named = (own n (place_of p fd.0) h, tt); told = own n _ (ap (place_of p) (told-fd p w (call.TRcvConnect fd amax omax umax) (go.More m)) ∙ h) }
 reads p w n (call.TRcvUData fd max amax omax) g h = record { named = (own n (place_of p fd.0) h, tt); told = own n _ (ap (place_of p) (told-fd p w (call.TRcvUData fd max amax omax) g) ∙ h) }
 reads p w n (call.TRcvVUData fd sizes amax omax) g h = record { named = (own n (place_of p fd.0) h, tt); told = own n _ (ap (place_of p) (told-fd p w (call.TRcvVUData fd sizes amax omax) g) ∙ h) }
 reads p w n (call.TRcvUDErr fd amax omax) g h = record { named = (own n (place_of p fd.0) h, tt); told = own n _ (ap (place_of p) (told-fd p w (call.TRcvUDErr fd amax omax) g) ∙ h) }
@@ -87,12 +104,11 @@ same-cells l n h new e r = written-same l n h new e r.place
 not-own : (n m : ℕ) → is_among (n ∷ []) m ≡ false → eqb m n ≡ false
 not-own n m e = grind (arith, nat_tests)
 
--- a step of one cell
-pub lifted : (l : Lending) (n : ℕ) (h new : Held) (c : Call) (g : Go) (a : Applied) → n < places l.providers → IsAt l.providers n c → AtOwnPlaces l → held_at l n ≡ Some h → SameRoom h new
+-- a step of one cell, of a call that names no other
+lifted-as : (l : Lending) (n : ℕ) (h new : Held) (c : Call) (g : Go) (a : Applied) → n < places l.providers → Reads l.providers (cells l) n c g → AtOwnPlaces l → held_at l n ≡ Some h → SameRoom h new
     → taken a (alone new) ≡ step l.providers (alone h) c g → taken a (cells (with_held l n new)) ≡ step l.providers (cells l) c g
-lifted l n h new c g a lt i own e r s =
+lifted-as l n h new c g a lt q own e r s =
     let p = l.providers in
-    let q = reads p (cells l) n c g i in
     let o : AtOwnPlaces (with_held l n new) = own-kept l (with_held l n new) (same-cells l n h new e r) own in
     let m : held_at (with_held l n new) n ≡ Some new = put-same n l.numbers l.held h new e in
     settled p (n ∷ []) (cell_lent l) (cell_lent (with_held l n new)) c g a
@@ -100,31 +116,42 @@ lifted l n h new c g a lt i own e r s =
     (λ k b j. ap (λ z. cond (eqb k (switch_number p)) (option_map (λ (k : Known). switch_cell k.switch) l.registry) (option_map cell z)) (put-other n k l.numbers l.held new (not-own n k j)))
     (ap (taken a) (alone-is (with_held l n new) n new lt o m) ∙ (s ∙ ap (λ w. step p w c g) (sym (alone-is l n h lt own e))))
 
-takes-alike : (p : Providers) (v w : World) (n : ℕ) (c : Call) → IsAt p n c → takes_memory p v c ≡ takes_memory p w c
-takes-alike p v w n (call.TRcvUData fd max amax omax) i = refl
-takes-alike p v w n (call.TRcvVUData fd sizes amax omax) i = refl
-takes-alike p v w n (call.TRcvUDErr fd amax omax) i = refl
-takes-alike p v w n (call.TGetState fd) i = refl
-takes-alike p v w n (call.TSync fd) i = refl
-takes-alike p v w n (call.SetMode fd nonblock) i = refl
-takes-alike p v w n (call.TRcvConnect fd amax omax umax) i = refl
-takes-alike p v w n (call.TListen fd amax omax umax) i = refl
-takes-alike p v w n (call.TRcv fd max) i = refl
-takes-alike p v w n (call.TRcvV fd sizes) i = refl
-takes-alike p v w n (call.TRcvDis fd umax) i = refl
-takes-alike p v w n (call.TRcvRel fd) i = refl
-takes-alike p v w n (call.TGetInfo fd) i = refl
-takes-alike p v w n (call.TGetProtAddr fd amax pmax) i = refl
-takes-alike p v w n (call.TOptMgmt fd action opt omax) i = refl
-takes-alike p v w n other i = absurd i
+-- a step of one cell
+pub lifted : (l : Lending) (n : ℕ) (h new : Held) (c : Call) (g : Go) (a : Applied) → n < places l.providers → IsAt l.providers n c g → AtOwnPlaces l → held_at l n ≡ Some h → SameRoom h new
+    → taken a (alone new) ≡ step l.providers (alone h) c g → taken a (cells (with_held l n new)) ≡ step l.providers (cells l) c g
+lifted l n h new c g a lt i own e r s =
+    let p = l.providers in
+    lifted-as l n h new (goes_on_as c g) g a lt (reads p (cells l) n c g i) own e r (s ∙ step-alike p (alone h) c g) ∙ sym (step-alike p (cells l) c g)
+
+takes-alike : (p : Providers) (v w : World) (n : ℕ) (c : Call) (g : Go) → IsAt p n c g → takes_memory p v c ≡ takes_memory p w c
+takes-alike p v w n (call.TConnect fd addr opt udata amax omax umax) g i = refl
+takes-alike p v w n (call.TRcvUData fd max amax omax) g i = refl
+takes-alike p v w n (call.TRcvVUData fd sizes amax omax) g i = refl
+takes-alike p v w n (call.TRcvUDErr fd amax omax) g i = refl
+takes-alike p v w n (call.TGetState fd) g i = refl
+takes-alike p v w n (call.TSync fd) g i = refl
+takes-alike p v w n (call.SetMode fd nonblock) g i = refl
+takes-alike p v w n (call.TRcvConnect fd amax omax umax) g i = refl
+takes-alike p v w n (call.TListen fd amax omax umax) g i = refl
+takes-alike p v w n (call.TRcv fd max) g i = refl
+takes-alike p v w n (call.TRcvV fd sizes) g i = refl
+takes-alike p v w n (call.TRcvDis fd umax) g i = refl
+takes-alike p v w n (call.TRcvRel fd) g i = refl
+takes-alike p v w n (call.TGetInfo fd) g i = refl
+takes-alike p v w n (call.TGetProtAddr fd amax pmax) g i = refl
+takes-alike p v w n (call.TOptMgmt fd action opt omax) g i = refl
+takes-alike p v w n other g i = absurd i
 
 -- one cell tells whether its step may run out of memory
-pub runs-out-alike : (l : Lending) (n : ℕ) (h : Held) (c : Call) (g : Go) → n < places l.providers → IsAt l.providers n c → AtOwnPlaces l → held_at l n ≡ Some h → may_run_out l.providers (alone h) c g ≡ may_run_out l.providers (cells l) c g
+pub runs-out-alike : (l : Lending) (n : ℕ) (h : Held) (c : Call) (g : Go) → n < places l.providers → IsAt l.providers n c g → AtOwnPlaces l → held_at l n ≡ Some h → may_run_out l.providers (alone h) c g ≡ may_run_out l.providers (cells l) c g
 runs-out-alike l n h c g lt i own e =
     let p = l.providers in
-    let r : first_refusal p (alone h) c g ≡ first_refusal p (cells l) c g =
-    ap (λ w. first_refusal p w c g) (sym (alone-is l n h lt own e)) ∙ ap (λ (x : Plan). first x.rows) (plan-local p (n ∷ []) (cells l) c g (reads p (cells l) n c g i).named) in
-    ap (λ (b : Bool). b && has_effect (first_refusal p (alone h) c g)) (takes-alike p (alone h) (cells l) n c i) ∙ ap (λ (x : Option Refusal). takes_memory p (cells l) c && has_effect x) r
+    let q : plan p (alone h) c g ≡ plan p (cells l) c g =
+    plan-alike p (alone h) c g ∙
+    (ap (λ w. plan p w (goes_on_as c g) g) (sym (alone-is l n h lt own e)) ∙
+    (plan-local p (n ∷ []) (cells l) (goes_on_as c g) g (reads p (cells l) n c g i).named ∙ sym (plan-alike p (cells l) c g))) in
+    let r : first_refusal p (alone h) c g ≡ first_refusal p (cells l) c g = ap (λ (x : Plan). first x.rows) q in
+    ap (λ (b : Bool). b && has_effect (first_refusal p (alone h) c g)) (takes-alike p (alone h) (cells l) n c g i) ∙ ap (λ (x : Option Refusal). takes_memory p (cells l) c && has_effect x) r
 
 -- what is said of an answer
 pub if-ok : {E : Type 0} (r : Result Applied E) (P Q : Applied → Type 0) → ((a : Applied) → P a → Q a) → IfOk r P → IfOk r Q

@@ -11,7 +11,8 @@ use Rattle.xti_lent.specs.Fit.{AllLent, SameCells}
 use Rattle.xti_lent.proofs.Places.{place-below}
 use Rattle.xti_lent.proofs.Named.{first-among, later-among, named-lent, held-lent}
 use Rattle.xti_lent.proofs.Written.{still-held}
-use Rattle.xti_data.specs.Reach.{CanReach, IsHeld}
+use Rattle.xti_lent.specs.Lends.{IsHeld}
+use Rattle.xti_data.specs.Reach.{CanReach}
 
 -- the cells that a send names
 abbrev named : Lending → ℕ → List ℕ

@@ -1,12 +1,9 @@
 -- Whom a sender reaches among lent cells.
-use Rattle.std.specs.Prelude.{◌≡◌, ℕ, true, Some, is_some}
+use Rattle.std.specs.Prelude.{◌≡◌, ℕ, Some}
 use Rattle.xti_model.specs.Endpoint.{Endpoint}
-use Rattle.xti_model.specs.World.{endpoint, place_of}
-use Rattle.xti_lent.specs.Lending.{Lending, cells, held_at}
-
--- the place of the descriptor is lent
-abbrev pub IsHeld : Lending → ℕ → Type 0
-IsHeld l fd = is_some (held_at l (place_of l.providers fd)) ≡ true
+use Rattle.xti_model.specs.World.{endpoint}
+use Rattle.xti_lent.specs.Lending.{Lending, cells}
+use Rattle.xti_lent.specs.Lends.{IsHeld}
 
 -- the place of the sender's peer is lent
 abbrev pub CanReach : Lending → ℕ → Type 0

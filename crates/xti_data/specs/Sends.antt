@@ -80,11 +80,3 @@ release_refusal h = first (Release.send_rows (parts_of h.body))
 -- the linked peer is told of the release, and the sender sends no more
 abbrev pub telling : ℕ → Option ℕ → List Change
 telling fd peer = at_linked fd peer Release.released ++ at_endpoint fd Release.after_send ∷ []
-
--- the endpoint changes, where it is open at the place with this descriptor
-abbrev pub ChangesAt : Providers → ℕ → (Endpoint → Endpoint) → Held → Held → Type 0
-ChangesAt p fd f old new = cell new ≡ change_endpoint (generation_of p fd) f (cell old)
-
--- the place is that of the descriptor
-abbrev pub IsPlaceOf : Providers → ℕ → Held → Type 0
-IsPlaceOf p fd h = h.place ≡ place_of p fd

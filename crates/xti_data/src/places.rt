@@ -10,8 +10,8 @@ ghost use Rattle.xti_model.specs.Links.{if_names, names};
 ghost use Rattle.xti_model.specs.World.{endpoint_in, generation_of};
 ghost use Rattle.xti_end.specs.Frames.{symbols_in};
 ghost use Rattle.xti_end.specs.Held.{cell, is_open, is_open_as, parts, peer_at, with_parts};
+ghost use Rattle.xti_lent.specs.Lends.{ChangesAt, IsPlaceOf};
 ghost use Rattle.xti_data.specs.Portions.{IsWithin};
-ghost use Rattle.xti_data.specs.Sends.{ChangesAt, IsPlaceOf};
 
 use crate::limits::count_more;
 use crate::portions::Portion;

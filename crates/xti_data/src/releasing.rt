@@ -10,7 +10,8 @@ ghost use Rattle.xti_model.specs.Plan.{answers};
 ghost use Rattle.xti_end.specs.Held as Held;
 ghost use Rattle.xti_lent.specs.Answers.{AnswersBy, Changed, IsSureBy, StaysBlocked};
 ghost use Rattle.xti_lent.specs.Fit.{AtOwnPlaces, IsFit, SameCells};
-ghost use Rattle.xti_data.specs.Reach.{CanReach, IsHeld};
+ghost use Rattle.xti_lent.specs.Lends.{IsHeld};
+ghost use Rattle.xti_data.specs.Reach.{CanReach};
 ghost use Rattle.xti_data.specs.Sends.{number_of, release_refusal, releasing, telling};
 
 use crate::writes::{release, tell_release};

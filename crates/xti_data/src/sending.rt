@@ -6,8 +6,9 @@ ghost use Rattle.xti_model.specs.Calls.Send as Send;
 ghost use Rattle.xti_end.specs.Held as Held;
 ghost use Rattle.xti_lent.specs.Answers.{AnswersBy, Changed, IsDoneAfter, IsSureBy, StaysBlocked};
 ghost use Rattle.xti_lent.specs.Fit.{AtOwnPlaces, IsFit, SameCells};
+ghost use Rattle.xti_lent.specs.Lends.{IsHeld};
 ghost use Rattle.xti_data.specs.Portions.{giving, pushing, IsOfParts, IsWithin};
-ghost use Rattle.xti_data.specs.Reach.{CanReach, IsHeld};
+ghost use Rattle.xti_data.specs.Reach.{CanReach};
 ghost use Rattle.xti_data.specs.Sends.{flow_marks, number_of, sender, sending, taken_before, told};
 
 use crate::limits::is_expedited;
@@ -18,7 +19,7 @@ use crate::writes::{count_sent, mark_flow, push_data};
 use std::alloc::AllocError;
 use xti_base::{Errno, Fd, Octets};
 use xti_end::Endpoint;
-use xti_lent::{Lent, done, made, refused, total};
+use xti_lent::{Lent, done, refused, total, with_outcome};
 use xti_model::{Applied, Go, Outcome, Reply};
 
 /// How many bytes were taken before the step.
@@ -148,7 +149,7 @@ pub(crate) fn send(
             let portion = next_portion(lent.providers(), e, parts, flags, before, room);
             let outcome = outcome(e, total(parts), before + portion.count);
             give(lent, fd, peer, parts, portion)?;
-            Ok(made(lent, fd, outcome))
+            Ok(with_outcome(lent, fd, outcome))
         }
         None if e.nonblock() => Ok(refuse_flow(lent, fd, flags, go)),
         None => Ok(Applied::Blocked),

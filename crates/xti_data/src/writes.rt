@@ -11,8 +11,8 @@ ghost use Rattle.xti_model.specs.World.{at_endpoint};
 ghost use Rattle.xti_lent.specs.Answers.{Changed};
 ghost use Rattle.xti_lent.specs.Fit.{AtOwnPlaces, SameCells};
 ghost use Rattle.xti_end.specs.Frames.{symbols_in};
+ghost use Rattle.xti_lent.specs.Lends.{IsHeld};
 ghost use Rattle.xti_data.specs.Portions.{IsWithin};
-ghost use Rattle.xti_data.specs.Reach.{IsHeld};
 ghost use Rattle.xti_data.specs.Sends.{sender};
 
 use crate::places;

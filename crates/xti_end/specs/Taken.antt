@@ -4,6 +4,8 @@ use Rattle.xti_model.specs.declared.call.Call.{Call}
 use Rattle.xti_model.specs.declared.call.Call.TheVariants as call
 use Rattle.xti_model.specs.declared.profile.Providers.{Providers}
 use Rattle.xti_model.specs.declared.entry.Applied.{Applied}
+use Rattle.xti_model.specs.declared.entry.Go.{Go}
+use Rattle.xti_model.specs.declared.entry.Go.TheVariants as go
 use Rattle.xti_model.specs.declared.entry.Applied.TheVariants as applied
 use Rattle.xti_model.specs.declared.entry.Outcome.TheVariants.{Done}
 use Rattle.xti_model.specs.World.{World, place_of, at_endpoint}
@@ -22,24 +24,25 @@ abbrev pub taken : Applied → World → Option Step
 taken (applied.Step outcome after) w = Some (record { outcome = outcome; after = after; world = w })
 taken applied.Blocked w = None
 
--- the call is one of those that touch one cell, and this is the cell
-abbrev pub IsAt : Providers → ℕ → Call → Type 0
-IsAt p place (call.TListen fd amax omax umax) = place_of p fd.0 ≡ place
-IsAt p place (call.TRcvConnect fd amax omax umax) = place_of p fd.0 ≡ place
-IsAt p place (call.TRcv fd max) = place_of p fd.0 ≡ place
-IsAt p place (call.TRcvV fd sizes) = place_of p fd.0 ≡ place
-IsAt p place (call.TRcvDis fd umax) = place_of p fd.0 ≡ place
-IsAt p place (call.TRcvRel fd) = place_of p fd.0 ≡ place
-IsAt p place (call.TRcvUData fd max amax omax) = place_of p fd.0 ≡ place
-IsAt p place (call.TRcvVUData fd sizes amax omax) = place_of p fd.0 ≡ place
-IsAt p place (call.TRcvUDErr fd amax omax) = place_of p fd.0 ≡ place
-IsAt p place (call.TGetState fd) = place_of p fd.0 ≡ place
-IsAt p place (call.TSync fd) = place_of p fd.0 ≡ place
-IsAt p place (call.TGetInfo fd) = place_of p fd.0 ≡ place
-IsAt p place (call.TGetProtAddr fd amax pmax) = place_of p fd.0 ≡ place
-IsAt p place (call.TOptMgmt fd action opt omax) = place_of p fd.0 ≡ place
-IsAt p place (call.SetMode fd nonblock) = place_of p fd.0 ≡ place
-IsAt p place _ = ⊥
+-- the step is one of a call that touches one cell, and this is the cell; of t_connect only a later step is
+abbrev pub IsAt : Providers → ℕ → Call → Go → Type 0
+IsAt p place (call.TListen fd amax omax umax) go = place_of p fd.0 ≡ place
+IsAt p place (call.TRcvConnect fd amax omax umax) go = place_of p fd.0 ≡ place
+IsAt p place (call.TRcv fd max) go = place_of p fd.0 ≡ place
+IsAt p place (call.TRcvV fd sizes) go = place_of p fd.0 ≡ place
+IsAt p place (call.TRcvDis fd umax) go = place_of p fd.0 ≡ place
+IsAt p place (call.TRcvRel fd) go = place_of p fd.0 ≡ place
+IsAt p place (call.TRcvUData fd max amax omax) go = place_of p fd.0 ≡ place
+IsAt p place (call.TRcvVUData fd sizes amax omax) go = place_of p fd.0 ≡ place
+IsAt p place (call.TRcvUDErr fd amax omax) go = place_of p fd.0 ≡ place
+IsAt p place (call.TGetState fd) go = place_of p fd.0 ≡ place
+IsAt p place (call.TSync fd) go = place_of p fd.0 ≡ place
+IsAt p place (call.TGetInfo fd) go = place_of p fd.0 ≡ place
+IsAt p place (call.TGetProtAddr fd amax pmax) go = place_of p fd.0 ≡ place
+IsAt p place (call.TOptMgmt fd action opt omax) go = place_of p fd.0 ≡ place
+IsAt p place (call.SetMode fd nonblock) go = place_of p fd.0 ≡ place
+IsAt p place (call.TConnect fd addr opt udata amax omax umax) (go.More n) = place_of p fd.0 ≡ place
+IsAt p place _ _ = ⊥
 
 -- the first datagram of the endpoint is there: it is received in so many sizes, or lost where a field is too long
 abbrev pub receive_step : Providers → World → ℕ → ℕ → ℕ → ℕ → ℕ → Endpoint → Option Step

@@ -11,11 +11,11 @@ use std::alloc::AllocError;
 use xti_model::{Applied, Call, Go, Providers};
 
 impl Endpoint {
-    /// One step of a call that touches this cell alone: what it answers, and the state of its endpoint afterwards. Where it is
-    /// blocked, and where memory runs out, all is as before.
+    /// One step of a call that touches this cell alone, as t_connect does once it has asked: what it answers, and the state of
+    /// its endpoint afterwards. Where it is blocked, and where memory runs out, all is as before.
     #[tactic(auto, unfolding(xti_model::specs::Step::step, xti_model::specs::Step::plan))]
     pub fn local(&mut self, call: &Call, _go: Go, p: &Providers) -> Result<Applied, AllocError>
-        requires { IsAt p.now self.old.place call.now }
+        requires { IsAt p.now self.old.place call.now _go }
         ensures step { Makes (step p.now (alone self.old) call.now _go) self.new result }
         ensures still { StillBlocked self.old self.new result }
         ensures room { SameRoom self.old self.new }
@@ -34,6 +34,13 @@ impl Endpoint {
                 amax,
                 omax,
                 umax,
+            }
+            | Call::TConnect {
+                fd,
+                amax,
+                omax,
+                umax,
+                ..
             } => self.rcvconnect(p, *fd, *amax, *omax, *umax),
             Call::TRcv { fd, max } => self.rcv(p, *fd, 1, *max as usize),
             Call::TRcvV { fd, sizes } => self.rcvv(p, *fd, sizes.as_slice()),

@@ -7,4 +7,7 @@ pub mod Removals
 pub mod Written
 pub mod Named
 pub mod Agreeing
+pub mod Opened
+pub mod Sound
+pub mod Sequences
 pub mod Joined
