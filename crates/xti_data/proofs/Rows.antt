@@ -1,4 +1,4 @@
--- What a send answers, by its rows.
+-- What a send answers that a row before its last one refuses.
 use Rattle.std.proofs.Common.{◌≡◌, ℕ, Bool, true, false, not, cond, List, [], ◌∷◌, ◌++◌, map, take, Option, Some, None, refl, ap, ◌∙◌}
 use Rattle.std.specs.Prelude.{option_map}
 use Rattle.xti_base.specs.declared.errno.Errno.TheVariants.{TFLOW}
@@ -29,15 +29,6 @@ first-kept (x ∷ xs) b r q e = kept x.holds x.refusal (first xs) (first (xs ++ 
     kept : (t : Bool) (y : Refusal) (o n : Option Refusal) → cond t (Some y) o ≡ Some q → (o ≡ Some q → n ≡ Some q) → cond t (Some y) n ≡ Some q
     kept true y o n e k = e
     kept false y o n e k = k e
-
--- only the last row may refuse
-first-last : (rows : List Row) (b : Bool) (r : Refusal) → first rows ≡ None → first (rows ++ row b r ∷ []) ≡ cond b (Some r) None
-first-last [] b r e = refl
-first-last (x ∷ xs) b r e = last x.holds x.refusal (first xs) (first (xs ++ row b r ∷ [])) (cond b (Some r) None) e (first-last xs b r)
-  where
-    last : (t : Bool) (y : Refusal) (o n m : Option Refusal) → cond t (Some y) o ≡ None → (o ≡ None → n ≡ m) → cond t (Some y) n ≡ m
-    last true y o n m e k = cc
-    last false y o n m e k = k e
 
 -- the rows of a later step
 first-later : (n : ℕ) (rows : List Row) → first (map (later_row n) rows) ≡ option_map (later n) (first rows)
@@ -94,29 +85,3 @@ send-refused p w fd n bytes flags (go.More m) e reply o r =
     opened p w fd n bytes flags (go.More m) e o
     ∙ ap (λ (x : Option Refusal). step_by p w (later_plan m (plan_at p w fd n bytes flags m e)) (option_map (later m) x))
     (first-kept (early p n bytes flags m e) (not (ready_for (is_expedited flags) e (linked p w fd e))) (waits (Refused TFLOW)) (answers reply) r)
-
-last-row : (p : Providers) (w : World) (fd n : ℕ) (bytes : List ℕ) (flags : ℕ) (g : Go) (e : Endpoint) (b : Bool) → endpoint p w fd ≡ Some e → first (early p n bytes flags (taken_before g) e) ≡ None → ready_for (is_expedited flags) e (linked p w fd e) ≡ b
-    → step_of p w (send p w fd n bytes flags g) ≡ step_by p w (going g (plan_at p w fd n bytes flags (taken_before g) e)) (option_map (refused_as g) (cond (not b) (Some (waits (Refused TFLOW))) None))
-last-row p w fd n bytes flags g e b o r t =
-    opened p w fd n bytes flags g e o
-    ∙ ap (λ (x : Option Refusal). step_by p w (going g (plan_at p w fd n bytes flags (taken_before g) e)) (option_map (refused_as g) x))
-    (first-last (early p n bytes flags (taken_before g) e) (not (ready_for (is_expedited flags) e (linked p w fd e))) (waits (Refused TFLOW)) r
-    ∙ ap (λ (x : Bool). cond (not x) (Some (waits (Refused TFLOW))) None) t)
-
--- there is room: so many bytes are taken
-pub send-went : (p : Providers) (w : World) (fd n : ℕ) (bytes : List ℕ) (flags : ℕ) (g : Go) (e : Endpoint) → endpoint p w fd ≡ Some e → first (early p n bytes flags (taken_before g) e) ≡ None → ready_for (is_expedited flags) e (linked p w fd e) ≡ true
-    → step_of p w (send p w fd n bytes flags g) ≡ step_by p w (plan_at p w fd n bytes flags (taken_before g) e) None
-send-went p w fd n bytes flags go.Begin e o r t = last-row p w fd n bytes flags go.Begin e true o r t
-send-went p w fd n bytes flags (go.More m) e o r t = last-row p w fd n bytes flags (go.More m) e true o r t
-
--- there is none, and the sender waits
-pub send-blocked : (p : Providers) (w : World) (fd n : ℕ) (bytes : List ℕ) (flags : ℕ) (g : Go) (e : Endpoint) → endpoint p w fd ≡ Some e → first (early p n bytes flags (taken_before g) e) ≡ None → ready_for (is_expedited flags) e (linked p w fd e) ≡ false → e.nonblock ≡ false
-    → step_of p w (send p w fd n bytes flags g) ≡ None
-send-blocked p w fd n bytes flags go.Begin e o r t b = last-row p w fd n bytes flags go.Begin e false o r t ∙ rw b refl
-send-blocked p w fd n bytes flags (go.More m) e o r t b = last-row p w fd n bytes flags (go.More m) e false o r t ∙ rw b refl
-
--- there is none, and the sender doesn't wait
-pub send-flow : (p : Providers) (w : World) (fd n : ℕ) (bytes : List ℕ) (flags : ℕ) (g : Go) (e : Endpoint) → endpoint p w fd ≡ Some e → first (early p n bytes flags (taken_before g) e) ≡ None → ready_for (is_expedited flags) e (linked p w fd e) ≡ false → e.nonblock ≡ true
-    → step_of p w (send p w fd n bytes flags g) ≡ Some (made p fd (Done (told g (Refused TFLOW))) (changed p w (flow_marks fd flags g)))
-send-flow p w fd n bytes flags go.Begin e o r t b = last-row p w fd n bytes flags go.Begin e false o r t ∙ rw b refl
-send-flow p w fd n bytes flags (go.More m) e o r t b = last-row p w fd n bytes flags (go.More m) e false o r t ∙ rw b refl
