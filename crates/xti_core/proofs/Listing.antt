@@ -11,11 +11,10 @@ use Rattle.xti_model.specs.Cells.{listed, with_number}
 use Rattle.xti_model.specs.Switch.{bound}
 use Rattle.xti_base.specs.declared.kinds.Prov.{Prov}
 use Rattle.xti_model.specs.Sound.{is_sound_body, is_only_asked, requests}
-use Rattle.xti_model.specs.Touched.{of_some, cell_of, peer_cell, target_cell, caller_cells, marked_cells, cells_to}
+use Rattle.xti_model.specs.Touched.{of_some, cell_of, peer_cell, target_cell, caller_cell, caller_cells, marked_cells, cells_to}
 use Rattle.xti_end.specs.Held.{Held, parts, is_open, mark_at, parts_of, is_open_as, peer_at, target_at}
 use Rattle.xti_model.proofs.RisingNumbers.{listed-one, length-listed}
-use Rattle.xti_lent.specs.Lending.{Lending}
-use Rattle.xti_core.specs.Touches.{known, with_switch}
+use Rattle.xti_core.specs.Touches.{known, told}
 
 -- the cells that an endpoint knows
 pub known-is : (p : Providers) (body : Option Endpoint) → cell_of p (peer_at body) ++ (cell_of p (target_at body) ++ of_some body (caller_cells p)) ≡ of_some body (known p)
@@ -116,12 +115,15 @@ named-cells p body peer listener n m h i j k =
     (ap (λ xs. cell_of p (peer_at body) ++ (xs ++ of_some body (caller_cells p))) (j ∙ ap (cell_of p) k) ∙ known-is p body)
 
 -- an open endpoint's parts are its body
-pub body-is : (p : Providers) (h : Held) (fd : ℕ) → is_open_as p fd h ≡ true → h.body ≡ Some (parts h)
-body-is p h fd e = go h.body (and-parts (is_some h.body) _ (and-parts (is_some h.body && (h.generation == generation_of p fd)) _ e).0).0
+pub open-body : (h : Held) → is_open h ≡ true → h.body ≡ Some (parts h)
+open-body h e = go h.body e
   where
     go : (o : Option Endpoint) → is_some o ≡ true → o ≡ Some (parts_of o)
     go None i = cc
     go (Some x) i = refl
+
+pub body-is : (p : Providers) (h : Held) (fd : ℕ) → is_open_as p fd h ≡ true → h.body ≡ Some (parts h)
+body-is p h fd e = open-body h (and-parts (is_open h) _ (and-parts (is_open h && (h.generation == generation_of p fd)) _ e).0).0
 
 -- the datagram mark's cells
 pub mark-parts : (h : Held) → is_open h ≡ true → mark_at h.body ≡ (parts h).flow_datagram
@@ -146,6 +148,10 @@ looking-put p w fd m o h cells n peer i j k l q r =
     i ∙ (ap (λ z. listed (z ∷ (option_to_list n ++ marked_cells p w (parts h)))) j ∙
     (ap (λ xs. listed (place_of p fd ∷ (xs ++ marked_cells p w (parts h)))) (k ∙ ap (cell_of p) (l ∙ ap peer_at q)) ∙ ap (λ x. listed (place_of p fd ∷ of_some x (λ e. peer_cell p e ++ marked_cells p w e))) r))
 
--- the cells of a send
-pub sending-put : (l : Lending) (fd : ℕ) (ns cells : List ℕ) (n : Option ℕ) → cells ≡ with_switch l fd (option_to_list n ++ []) → option_to_list n ≡ ns → cells ≡ with_switch l fd ns
-sending-put l fd ns cells n h i = h ∙ ap (with_switch l fd) (append-nil (option_to_list n) ∙ i)
+-- the cell of a descriptor, and others
+pub own-put : (cells ns : List ℕ) (n m : ℕ) → cells ≡ listed (n ∷ (ns ++ [])) → n ≡ m → cells ≡ listed (m ∷ ns)
+own-put cells ns n m h e = h ∙ (ap (λ ks. listed (n ∷ ks)) (append-nil ns) ∙ ap (λ k. listed (k ∷ ns)) e)
+
+-- the cells of those whom a disconnect tells
+pub told-put : (p : Providers) (number : ℕ) (e : Endpoint) (n m k : Option ℕ) → option_to_list n ≡ peer_cell p e → option_to_list m ≡ target_cell p e → option_to_list k ≡ caller_cell p number e → option_to_list n ++ (option_to_list m ++ (option_to_list k ++ [])) ≡ told p number e
+told-put p number e n m k h i j = rw (h, i, j, append-nil (caller_cell p number e)) (sym (append_assoc (peer_cell p e) (target_cell p e) (caller_cell p number e)))

@@ -1,22 +1,75 @@
 //! t_look.
 
-ghost use Rattle.std.specs.Prelude.{◌≡◌, ◌∷◌, [], ℕ, true, is_some};
-ghost use Rattle.std.specs.List.{AllByRecursion};
+ghost use Rattle.std.specs.Prelude.{◌≡◌, ◌∷◌, [], ℕ, true, is_some, find};
 ghost use Rattle.xti_model.specs.Calls.Show as Show;
-ghost use Rattle.xti_model.specs.Events.{around};
+ghost use Rattle.xti_model.specs.Events.{around, can_send_again, is_here, is_pending, is_state, receiving};
 ghost use Rattle.xti_model.specs.declared.entry.Go.{Go};
 ghost use Rattle.xti_model.specs.World.{change_endpoint, at_endpoint, place_of, generation_of};
-ghost use Rattle.xti_end.specs.Held.{cell, is_open, parts};
+ghost use Rattle.xti_end.specs.Held.{cell, is_open, parts, with_parts};
 ghost use Rattle.xti_lent.specs.Answers.{AnswersCall, Changed, StaysBlocked};
-ghost use Rattle.xti_lent.specs.Fit.{AtOwnPlaces, IsBuilt, SameCells};
+ghost use Rattle.xti_lent.specs.Fit.{AtOwnPlaces, SameCells};
 ghost use Rattle.xti_lent.specs.Lending.{cells, held_at};
-ghost use Rattle.xti_core.specs.Looks.{first_at, goes_again, IsShownHere};
+ghost use Rattle.xti_core.specs.Looks.{around_lent, goes_again};
 
 use crate::touching::bound;
-use xti_base::{Errno, Event, Fd};
+use xti_base::{Errno, Event, Fd, State};
 use xti_end::Endpoint;
-use xti_lent::{Lent, done, refused};
+use xti_lent::{Lent, done, is_ready, refused};
 use xti_model::{Applied, Call, Providers, Reply};
+
+/// The events in the order in which they are shown.
+const EVENTS: [Event; 9] = [
+    Event::T_DISCONNECT,
+    Event::T_LISTEN,
+    Event::T_CONNECT,
+    Event::T_UDERR,
+    Event::T_EXDATA,
+    Event::T_DATA,
+    Event::T_ORDREL,
+    Event::T_GOEXDATA,
+    Event::T_GODATA,
+];
+
+/// Whether an open endpoint receives data in its state.
+fn is_receiving(e: &Endpoint) -> bool
+    requires { is_open e.now ≡ true }
+    ensures { result ≡ is_state receiving (parts e.now) }
+{
+    matches!(e.state(), State::T_DATAXFER | State::T_OUTREL)
+}
+
+/// Whether the event is there at an open endpoint, as far as that alone settles it.
+fn is_here(e: &Endpoint, event: Event) -> bool
+    requires { is_open e.now ≡ true }
+    ensures { result ≡ is_here (parts e.now) event }
+{
+    match event {
+        Event::T_DISCONNECT => e.has_disconnect(),
+        Event::T_LISTEN => e.has_pending(),
+        Event::T_CONNECT => e.state() == State::T_OUTCON && e.has_confirmation(),
+        Event::T_UDERR => e.has_datagram_error(),
+        Event::T_EXDATA => e.has_expedited() && is_receiving(e),
+        Event::T_DATA => {
+            (e.has_normal() && !e.mid_expedited() && is_receiving(e)) || e.has_datagram()
+        }
+        Event::T_ORDREL => {
+            e.release().is_some() && !e.has_normal() && !e.has_expedited() && is_receiving(e)
+        }
+        Event::T_GOEXDATA | Event::T_GODATA => false,
+    }
+}
+
+/// Whether the endpoint is linked, and its peer takes one more byte of the kind.
+fn can_send_again(lent: &Lent, fd: Fd, e: &Endpoint, expedited: bool) -> bool
+    requires own { AtOwnPlaces lent.now }
+    requires open { is_open e.now ≡ true }
+    ensures { result ≡ can_send_again (around_lent lent.now fd.0 (parts e.now)) expedited (parts e.now) }
+{
+    match lent.linked(fd, e) {
+        Some(peer) => is_ready(e, peer, expedited),
+        None => false,
+    }
+}
 
 /// Whether the endpoint has its datagram mark set, and the one that is bound there takes one more datagram.
 fn goes_again(lent: &Lent, e: &Endpoint) -> bool
@@ -36,37 +89,56 @@ fn goes_again(lent: &Lent, e: &Endpoint) -> bool
     }
 }
 
-/// The first event that is pending at an endpoint, which is one of datagrams.
-fn pending(lent: &Lent, fd: Fd, e: &Endpoint) -> Option<Event>
+/// Whether the event is there at an open endpoint among lent cells.
+fn is_pending(lent: &Lent, fd: Fd, e: &Endpoint, event: Event) -> bool
     requires own { AtOwnPlaces lent.now }
     requires open { is_open e.now ≡ true }
-    requires built { IsBuilt e.now }
-    ensures first { result ≡ first_at lent.now fd.0 (parts e.now) }
-    ensures here { IsShownHere result }
+    ensures { result ≡ is_pending (around_lent lent.now fd.0 (parts e.now)) (parts e.now) event }
 {
-    if e.has_datagram_error() {
-        Some(Event::T_UDERR)
-    } else if e.has_datagram() {
-        Some(Event::T_DATA)
-    } else if goes_again(lent, e) {
-        Some(Event::T_GODATA)
-    } else {
-        None
+    match event {
+        Event::T_GOEXDATA => e.flow_expedited() && can_send_again(lent, fd, e, true),
+        Event::T_GODATA => {
+            (e.flow_normal() && can_send_again(lent, fd, e, false)) || goes_again(lent, e)
+        }
+        _ => is_here(e, event),
     }
 }
 
-/// What showing the event makes of the endpoint with this descriptor: the flow event clears its mark.
-fn show_at(e: &mut Endpoint, p: &Providers, fd: Fd, event: Option<Event>)
-    requires place { e.old.place ≡ place_of p.now fd.0 }
-    requires here { IsShownHere event }
-    ensures cell { cell e.new ≡ change_endpoint (generation_of p.now fd.0) (Show.shown event) (cell e.old) }
-    ensures place { e.new.place ≡ e.old.place }
+/// The first of these events that is pending at an open endpoint among lent cells.
+fn first_pending(lent: &Lent, fd: Fd, e: &Endpoint, events: &[Event]) -> Option<Event>
+    requires own { AtOwnPlaces lent.now }
+    requires open { is_open e.now ≡ true }
+    ensures { result ≡ find (is_pending (around_lent lent.now fd.0 (parts e.now)) (parts e.now)) events.now }
 {
-    if let Some(Event::T_GODATA) = event {
-        if e.is(p, fd) {
+    events
+        .iter()
+        .copied()
+        .find(|event| is_pending(lent, fd, e, *event))
+}
+
+/// What showing the event makes of an open endpoint: a flow event clears its marks.
+fn show_in(e: &mut Endpoint, event: Option<Event>)
+    requires { is_open e.old ≡ true }
+    ensures { e.new ≡ with_parts (Show.shown event) e.old }
+{
+    match event {
+        Some(Event::T_GODATA) => {
             e.set_flow_normal(false);
             e.set_mark(None);
         }
+        Some(Event::T_GOEXDATA) => e.set_flow_expedited(false),
+        _ => {}
+    }
+}
+
+/// The same of the endpoint with this descriptor, where it is open.
+fn show_at(e: &mut Endpoint, p: &Providers, fd: Fd, event: Option<Event>)
+    requires { e.old.place ≡ place_of p.now fd.0 }
+    ensures cell { cell e.new ≡ change_endpoint (generation_of p.now fd.0) (Show.shown event) (cell e.old) }
+    ensures place { e.new.place ≡ e.old.place }
+{
+    if e.is(p, fd) {
+        show_in(e, event);
     }
 }
 
@@ -74,7 +146,6 @@ fn show_at(e: &mut Endpoint, p: &Providers, fd: Fd, event: Option<Event>)
 fn show(lent: &mut Lent, fd: Fd, event: Option<Event>)
     requires own { AtOwnPlaces lent.old }
     requires there { is_some (held_at lent.old (place_of lent.old.providers fd.0)) ≡ true }
-    requires here { IsShownHere event }
     ensures cells { Changed (at_endpoint fd.0 (Show.shown event) ∷ []) lent.old lent.new }
     ensures kept { SameCells lent.old lent.new }
 {
@@ -82,17 +153,16 @@ fn show(lent: &mut Lent, fd: Fd, event: Option<Event>)
     show_at(lent.endpoint(p.place_of(fd)), &p, fd, event);
 }
 
-/// t_look: the first pending event. Takes no memory.
+/// t_look: the first pending event; a flow event is then cleared. Takes no memory.
 pub(crate) fn look(lent: &mut Lent, fd: Fd) -> Applied
-    requires places { AtOwnPlaces lent.old }
-    requires built { AllByRecursion IsBuilt lent.old.held }
+    requires { AtOwnPlaces lent.old }
     ensures step { (g : Go) → AnswersCall (Call.TLookAt fd) g lent.old lent.new result }
     ensures still { StaysBlocked lent.old lent.new result }
     ensures kept { SameCells lent.old lent.new }
 {
     let event = match lent.open_endpoint(fd) {
         None => return refused(lent, fd, Errno::TBADF),
-        Some(e) => pending(lent, fd, e),
+        Some(e) => first_pending(lent, fd, e, &EVENTS),
     };
     show(lent, fd, event);
     done(lent, fd, Reply::Seen { event })

@@ -1,20 +1,19 @@
 //! The cells that a call touches.
 
-ghost use Rattle.std.specs.Prelude.{◌≡◌, ◌≤◌, ◌<◌, ◌∷◌, ◌++◌, [], true, length, List, ℕ, ◌+◌, option_map, option_to_list, IfSome};
+ghost use Rattle.std.specs.Prelude.{◌≡◌, ◌≤◌, ◌<◌, ◌∷◌, ◌++◌, [], true, length, List, ℕ, ◌+◌, option_map, option_to_list};
 ghost use Rattle.std.specs.List.{AllByRecursion};
 ghost use Rattle.xti_base.specs.declared.limits.TheConstants.{MOST_TOUCHED};
-ghost use Rattle.xti_model.specs.Built.{is_built};
 ghost use Rattle.xti_model.specs.Cells.{listed};
 ghost use Rattle.xti_model.specs.Sound.{is_sound_body};
-ghost use Rattle.xti_model.specs.Switch.{bound, opening_place};
+ghost use Rattle.xti_model.specs.Switch.{bound, listener, opening_place};
 ghost use Rattle.xti_model.specs.Touched.{touched, of_some, cell_of, marked_cells};
 ghost use Rattle.xti_model.specs.World.{the_switch, place_of};
 ghost use Rattle.xti_end.specs.Held.{is_open, parts};
 ghost use Rattle.xti_lent.specs.Lending.{cells};
 ghost use Rattle.xti_lent.specs.Fit.{AtOwnPlaces, IsSound};
-ghost use Rattle.xti_core.specs.Touches.{known, with_switch, opening_cells, closing_cells, receiving_cell, looking_cells, HasRoomForTwo};
+ghost use Rattle.xti_core.specs.Touches.{known, told, with_switch, opening_cells, closing_cells, accepting_cells, disconnecting_cells, receiving_cell, listening_cell, calling_cell, connected_cell, looking_cells, HasRoomForTwo};
 
-use xti_base::{Fd, Prov};
+use xti_base::{Fd, Prov, Seq};
 use xti_end::Endpoint;
 use xti_lent::{Lent, is_provider};
 use xti_model::{Call, Cells};
@@ -25,6 +24,14 @@ pub(crate) fn bound(lent: &Lent, prov: Prov, addr: &[u8]) -> Option<Fd>
 {
     let registry = lent.find_registry()?;
     registry.bound(prov, addr, false)
+}
+
+/// The least descriptor but this one that listens at the address, as far as the switch is lent.
+fn listener(lent: &Lent, prov: Prov, addr: &[u8], except: Fd) -> Option<Fd>
+    ensures { option_map (λ fd. fd.0) result ≡ listener (the_switch lent.now.providers (cells lent.now)) prov addr.now except.0 }
+{
+    let registry = lent.find_registry()?;
+    registry.listener(prov, addr, except)
 }
 
 /// The place that opens, as far as the switch is lent.
@@ -68,11 +75,12 @@ fn opening_cells(lent: &Lent, prov: Prov) -> Cells
     with(place, Some(lent.providers().switch_number()))
 }
 
-/// The cell of a descriptor.
-fn own_cell(lent: &Lent, fd: Fd) -> Cells
-    ensures { result ≡ listed (place_of lent.now.providers fd.0 ∷ []) }
+/// The cell of a descriptor, and one more where it is named.
+fn own_cells(lent: &Lent, fd: Fd, other: Option<u32>) -> Cells
+    ensures { result ≡ listed (place_of lent.now.providers fd.0 ∷ option_to_list other) }
 {
-    with(Cells::new(), Some(lent.place_of(fd)))
+    let others = with(Cells::new(), other);
+    with(others, Some(lent.place_of(fd)))
 }
 
 /// These cells, the switch's and a descriptor's.
@@ -82,6 +90,13 @@ fn with_own_and_switch(lent: &Lent, others: Cells, fd: Fd) -> Cells
 {
     let switch = with(others, Some(lent.providers().switch_number()));
     with(switch, Some(lent.place_of(fd)))
+}
+
+/// The cell of a descriptor, the switch's, and one more where it is named.
+fn switch_cells(lent: &Lent, fd: Fd, other: Option<u32>) -> Cells
+    ensures { result ≡ with_switch lent.now fd.0 (option_to_list other) }
+{
+    with_own_and_switch(lent, with(Cells::new(), other), fd)
 }
 
 /// The cells of the other endpoints that an open endpoint knows: its peer, its listener and its callers.
@@ -120,13 +135,69 @@ fn bound_place(lent: &Lent, fd: Fd, addr: &[u8]) -> Option<u32>
     }
 }
 
-/// The cells of a datagram's send.
-fn sending_cells(lent: &Lent, fd: Fd, addr: &[u8]) -> Cells
+/// The same of the other one that listens there.
+fn listening_place(lent: &Lent, fd: Fd, addr: &[u8]) -> Option<u32>
     requires { AtOwnPlaces lent.now }
-    ensures { result ≡ with_switch lent.now fd.0 (receiving_cell lent.now fd.0 addr.now) }
+    ensures { option_to_list result ≡ listening_cell lent.now fd.0 addr.now }
 {
-    let receiver = with(Cells::new(), bound_place(lent, fd, addr));
-    with_own_and_switch(lent, receiver, fd)
+    match lent.open_endpoint(fd) {
+        Some(e) => place_of_named(lent, listener(lent, e.prov(), addr, fd)),
+        None => None,
+    }
+}
+
+/// The place of the caller that waits for an answer under the number.
+fn calling_place(lent: &Lent, fd: Fd, seq: Seq) -> Option<u32>
+    requires { AtOwnPlaces lent.now }
+    ensures { option_to_list result ≡ calling_cell lent.now fd.0 seq.0 }
+{
+    match lent.open_endpoint(fd) {
+        Some(e) => place_of_named(lent, e.caller(seq)),
+        None => None,
+    }
+}
+
+/// The place of the peer.
+fn peer_place(lent: &Lent, fd: Fd) -> Option<u32>
+    requires { AtOwnPlaces lent.now }
+    ensures { option_to_list result ≡ connected_cell lent.now fd.0 }
+{
+    match lent.open_endpoint(fd) {
+        Some(e) => place_of_named(lent, e.peer()),
+        None => None,
+    }
+}
+
+/// The cells of an accept.
+fn accepting_cells(lent: &Lent, fd: Fd, resfd: Fd, seq: Seq) -> Cells
+    requires { AtOwnPlaces lent.now }
+    ensures { result ≡ accepting_cells lent.now fd.0 resfd.0 seq.0 }
+{
+    let caller = with(Cells::new(), calling_place(lent, fd, seq));
+    let both = with(caller, Some(lent.place_of(resfd)));
+    with_own_and_switch(lent, both, fd)
+}
+
+/// The cells of those whom an open endpoint's disconnect tells: its peer, its listener, and the caller with the number.
+fn told_cells(lent: &Lent, e: &Endpoint, seq: Seq) -> Cells
+    requires { is_open e.now ≡ true }
+    ensures cells { result ≡ listed (told lent.now.providers seq.0 (parts e.now)) }
+    ensures few { HasRoomForTwo result }
+{
+    let caller = with(Cells::new(), place_of_named(lent, e.caller(seq)));
+    let asking = with(caller, place_of_named(lent, e.target()));
+    with(asking, place_of_named(lent, e.peer()))
+}
+
+/// The cells of a disconnect.
+fn disconnecting_cells(lent: &Lent, fd: Fd, seq: Seq) -> Cells
+    requires { AtOwnPlaces lent.now }
+    ensures { result ≡ disconnecting_cells lent.now fd.0 seq.0 }
+{
+    match lent.open_endpoint(fd) {
+        Some(e) => with(told_cells(lent, e, seq), Some(lent.place_of(fd))),
+        None => own_cells(lent, fd, None),
+    }
 }
 
 /// The cells of an open endpoint's datagram mark.
@@ -155,18 +226,17 @@ fn looking_cells(lent: &Lent, fd: Fd) -> Cells
             let others = with(marked_cells(lent, e), place_of_named(lent, e.peer()));
             with(others, Some(lent.place_of(fd)))
         }
-        None => own_cell(lent, fd),
+        None => own_cells(lent, fd, None),
     }
 }
 
-/// The cells that a built call touches, as far as the lent ones tell, in rising order: with nothing lent, that of its
-/// descriptor, and that of the switch where each such call needs it. Takes no memory.
+/// The cells that a call touches, as far as the lent ones tell, in rising order: with nothing lent, that of its descriptor,
+/// and that of the switch where each such call needs it. Takes no memory.
 ///
 /// A step is settled by these cells of a whole world, and changes no others: the law `touched_cells_settle_a_step`. Once the
 /// lent cells have all that is named here, these are the cells that the call touches in the whole world, and a step on them is
 /// the step of that world: the law `some_cells_are_enough`.
 pub fn touch(call: &Call, lent: &Lent) -> Cells
-    requires built { is_built call.now ≡ true }
     requires places { AtOwnPlaces lent.now }
     requires sound { AllByRecursion IsSound lent.now.held }
     ensures { result ≡ touched lent.now.providers (cells lent.now) call.now }
@@ -174,17 +244,33 @@ pub fn touch(call: &Call, lent: &Lent) -> Cells
     match call {
         Call::TOpen { prov, .. } => opening_cells(lent, *prov),
         Call::TClose { fd } => closing_cells(lent, *fd),
-        Call::TBind { fd, .. } => with_own_and_switch(lent, Cells::new(), *fd),
-        Call::TUnbind { fd } => with_own_and_switch(lent, Cells::new(), *fd),
-        Call::TSndUData { fd, addr, .. } => sending_cells(lent, *fd, addr.as_slice()),
-        Call::TSndVUData { fd, addr, .. } => sending_cells(lent, *fd, addr.as_slice()),
+        Call::TBind { fd, .. } | Call::TUnbind { fd } => switch_cells(lent, *fd, None),
+        Call::TConnect { fd, addr, .. } => {
+            switch_cells(lent, *fd, listening_place(lent, *fd, addr.as_slice()))
+        }
+        Call::TAccept { fd, resfd, seq, .. } => accepting_cells(lent, *fd, *resfd, *seq),
+        Call::TSnd { fd, .. } | Call::TSndV { fd, .. } | Call::TSndRel { fd } => {
+            own_cells(lent, *fd, peer_place(lent, *fd))
+        }
+        Call::TSndDis { fd, seq, .. } => disconnecting_cells(lent, *fd, *seq),
+        Call::TSndUData { fd, addr, .. } | Call::TSndVUData { fd, addr, .. } => {
+            switch_cells(lent, *fd, bound_place(lent, *fd, addr.as_slice()))
+        }
         Call::TLookAt { fd } => looking_cells(lent, *fd),
-        Call::TRcvUData { fd, .. } => own_cell(lent, *fd),
-        Call::TRcvVUData { fd, .. } => own_cell(lent, *fd),
-        Call::TRcvUDErr { fd, .. } => own_cell(lent, *fd),
-        Call::TGetState { fd } => own_cell(lent, *fd),
-        Call::TSync { fd } => own_cell(lent, *fd),
-        Call::SetMode { fd, .. } => own_cell(lent, *fd),
-        _ => unreachable!(),
+        Call::TRcvConnect { fd, .. }
+        | Call::TListen { fd, .. }
+        | Call::TRcv { fd, .. }
+        | Call::TRcvV { fd, .. }
+        | Call::TRcvDis { fd, .. }
+        | Call::TRcvRel { fd }
+        | Call::TRcvUData { fd, .. }
+        | Call::TRcvVUData { fd, .. }
+        | Call::TRcvUDErr { fd, .. }
+        | Call::TGetState { fd }
+        | Call::TSync { fd }
+        | Call::TGetInfo { fd }
+        | Call::TGetProtAddr { fd, .. }
+        | Call::TOptMgmt { fd, .. }
+        | Call::SetMode { fd, .. } => own_cells(lent, *fd, None),
     }
 }

@@ -1,4 +1,3 @@
-pub mod Sound
 pub mod Sizes
 pub mod Rows
 pub mod Reached

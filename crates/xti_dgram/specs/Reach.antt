@@ -2,12 +2,9 @@
 use Rattle.std.specs.Prelude.{◌≡◌, ℕ, true, List, Some, is_some}
 use Rattle.xti_model.specs.Endpoint.{Endpoint}
 use Rattle.xti_model.specs.Switch.{bound}
-use Rattle.xti_model.specs.World.{endpoint, place_of, the_switch}
-use Rattle.xti_lent.specs.Lending.{Lending, cells, held_at}
-
--- the place of the descriptor is lent
-abbrev pub IsHeld : Lending → ℕ → Type 0
-IsHeld l fd = is_some (held_at l (place_of l.providers fd)) ≡ true
+use Rattle.xti_model.specs.World.{endpoint, the_switch}
+use Rattle.xti_lent.specs.Lending.{Lending, cells}
+use Rattle.xti_lent.specs.Lends.{IsHeld}
 
 -- the switch's table is lent, and the place of whoever is bound to the address
 pub record CanReach (l : Lending) (fd : ℕ) (address : List ℕ) : Type 0 where

@@ -7,10 +7,10 @@ use Rattle.xti_model.specs.declared.call.Call.TheVariants as call
 use Rattle.xti_model.specs.Calls.Datagrams.{datagram_from, send_changes, send_plan, send_rows, with_datagram, with_error_unmarked, mark_flow}
 use Rattle.xti_model.specs.Endpoint.{Endpoint, Datagram, DatagramError}
 use Rattle.xti_model.specs.Plan.{Plan, Refusal, first}
-use Rattle.xti_model.specs.World.{Change, endpoint, place_of, generation_of, at_endpoint, change_endpoint}
+use Rattle.xti_model.specs.World.{Change, endpoint, at_endpoint}
 use Rattle.xti_model.specs.declared.profile.Providers.{Providers}
 use Rattle.xti_end.specs.Frames.{datagram_in}
-use Rattle.xti_end.specs.Held.{Held, cell, parts_of}
+use Rattle.xti_end.specs.Held.{Held, parts_of}
 use Rattle.xti_lent.specs.Answers.{Changed}
 use Rattle.xti_lent.specs.Lending.{Lending, cells}
 
@@ -57,11 +57,3 @@ giving fd to d = at_endpoint to (with_datagram d) ∷ at_endpoint fd (mark_flow 
 -- an error waits at the sender, and its flow mark is cleared
 abbrev pub failing : ℕ → DatagramError → List Change
 failing fd error = at_endpoint fd (with_error_unmarked error) ∷ []
-
--- the endpoint changes, where it is open at the place with this descriptor
-abbrev pub ChangesAt : Providers → ℕ → (Endpoint → Endpoint) → Held → Held → Type 0
-ChangesAt p fd f old new = cell new ≡ change_endpoint (generation_of p fd) f (cell old)
-
--- the place is that of the descriptor
-abbrev pub IsPlaceOf : Providers → ℕ → Held → Type 0
-IsPlaceOf p fd h = h.place ≡ place_of p fd

@@ -1,6 +1,6 @@
 //! The indications of datagrams and their errors, as frames.
 
-ghost use Rattle.std.specs.Prelude.{◌≡◌, ◌≤◌, ◌^◌, ◌-◌, length, min, true, Ok, Some, IfOk, IsErrOf};
+ghost use Rattle.std.specs.Prelude.{◌≡◌, ◌≤◌, ◌^◌, ◌-◌, length, min, true, Some, IfOk, IsErrOf};
 ghost use Rattle.std.specs.List.{concat};
 ghost use Rattle.xti_base.specs.declared.limits.TheConstants.{MOST_ADDRESS, MOST_OPTIONS, MOST_SEND};
 ghost use Rattle.tpi_grammar.specs.declared.kind.Kind.TheVariants.{T_UNITDATA_IND, T_UDERROR_IND};
@@ -16,6 +16,7 @@ use tpi_prim::{EncodeFail, Frame, encode_uderror_ind, encode_unitdata_ind};
 use xti_base::Octets;
 use xti_base::reasons::UNDELIVERABLE;
 use xti_end::Endpoint;
+use xti_lent::{address_of, unless_too_big};
 
 /// How many bytes the parts have, up to the greatest number.
 pub(crate) fn total(parts: &[Octets]) -> usize
@@ -38,29 +39,6 @@ fn joined(alloc: Global, parts: &[Octets]) -> Result<Vec<u8>, AllocError>
         bytes.extend_from_slice(part.as_slice())?;
     }
     Ok(bytes)
-}
-
-/// The frame of a primitive that isn't too big.
-fn unless_too_big(encoded: Result<Frame, EncodeFail>) -> Result<Frame, AllocError>
-    requires { IsErrOf encoded EncodeFail.TooBig → ⊥ }
-    ensures { IfOk result (λ frame. encoded ≡ Ok frame) }
-{
-    match encoded {
-        Ok(frame) => Ok(frame),
-        Err(EncodeFail::OutOfMemory) => Err(AllocError),
-        Err(EncodeFail::TooBig) => unreachable!(),
-    }
-}
-
-/// The address of an open endpoint; empty where there is none.
-fn address_of(e: &Endpoint) -> &[u8]
-    requires { Held.is_open e.now ≡ true }
-    ensures { result.now ≡ address_of (Held.parts e.now) }
-{
-    match e.address() {
-        Some(address) => address.as_slice(),
-        None => &[],
-    }
 }
 
 /// The T_UNITDATA_IND of a datagram that the open endpoint sends, which isn't too big. A datagram of one part is copied once.

@@ -6,7 +6,7 @@ ghost use Rattle.tpi_prim.specs.Fields.{kind_in};
 ghost use Rattle.xti_model.specs.Spot.{spot_bytes};
 ghost use Rattle.xti_model.specs.Calls.Datagrams.{mark_flow, with_datagram, with_error_unmarked};
 ghost use Rattle.xti_end.specs.Frames.{datagram_in, error_in};
-ghost use Rattle.xti_dgram.specs.Sends.{ChangesAt, IsPlaceOf};
+ghost use Rattle.xti_lent.specs.Lends.{ChangesAt, IsPlaceOf};
 
 use std::alloc::AllocError;
 use tpi_prim::Frame;

@@ -2,31 +2,17 @@
 
 ghost use Rattle.std.specs.Prelude.{◌≡◌, ◌^◌, ◌-◌, ℕ, true, min, option_map};
 ghost use Rattle.std.specs.List.{concat};
-ghost use Rattle.xti_model.specs.Arguments.{bad_address, bad_options};
 ghost use Rattle.xti_model.specs.Calls.Datagrams.{is_over, is_bad_datagram};
 ghost use Rattle.xti_model.specs.Plan.{answers};
 ghost use Rattle.xti_end.specs.Held as Held;
 ghost use Rattle.xti_dgram.specs.Sends.{refusal_of};
 
 use crate::indications::total;
-use xti_base::limits::{MOST_ADDRESS, MOST_OPTIONS, MOST_PARTS};
-use xti_base::{Errno, Event, Limit, Octets, State, is_option_list};
+use xti_base::limits::MOST_PARTS;
+use xti_base::{Errno, Event, Limit, Octets, State};
 use xti_end::{Endpoint, has_datagrams, profile};
+use xti_lent::{is_bad_address, is_bad_options};
 use xti_model::{Profile, Providers, Reply};
-
-/// Whether the bytes can't be an address.
-fn is_bad_address(address: &[u8]) -> bool
-    ensures { result ≡ (bad_address address.now).holds }
-{
-    address.is_empty() || address.len() > MOST_ADDRESS
-}
-
-/// Whether the bytes can't be options.
-fn is_bad_options(options: &[u8]) -> bool
-    ensures { result ≡ (bad_options options.now).holds }
-{
-    options.len() > MOST_OPTIONS || !is_option_list(options)
-}
 
 /// Whether so many bytes are over the limit, where those are counted up to the greatest number.
 fn is_over(limit: Limit, n: usize) -> bool

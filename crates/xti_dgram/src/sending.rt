@@ -11,7 +11,8 @@ ghost use Rattle.xti_model.specs.World.{the_switch};
 ghost use Rattle.xti_lent.specs.Answers.{AnswersBy, IsSureBy, StaysBlocked};
 ghost use Rattle.xti_lent.specs.Fit.{AtOwnPlaces, IsFit, SameCells};
 ghost use Rattle.xti_lent.specs.Lending.{cells};
-ghost use Rattle.xti_dgram.specs.Reach.{CanReach, IsHeld};
+ghost use Rattle.xti_lent.specs.Lends.{IsHeld};
+ghost use Rattle.xti_dgram.specs.Reach.{CanReach};
 ghost use Rattle.xti_dgram.specs.Sends.{number_of, receiver_at, sender, sending, Delivers, IsDatagramOf};
 
 use crate::indications::{datagram, datagram_error};

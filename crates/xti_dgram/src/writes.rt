@@ -9,7 +9,7 @@ ghost use Rattle.xti_model.specs.Calls.Datagrams.{mark_flow, with_datagram};
 ghost use Rattle.xti_end.specs.Frames.{datagram_in, error_in};
 ghost use Rattle.xti_lent.specs.Answers.{Changed};
 ghost use Rattle.xti_lent.specs.Fit.{AtOwnPlaces, SameCells};
-ghost use Rattle.xti_dgram.specs.Reach.{IsHeld};
+ghost use Rattle.xti_lent.specs.Lends.{IsHeld};
 ghost use Rattle.xti_dgram.specs.Sends.{failing, giving};
 
 use crate::places;

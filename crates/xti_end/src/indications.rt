@@ -9,7 +9,7 @@ ghost use Rattle.xti_model.specs.Cells.{listed};
 ghost use Rattle.xti_model.specs.Calls.Listen.{taken_out};
 ghost use Rattle.xti_model.specs.Endpoint.{find_number, without_number};
 ghost use Rattle.xti_model.specs.Events.{some_wait};
-ghost use Rattle.xti_model.specs.Sound.{is_sound_body};
+ghost use Rattle.xti_model.specs.Sound.{is_sound_body, requests};
 ghost use Rattle.xti_model.specs.Touched.{of_some, caller_cells};
 ghost use Rattle.xti_end.specs.Callers.{caller_place, with_numbers};
 ghost use Rattle.xti_end.specs.Frames.{indication_of, request_in, confirmation_in, disconnect_in, AreRequests, IsRequest};
@@ -219,6 +219,24 @@ impl Endpoint {
         if let Some(parts) = &mut self.body {
             parts.connection.confirmation = None;
         }
+    }
+
+    /// How many requests to connect the open endpoint hasn't answered.
+    pub fn requests(&self) -> usize
+        requires open { is_open self.now ≡ true }
+        requires sound { is_sound_body self.now.body ≡ true }
+        ensures { result ≡ requests (parts self.now) }
+    {
+        self.waiting.pending.len() + self.waiting.outstanding.len()
+    }
+
+    /// The outstanding request with this sequence number, a T_CONN_IND; `None` exactly where there is none. Takes no memory.
+    pub fn request(&self, seq: Seq) -> Option<&Ind>
+        requires { is_open self.now ≡ true }
+        ensures request { option_map indication_of (option_copied result) ≡ find_number seq.0 (parts self.now).outstanding }
+        ensures kind { IfSome result (λ ind. IsRequest ind.now) }
+    {
+        find_number(self.waiting.outstanding.as_slice(), seq)
     }
 
     /// The caller of the outstanding request with this sequence number; `None` exactly where there is none. Takes no memory.

@@ -25,4 +25,5 @@ mod values;
 pub use endpoint::Endpoint;
 pub use fields::{is_too_long, trimmed, trimmed_copy};
 pub use indications::Ind;
-pub use providers::{has_datagrams, profile};
+pub use listening::{caller_address, is_listening};
+pub use providers::{has_connections, has_datagrams, profile};

@@ -23,15 +23,15 @@ use tpi_prim::primitive::Part;
 use xti_base::{Errno, Event, Fd, Seq, State};
 use xti_model::{Applied, Providers, Reply};
 
-/// Whether requests are listened for in the state.
-fn is_listening(state: State) -> bool
+/// Whether an endpoint in this state takes requests to connect.
+pub fn is_listening(state: State) -> bool
     ensures { result ≡ list_any (same_state state) (T_IDLE ∷ T_INCON ∷ []) }
 {
     state.is(State::T_IDLE) || state.is(State::T_INCON)
 }
 
 /// The address of the caller of a request.
-fn address(ind: &Ind) -> &[u8]
+pub fn caller_address(ind: &Ind) -> &[u8]
     requires { IsRequest ind.now }
     ensures { result.now ≡ (indication_of ind.now).address }
 {
@@ -63,8 +63,8 @@ fn data(ind: &Ind) -> &[u8]
 }
 
 impl Endpoint {
-    /// How many requests are outstanding.
-    fn ocnt(&self) -> usize
+    /// How many requests are outstanding at the open endpoint.
+    pub fn ocnt(&self) -> usize
         requires { is_open self.now ≡ true }
         ensures { result ≡ ocnt (parts self.now) }
     {
@@ -91,7 +91,7 @@ impl Endpoint {
         ensures { result ≡ list_any is_too_long (Listen.fields (Listen.oldest (parts self.now)) amax omax umax) }
     {
         let ind = self.oldest_request();
-        is_too_long(address(ind), amax)
+        is_too_long(caller_address(ind), amax)
             || is_too_long(options(ind), omax)
             || is_too_long(data(ind), umax)
     }
@@ -105,7 +105,7 @@ impl Endpoint {
         let ind = self.oldest_request();
         Ok(Reply::Listened {
             seq: number(ind),
-            addr: trimmed_copy(self.alloc, address(ind), amax)?,
+            addr: trimmed_copy(self.alloc, caller_address(ind), amax)?,
             opt: trimmed_copy(self.alloc, options(ind), omax)?,
             udata: trimmed_copy(self.alloc, data(ind), umax)?,
         })

@@ -7,3 +7,5 @@ pub mod Removals
 pub mod Written
 pub mod Named
 pub mod Agreeing
+pub mod Opened
+pub mod Sound

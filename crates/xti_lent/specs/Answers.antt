@@ -3,6 +3,7 @@ use Rattle.std.specs.Prelude.{◌≡◌, ℕ, false, List, Option, Some, None, R
 use Rattle.xti_model.specs.declared.call.Call.{Call}
 use Rattle.xti_model.specs.declared.entry.Applied.{Applied}
 use Rattle.xti_model.specs.declared.entry.Go.{Go}
+use Rattle.xti_model.specs.declared.entry.Outcome.{Outcome}
 use Rattle.xti_model.specs.declared.entry.Outcome.TheVariants.{Done}
 use Rattle.xti_model.specs.declared.entry.Reply.{Reply}
 use Rattle.xti_model.specs.Memory.{may_run_out}
@@ -12,9 +13,13 @@ use Rattle.xti_model.specs.World.{Change, changed}
 use Rattle.xti_end.specs.Taken.{taken}
 use Rattle.xti_lent.specs.Lending.{Lending, cells}
 
+-- the step has this outcome, and the lent cells are as they were
+abbrev pub IsMade : Lending → ℕ → Outcome → Applied → Type 0
+IsMade l fd outcome a = taken a (cells l) ≡ Some (made l.providers fd outcome (cells l))
+
 -- the call is done with this reply, and the lent cells are as they were
 abbrev pub IsDone : Lending → ℕ → Reply → Applied → Type 0
-IsDone l fd reply a = taken a (cells l) ≡ Some (made l.providers fd (Done reply) (cells l))
+IsDone l fd reply a = IsMade l fd (Done reply) a
 
 -- the answer, and the cells that are left, are those of this step
 abbrev pub Answers : Option Step → Lending → Applied → Type 0

@@ -1,6 +1,6 @@
 //! Lent cells.
 
-ghost use Rattle.std.specs.Prelude.{◌≡◌, ◌<◌, true, false, None, Some, [], ◌==◌, length, is_some, option_map, IfSome, position, nat_eq};
+ghost use Rattle.std.specs.Prelude.{◌≡◌, ◌<◌, true, false, None, Some, [], ◌==◌, length, is_some, option_map, IfNone, IfSome, position, nat_eq};
 ghost use Rattle.std.specs.Borrow.{sem};
 ghost use Rattle.std.specs.List.{AllByRecursion};
 ghost use Rattle.std.specs.Option.{option_copied};
@@ -11,7 +11,7 @@ ghost use Rattle.xti_end.specs.Held.{is_open_as, parts};
 ghost use Rattle.xti_lent.specs.Fit.{AtOwnPlaces, IsBuilt};
 ghost use Rattle.xti_lent.specs.Kept.{Distinct};
 ghost use Rattle.xti_lent.specs.Lending.{held_at, is_lent, cells, lending, without_place};
-ghost use Rattle.xti_lent.specs.Lends.{LendsEndpoint, LendsRegistry};
+ghost use Rattle.xti_lent.specs.Lends.{IsOpenAt, LendsEndpoint, LendsRegistry};
 
 use arrayvec::ArrayVec;
 use std::alloc::Global;
@@ -166,6 +166,16 @@ impl Lent {
         } else {
             None
         }
+    }
+
+    /// The place of the endpoint that is open with this descriptor, among those that are lent; `None` where none is.
+    pub fn open_place(&self, fd: Fd) -> Option<u32>
+        requires { AtOwnPlaces self.now }
+        ensures place { IfSome result (λ place. IsOpenAt self.now fd.0 place) }
+        ensures none { IfNone result (endpoint self.now.providers (cells self.now) fd.0 ≡ None) }
+    {
+        let _endpoint = self.open_endpoint(fd)?;
+        Some(self.place_of(fd))
     }
 
     /// The same to be changed.

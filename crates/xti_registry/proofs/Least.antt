@@ -1,5 +1,6 @@
 -- The least descriptor of bindings, whatever their order.
-use Rattle.std.proofs.Common.{◌≡◌, ◌∙◌, ℕ, Bool, true, false, cond, List, [], ◌∷◌, ◌++◌, map, filter, take, drop, Option, Some, None, min, refl, sym, ap, arith}
+use Rattle.std.proofs.Common.{◌≡◌, ◌∙◌, ℕ, Bool, true, false, not, ◌&&◌, cond, List, [], ◌∷◌, ◌++◌, map, filter, take, drop, Option, Some, None, min, refl, sym, ap, arith}
+use Rattle.std.specs.Prelude.{◌==◌}
 use Rattle.std.specs.List.{AllByRecursion}
 use Rattle.std.proofs.lemmas.List.{take-append-drop}
 use Rattle.xti_model.specs.World.{Binding}
@@ -71,3 +72,18 @@ least_front test bs n h =
     let all : least_of test (take n bs ++ drop n bs) ≡ least_of test bs = ap (least_of test) (take-append-drop n bs) in
     let rest = least_append test (take n bs) (drop n bs) ∙ (ap (both (least_of test (take n bs))) (least_none test (drop n bs) h) ∙ both_none (least_of test (take n bs))) in
     sym rest ∙ all
+
+-- the least of those that are another's
+others_of : (test : Binding → Bool) (fd : ℕ) (bs : List Binding) → map (λ (b : Binding). b.fd) (filter (λ b. not (b.fd == fd) && test b) bs) ≡ filter (λ other. not (other == fd)) (map (λ (b : Binding). b.fd) (filter test bs))
+others_of test fd [] = refl
+others_of test fd (b ∷ bs) = by_tests (b.fd == fd) (test b) refl (others_of test fd bs)
+  where
+    by_tests : (s t : Bool) → (b.fd == fd) ≡ s → map (λ (x : Binding). x.fd) (filter (λ x. not (x.fd == fd) && test x) bs) ≡ filter (λ other. not (other == fd)) (map (λ (x : Binding). x.fd) (filter test bs))
+        → map (λ (x : Binding). x.fd) (cond (not s && t) (b ∷ filter (λ x. not (x.fd == fd) && test x) bs) (filter (λ x. not (x.fd == fd) && test x) bs)) ≡ filter (λ other. not (other == fd)) (map (λ (x : Binding). x.fd) (cond t (b ∷ filter test bs) (filter test bs)))
+    by_tests true true e h = rw e h
+    by_tests true false e h = h
+    by_tests false true e h = rw e (ap (λ ns. b.fd ∷ ns) h)
+    by_tests false false e h = h
+
+pub least_beside : (test : Binding → Bool) (fd : ℕ) (bs : List Binding) → least_of (λ b. not (b.fd == fd) && test b) bs ≡ least (filter (λ other. not (other == fd)) (map (λ (b : Binding). b.fd) (filter test bs)))
+least_beside test fd bs = ap least (others_of test fd bs)

@@ -10,7 +10,7 @@ use Rattle.xti_base.specs.declared.kinds.Prov.{Prov}
 use Rattle.xti_model.specs.Switch.{is_bound, less}
 use Rattle.xti_model.specs.World.{Binding}
 use Rattle.xti_registry.specs.Chains.{Leads, keys_in}
-use Rattle.xti_registry.specs.Known.{is_asked}
+use Rattle.xti_registry.specs.Known.{is_asked, is_other, is_there}
 use Rattle.xti_registry.specs.Links.{binding_at, bindings_of}
 use Rattle.xti_registry.specs.Word.{mixed, word_of, chain_of, binding_chain}
 use Rattle.xti_registry.specs.declared.addresses.Addresses.{Addresses}
@@ -44,13 +44,20 @@ same_word prov address b h = by_tests (eqb (prov_number b.prov) (prov_number pro
     by_tests false true e f k = cc
     by_tests false false e f k = cc
 
-not_asked : (prov : Prov) (address : List ℕ) (listening : Bool) (b : Binding) → is_bound prov address b ≡ false → is_asked prov address listening b ≡ false
-not_asked prov address false b h = h
-not_asked prov address true b h = rw h refl
+not_there : (prov : Prov) (address : List ℕ) (listening : Bool) (b : Binding) → is_bound prov address b ≡ false → is_there prov address listening b ≡ false
+not_there prov address false b h = h
+not_there prov address true b h = rw h refl
+
+not_asked : (prov : Prov) (address : List ℕ) (listening : Bool) (except : Option ℕ) (b : Binding) → is_bound prov address b ≡ false → is_asked prov address listening except b ≡ false
+not_asked prov address listening except b h = rw (not_there prov address listening b h) (by_test (is_other except b))
+  where
+    by_test : (t : Bool) → (t && false) ≡ false
+    by_test true = refl
+    by_test false = refl
 
 -- what is in another chain isn't asked for
-elsewhere_not_asked : (prov : Prov) (address : List ℕ) (listening : Bool) (b : Binding) → (eqb (binding_chain b) (chain_of (word_of prov address))) ≡ false → is_asked prov address listening b ≡ false
-elsewhere_not_asked prov address listening b h = not_asked prov address listening b (by_test (is_bound prov address b) refl)
+elsewhere_not_asked : (prov : Prov) (address : List ℕ) (listening : Bool) (except : Option ℕ) (b : Binding) → (eqb (binding_chain b) (chain_of (word_of prov address))) ≡ false → is_asked prov address listening except b ≡ false
+elsewhere_not_asked prov address listening except b h = not_asked prov address listening except b (by_test (is_bound prov address b) refl)
   where
     by_test : (t : Bool) → is_bound prov address b ≡ t → is_bound prov address b ≡ false
     by_test false e = e
@@ -78,18 +85,18 @@ module _ (test : Binding → Bool) (b : ℕ → Binding) where
       by_pick true e rest = rw (least_cons test (b k) (map b (filter (λ j. pick (b j)) keys)), rest, ← least_cons test (b k) (map b keys)) refl
       by_pick false e rest = rw (least_cons test (b k) (map b keys), f (b k) e) rest
 
-module _ (a : Addresses) (prov : Prov) (address : List ℕ) (listening : Bool) where
-  pub chain_begins : both None (least_of (is_asked prov address listening) (map (binding_at a) (reverse (keys_in a (chain_of (word_of prov address)) a.order.items)))) ≡ least_of (is_asked prov address listening) (bindings_of a)
+module _ (a : Addresses) (prov : Prov) (address : List ℕ) (listening : Bool) (except : Option ℕ) where
+  pub chain_begins : both None (least_of (is_asked prov address listening except) (map (binding_at a) (reverse (keys_in a (chain_of (word_of prov address)) a.order.items)))) ≡ least_of (is_asked prov address listening except) (bindings_of a)
   chain_begins =
-      least_reversed (is_asked prov address listening) (binding_at a) (keys_in a (chain_of (word_of prov address)) a.order.items)
-      ∙ least_filtered (is_asked prov address listening) (binding_at a) (λ y. eqb (binding_chain y) (chain_of (word_of prov address))) (elsewhere_not_asked prov address listening) a.order.items
+      least_reversed (is_asked prov address listening except) (binding_at a) (keys_in a (chain_of (word_of prov address)) a.order.items)
+      ∙ least_filtered (is_asked prov address listening except) (binding_at a) (λ y. eqb (binding_chain y) (chain_of (word_of prov address))) (elsewhere_not_asked prov address listening except) a.order.items
 
   pub chain_goes_on : (k : ℕ) (keys : List ℕ) (y : Binding) (o : Option ℕ) → binding_at a k ≡ y
-      → both o (least_of (is_asked prov address listening) (map (binding_at a) (k ∷ keys))) ≡ least_of (is_asked prov address listening) (bindings_of a)
-      → both (if is_asked prov address listening y then less y.fd o else o) (least_of (is_asked prov address listening) (map (binding_at a) keys)) ≡ least_of (is_asked prov address listening) (bindings_of a)
+      → both o (least_of (is_asked prov address listening except) (map (binding_at a) (k ∷ keys))) ≡ least_of (is_asked prov address listening except) (bindings_of a)
+      → both (if is_asked prov address listening except y then less y.fd o else o) (least_of (is_asked prov address listening except) (map (binding_at a) keys)) ≡ least_of (is_asked prov address listening except) (bindings_of a)
   chain_goes_on k keys y o e found =
-      by_test (is_asked prov address listening y) y.fd o (least_of (is_asked prov address listening) (map (binding_at a) keys))
-      ∙ (ap (both o) (sym (least_cons (is_asked prov address listening) y (map (binding_at a) keys))) ∙ rw e at found)
+      by_test (is_asked prov address listening except y) y.fd o (least_of (is_asked prov address listening except) (map (binding_at a) keys))
+      ∙ (ap (both o) (sym (least_cons (is_asked prov address listening except) y (map (binding_at a) keys))) ∙ rw e at found)
     where
       by_test : (t : Bool) (fd : ℕ) (o l : Option ℕ) → both (if t then less fd o else o) l ≡ both o (both (one_if t fd) l)
       by_test true fd o l = ap (λ (m : Option ℕ). both m l) (both_comm (Some fd) o) ∙ both_assoc o (Some fd) l

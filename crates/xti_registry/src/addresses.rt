@@ -1,10 +1,10 @@
 //! The addresses that are bound, each under a key of its own as long as it is, in chains of those whose words fall together.
 
-ghost use Rattle.std.specs.Prelude.{◌≡◌, ◌≢◌, ◌≤◌, ◌<◌, ◌+◌, ◌++◌, ◌∷◌, [], ℕ, not, ◌==◌, Some, None, if◌then◌else◌, length, map, filter, replicate, position, vec_capacity, IfOk, OnOk, IfSome, IfNone};
+ghost use Rattle.std.specs.Prelude.{◌≡◌, ◌≢◌, ◌≤◌, ◌<◌, ◌+◌, ◌++◌, ◌∷◌, [], ℕ, not, ◌==◌, Some, None, if◌then◌else◌, length, map, filter, replicate, position, vec_capacity, option_map, IfOk, OnOk, IfSome, IfNone};
 ghost use Rattle.slab.specs.Slab.{get, ContainsKey, slab_len};
 ghost use Rattle.xti_model.specs.Switch.{less};
 ghost use Rattle.xti_registry.specs.Chains.{IsChained, HasRoom};
-ghost use Rattle.xti_registry.specs.Known.{bound_at, is_asked, switch_with};
+ghost use Rattle.xti_registry.specs.Known.{is_asked, is_other, least_asked, switch_with};
 ghost use Rattle.xti_registry.specs.Links.{IsLink, IsRelinked, IsLedBy, binding_at, IsKeyOf, bindings_of, is_of, keys_without};
 ghost use Rattle.xti_registry.specs.Word.{word_of};
 
@@ -53,12 +53,29 @@ fn least_with(b: &Binding, asked: bool, least: Option<u32>) -> Option<u32>
     if asked { less(b.fd.0, least) } else { least }
 }
 
-/// Whether a binding is to the address, whose word is given, and listens there if it should.
-fn is_asked(b: &Binding, prov: Prov, address: &[u8], word: u32, listening: bool) -> bool
-    requires { word ≡ word_of prov address.now }
-    ensures { result ≡ is_asked prov address.now listening b.now }
+/// Whether a binding is of another descriptor than this one, where one is named.
+fn is_other(b: &Binding, except: Option<Fd>) -> bool
+    ensures { result ≡ is_other (option_map (λ fd. fd.0) except) b.now }
 {
-    b.is_bound(prov, address, word) && (!listening || b.listening)
+    match except {
+        Some(fd) => b.fd != fd,
+        None => true,
+    }
+}
+
+/// Whether a binding of another descriptor is to the address, whose word is given, and listens there if it should.
+fn is_asked(
+    b: &Binding,
+    prov: Prov,
+    address: &[u8],
+    word: u32,
+    listening: bool,
+    except: Option<Fd>,
+) -> bool
+    requires { word ≡ word_of prov address.now }
+    ensures { result ≡ is_asked prov address.now listening (option_map (λ fd. fd.0) except) b.now }
+{
+    is_other(b, except) && b.is_bound(prov, address, word) && (!listening || b.listening)
 }
 
 impl Addresses {
@@ -84,18 +101,25 @@ impl Addresses {
         self.order.len()
     }
 
-    /// The least descriptor that is bound to the address, or that listens there.
-    pub(crate) fn least_at(&self, prov: Prov, address: &[u8], listening: bool) -> Option<u32>
+    /// The least descriptor that is bound to the address, or that listens there, but for one that is named.
+    pub(crate) fn least_at(
+        &self,
+        prov: Prov,
+        address: &[u8],
+        listening: bool,
+        except: Option<Fd>,
+    ) -> Option<u32>
         requires { IsChained self.now }
-        ensures { result ≡ bound_at (switch_with (bindings_of self.now)) prov address.now listening }
+        ensures { result ≡ least_asked (switch_with (bindings_of self.now)) prov address.now listening (option_map (λ fd. fd.0) except) }
     {
         let word = word_of(prov, address);
         let mut least = None;
         let mut at = self.heads[chain_of(word)];
         while let Some(key) = at {
             let entry = &self.entries[key];
-            let asked = is_asked(&entry.binding, prov, address, word, listening);
-            least = least_with(&entry.binding, asked, least);
+            let b = &entry.binding;
+            let asked = is_asked(b, prov, address, word, listening, except);
+            least = least_with(b, asked, least);
             at = entry.next;
         }
         least

@@ -1,7 +1,7 @@
 //! The switch's table.
 
 ghost use Rattle.std.specs.Prelude.{◌≡◌, ◌≤◌, ◌<◌, ◌+◌, [], true, false, IfOk, OnOk, OnErr, IfSome, IsOk, length, max, option_map, position};
-ghost use Rattle.xti_model.specs.Switch.{chosen, free_place, give_address, give_up_address, is_free, mark_closed, mark_open, numbered_address, place_at};
+ghost use Rattle.xti_model.specs.Switch.{chosen, free_place, give_address, give_up_address, is_free, listener, mark_closed, mark_open, numbered_address, place_at};
 ghost use Rattle.xti_model.specs.World.{descriptor, opening_switch, places};
 ghost use Rattle.xti_registry.specs.Known.{bound_at, switch_with};
 ghost use Rattle.xti_registry.specs.Chains.{IsChained};
@@ -79,7 +79,7 @@ fn free_number(addresses: &Addresses, prov: Prov) -> usize
     for n in 0..addresses.len() {
         let address = numbered_address(n);
         if addresses
-            .least_at(prov, address.as_slice(), false)
+            .least_at(prov, address.as_slice(), false, None)
             .is_none()
         {
             return n;
@@ -112,7 +112,15 @@ impl Registry {
     pub fn bound(&self, prov: Prov, addr: &[u8], listening: bool) -> Option<Fd>
         ensures { option_map (λ fd. fd.0) result ≡ bound_at self.now.switch prov addr.now listening }
     {
-        let least = self.addresses.least_at(prov, addr, listening)?;
+        let least = self.addresses.least_at(prov, addr, listening, None)?;
+        Some(Fd(least))
+    }
+
+    /// The least descriptor but this one that listens at the address. Takes no memory. The cost is that of `bound`.
+    pub fn listener(&self, prov: Prov, addr: &[u8], except: Fd) -> Option<Fd>
+        ensures { option_map (λ fd. fd.0) result ≡ listener self.now.switch prov addr.now except.0 }
+    {
+        let least = self.addresses.least_at(prov, addr, true, Some(except))?;
         Some(Fd(least))
     }
 

@@ -32,6 +32,8 @@ fn finds_the_least_descriptor(rt: HostRuntime) -> Result<(), Fail> {
     assert_eq!(rt; table.bound(Prov::Ticots, b"a", true), Some(Fd(4)));
     assert_eq!(rt; table.bound(Prov::Ticlts, b"a", false), Some(Fd(2)));
     assert_eq!(rt; table.bound(Prov::Ticots, b"c", true), None);
+    assert_eq!(rt; table.listener(Prov::Ticots, b"a", Fd(3)), Some(Fd(4)));
+    assert_eq!(rt; table.listener(Prov::Ticots, b"a", Fd(4)), None);
     assert_eq!(rt; table.bound(Prov::Ticots, b"", false), None);
     table.remove(Fd(3));
     assert_eq!(rt; table.bound(Prov::Ticots, b"a", false), Some(Fd(4)));

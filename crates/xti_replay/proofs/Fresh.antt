@@ -10,11 +10,11 @@ use Rattle.xti_model.specs.Resolve.{is_of}
 use Rattle.xti_model.specs.Robin.{is_through, numbers}
 use Rattle.xti_replay.specs.declared.workers.Worker.{Worker}
 use Rattle.xti_replay.specs.Spots.{Spot, spots_from, spots_of, places_of}
-use Rattle.xti_replay.specs.Known.{Table, known_in}
+use Rattle.xti_replay.specs.Known.{known_in, Knows}
 use Rattle.xti_replay.specs.Progress.{Of, IsFresh, AreFresh, IsKept, AreKept, part_going, is_finished}
 use Rattle.xti_replay.specs.Turns.{LeavesOutFinished}
 use Rattle.xti_replay.proofs.Each.{at-worker, of-push, of-changed}
-use Rattle.xti_replay.proofs.Meanings.{known-nothing}
+use Rattle.xti_replay.proofs.Learning.{knows-nothing, knows-none}
 use Rattle.xti_replay.proofs.OthersAsked.{finished-through}
 use Rattle.xti_replay.proofs.Turns.{leaves-append, numbers-last}
 
@@ -47,14 +47,14 @@ places-other lines line worker other =
     let no : eqb line.worker worker ≡ false = ne_eqb line.worker worker other in
     ap (map (λ (s : Spot). s.place)) (spots-more 0 lines line worker) ∙ rw no (ap (map (λ (s : Spot). s.place)) (append-nil (spots_of lines worker)))
 
-pub fresh-of : (lines : List Line) (number : ℕ) (w : Worker) → w.places.items ≡ places_of lines number → w.begun ≡ 0 → ((name : List ℕ) → known_in w.names name ≡ None) → w.part ≡ None → w.next ≡ None → IsFresh lines number w
+pub fresh-of : (lines : List Line) (number : ℕ) (w : Worker) → w.places.items ≡ places_of lines number → w.begun ≡ 0 → Knows lines [] number w.names → w.part ≡ None → w.next ≡ None → IsFresh lines number w
 fresh-of lines number w places count names part idle = record {
-  told = record { places = places; count = count; names = λ name. names name ∙ sym (known-nothing name (spots_of lines number)); part = ap part_going part; built = rw part refl };
+  told = record { places = places; count = count; names = names; part = ap part_going part; built = rw part refl };
   idle = idle;
 }
 
-pub fresh-push : (n : ℕ) (ws : List Worker) (w : Worker) → length ws ≡ n → Of (IsFresh []) ws → w.places.items ≡ [] → w.begun ≡ 0 → ((name : List ℕ) → known_in w.names name ≡ None) → w.part ≡ None → w.next ≡ None → (length (ws ++ w ∷ []) ≡ n + 1) × Of (IsFresh []) (ws ++ w ∷ [])
-fresh-push n ws w many each places count names part idle = (length_push ws w ∙ ap (λ (k : ℕ). k + 1) many, of-push (IsFresh []) ws w each (fresh-of [] (length ws) w places count names part idle))
+pub fresh-push : (n : ℕ) (ws : List Worker) (w : Worker) → length ws ≡ n → Of (IsFresh []) ws → w.places.items ≡ [] → w.begun ≡ 0 → ((name : List ℕ) → known_in w.names.endpoints name ≡ None) → ((name : List ℕ) → known_in w.names.sequences name ≡ None) → w.part ≡ None → w.next ≡ None → (length (ws ++ w ∷ []) ≡ n + 1) × Of (IsFresh []) (ws ++ w ∷ [])
+fresh-push n ws w many each places count fds seqs part idle = (length_push ws w ∙ ap (λ (k : ℕ). k + 1) many, of-push (IsFresh []) ws w each (fresh-of [] (length ws) w places count (knows-nothing [] (length ws) w.names fds seqs) part idle))
 
 part-none : (lines : List Line) (number : ℕ) (w : Worker) → IsFresh lines number w → part_going w.part ≡ None
 part-none lines number w f = f.told.part
@@ -64,7 +64,7 @@ again lines more number w new f places begun names part next = record {
   told = record {
     places = places;
     count = begun ∙ f.told.count;
-    names = λ name. ap (λ (t : Table). known_in t name) names ∙ f.told.names name ∙ known-nothing name (spots_of lines number) ∙ sym (known-nothing name (spots_of more number));
+    names = subst (Knows more [] number) (sym names) (knows-none lines more number w.names f.told.names);
     part = ap part_going part ∙ f.told.part;
     built = rw part f.told.built;
   };

@@ -7,8 +7,6 @@ use Rattle.std.proofs.lemmas.List.{append-nil, append_assoc, length-set, take_mo
 use Rattle.std.proofs.lemmas.Option.{none-some, same_Some, slice_get-map, slice_get_within, get_or_from_slice_get}
 use Rattle.xti_base.specs.declared.limits.TheConstants.{WORKERS}
 use Rattle.xti_model.specs.declared.call.Call.{Call}
-use Rattle.xti_model.specs.declared.script.NamedCall.{NamedCall}
-use Rattle.xti_model.specs.declared.script.NamedCall.TheVariants as named
 use Rattle.xti_model.specs.declared.entry.Act.{Act}
 use Rattle.xti_model.specs.declared.entry.Act.TheVariants as act
 use Rattle.xti_model.specs.declared.entry.Entry.{Entry}
@@ -17,7 +15,7 @@ use Rattle.xti_model.specs.declared.profile.Providers.{Providers}
 use Rattle.xti_model.specs.World.{World, opening}
 use Rattle.xti_model.specs.Built.{is_built, is_built_named}
 use Rattle.xti_model.specs.History.{Going, own, unfinished, begins, made_by, doing, step_going, step_at, left_by, Fits, LegalFrom}
-use Rattle.xti_model.specs.Resolve.{Meanings, Placed, placed, meanings, with_numbers, begun, is_begin}
+use Rattle.xti_model.specs.Resolve.{Placed, placed, meanings, begun, is_begin}
 use Rattle.xti_model.specs.Robin.{last_worker}
 use Rattle.xti_model.specs.Complete.{begun_calls, resolved_in, Follows, is_worker, IsHistoryOf}
 use Rattle.xti_model.proofs.Appending.{own-append, begun_calls-append}
@@ -29,6 +27,7 @@ use Rattle.xti_replay.specs.Playable.{are_playable}
 use Rattle.xti_replay.specs.Progress.{Told, Of, AreKept, AreFresh, MayTake, IsKnown, part_going}
 use Rattle.xti_replay.proofs.Each.{at-worker, of-changed}
 use Rattle.xti_replay.proofs.Lines.{has-next, next_spot, placed_by, placed-spots, spot-line, playable-line, line-built, told-other}
+use Rattle.xti_replay.proofs.Meanings.{numbers-built}
 use Rattle.xti_replay.proofs.Steps.{IsAdvance, advance-begun, advance-more}
 
 last-by : (x : Entry) (past : List Entry) (n : ℕ) (e : Entry) → length past ≡ n → slice_get (x ∷ past) n ≡ Some e → last_worker x.worker past ≡ e.worker
@@ -79,22 +78,6 @@ get-take (suc n) (suc m) (x ∷ xs) l h = get-take n m xs l h
 mapped : {X Y : Type 0} (f : X → Y) (o : Option X) (y : Y) → option_map f o ≡ Some y → (x : X) × (o ≡ Some x) × (f x ≡ y)
 mapped f None y h = absurd (none-some y h)
 mapped f (Some x) y h = (x, refl, same_Some (f x) y h)
-
-numbers-built : (m : Meanings) (c : NamedCall) → is_built_named c ≡ true → is_built (with_numbers m c) ≡ true
-numbers-built m (named.TOpen name prov nonblock) b = b
-numbers-built m (named.TBind fd addr qlen amax) b = refl
-numbers-built m (named.TSndUData fd addr opt bytes) b = refl
-numbers-built m (named.TRcvUData fd max amax omax) b = refl
-numbers-built m (named.TClose fd) b = refl
-numbers-built m (named.TUnbind fd) b = refl
-numbers-built m (named.TSndVUData fd addr opt parts) b = refl
-numbers-built m (named.TRcvVUData fd sizes amax omax) b = refl
-numbers-built m (named.TRcvUDErr fd amax omax) b = refl
-numbers-built m (named.TLookAt fd) b = refl
-numbers-built m (named.TGetState fd) b = refl
-numbers-built m (named.TSync fd) b = refl
-numbers-built m (named.SetMode fd nonblock) b = refl
-numbers-built m other b = absurd cc
 
 -- the line that an entry begins
 pub record IsBegun (lines : List Line) (past : List Entry) (number : ℕ) (c : Call) : Type 0 where

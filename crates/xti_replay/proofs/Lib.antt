@@ -1,5 +1,6 @@
 pub mod Tables
 pub mod Meanings
+pub mod Learning
 pub mod Lines
 pub mod Each
 pub mod Steps

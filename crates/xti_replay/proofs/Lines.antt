@@ -21,14 +21,14 @@ use Rattle.xti_model.specs.Resolve.{is_of, lines_of, is_begin, begun, answer_of,
 use Rattle.xti_model.specs.Robin.{begin_line, next_or, next_going}
 use Rattle.xti_model.proofs.Appending.{own-append}
 use Rattle.xti_model.proofs.Working.{call_from, unfinished_from-snoc, IsCallOf, call_of-from}
-use Rattle.xti_replay.specs.declared.names.Known.{Known}
 use Rattle.xti_replay.specs.declared.workers.Worker.{Worker}
 use Rattle.xti_replay.specs.Playable.{is_playable, are_playable}
 use Rattle.xti_replay.specs.Spots.{Spot, spots_from, spots_of, places_of}
-use Rattle.xti_replay.specs.Known.{Table, known_in, known_by, number_of, or_known, call_before}
+use Rattle.xti_replay.specs.Known.{Knows, HasLearnt, meanings_before}
 use Rattle.xti_replay.specs.declared.workers.Part.{Part}
 use Rattle.xti_replay.specs.Progress.{Told, IsNext, part_going, part_call, is_built_part}
-use Rattle.xti_replay.proofs.Meanings.{known-more, call-same, call-built}
+use Rattle.xti_replay.proofs.Meanings.{meanings-same, numbers-built}
+use Rattle.xti_replay.proofs.Learning.{knows-still, knows-more}
 
 -- The lines of a worker by their places.
 
@@ -170,10 +170,10 @@ line-worker line p = ltb-true line.worker WORKERS (and_parts _ (is_built_named l
 
 -- the call that the tables give is the worker's next
 pub next-call : (lines : List Line) (past : List Entry) (number : ℕ) (w setup : Worker) (s : Spot) (call : Call) → Told lines past number w → Told lines past 0 setup → HasNext lines past number w s → is_built_named s.line.call ≡ true
-    → call ≡ call_before s.place w.names setup.names s.line.call → IsNext lines past number (Some call)
+    → call ≡ with_numbers (meanings_before s.place w.names setup.names) s.line.call → IsNext lines past number (Some call)
 next-call lines past number w setup s call t z h b e = record {
-  going = ap (λ (c : Call). Some (beginning c)) (e ∙ call-same lines past number s.place w.names setup.names s.line.call t.names z.names b) ∙ sym h.going;
-  built = ap is_built e ∙ call-built s.place w.names setup.names s.line.call b;
+  going = ap (λ (c : Call). Some (beginning c)) (e ∙ ap (λ (m : Meanings). with_numbers m s.line.call) (meanings-same lines past number s.place w.names setup.names t.names z.names)) ∙ sym h.going;
+  built = ap is_built e ∙ numbers-built (meanings_before s.place w.names setup.names) s.line.call b;
 }
 
 -- One entry more.
@@ -196,7 +196,7 @@ pub told-other : (lines : List Line) (past : List Entry) (e : Entry) (number : �
 told-other lines past e number w ne t = record {
   places = t.places;
   count = t.count ∙ ap length (sym (begun-other past e number ne));
-  names = λ name. t.names name ∙ ap (known_by name (spots_of lines number)) (sym (begun-other past e number ne));
+  names = knows-still lines past (past ++ e ∷ []) number w.names (begun-other past e number ne) t.names;
   part = t.part ∙ sym (ap (unfinished_from None None) (own-other past e number ne));
   built = t.built;
 }
@@ -250,17 +250,14 @@ built-after (Some p) c (outcome.Part n) h b = ap is_built (ap (call_in c) h) ∙
 -- its own entry begins its next line
 pub told-begun : (lines : List Line) (past : List Entry) (e : Entry) (number : ℕ) (c : Call) (w new : Worker) (s : Spot) → Told lines past number w → HasNext lines past number w s
     → e.worker ≡ number → e.act ≡ act.Begin c → is_built c ≡ true → new.places ≡ w.places → new.begun ≡ w.begun + 1 → part_going new.part ≡ going_after (Some c) e.outcome
-    → ((name : List ℕ) → known_in new.names name ≡ or_known (known_in w.names name) (cond (opens name s.line.call) (Some (record { place = s.place; number = number_of e.outcome })) None))
+    → HasLearnt s.place s.line.call e.outcome w.names new.names
     → Told lines (past ++ e ∷ []) number new
 told-begun lines past e number c w new s t h same begins built places count part names =
     let grown = begun-same past e number same (ap is_begin begins) in
     record {
       places = ap (λ (v : Vec ℕ Global). v.items) places ∙ t.places;
       count = count ∙ ap (λ (k : ℕ). k + 1) t.count ∙ sym (length_push (begun past number) e) ∙ ap length (sym grown);
-      names = λ name. names name
-          ∙ ap (λ (k : Option Known). or_known k (cond (opens name s.line.call) (Some (record { place = s.place; number = number_of e.outcome })) None)) (t.names name)
-          ∙ sym (known-more name (spots_of lines number) (begun past number) s e h.spot)
-          ∙ ap (known_by name (spots_of lines number)) (sym grown);
+      names = knows-more lines past (past ++ e ∷ []) number s e w.names new.names h.spot grown t.names names;
       part = part ∙ sym (unfinished-same past e number same ∙ ap (λ (a : Act). going_after (call_after (call_from None (own past number)) a) e.outcome) begins);
       built = built-after new.part c e.outcome part built;
     }
@@ -283,7 +280,7 @@ told-more lines past e number p w new t is same goes places count names part =
     record {
       places = ap (λ (v : Vec ℕ Global). v.items) places ∙ t.places;
       count = count ∙ t.count ∙ ap length (sym quiet);
-      names = λ name. ap (λ (table : Table). known_in table name) names ∙ t.names name ∙ ap (known_by name (spots_of lines number)) (sym quiet);
+      names = subst (Knows lines (past ++ e ∷ []) number) (sym names) (knows-still lines past (past ++ e ∷ []) number w.names quiet t.names);
       part = left ∙ sym (unfinished-same past e number same ∙ ap (λ (a : Act). going_after (call_after (call_from None (own past number)) a) e.outcome) goes ∙ ap (λ (c : Option Call). going_after c e.outcome) call);
       built = built-after new.part p.call e.outcome left (sym (ap is_built_part is) ∙ t.built);
     }

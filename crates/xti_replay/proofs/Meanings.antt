@@ -1,130 +1,136 @@
 -- The tables of names, and what the names of a line stand for.
 use Rattle.std.proofs.Common.{◌≡◌, ℕ, zero, suc, ◌+◌, ◌≤◌, Bool, true, false, cond, ltb, List, [], ◌∷◌, ◌++◌, length, take, Option, Some, None, refl, ap, ◌∙◌, arith}
-use Rattle.std.specs.Prelude.{option_map, slice_get}
+use Rattle.std.specs.Prelude.{option_map, slice_get, unwrap_or}
 use Rattle.std.proofs.lemmas.Option.{same_Some}
+use Rattle.std.proofs.Math.Path.{fun_ext}
 use Rattle.xti_base.specs.declared.kinds.Fd.{Fd}
+use Rattle.xti_base.specs.declared.kinds.Seq.{Seq}
 use Rattle.xti_model.specs.declared.entry.Outcome.{Outcome}
 use Rattle.xti_model.specs.declared.entry.Entry.{Entry}
+use Rattle.xti_model.specs.declared.script.Line.{Line}
 use Rattle.xti_model.specs.declared.script.NamedCall.{NamedCall}
 use Rattle.xti_model.specs.declared.script.NamedCall.TheVariants as named
-use Rattle.xti_model.specs.declared.script.Line.{Line}
-use Rattle.xti_model.specs.Resolve.{is_of, lines_of, begun, answer_of, or_else, opened_fd, opens, meanings, with_numbers}
 use Rattle.xti_model.specs.Built.{is_built, is_built_named}
+use Rattle.xti_model.specs.Resolve.{Meanings, is_of, lines_of, begun, answer_of, answer_to, or_else, meanings, with_numbers}
 use Rattle.xti_replay.specs.declared.names.Known.{Known}
-use Rattle.xti_replay.specs.Spots.{Spot, spots_from, spots_of}
-use Rattle.xti_replay.specs.Known.{Table, known_in, number_of, known_by, number_before, or_number, or_known, or_no_number, fd_before, call_before}
+use Rattle.xti_replay.specs.declared.names.Names.{Names}
+use Rattle.xti_replay.specs.Spots.{Spot, spots_from}
+use Rattle.xti_replay.specs.Known.{Kind, endpoints, sequences, Table, known_in, told_by, known_by, or_known, Holds, Knows, number_before, or_number, stands_for, meanings_before}
 
-pub known-nothing : (name : List ℕ) (spots : List Spot) → known_by name spots [] ≡ None
-known-nothing name [] = refl
-known-nothing name (s ∷ spots) = refl
+pub known-nothing : (kind : Kind) (name : List ℕ) (spots : List Spot) → known_by kind name spots [] ≡ None
+known-nothing kind name [] = refl
+known-nothing kind name (s ∷ spots) = refl
 
-abbrev known_at : Spot → Entry → Known
-known_at s e = record { place = s.place; number = number_of e.outcome }
+-- what one entry tells of a name
+abbrev pub told_at : Kind → List ℕ → Spot → Entry → Option Known
+told_at kind name s e = told_by kind s.place s.line.call e.outcome name
+
+or_none : (o : Option Known) → or_known o None ≡ o
+or_none None = refl
+or_none (Some k) = refl
 
 -- one line more is begun
-pub known-more : (name : List ℕ) (spots : List Spot) (es : List Entry) (s : Spot) (e : Entry) → slice_get spots (length es) ≡ Some s
-    → known_by name spots (es ++ e ∷ []) ≡ or_known (known_by name spots es) (cond (opens name s.line.call) (Some (known_at s e)) None)
-known-more name [] es s e h = absurd cc
-known-more name (x ∷ spots) [] s e h = rw (same_Some x s h, known-nothing name spots) refl
-known-more name (x ∷ spots) (y ∷ es) s e h = by (opens name x.line.call) (known-more name spots es s e h)
+pub known-more : (kind : Kind) (name : List ℕ) (spots : List Spot) (es : List Entry) (s : Spot) (e : Entry) → slice_get spots (length es) ≡ Some s
+    → known_by kind name spots (es ++ e ∷ []) ≡ or_known (known_by kind name spots es) (told_at kind name s e)
+known-more kind name [] es s e h = absurd cc
+known-more kind name (x ∷ spots) [] s e h = rw (same_Some x s h, known-nothing kind name spots) (or_none (told_at kind name s e))
+known-more kind name (x ∷ spots) (y ∷ es) s e h = by (told_at kind name x y) (known-more kind name spots es s e h)
   where
-    by : (b : Bool) → known_by name spots (es ++ e ∷ []) ≡ or_known (known_by name spots es) (cond (opens name s.line.call) (Some (known_at s e)) None)
-        → cond b (Some (known_at x y)) (known_by name spots (es ++ e ∷ [])) ≡ or_known (cond b (Some (known_at x y)) (known_by name spots es)) (cond (opens name s.line.call) (Some (known_at s e)) None)
-    by true later = refl
-    by false later = later
+    by : (o : Option Known) → known_by kind name spots (es ++ e ∷ []) ≡ or_known (known_by kind name spots es) (told_at kind name s e)
+        → or_known o (known_by kind name spots (es ++ e ∷ [])) ≡ or_known (or_known o (known_by kind name spots es)) (told_at kind name s e)
+    by None later = later
+    by (Some k) later = refl
 
 -- no line from this place on stands before it
-not-before : (name : List ℕ) (from : ℕ) (lines : List Line) (worker n : ℕ) (es : List Entry) → n ≤ from → number_before n (known_by name (spots_from from lines worker) es) ≡ None
-not-before name from [] worker n es le = refl
-not-before name from (line ∷ lines) worker n es le = by (is_of worker line) es (λ rest. not-before name (from + 1) lines worker n rest (omega arith))
+not-before : (kind : Kind) (name : List ℕ) (from : ℕ) (lines : List Line) (worker n : ℕ) (es : List Entry) → n ≤ from → number_before n (known_by kind name (spots_from from lines worker) es) ≡ None
+not-before kind name from [] worker n es le = refl
+not-before kind name from (line ∷ lines) worker n es le = by (is_of worker line) es (λ rest. not-before kind name (from + 1) lines worker n rest (omega arith))
   where
-    first : (b : Bool) (e : Entry) (later : Option Known) → number_before n later ≡ None → number_before n (cond b (Some (known_at (record { place = from; line = line }) e)) later) ≡ None
-    first true e later h = let no : ltb from n ≡ false = grind arith in rw no refl
-    first false e later h = h
+    first : (b : Bool) (k : ℕ) (later : Option Known) → number_before n later ≡ None → number_before n (or_known (cond b (Some (record { place = from; number = k })) None) later) ≡ None
+    first true k later h = let no : ltb from n ≡ false = grind arith in rw no refl
+    first false k later h = h
 
-    by : (b : Bool) (es : List Entry) → ((rest : List Entry) → number_before n (known_by name (spots_from (from + 1) lines worker) rest) ≡ None)
-        → number_before n (known_by name (cond b (record { place = from; line = line } ∷ spots_from (from + 1) lines worker) (spots_from (from + 1) lines worker)) es) ≡ None
+    by : (b : Bool) (es : List Entry) → ((rest : List Entry) → number_before n (known_by kind name (spots_from (from + 1) lines worker) rest) ≡ None)
+        → number_before n (known_by kind name (cond b (record { place = from; line = line } ∷ spots_from (from + 1) lines worker) (spots_from (from + 1) lines worker)) es) ≡ None
     by true [] later = refl
-    by true (e ∷ es) later = first (opens name line.call) e (known_by name (spots_from (from + 1) lines worker) es) (later es)
+    by true (e ∷ es) later = first (kind.defines name line.call) (kind.number (Some e.outcome)) (known_by kind name (spots_from (from + 1) lines worker) es) (later es)
     by false es later = later es
 
+-- the number by what an entry answered
+abbrev number_of : Kind → Outcome → ℕ
+number_of kind o = kind.number (Some o)
+
 -- what is known of a name before a place is what the lines up to there answered
-pub known-before : (name : List ℕ) (from : ℕ) (lines : List Line) (worker n i : ℕ) (es : List Entry) → n ≡ from + i
-    → number_before n (known_by name (spots_from from lines worker) es) ≡ option_map number_of (answer_of (opens name) (lines_of (take i lines) worker) es)
-known-before name from [] worker n zero es same = refl
-known-before name from [] worker n (suc i) es same = refl
-known-before name from (line ∷ lines) worker n zero es same = not-before name from (line ∷ lines) worker n es (omega arith)
-known-before name from (line ∷ lines) worker n (suc i) es same = by (is_of worker line) es (λ rest. known-before name (from + 1) lines worker n i rest (omega arith))
+pub known-before : (kind : Kind) (name : List ℕ) (from : ℕ) (lines : List Line) (worker n i : ℕ) (es : List Entry) → n ≡ from + i
+    → number_before n (known_by kind name (spots_from from lines worker) es) ≡ option_map (number_of kind) (answer_of (kind.defines name) (lines_of (take i lines) worker) es)
+known-before kind name from [] worker n zero es same = refl
+known-before kind name from [] worker n (suc i) es same = refl
+known-before kind name from (line ∷ lines) worker n zero es same = not-before kind name from (line ∷ lines) worker n es (omega arith)
+known-before kind name from (line ∷ lines) worker n (suc i) es same = by (is_of worker line) es (λ rest. known-before kind name (from + 1) lines worker n i rest (omega arith))
   where
-    first : (b : Bool) (e : Entry) (later : Option Known) (others : Option Outcome) → number_before n later ≡ option_map number_of others
-        → number_before n (cond b (Some (known_at (record { place = from; line = line }) e)) later) ≡ option_map number_of (cond b (Some e.outcome) others)
+    first : (b : Bool) (e : Entry) (later : Option Known) (others : Option Outcome) → number_before n later ≡ option_map (number_of kind) others
+        → number_before n (or_known (cond b (Some (record { place = from; number = number_of kind e.outcome })) None) later) ≡ option_map (number_of kind) (cond b (Some e.outcome) others)
     first true e later others h = let yes : ltb from n ≡ true = grind arith in rw yes refl
     first false e later others h = h
 
-    by : (b : Bool) (es : List Entry) → ((rest : List Entry) → number_before n (known_by name (spots_from (from + 1) lines worker) rest) ≡ option_map number_of (answer_of (opens name) (lines_of (take i lines) worker) rest))
-        → number_before n (known_by name (cond b (record { place = from; line = line } ∷ spots_from (from + 1) lines worker) (spots_from (from + 1) lines worker)) es)
-        ≡ option_map number_of (answer_of (opens name) (cond b (line ∷ lines_of (take i lines) worker) (lines_of (take i lines) worker)) es)
+    by : (b : Bool) (es : List Entry)
+        → ((rest : List Entry) → number_before n (known_by kind name (spots_from (from + 1) lines worker) rest) ≡ option_map (number_of kind) (answer_of (kind.defines name) (lines_of (take i lines) worker) rest))
+        → number_before n (known_by kind name (cond b (record { place = from; line = line } ∷ spots_from (from + 1) lines worker) (spots_from (from + 1) lines worker)) es)
+        ≡ option_map (number_of kind) (answer_of (kind.defines name) (cond b (line ∷ lines_of (take i lines) worker) (lines_of (take i lines) worker)) es)
     by true [] later = refl
-    by true (e ∷ es) later = first (opens name line.call) e (known_by name (spots_from (from + 1) lines worker) es) (answer_of (opens name) (lines_of (take i lines) worker) es) (later es)
+    by true (e ∷ es) later =
+        first (kind.defines name line.call) e (known_by kind name (spots_from (from + 1) lines worker) es) (answer_of (kind.defines name) (lines_of (take i lines) worker) es) (later es)
     by false es later = later es
 
 -- The names of a line.
 
-abbrev pub Knows : List Line → List Entry → ℕ → Table → Type 0
-Knows lines past worker table = (name : List ℕ) → known_in table name ≡ known_by name (spots_of lines worker) (begun past worker)
+number-before : (kind : Kind) (lines : List Line) (past : List Entry) (worker place : ℕ) (table : Table) → Holds kind lines past worker table → (name : List ℕ)
+    → number_before place (known_in table name) ≡ option_map (number_of kind) (answer_of (kind.defines name) (lines_of (take place lines) worker) (begun past worker))
+number-before kind lines past worker place table k name =
+    ap (number_before place) (k name) ∙ known-before kind name 0 lines worker place place (begun past worker) (omega arith)
 
-both : (a b : Option Outcome) → or_no_number (or_number (option_map number_of a) (option_map number_of b)) ≡ opened_fd (or_else a b)
-both None None = refl
-both None (Some o) = refl
-both (Some o) b = refl
+both : (kind : Kind) (a b : Option Outcome) → unwrap_or (or_number (option_map (number_of kind) a) (option_map (number_of kind) b)) (kind.number None) ≡ kind.number (or_else a b)
+both kind None None = refl
+both kind None (Some o) = refl
+both kind (Some o) b = refl
+
+number-same : (kind : Kind) (lines : List Line) (past : List Entry) (worker place : ℕ) (own setup : Table) → Holds kind lines past worker own → Holds kind lines past 0 setup → (name : List ℕ)
+    → stands_for kind place own setup name ≡ kind.number (answer_to (take place lines) worker past (kind.defines name))
+number-same kind lines past worker place own setup k z name =
+    let here = number-before kind lines past worker place own k name in
+    let there = number-before kind lines past 0 place setup z name in
+    ap (λ (n : Option ℕ). unwrap_or (or_number n (number_before place (known_in setup name))) (kind.number None)) here
+    ∙ ap (λ (n : Option ℕ). unwrap_or (or_number (option_map (number_of kind) (answer_of (kind.defines name) (lines_of (take place lines) worker) (begun past worker))) n) (kind.number None)) there
+    ∙ both kind (answer_of (kind.defines name) (lines_of (take place lines) worker) (begun past worker)) (answer_of (kind.defines name) (lines_of (take place lines) 0) (begun past 0))
 
 abbrev fd_of : ℕ → Fd
 fd_of n = record { 0 = n }
 
-number-before : (lines : List Line) (past : List Entry) (worker place : ℕ) (table : Table) → Knows lines past worker table → (name : List ℕ)
-    → number_before place (known_in table name) ≡ option_map number_of (answer_of (opens name) (lines_of (take place lines) worker) (begun past worker))
-number-before lines past worker place table k name =
-    ap (number_before place) (k name) ∙ known-before name 0 lines worker place place (begun past worker) (omega arith)
+abbrev seq_of : ℕ → Seq
+seq_of n = record { 0 = n }
 
-fd-same : (lines : List Line) (past : List Entry) (worker place : ℕ) (own setup : Table) → Knows lines past worker own → Knows lines past 0 setup → (name : List ℕ)
-    → fd_before place own setup name ≡ (meanings (take place lines) worker past).fd name
-fd-same lines past worker place own setup k z name =
-    let here = number-before lines past worker place own k name in
-    let there = number-before lines past 0 place setup z name in
-    ap (λ (n : Option ℕ). fd_of (or_no_number (or_number n (number_before place (known_in setup name))))) here
-    ∙ ap (λ (n : Option ℕ). fd_of (or_no_number (or_number (option_map number_of (answer_of (opens name) (lines_of (take place lines) worker) (begun past worker))) n))) there
-    ∙ ap fd_of (both (answer_of (opens name) (lines_of (take place lines) worker) (begun past worker)) (answer_of (opens name) (lines_of (take place lines) 0) (begun past 0)))
+abbrev meanings_by : (List ℕ → Fd) → (List ℕ → Seq) → Meanings
+meanings_by fd seq = record { fd = fd; seq = seq }
 
--- the tables give the names of a built call what they stand for
-pub call-same : (lines : List Line) (past : List Entry) (worker place : ℕ) (own setup : Table) (call : NamedCall) → Knows lines past worker own → Knows lines past 0 setup → is_built_named call ≡ true
-    → call_before place own setup call ≡ with_numbers (meanings (take place lines) worker past) call
-call-same lines past worker place own setup (named.TOpen name prov nonblock) k z b = refl
-call-same lines past worker place own setup (named.TBind fd addr qlen amax) k z b = rw (fd-same lines past worker place own setup k z fd) refl
-call-same lines past worker place own setup (named.TSndUData fd addr opt bytes) k z b = rw (fd-same lines past worker place own setup k z fd) refl
-call-same lines past worker place own setup (named.TRcvUData fd max amax omax) k z b = rw (fd-same lines past worker place own setup k z fd) refl
-call-same lines past worker place own setup (named.TClose fd) k z b = rw (fd-same lines past worker place own setup k z fd) refl
-call-same lines past worker place own setup (named.TUnbind fd) k z b = rw (fd-same lines past worker place own setup k z fd) refl
-call-same lines past worker place own setup (named.TSndVUData fd addr opt parts) k z b = rw (fd-same lines past worker place own setup k z fd) refl
-call-same lines past worker place own setup (named.TRcvVUData fd sizes amax omax) k z b = rw (fd-same lines past worker place own setup k z fd) refl
-call-same lines past worker place own setup (named.TRcvUDErr fd amax omax) k z b = rw (fd-same lines past worker place own setup k z fd) refl
-call-same lines past worker place own setup (named.TLookAt fd) k z b = rw (fd-same lines past worker place own setup k z fd) refl
-call-same lines past worker place own setup (named.TGetState fd) k z b = rw (fd-same lines past worker place own setup k z fd) refl
-call-same lines past worker place own setup (named.TSync fd) k z b = rw (fd-same lines past worker place own setup k z fd) refl
-call-same lines past worker place own setup (named.SetMode fd nonblock) k z b = rw (fd-same lines past worker place own setup k z fd) refl
-call-same lines past worker place own setup other k z b = absurd cc
+-- the tables give the names of a line what they stand for
+pub meanings-same : (lines : List Line) (past : List Entry) (worker place : ℕ) (own setup : Names) → Knows lines past worker own → Knows lines past 0 setup → meanings_before place own setup ≡ meanings (take place lines) worker past
+meanings-same lines past worker place own setup k z =
+    ap (λ (fd : List ℕ → Fd). meanings_by fd (meanings_before place own setup).seq) (fun_ext (λ name. ap fd_of (number-same endpoints lines past worker place own.endpoints setup.endpoints k.endpoints z.endpoints name)))
+    ∙ ap (meanings_by (meanings (take place lines) worker past).fd) (fun_ext (λ name. ap seq_of (number-same sequences lines past worker place own.sequences setup.sequences k.sequences z.sequences name)))
 
-pub call-built : (place : ℕ) (own setup : Table) (call : NamedCall) → is_built_named call ≡ true → is_built (call_before place own setup call) ≡ true
-call-built place own setup (named.TOpen name prov nonblock) b = b
-call-built place own setup (named.TBind fd addr qlen amax) b = refl
-call-built place own setup (named.TSndUData fd addr opt bytes) b = refl
-call-built place own setup (named.TRcvUData fd max amax omax) b = refl
-call-built place own setup (named.TClose fd) b = refl
-call-built place own setup (named.TUnbind fd) b = refl
-call-built place own setup (named.TSndVUData fd addr opt parts) b = refl
-call-built place own setup (named.TRcvVUData fd sizes amax omax) b = refl
-call-built place own setup (named.TRcvUDErr fd amax omax) b = refl
-call-built place own setup (named.TLookAt fd) b = refl
-call-built place own setup (named.TGetState fd) b = refl
-call-built place own setup (named.TSync fd) b = refl
-call-built place own setup (named.SetMode fd nonblock) b = refl
-call-built place own setup other b = absurd cc
+-- a built call is built whatever its names stand for
+pub numbers-built : (m : Meanings) (c : NamedCall) → is_built_named c ≡ true → is_built (with_numbers m c) ≡ true
+numbers-built m (named.TOpen name prov nonblock) b = b
+numbers-built m (named.TBind fd addr qlen amax) b = refl
+numbers-built m (named.TSndUData fd addr opt bytes) b = refl
+numbers-built m (named.TRcvUData fd max amax omax) b = refl
+numbers-built m (named.TClose fd) b = refl
+numbers-built m (named.TUnbind fd) b = refl
+numbers-built m (named.TSndVUData fd addr opt parts) b = refl
+numbers-built m (named.TRcvVUData fd sizes amax omax) b = refl
+numbers-built m (named.TRcvUDErr fd amax omax) b = refl
+numbers-built m (named.TLookAt fd) b = refl
+numbers-built m (named.TGetState fd) b = refl
+numbers-built m (named.TSync fd) b = refl
+numbers-built m (named.SetMode fd nonblock) b = refl
+numbers-built m other b = absurd cc

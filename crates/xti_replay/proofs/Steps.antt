@@ -1,5 +1,5 @@
 -- A worker's next call, and its step.
-use Rattle.std.proofs.Common.{◌≡◌, ◌≢◌, ℕ, ◌+◌, ◌<◌, ◌⊎◌, inl, inr, Bool, true, false, cond, eqb, List, [], ◌∷◌, ◌++◌, length, get_or, set, Option, Some, None, refl, sym, ap, ◌∙◌, subst, arith}
+use Rattle.std.proofs.Common.{◌≡◌, ◌≢◌, ℕ, ◌+◌, ◌<◌, ◌⊎◌, inl, inr, Bool, true, false, eqb, List, [], ◌∷◌, ◌++◌, length, get_or, set, Option, Some, None, refl, sym, ap, ◌∙◌, subst, arith}
 use Rattle.std.specs.Prelude.{is_none, unwrap_or, option_map, option_and_then, slice_get}
 use Rattle.std.proofs.lemmas.Bool.{and_parts}
 use Rattle.std.proofs.lemmas.Bool.Decides.{eqb_tells}
@@ -15,11 +15,11 @@ use Rattle.xti_model.specs.declared.entry.Outcome.{Outcome}
 use Rattle.xti_model.specs.declared.entry.Entry.{Entry}
 use Rattle.xti_model.specs.declared.script.Line.{Line}
 use Rattle.xti_model.specs.declared.profile.Providers.{Providers}
-use Rattle.xti_model.specs.Built.{is_built, is_built_named}
+use Rattle.xti_model.specs.Built.{is_built}
 use Rattle.xti_model.specs.History.{Going, unfinished, step_going, call_after, going_after}
 use Rattle.xti_model.specs.World.{World}
 use Rattle.xti_model.specs.Step.{Step, step}
-use Rattle.xti_model.specs.Resolve.{opens}
+use Rattle.xti_model.specs.Resolve.{with_numbers}
 use Rattle.xti_model.specs.Robin.{next_or, next_going, is_through, Turn, turn_of, turn_going, turn}
 use Rattle.xti_model.proofs.Phases.{through-same}
 use Rattle.xti_core.specs.Standing.{Standing}
@@ -27,7 +27,7 @@ use Rattle.xti_replay.specs.declared.workers.Part.{Part}
 use Rattle.xti_replay.specs.declared.workers.Worker.{Worker}
 use Rattle.xti_replay.specs.Spots.{Spot}
 use Rattle.xti_replay.specs.Playable.{are_playable}
-use Rattle.xti_replay.specs.Known.{known_in, number_of, or_known, call_before}
+use Rattle.xti_replay.specs.Known.{HasLearnt, meanings_before}
 use Rattle.xti_replay.specs.Progress.{Told, IsNext, MayAsk, IsKnown, IsKept, AreKept, IsReady, IsFound, MayTake, begun_by, Learns, Makes, Asked, part_going, part_call, is_built_part, is_built_or_none, is_built_next, pending, or_going, going_of, call_of, so_far_of, next_act}
 use Rattle.xti_replay.proofs.Lines.{beginning, HasNext, next-at, through-at, next-by, next-call, playable-line, line-built, own-other, told-other, next-other, told-begun, told-more}
 use Rattle.xti_replay.proofs.Each.{at-worker, get_or_any, of-changed}
@@ -42,21 +42,14 @@ place-within lines past number w place t whole there =
     let n = next-at lines past number w place t (whole-of lines past number w t whole) there in
     slice_get_within lines place n.0.line (subst (λ (k : ℕ). slice_get lines k ≡ Some n.0.line) n.1 n.2.line)
 
-pub place-built : (lines : List Line) (past : List Entry) (number : ℕ) (w : Worker) (place : ℕ) (line : Line) → are_playable lines ≡ true → Told lines past number w → w.part ≡ None
-    → slice_get w.places.items w.begun ≡ Some place → line ≡ get_or lines place line → is_built_named line.call ≡ true
-place-built lines past number w place line playable t whole there e =
-    let n = next-at lines past number w place t (whole-of lines past number w t whole) there in
-    let at : slice_get lines place ≡ Some n.0.line = subst (λ (k : ℕ). slice_get lines k ≡ Some n.0.line) n.1 n.2.line in
-    subst (λ (l : Line). is_built_named l.call ≡ true) (sym (e ∙ get_or_from_slice_get lines place n.0.line line at)) (line-built n.0.line (playable-line lines place n.0.line playable at))
-
 pub place-next : (lines : List Line) (past : List Entry) (number : ℕ) (w setup : Worker) (place : ℕ) (line : Line) (call : Call) → are_playable lines ≡ true → Told lines past number w → Told lines past 0 setup → w.part ≡ None
-    → slice_get w.places.items w.begun ≡ Some place → line ≡ get_or lines place line → call ≡ call_before place w.names setup.names line.call → IsNext lines past number (Some call)
+    → slice_get w.places.items w.begun ≡ Some place → line ≡ get_or lines place line → call ≡ with_numbers (meanings_before place w.names setup.names) line.call → IsNext lines past number (Some call)
 place-next lines past number w setup place line call playable t z whole there at made =
     let n = next-at lines past number w place t (whole-of lines past number w t whole) there in
     let got : slice_get lines place ≡ Some n.0.line = subst (λ (k : ℕ). slice_get lines k ≡ Some n.0.line) n.1 n.2.line in
     let same : line ≡ n.0.line = at ∙ get_or_from_slice_get lines place n.0.line line got in
     next-call lines past number w setup n.0 call t z n.2 (line-built n.0.line (playable-line lines place n.0.line playable got))
-    (made ∙ ap (λ (k : ℕ). call_before k w.names setup.names line.call) (sym n.1) ∙ ap (λ (l : Line). call_before n.0.place w.names setup.names l.call) same)
+    (made ∙ ap (λ (k : ℕ). with_numbers (meanings_before k w.names setup.names) line.call) (sym n.1) ∙ ap (λ (l : Line). with_numbers (meanings_before n.0.place w.names setup.names) l.call) same)
 
 pub place-none : (lines : List Line) (past : List Entry) (number : ℕ) (w : Worker) → Told lines past number w → w.part ≡ None → slice_get w.places.items w.begun ≡ None → IsNext lines past number None
 place-none lines past number w t whole there = record { going = sym (through-at lines past number w t (whole-of lines past number w t whole) there); built = refl }
@@ -114,8 +107,7 @@ pub advance-begun : (lines : List Line) (past : List Entry) (e : Entry) (number 
 advance-begun lines past e number c w new s t h own begins built a =
     let place : get_or w.places.items w.begun 0 ≡ s.place = get_or_from_slice_get w.places.items w.begun s.place 0 h.place in
     told-begun lines past e number c w new s t h own begins built a.places a.count a.part
-    (λ name. a.names s.line name (subst (λ (k : ℕ). slice_get lines k ≡ Some s.line) (sym place) h.line)
-    ∙ ap (λ (k : ℕ). or_known (known_in w.names name) (cond (opens name s.line.call) (Some (record { place = k; number = number_of e.outcome })) None)) place)
+    (subst (λ (k : ℕ). HasLearnt k s.line.call e.outcome w.names new.names) place (a.names s.line (subst (λ (k : ℕ). slice_get lines k ≡ Some s.line) (sym place) h.line)))
 
 pub advance-more : (lines : List Line) (past : List Entry) (e : Entry) (number : ℕ) (p : Part) (w new : Worker) → Told lines past number w → w.part ≡ Some p → e.worker ≡ number → e.act ≡ act.More
     → IsAdvance lines w new act.More e.outcome → Told lines (past ++ e ∷ []) number new

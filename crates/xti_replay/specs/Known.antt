@@ -1,37 +1,70 @@
--- Which endpoints names stand for: each worker's own table, and that of worker 0, whose lines count as far as they stand before.
-use Rattle.std.specs.Prelude.{ℕ, List, [], ◌∷◌, Vec, Option, Some, None, nat_lt, if◌then◌else◌}
+-- What names stand for: each worker's own table, and that of worker 0, whose lines count as far as they stand before.
+use Rattle.std.specs.Prelude.{ℕ, ◌≡◌, Bool, List, [], ◌∷◌, Vec, Option, Some, None, nat_lt, unwrap_or, if◌then◌else◌}
 use Rattle.std.specs.declared.alloc.Global.{Global}
 use Rattle.std.specs.BTreeMap.{BTreeMap, get_by}
 use Rattle.std.specs.Cmp.Lexicographic.{slice_cmp}
 use Rattle.std.specs.Ordering.{nat_cmp}
-use Rattle.xti_base.specs.declared.kinds.Fd.{Fd}
-use Rattle.xti_base.specs.declared.limits.TheConstants.{NO_NUMBER}
-use Rattle.xti_model.specs.declared.call.Call.{Call}
 use Rattle.xti_model.specs.declared.entry.Outcome.{Outcome}
 use Rattle.xti_model.specs.declared.entry.Entry.{Entry}
+use Rattle.xti_model.specs.declared.script.Line.{Line}
 use Rattle.xti_model.specs.declared.script.NamedCall.{NamedCall}
-use Rattle.xti_model.specs.Resolve.{opened_fd, opens, with_numbers}
+use Rattle.xti_model.specs.Resolve.{Meanings, begun, opens, opened_fd, listens, listened_number}
 use Rattle.xti_replay.specs.declared.names.Known.{Known}
-use Rattle.xti_replay.specs.Spots.{Spot}
+use Rattle.xti_replay.specs.declared.names.Names.{Names}
+use Rattle.xti_replay.specs.declared.resolving.Scope.{Scope}
+use Rattle.xti_replay.specs.Spots.{Spot, spots_of}
 
--- what each name stands for
+-- a kind of names: whether a line defines one, and the number by what its entry answered, if there is one
+pub record Kind : Type 0 where
+  pub defines : List ℕ → NamedCall → Bool
+  pub number : Option Outcome → ℕ
+
+abbrev pub endpoints : Kind
+endpoints = record { defines = opens; number = opened_fd }
+
+abbrev pub sequences : Kind
+sequences = record { defines = listens; number = listened_number }
+
+-- what each name of a kind stands for
 abbrev pub Table : Type 0
 Table = BTreeMap (Vec ℕ Global) Known
 
 abbrev pub known_in : Table → List ℕ → Option Known
 known_in table name = get_by (λ k. slice_cmp nat_cmp name k.items) table
 
--- the number that an entry of an open line answered
-abbrev pub number_of : Outcome → ℕ
-number_of outcome = opened_fd (Some outcome)
+-- what the entry of the line at this place tells of the name, where the line defines it
+abbrev pub told_by : Kind → ℕ → NamedCall → Outcome → List ℕ → Option Known
+told_by kind place call outcome name = if kind.defines name call then Some (record { place = place; number = kind.number (Some outcome) }) else None
 
--- the place of the first of these lines that opens the name, and the number that its entry answered
-abbrev pub known_by : List ℕ → List Spot → List Entry → Option Known
-known_by name [] entries = None
-known_by name (s ∷ spots) [] = None
-known_by name (s ∷ spots) (e ∷ entries) = if opens name s.line.call then Some (record { place = s.place; number = number_of e.outcome }) else known_by name spots entries
+-- the first of two, where there is one
+abbrev pub or_known : Option Known → Option Known → Option Known
+or_known None other = other
+or_known (Some k) other = Some k
 
--- the number, where the line that opened it stands before this place
+-- what the entries of these lines tell of the name: the first line that defines it counts
+abbrev pub known_by : Kind → List ℕ → List Spot → List Entry → Option Known
+known_by kind name [] entries = None
+known_by kind name (s ∷ spots) [] = None
+known_by kind name (s ∷ spots) (e ∷ entries) = or_known (told_by kind s.place s.line.call e.outcome name) (known_by kind name spots entries)
+
+-- the table has what the worker's lines have defined so far
+abbrev pub Holds : Kind → List Line → List Entry → ℕ → Table → Type 0
+Holds kind lines past number table = (name : List ℕ) → known_in table name ≡ known_by kind name (spots_of lines number) (begun past number)
+
+-- each of the worker's tables has it
+pub record Knows (lines : List Line) (past : List Entry) (number : ℕ) (names : Names) : Type 0 where
+  pub endpoints : Holds endpoints lines past number names.endpoints
+  pub sequences : Holds sequences lines past number names.sequences
+
+-- the table has what the entry of the line at this place tells, beside what it had
+abbrev pub Adds : Kind → ℕ → NamedCall → Outcome → Table → Table → Type 0
+Adds kind place call outcome old new = (name : List ℕ) → known_in new name ≡ or_known (known_in old name) (told_by kind place call outcome name)
+
+pub record HasLearnt (place : ℕ) (call : NamedCall) (outcome : Outcome) (old new : Names) : Type 0 where
+  pub endpoints : Adds endpoints place call outcome old.endpoints new.endpoints
+  pub sequences : Adds sequences place call outcome old.sequences new.sequences
+
+-- the number, where the line that defined it stands before this place
 abbrev pub number_before : ℕ → Option Known → Option ℕ
 number_before place None = None
 number_before place (Some k) = if nat_lt k.place place then Some k.number else None
@@ -41,19 +74,17 @@ abbrev pub or_number : Option ℕ → Option ℕ → Option ℕ
 or_number None other = other
 or_number (Some n) other = Some n
 
-abbrev pub or_known : Option Known → Option Known → Option Known
-or_known None other = other
-or_known (Some k) other = Some k
-
--- the number that a name without one stands for
-abbrev pub or_no_number : Option ℕ → ℕ
-or_no_number None = NO_NUMBER
-or_no_number (Some n) = n
-
 -- what a name of a line at this place stands for, by the worker's own table and then by worker 0's
-abbrev pub fd_before : ℕ → Table → Table → List ℕ → Fd
-fd_before place own setup name = record { 0 = or_no_number (or_number (number_before place (known_in own name)) (number_before place (known_in setup name))) }
+abbrev pub stands_for : Kind → ℕ → Table → Table → List ℕ → ℕ
+stands_for kind place own setup name = unwrap_or (or_number (number_before place (known_in own name)) (number_before place (known_in setup name))) (kind.number None)
 
--- the call of a line at this place, with numbers in place of names of endpoints
-abbrev pub call_before : ℕ → Table → Table → NamedCall → Call
-call_before place own setup call = with_numbers (record { fd = fd_before place own setup; seq = λ name. record { 0 = 0 } }) call
+-- what the names of a line at this place stand for, by what its worker and worker 0 know
+abbrev pub meanings_before : ℕ → Names → Names → Meanings
+meanings_before place own setup = record {
+  fd = λ name. record { 0 = stands_for endpoints place own.endpoints setup.endpoints name };
+  seq = λ name. record { 0 = stands_for sequences place own.sequences setup.sequences name };
+}
+
+-- what the names of a line in this scope stand for
+abbrev pub meanings_in : Scope → Meanings
+meanings_in s = meanings_before s.place s.own.now s.setup.now

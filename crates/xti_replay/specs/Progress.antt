@@ -1,5 +1,5 @@
 -- What is kept of a worker, beside its script and the entries so far.
-use Rattle.std.specs.Prelude.{ℕ, ◌≡◌, ◌<◌, ◌⊎◌, ◌&&◌, Bool, true, List, [], ◌∷◌, ◌++◌, length, slice_get, slice_index, slice_index_or, is_none, nat_le, Option, Some, None, if◌then◌else◌}
+use Rattle.std.specs.Prelude.{ℕ, ◌≡◌, ◌<◌, ◌⊎◌, ◌&&◌, Bool, true, List, [], ◌∷◌, ◌++◌, length, slice_get, slice_index, slice_index_or, is_none, nat_le, Option, Some, None}
 use Rattle.xti_base.specs.declared.limits.TheConstants.{WORKERS}
 use Rattle.xti_model.specs.declared.call.Call.{Call}
 use Rattle.xti_model.specs.declared.entry.Act.{Act}
@@ -7,21 +7,18 @@ use Rattle.xti_model.specs.declared.entry.Act.TheVariants as act
 use Rattle.xti_model.specs.declared.entry.Go.{Go}
 use Rattle.xti_model.specs.declared.entry.Go.TheVariants as go
 use Rattle.xti_model.specs.declared.entry.Outcome.{Outcome}
-use Rattle.xti_model.specs.declared.entry.Applied.{Applied}
-use Rattle.xti_model.specs.declared.entry.Applied.TheVariants as applied
 use Rattle.xti_model.specs.declared.entry.Entry.{Entry}
 use Rattle.xti_model.specs.declared.script.Line.{Line}
 use Rattle.xti_model.specs.Built.{is_built}
-use Rattle.xti_model.specs.World.{World}
-use Rattle.xti_model.specs.Step.{Step}
 use Rattle.xti_model.specs.History.{Going, unfinished}
-use Rattle.xti_model.specs.Resolve.{begun, opens}
+use Rattle.xti_model.specs.Resolve.{begun}
 use Rattle.xti_model.specs.Robin.{next_going, is_through, Turn}
 use Rattle.xti_core.specs.Standing.{Standing}
 use Rattle.xti_replay.specs.declared.workers.Part.{Part}
 use Rattle.xti_replay.specs.declared.workers.Worker.{Worker}
-use Rattle.xti_replay.specs.Spots.{spots_of, places_of}
-use Rattle.xti_replay.specs.Known.{Table, known_in, known_by, number_of, or_known}
+use Rattle.xti_replay.specs.declared.names.Names.{Names}
+use Rattle.xti_replay.specs.Spots.{places_of}
+use Rattle.xti_replay.specs.Known.{Knows, HasLearnt}
 
 -- a call that is part way, as the definitions have it
 abbrev pub part_going : Option Part → Option Going
@@ -82,7 +79,7 @@ next_act w = act_by w.next
 pub record Told (lines : List Line) (past : List Entry) (number : ℕ) (w : Worker) : Type 0 where
   pub places : w.places.items ≡ places_of lines number
   pub count : w.begun ≡ length (begun past number)
-  pub names : (name : List ℕ) → known_in w.names name ≡ known_by name (spots_of lines number) (begun past number)
+  pub names : Knows lines past number w.names
   pub part : part_going w.part ≡ unfinished past number
   pub built : is_built_part w.part ≡ true
 
@@ -143,10 +140,9 @@ abbrev pub begun_by : Act → ℕ
 begun_by (act.Begin c) = 1
 begun_by act.More = 0
 
--- the table has what the entry of the line at this place tells, beside what it had
-abbrev pub Learns : List Line → ℕ → Act → Outcome → Table → Table → Type 0
-Learns lines place (act.Begin c) outcome old new = (line : Line) (name : List ℕ) → slice_get lines place ≡ Some line →
-    known_in new name ≡ or_known (known_in old name) (if opens name line.call then Some (record { place = place; number = number_of outcome }) else None)
+-- the names have what the entry tells that begins the line at this place, beside what they had
+abbrev pub Learns : List Line → ℕ → Act → Outcome → Names → Names → Type 0
+Learns lines place (act.Begin c) outcome old new = (line : Line) → slice_get lines place ≡ Some line → HasLearnt place line.call outcome old new
 Learns lines place act.More outcome old new = new ≡ old
 
 -- one worker's step was made, or there was none

@@ -5,11 +5,13 @@ mod asking;
 mod beginning;
 mod names;
 mod replaying;
+mod resolving;
 mod run;
 mod stalling;
 mod workers;
 
-pub use names::{Known, Table, call_before};
+pub use names::{Known, Names, Table};
 pub use replaying::replay;
+pub use resolving::Scope;
 pub use run::Run;
 pub use workers::{Part, Worker};

@@ -5,12 +5,12 @@ ghost use Rattle.std.specs.Option.{option_copied};
 ghost use Rattle.xti_model.specs.declared.entry.Entry.{Entry};
 ghost use Rattle.xti_model.specs.declared.script.Line.{Line};
 ghost use Rattle.xti_model.specs.History.{call_after, going_after};
-ghost use Rattle.xti_model.specs.Resolve.{opens};
-ghost use Rattle.xti_replay.specs.Known.{known_in, or_known, number_of};
+ghost use Rattle.xti_replay.specs.Known.{known_in, HasLearnt};
 ghost use Rattle.xti_replay.specs.Playable.{are_playable};
 ghost use Rattle.xti_replay.specs.Progress.{is_finished, Told, IsNext, MayTake, Learns, begun_by, next_act, part_call, part_going, going_of, call_of, so_far_of};
 
-use crate::names::{Table, call_before, learn};
+use crate::names::Names;
+use crate::resolving::Scope;
 use std::alloc::{AllocError, Global};
 use std::collections::VecDeque;
 use xti_model::{Act, Call, Go, Line, Outcome};
@@ -31,8 +31,8 @@ pub struct Worker {
     pub(crate) places: Vec<usize>,
     /// How many of them it has begun.
     pub(crate) begun: usize,
-    /// What its names stand for.
-    pub names: Table,
+    /// What the names stand for that its lines have defined.
+    pub names: Names,
     /// Its call that is part way.
     pub(crate) part: Option<Part>,
     /// The call of its next line, once it is found.
@@ -78,14 +78,15 @@ impl Worker {
     pub fn idle(alloc: Global) -> Worker
         ensures places { result.places.items ≡ [] }
         ensures begun { result.begun ≡ 0 }
-        ensures names { (name : List ℕ) → known_in result.names name ≡ None }
+        ensures endpoints { (name : List ℕ) → known_in result.names.endpoints name ≡ None }
+        ensures sequences { (name : List ℕ) → known_in result.names.sequences name ≡ None }
         ensures part { result.part ≡ None }
         ensures next { result.next ≡ None }
     {
         Worker {
             places: Vec::new(alloc),
             begun: 0,
-            names: Table::new(alloc),
+            names: Names::new(alloc),
             part: None,
             next: None,
         }
@@ -126,7 +127,12 @@ impl Worker {
             None => Ok(None),
             Some(place) => {
                 let line = &lines[place];
-                let call = call_before(place, &self.names, &setup.names, &line.call)?;
+                let scope = Scope {
+                    place,
+                    own: &self.names,
+                    setup: &setup.names,
+                };
+                let call = scope.call(&line.call)?;
                 Ok(Some(call))
             }
         }
@@ -187,11 +193,11 @@ impl Worker {
         requires within { slice_index self.old.places.items self.old.begun < length lines.now }
         ensures others { (self.new.places ≡ self.old.places) × (self.new.part ≡ self.old.part) × (self.new.next ≡ self.old.next) }
         ensures count { OnOk result (self.new.begun ≡ self.old.begun + 1) }
-        ensures names { OnOk result ((line : Line) (name : List ℕ) → slice_get lines.now (slice_index self.old.places.items self.old.begun) ≡ Some line → known_in self.new.names name ≡ or_known (known_in self.old.names name) (if opens name line.call then Some (record { place = slice_index self.old.places.items self.old.begun; number = number_of outcome.now }) else None)) }
+        ensures names { OnOk result ((line : Line) → slice_get lines.now (slice_index self.old.places.items self.old.begun) ≡ Some line → HasLearnt (slice_index self.old.places.items self.old.begun) line.call outcome.now self.old.names self.new.names) }
     {
         let place = self.places[self.begun];
         let line = &lines[place];
-        learn(alloc, &mut self.names, place, &line.call, outcome)?;
+        self.names.learn(alloc, place, &line.call, outcome)?;
         self.begun += 1;
         Ok(())
     }

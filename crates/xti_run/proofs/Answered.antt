@@ -11,6 +11,7 @@ use Rattle.xti_model.specs.Complete.{Follows, Each, workers, Complete}
 use Rattle.xti_model.specs.Work.{script_bytes}
 use Rattle.xti_replay.specs.Stalls.{stalls_of, are_through}
 use Rattle.xti_script.specs.Grammar.{IsScript}
+use Rattle.xti_streams.specs.Laws.{PrefixLaw, WaitingLaw, ReleaseLaw}
 use Rattle.xti_journal.specs.JournalText.{journal_text}
 use Rattle.xti_journal.specs.Writing.{Written, Took}
 use Rattle.xti_run.specs.Program.{IsReplayed, status_with}
@@ -29,6 +30,9 @@ pub record IsRunOf (s : Script) (told : List StallLine) : Type 0 where
   pub follows : Each (Follows (robin s) s.lines) workers
   pub complete : Complete s.providers (robin s) s.lines
   pub few : length (robin s) ≤ length s.lines + script_bytes s.lines
+  pub prefix : PrefixLaw s.providers (robin s)
+  pub waiting : WaitingLaw s.providers (robin s)
+  pub release : ReleaseLaw s.providers (robin s)
 
 -- a journal begins with its head alone
 pub begun : (w : Written) (head : List ℕ) → w ≡ (head, 0) → Took (head, 0) [] w
@@ -44,4 +48,7 @@ replayed-is s input text told status is r n t = record {
   follows = r.follows;
   complete = r.complete;
   few = r.few;
+  prefix = r.prefix;
+  waiting = r.waiting;
+  release = r.release;
 }

@@ -11,6 +11,7 @@ use Rattle.xti_model.specs.Robin.{robin}
 use Rattle.xti_model.specs.Complete.{Follows, Each, workers, Complete}
 use Rattle.xti_model.specs.Work.{script_bytes}
 use Rattle.xti_replay.specs.Stalls.{stalls_of, are_through}
+use Rattle.xti_streams.specs.Laws.{PrefixLaw, WaitingLaw, ReleaseLaw}
 use Rattle.xti_script.specs.Grammar.{IsScript}
 use Rattle.xti_script.specs.Refused.{IsRefusedAt}
 use Rattle.xti_journal.specs.JournalText.{journal_text}
@@ -57,6 +58,8 @@ command_of other = None
 
 -- The input is a valid script: the journal of its run, with a stall line for each worker that is not finished. The run is legal, has each worker's calls in script order, each once,
 -- and ends early only where worker 0 is blocked in its setup, or each worker that is not finished is blocked; it has no more steps than the script has calls and bytes of arguments.
+-- On each connection of the run, and of normal and of expedited data each by itself, what an end received is a prefix of what the other end sent; while its life lasts and the connection is not broken there, what waits
+-- is the rest; and an end that received the orderly release received all.
 -- Status 0 where every worker is finished, else 3.
 pub record IsReplayed (input : List ℕ) (status : ℕ) (text : List ℕ) : Type 0 where
   pub script : Script
@@ -67,6 +70,9 @@ pub record IsReplayed (input : List ℕ) (status : ℕ) (text : List ℕ) : Type
   pub follows : Each (Follows (robin script) script.lines) workers
   pub complete : Complete script.providers (robin script) script.lines
   pub few : length (robin script) ≤ length script.lines + script_bytes script.lines
+  pub prefix : PrefixLaw script.providers (robin script)
+  pub waiting : WaitingLaw script.providers (robin script)
+  pub release : ReleaseLaw script.providers (robin script)
 
 -- the input is no valid script: status 2, and the first line by which it is not
 pub record IsRefusedInput (input : List ℕ) (status : ℕ) (text : List ℕ) : Type 0 where

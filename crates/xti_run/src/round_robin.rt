@@ -9,10 +9,12 @@ ghost use Rattle.xti_model.specs.Complete.{Follows, Each, workers, Complete};
 ghost use Rattle.xti_replay.specs.Playable.{IsPlayable};
 ghost use Rattle.xti_replay.specs.Stalls.{stalls_of, are_through};
 ghost use Rattle.xti_script.specs.Grammar.{HasText};
+ghost use Rattle.xti_streams.specs.Laws.{PrefixLaw, WaitingLaw, ReleaseLaw};
 
 use std::alloc::{AllocError, Global};
 use xti_model::{Journal, Script, usual_is_valid};
 use xti_script::{scripts_are_built, scripts_are_small, scripts_have_workers};
+use xti_streams::scripts_keep_order;
 
 /// A script that has a text can be played.
 pub(crate) fn texts_are_playable()
@@ -35,7 +37,11 @@ pub fn replay(alloc: Global, s: &Script) -> Result<Journal, AllocError>
     ensures legal { IfOk result (λ j. Legal s.now.providers j.entries) }
     ensures follows { IfOk result (λ j. Each (Follows j.entries s.now.lines) workers) }
     ensures complete { IfOk result (λ j. Complete s.now.providers j.entries s.now.lines) }
+    ensures prefix { IfOk result (λ j. PrefixLaw s.now.providers j.entries) }
+    ensures waiting { IfOk result (λ j. WaitingLaw s.now.providers j.entries) }
+    ensures release { IfOk result (λ j. ReleaseLaw s.now.providers j.entries) }
 {
     texts_are_playable();
+    scripts_keep_order();
     xti_replay::replay(alloc, s)
 }

@@ -26,6 +26,7 @@ use xti_journal::JournalWriter;
 use xti_model::{Entry, Script, Stalls, robin_follows, robin_is_complete, robin_is_legal};
 use xti_replay::Run;
 use xti_script::{ScriptFail, never_both, read_script};
+use xti_streams::scripts_keep_order;
 
 /// How a run of the program ends.
 ///
@@ -103,6 +104,7 @@ fn journal_answer(alloc: Global, script: &Script, input: Octets) -> Result<Answe
     robin_is_legal();
     robin_follows();
     robin_is_complete();
+    scripts_keep_order();
     let mut writer = JournalWriter::begin(input.into_vec()?, &script.providers)?;
     let mut run = Run::of(alloc, script)?;
     write_entries(&mut run, &mut writer)?;

@@ -1,3 +1,4 @@
 pub mod Openings
 pub mod Touches
 pub mod Binds
+pub mod Asking

@@ -3,7 +3,11 @@
 
 mod bind;
 mod close;
+mod connect;
+mod frames;
 mod open;
+mod refusals;
+mod requests;
 mod step;
 mod unbind;
 

@@ -6,8 +6,8 @@ use Rattle.xti_core.proofs.looking.show.Goals as goal
 pub endpoint-requires : goal.endpoint-requires
 endpoint-requires c = lent-by c.args.lent.now c.providers.result.now c.args.fd.0 c.place_of.result c.providers.ensures.providers c.place_of.ensures.place c.requires.there
 
-pub show_at-requires-clause-place : goal.show_at-requires-clause-place
-show_at-requires-clause-place c = own-place c.args.lent.now.numbers c.args.lent.now.held c.place_of.result c.endpoint.result.now c.requires.own (sym c.endpoint.ensures.now) ∙ c.place_of.ensures.place
+pub show_at-requires : goal.show_at-requires
+show_at-requires c = own-place c.args.lent.now.numbers c.args.lent.now.held c.place_of.result c.endpoint.result.now c.requires.own (sym c.endpoint.ensures.now) ∙ c.place_of.ensures.place
 
 pub returns-clause-cells : goal.returns-clause-cells
 returns-clause-cells c = written-by c.args.lent.now c.providers.result.now c.args.fd.0 c.place_of.result c.endpoint.result.now c.show_at.new.e _ c.providers.ensures.providers c.place_of.ensures.place (sym c.endpoint.ensures.now) c.show_at.ensures.cell

@@ -16,4 +16,4 @@ returns-in-Some c =
 pub returns-in-None : goal.returns-in-None
 returns-in-None c =
     let l = c.args.lent.now in
-    c.own_cell.ensures ∙ ap (λ o. listed (place_of l.providers c.args.fd.0 ∷ of_some o (looked_at l))) c.in-None.ensures.endpoint
+    c.own_cells.ensures ∙ ap (λ o. listed (place_of l.providers c.args.fd.0 ∷ of_some o (looked_at l))) c.in-None.ensures.endpoint

@@ -1,5 +1,5 @@
 use Rattle.xti_model.specs.World.{place_of}
-use Rattle.xti_dgram.proofs.Sound.{short-source}
+use Rattle.xti_lent.proofs.Sound.{short-source}
 use Rattle.xti_dgram.proofs.sending.indication.Goals as goal
 
 pub datagram-requires-clause-source : goal.datagram-requires-clause-source

@@ -1,5 +1,6 @@
 use Rattle.std.proofs.Common.{refl}
 use Rattle.xti_model.specs.Robin.{robin}
+use Rattle.xti_script.specs.Grammar.{HasText}
 use Rattle.xti_journal.specs.JournalText.{head_text}
 use Rattle.xti_replay.proofs.Few.{robin-few}
 use Rattle.xti_replay.proofs.WholeRuns.{ends}
@@ -19,13 +20,17 @@ pub returns : goal.returns
 returns c =
     let whole = c.in_ok-write_entries.ensures c.args.script.now (robin c.args.script.now) c.in_ok-run.ensures in
     let end = ends c.args.script.now c.in_ok-stalls.stalls c.write_entries.new.run.lines.now whole.1.lines (c.in_ok-stalls.ensures (robin c.args.script.now) whole.1.stands) in
+    let text : HasText c.args.script.now = (c.args.input, c.requires) in
     let r : IsRunOf c.args.script.now c.in_ok-stalls.stalls = record {
       stalls = end.stalls;
       through = end.through;
       legal = c.robin_is_legal.ensures.whole c.args.script.now;
       follows = c.robin_follows.ensures c.args.script.now;
-      complete = c.robin_is_complete.ensures c.args.script.now (c.texts_are_playable.ensures c.args.script.now (c.args.input, c.requires)).bound;
+      complete = c.robin_is_complete.ensures c.args.script.now (c.texts_are_playable.ensures c.args.script.now text).bound;
       few = robin-few c.args.script.now;
+      prefix = c.scripts_keep_order.ensures.prefix c.args.script.now text;
+      waiting = c.scripts_keep_order.ensures.waiting c.args.script.now text;
+      release = c.scripts_keep_order.ensures.release c.args.script.now text;
     } in
     let taken = whole.0 (head_text c.args.script.now.providers, 0) (begun c.in_ok-writer.writer (head_text c.args.script.now.providers) c.in_ok-writer.ensures) in
     replayed-is c.args.script.now c.args.input c.in_ok-text.text c.in_ok-stalls.stalls c.journal_status-status.result c.requires r c.journal_status-status.ensures

@@ -1,6 +1,8 @@
 use Rattle.std.proofs.Common.{◌≡◌, ◌<◌, ◌∙◌, ◌∷◌, [], None, length, reverse, sym, ap, subst, arith}
 use Rattle.std.proofs.lemmas.List.{get_or_default}
 use Rattle.std.proofs.lemmas.Nat.{mod_below}
+use Rattle.std.specs.Prelude.{option_map}
+use Rattle.xti_base.specs.declared.kinds.Fd.{Fd}
 use Rattle.slab.specs.Slab.{get}
 use Rattle.xti_registry.specs.Chains.{Leads, keys_in}
 use Rattle.xti_registry.specs.Links.{binding_of, linked, next_of}
@@ -25,7 +27,7 @@ loop-at-init c =
       stands = first;
       leads = subst (λ (o : _). Leads (linked a) o (reverse (keys_in a (chain_of (word_of c.args.prov c.args.address.now)) a.order.items))) (sym first) (c.requires.chains (chain_of (word_of c.args.prov c.args.address.now)) (mod_below (word_of c.args.prov c.args.address.now) CHAINS (omega arith)));
       short = chain_short a (chain_of (word_of c.args.prov c.args.address.now));
-      found = chain_begins a c.args.prov c.args.address.now c.args.listening;
+      found = chain_begins a c.args.prov c.args.address.now c.args.listening (option_map (λ (fd : Fd). fd.0) c.args.except);
     }
 
 pub index-entry-requires : goal.index-entry-requires
@@ -57,7 +59,7 @@ loop-at-preserved c =
       stands = sym next;
       leads = subst (λ (o : _). Leads (linked a) o rest.0) next rest.2;
       short = let s = i.short in omega arith;
-      found = rw (c.least_with-least.ensures, c.is_asked-asked.ensures) (chain_goes_on a c.args.prov c.args.address.now c.args.listening c.in-Some.key rest.0 c.index-entry.result.now.binding c.loop-at.least (ap binding_of c.index-entry.ensures) (rw rest.1 at i.found));
+      found = rw (c.least_with-least.ensures, c.is_asked-asked.ensures) (chain_goes_on a c.args.prov c.args.address.now c.args.listening (option_map (λ (fd : Fd). fd.0) c.args.except) c.in-Some.key rest.0 c.index-entry.result.now.binding c.loop-at.least (ap binding_of c.index-entry.ensures) (rw rest.1 at i.found));
     }
 
 pub returns : goal.returns

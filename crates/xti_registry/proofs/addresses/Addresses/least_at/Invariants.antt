@@ -1,4 +1,6 @@
 use Rattle.std.proofs.Common.{◌≡◌, ◌≤◌, ℕ, List, length, map}
+use Rattle.std.specs.Prelude.{option_map}
+use Rattle.xti_base.specs.declared.kinds.Fd.{Fd}
 use Rattle.xti_registry.specs.Chains.{Leads}
 use Rattle.xti_registry.specs.Known.{is_asked}
 use Rattle.xti_registry.specs.Links.{binding_at, bindings_of, linked}
@@ -15,7 +17,7 @@ invariant-loop-at l = record {
   stands : l.at ≡ linked l.self link;
   leads : Leads (linked l.self) l.at left;
   short : length left ≤ length l.self.order.items;
-  found : both l.least (least_of (is_asked l.prov l.address l.listening) (map (binding_at l.self) left)) ≡ least_of (is_asked l.prov l.address l.listening) (bindings_of l.self);
+  found : both l.least (least_of (is_asked l.prov l.address l.listening (option_map (λ (fd : Fd). fd.0) l.except)) (map (binding_at l.self) left)) ≡ least_of (is_asked l.prov l.address l.listening (option_map (λ (fd : Fd). fd.0) l.except)) (bindings_of l.self);
 }
 
 abbrev pub decreases-loop-at : goal.decreases-loop-at

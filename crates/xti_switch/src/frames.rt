@@ -1,0 +1,57 @@
+//! The frames of requests to connect, of their answers, and of disconnects.
+
+ghost use Rattle.std.specs.Prelude.{◌≡◌, ◌≤◌, ℕ, [], length, true, IfOk};
+ghost use Rattle.xti_base.specs.declared.limits.TheConstants.{MOST_ADDRESS, MOST_CONNECT_DATA, MOST_OPTIONS};
+ghost use Rattle.tpi_grammar.specs.declared.kind.Kind.TheVariants.{T_CONN_IND, T_CONN_CON, T_DISCON_IND};
+ghost use Rattle.tpi_prim.specs.Fields.{kind_in};
+ghost use Rattle.xti_model.specs.Endpoint.{address_of};
+ghost use Rattle.xti_end.specs.Frames.{request_in, confirmation_in, disconnect_in};
+ghost use Rattle.xti_end.specs.Held as Held;
+
+use std::alloc::{AllocError, Global};
+use tpi_prim::{Frame, encode_conn_con, encode_conn_ind, encode_discon_ind};
+use xti_base::Seq;
+use xti_end::Endpoint;
+use xti_lent::{address_of, unless_too_big};
+
+/// The T_CONN_IND of an open endpoint's request, under this number.
+pub(crate) fn request(
+    alloc: Global,
+    e: &Endpoint,
+    seq: Seq,
+    options: &[u8],
+    udata: &[u8],
+) -> Result<Frame, AllocError>
+    requires open { Held.is_open e.now ≡ true }
+    requires source { length (address_of (Held.parts e.now)) ≤ MOST_ADDRESS }
+    requires options { length options.now ≤ MOST_OPTIONS }
+    requires data { length udata.now ≤ MOST_CONNECT_DATA }
+    ensures kind { IfOk result (λ frame. kind_in frame ≡ T_CONN_IND) }
+    ensures request { IfOk result (λ frame. (caller : ℕ) → request_in caller frame ≡ record { number = seq.0; caller = caller; address = address_of (Held.parts e.now); options = options.now; udata = udata.now }) }
+{
+    unless_too_big(encode_conn_ind(alloc, address_of(e), options, seq.0, udata))
+}
+
+/// The T_CONN_CON of an endpoint with this address.
+pub(crate) fn confirmation(
+    alloc: Global,
+    address: &[u8],
+    options: &[u8],
+    udata: &[u8],
+) -> Result<Frame, AllocError>
+    requires address { length address.now ≤ MOST_ADDRESS }
+    requires options { length options.now ≤ MOST_OPTIONS }
+    requires data { length udata.now ≤ MOST_CONNECT_DATA }
+    ensures kind { IfOk result (λ frame. kind_in frame ≡ T_CONN_CON) }
+    ensures confirmation { IfOk result (λ frame. confirmation_in frame ≡ record { address = address.now; options = options.now; udata = udata.now }) }
+{
+    unless_too_big(encode_conn_con(alloc, address, options, udata))
+}
+
+/// The T_DISCON_IND that answers a request in the place of a listener.
+pub(crate) fn refusal(alloc: Global, reason: u32) -> Result<Frame, AllocError>
+    ensures kind { IfOk result (λ frame. kind_in frame ≡ T_DISCON_IND) }
+    ensures disconnect { IfOk result (λ frame. disconnect_in frame ≡ record { reason = reason; number = 0; udata = [] }) }
+{
+    unless_too_big(encode_discon_ind(alloc, reason, 0, &[]))
+}
