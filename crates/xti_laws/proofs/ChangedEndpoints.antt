@@ -5,6 +5,7 @@ use Rattle.std.specs.Prelude.{option_map, option_and_then, ◌%◌, ◌/◌}
 use Rattle.xti_model.specs.declared.profile.Providers.{Providers}
 use Rattle.xti_model.specs.World.{World, Numbered, Cell, Change, Switch, endpoint_cell, switch_cell, change, change_endpoint, change_switch, close_cell, changed, cell_at, cell_number, new_cell, endpoint, endpoint_in, generation_of, place_of, switch_number}
 use Rattle.xti_model.specs.Endpoint.{Endpoint}
+use Rattle.xti_laws.proofs.Places.{not-switch, same-fd}
 
 abbrev pub recell : (Cell → Cell) → Numbered → Numbered
 recell f c = record c { cell = f c.cell }
@@ -26,9 +27,6 @@ cell_at-other n m k f (c ∷ w) = go (eqb c.number n) refl (eqb c.number m) refl
     go true h false g ih = simp (h, g, ih) refl
     go false h true g ih = simp (h, g, ih) refl
     go false h false g ih = simp (h, g, ih) refl
-
-same-fd : (x y : ℕ) → x % 64 ≡ y % 64 → x / 64 ≡ y / 64 → x ≡ y
-same-fd x y h k = omega arith
 
 in-same : (g : ℕ) (f : Endpoint → Endpoint) (c : Cell) → endpoint_in g (change_endpoint g f c) ≡ option_map f (endpoint_in g c)
 in-same g f (switch_cell s) = refl
@@ -102,7 +100,7 @@ at-other p fd x k f h w = go (eqb (place_of p x) (place_of p fd)) refl (eqb (gen
 
     go : (b : Bool) → eqb (place_of p x) (place_of p fd) ≡ b → (d : Bool) → eqb (generation_of p x) (generation_of p fd) ≡ d → endpoint p (change (place_of p fd) f w) x ≡ endpoint p w x
     go false i d j = ap (option_and_then (λ c. endpoint_in (generation_of p x) c.cell)) (cell_at-other (place_of p fd) (place_of p x) i f w)
-    go true i true j = absurd (false≢true (sym k ∙ (ap (eqb x) (sym (same-fd x fd (eqb-true (place_of p x) (place_of p fd) i) (eqb-true (generation_of p x) (generation_of p fd) j))) ∙ eq-eqb x x refl)))
+    go true i true j = absurd (false≢true (sym k ∙ (ap (eqb x) (sym (same-fd p x fd (eqb-true (place_of p x) (place_of p fd) i) (eqb-true (generation_of p x) (generation_of p fd) j))) ∙ eq-eqb x x refl)))
     go true i false j = ap (option_and_then (λ c. endpoint_in (generation_of p x) c.cell)) (there (eqb-true (place_of p x) (place_of p fd) i)) ∙ kept j (cell_at w (place_of p x))
 
 pub endpoint-same : (p : Providers) (fd : ℕ) (f : Endpoint → Endpoint) (w : World) → endpoint p (change (place_of p fd) (change_endpoint (generation_of p fd) f) w) fd ≡ option_map f (endpoint p w fd)
@@ -117,11 +115,8 @@ closed-same p fd w = at-same p fd (close_cell (generation_of p fd)) (λ o. None)
 pub closed-other : (p : Providers) (fd x : ℕ) → eqb x fd ≡ false → (w : World) → endpoint p (change (place_of p fd) (close_cell (generation_of p fd)) w) x ≡ endpoint p w x
 closed-other p fd x k w = at-other p fd x k (close_cell (generation_of p fd)) (λ c j. in-closed-other (generation_of p fd) (generation_of p x) j c) w
 
-not-switch : (x : ℕ) → eqb (x % 64) 64 ≡ false
-not-switch x = ne_eqb (x % 64) 64 (λ e. omega (arith, e))
-
 pub switch-other : (p : Providers) (f : Switch → Switch) (x : ℕ) (w : World) → endpoint p (change (switch_number p) (change_switch f) w) x ≡ endpoint p w x
-switch-other p f x w = ap (option_and_then (λ c. endpoint_in (generation_of p x) c.cell)) (cell_at-other (switch_number p) (place_of p x) (not-switch x) (change_switch f) w)
+switch-other p f x w = ap (option_and_then (λ c. endpoint_in (generation_of p x) c.cell)) (cell_at-other (switch_number p) (place_of p x) (not-switch p x) (change_switch f) w)
 
 pub changed-append : (p : Providers) (w : World) (cs ds : List Change) → changed p w (cs ++ ds) ≡ changed p (changed p w cs) ds
 changed-append p w [] ds = refl

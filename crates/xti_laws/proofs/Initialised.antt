@@ -8,7 +8,7 @@ use Rattle.xti_base.specs.declared.kinds.State.TheVariants.{T_UNINIT, T_IDLE, T_
 use Rattle.xti_model.specs.declared.entry.Entry.{Entry}
 use Rattle.xti_model.specs.declared.profile.Providers.{Providers}
 use Rattle.xti_model.specs.Endpoint.{Endpoint, ocnt}
-use Rattle.xti_model.specs.World.{World, Cell, endpoint_cell, switch_cell, change_endpoint, cell_at, endpoint, endpoint_in, generation_of, place_of, closed_places, opening, opening_switch}
+use Rattle.xti_model.specs.World.{World, Cell, endpoint_cell, switch_cell, change_endpoint, cell_at, endpoint, endpoint_in, generation_of, place_of, closed_places, places, opening, opening_switch, switch_number}
 use Rattle.xti_model.specs.Links.{names, if_names}
 use Rattle.xti_model.specs.History.{after}
 use Rattle.xti_laws.specs.Laws.{AllCells, Keeps}
@@ -126,4 +126,4 @@ endpoint-begun p fd (c ∷ w) h = go (eqb c.number (place_of p fd)) (endpoint-be
 
 pub after-initialised : (p : Providers) (entries : List Entry) (fd : ℕ) → is_initialised (endpoint p (after p entries) fd) ≡ true
 unfolding opening
-after-initialised p entries fd = endpoint-begun p fd (after p entries) (after_from-kept p (λ cell. is_initialised_cell cell ≡ true) (kind-begun p) (opening p) [] entries (closed-begun 0 64 (record { number = 64; cell = switch_cell (opening_switch 64) } ∷ []) (refl, tt)))
+after-initialised p entries fd = endpoint-begun p fd (after p entries) (after_from-kept p (λ cell. is_initialised_cell cell ≡ true) (kind-begun p) (opening p) [] entries (closed-begun 0 (places p) (record { number = switch_number p; cell = switch_cell (opening_switch (places p)) } ∷ []) (refl, tt)))

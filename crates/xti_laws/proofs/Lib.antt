@@ -1,3 +1,4 @@
+mod Places
 pub mod Only
 pub mod Local
 pub mod Others

@@ -10,7 +10,7 @@ use Rattle.xti_model.specs.declared.entry.Go.{Go}
 use Rattle.xti_model.specs.declared.profile.Providers.{Providers}
 use Rattle.xti_model.specs.Provider.{is_provider, profile}
 use Rattle.xti_model.specs.Endpoint.{Endpoint, opened}
-use Rattle.xti_model.specs.World.{World, Switch, Cell, Numbered, endpoint_cell, switch_cell, change, open_cell, opens_place, at_switch, changed, cell_at, endpoint, endpoint_in, place_of, generation_of, the_switch, closed_place}
+use Rattle.xti_model.specs.World.{World, Switch, Cell, Numbered, endpoint_cell, switch_cell, change, open_cell, opens_place, at_switch, changed, cell_at, endpoint, endpoint_in, place_of, generation_of, descriptor, places, the_switch, closed_place}
 use Rattle.xti_model.specs.Switch.{free_place, opening_place, if_provider, is_free, place_at, mark_open}
 use Rattle.xti_model.specs.Plan.{Plan, first, refuses, has_effect}
 use Rattle.xti_model.specs.Step.{step, plan, step_of, step_by, first_refusal}
@@ -21,6 +21,7 @@ use Rattle.xti_model.specs.Calls.Open as Open
 use Rattle.xti_laws.specs.States.{told, next, OpensWhereItAgrees}
 use Rattle.xti_laws.proofs.FollowsTable.{FollowsIf}
 use Rattle.xti_laws.proofs.ChangedEndpoints.{cell_at-same, cell_at-other, recell, switch-other}
+use Rattle.xti_laws.proofs.Places.{place-is, generation-is, descriptor-is}
 
 -- where no row of an open refuses, a place opens
 open-some : (b : Bool) (o : Option ℕ) → has_effect (first (refuses (not b) TBADNAME ∷ refuses (is_none o) TSYSERR ∷ [])) ≡ true → if_provider b o ≡ None → ⊥
@@ -68,37 +69,28 @@ closed-there p s w n k = go (cell_at w n) refl
     go None h a = absurd a
     go (Some c) h a = record { there = c; is_there = h; is_closed = closed-cell p s n k c.cell a }
 
-place-of : (g n : ℕ) → n < 64 → (64 * g + n) % 64 ≡ n
-place-of g n h = omega (arith, h)
-
-generation-of : (g n : ℕ) → n < 64 → (64 * g + n) / 64 ≡ g
-generation-of g n h = omega (arith, h)
-
 -- a descriptor is its place and generation
-pub looked : (p : Providers) (w : World) (g n : ℕ) → n < 64 → endpoint p w (64 * g + n) ≡ option_and_then (λ c. endpoint_in g c.cell) (cell_at w n)
-looked p w g n h = ap (λ z. option_and_then (λ c. endpoint_in ((64 * g + n) / 64) c.cell) (cell_at w z)) (place-of g n h) ∙ ap (λ z. option_and_then (λ c. endpoint_in z c.cell) (cell_at w n)) (generation-of g n h)
+pub looked : (p : Providers) (w : World) (g n : ℕ) → n < places p → endpoint p w (descriptor p g n) ≡ option_and_then (λ c. endpoint_in g c.cell) (cell_at w n)
+looked p w g n h = ap (λ z. option_and_then (λ c. endpoint_in (generation_of p (descriptor p g n)) c.cell) (cell_at w z)) (place-is p g n h) ∙ ap (λ z. option_and_then (λ c. endpoint_in z c.cell) (cell_at w n)) (generation-is p g n h)
 
 none-either : (b : Bool) → cond {A = Option Endpoint} b None None ≡ None
 none-either true = refl
 none-either false = refl
 
-before : (p : Providers) (w : World) (g n : ℕ) → n < 64 → Closed w n g → endpoint p w (64 * g + n) ≡ None
+before : (p : Providers) (w : World) (g n : ℕ) → n < places p → Closed w n g → endpoint p w (descriptor p g n) ≡ None
 before p w g n h c = looked p w g n h ∙ (ap (option_and_then (λ z. endpoint_in g z.cell)) c.is_there ∙ (ap (endpoint_in g) c.is_closed ∙ none-either (eqb g g)))
 
-pub after : (p : Providers) (w : World) (g n : ℕ) (e : Endpoint) → n < 64 → Closed w n g → endpoint p (change n (open_cell e) w) (64 * g + n) ≡ Some e
+pub after : (p : Providers) (w : World) (g n : ℕ) (e : Endpoint) → n < places p → Closed w n g → endpoint p (change n (open_cell e) w) (descriptor p g n) ≡ Some e
 after p w g n e h c =
     looked p (change n (open_cell e) w) g n h ∙ (ap (option_and_then (λ z. endpoint_in g z.cell)) (cell_at-same n (open_cell e) w ∙ ap (option_map (recell (open_cell e))) c.is_there) ∙
     (ap (λ z. endpoint_in g (open_cell e z)) c.is_closed ∙ ap (λ b. cond b (Some e) None) (eq-eqb g g refl)))
 
-descriptor-of : (x g n : ℕ) → x % 64 ≡ n → x / 64 ≡ g → x ≡ 64 * g + n
-descriptor-of x g n h k = omega (arith, h, k)
-
 -- any other descriptor has what it had
-pub elsewhere : (p : Providers) (w : World) (g n x : ℕ) (e : Endpoint) → Closed w n g → eqb x (64 * g + n) ≡ false → endpoint p (change n (open_cell e) w) x ≡ endpoint p w x
+pub elsewhere : (p : Providers) (w : World) (g n x : ℕ) (e : Endpoint) → Closed w n g → eqb x (descriptor p g n) ≡ false → endpoint p (change n (open_cell e) w) x ≡ endpoint p w x
 elsewhere p w g n x e c k = go (eqb (place_of p x) n) refl
   where
     other-generation : place_of p x ≡ n → (b : Bool) → eqb g (generation_of p x) ≡ b → cond b (Some e) None ≡ cond {A = Option Endpoint} b None None
-    other-generation i true j = absurd (eqb-false x (64 * g + n) k (descriptor-of x g n i (sym (eqb-true g (generation_of p x) j))))
+    other-generation i true j = absurd (eqb-false x (descriptor p g n) k (descriptor-is p x g n i (sym (eqb-true g (generation_of p x) j))))
     other-generation i false j = refl
 
     here : place_of p x ≡ n → endpoint p (change n (open_cell e) w) x ≡ endpoint p w x
@@ -113,11 +105,11 @@ elsewhere p w g n x e c k = go (eqb (place_of p x) n) refl
     go true i = here (eqb-true (place_of p x) n i)
     go false i = ap (option_and_then (λ c. endpoint_in (generation_of p x) c.cell)) (cell_at-other n (place_of p x) i (open_cell e) w)
 
-opened-at : (p : Providers) (w : World) (prov : Prov) (nonblock : Bool) (g n : ℕ) → n < 64 → Closed w n g
-    → FollowsIf Unit by_open (endpoint p w (64 * g + n)) (endpoint p (changed p w (opens_place n (opened (profile p prov) prov nonblock) ∷ at_switch (mark_open n) ∷ [])) (64 * g + n))
+opened-at : (p : Providers) (w : World) (prov : Prov) (nonblock : Bool) (g n : ℕ) → n < places p → Closed w n g
+    → FollowsIf Unit by_open (endpoint p w (descriptor p g n)) (endpoint p (changed p w (opens_place n (opened (profile p prov) prov nonblock) ∷ at_switch (mark_open n) ∷ [])) (descriptor p g n))
 opened-at p w prov nonblock g n h c =
-    subst (λ x. FollowsIf Unit by_open x (endpoint p (changed p w (opens_place n (opened (profile p prov) prov nonblock) ∷ at_switch (mark_open n) ∷ [])) (64 * g + n))) (sym (before p w g n h c))
-    (subst (FollowsIf Unit by_open None) (sym (switch-other p (mark_open n) (64 * g + n) (change n (open_cell (opened (profile p prov) prov nonblock)) w) ∙ after p w g n (opened (profile p prov) prov nonblock) h c)) (λ i. refl, λ k. refl))
+    subst (λ x. FollowsIf Unit by_open x (endpoint p (changed p w (opens_place n (opened (profile p prov) prov nonblock) ∷ at_switch (mark_open n) ∷ [])) (descriptor p g n))) (sym (before p w g n h c))
+    (subst (FollowsIf Unit by_open None) (sym (switch-other p (mark_open n) (descriptor p g n) (change n (open_cell (opened (profile p prov) prov nonblock)) w) ∙ after p w g n (opened (profile p prov) prov nonblock) h c)) (λ i. refl, λ k. refl))
 
 pub open-takes : (p : Providers) (w : World) (prov : Prov) (nonblock : Bool) (g : Go) → OpensWhereItAgrees p w (call.TOpen prov nonblock) → has_effect (first_refusal p w (call.TOpen prov nonblock) g) ≡ true
     → FollowsIf Unit by_open (endpoint p w (told p w (call.TOpen prov nonblock) g)) (endpoint p (next p w (call.TOpen prov nonblock) g) (told p w (call.TOpen prov nonblock) g))

@@ -10,7 +10,7 @@ use Rattle.xti_model.specs.declared.entry.Go.{Go}
 use Rattle.xti_model.specs.declared.entry.Outcome.{Outcome}
 use Rattle.xti_model.specs.declared.profile.Providers.{Providers}
 use Rattle.xti_model.specs.Provider.{is_provider}
-use Rattle.xti_model.specs.World.{World, Switch, closed_place, cell_at, endpoint, endpoint_in, generation_of, is_among, only, without, place_of, state_of, the_switch}
+use Rattle.xti_model.specs.World.{World, Switch, closed_place, cell_at, endpoint, endpoint_in, generation_of, is_among, only, without, place_of, places, state_of, the_switch}
 use Rattle.xti_model.specs.Switch.{free_place, opening_place, if_provider, is_free, place_at}
 use Rattle.xti_model.specs.Plan.{Refusal, answers, waits, loses, first}
 use Rattle.xti_model.specs.Step.{plan, step, step_of, step_by, made}
@@ -24,15 +24,19 @@ use Rattle.xti_laws.proofs.Others.{step-others}
 use Rattle.xti_laws.proofs.Touched.{touched-within, within-named}
 use Rattle.xti_laws.proofs.TouchedAgain.{named-some}
 use Rattle.xti_laws.proofs.TableWalk.{told-fd, ToldIs}
+use Rattle.xti_laws.proofs.Places.{place-is}
 
 none-some : (n : ℕ) → None ≡ Some n → ⊥
 none-some n k = false≢true (ap is_none (sym k))
 
-opening-small : (p : Providers) (s : Switch) (prov : Prov) (n : ℕ) → length s.places ≤ 64 → opening_place p s prov ≡ Some n → n < 64
+within : (n k m : ℕ) → n < k → k ≤ m → n < m
+within n k m i j = omega (arith, i, j)
+
+opening-small : (p : Providers) (s : Switch) (prov : Prov) (n : ℕ) → length s.places ≤ places p → opening_place p s prov ≡ Some n → n < places p
 opening-small p s prov n k = go (is_provider prov)
   where
-    go : (b : Bool) → if_provider b (free_place p s) ≡ Some n → n < 64
-    go true h = let i : n < length s.places = (position-Some (is_free p) s.places n closed_place h).0 in omega (arith, i, k)
+    go : (b : Bool) → if_provider b (free_place p s) ≡ Some n → n < places p
+    go true h = let i : n < length s.places = (position-Some (is_free p) s.places n closed_place h).0 in within n (length s.places) (places p) i k
     go false h = absurd (none-some n h)
 
 -- The endpoint whose state is told is among them, but for an open that no place can take.
@@ -74,9 +78,6 @@ refused-only p t w s prov nonblock h (Some (waits reply)) = go nonblock
     go false = refl
 refused-only p t w s prov nonblock h (Some loses) = ap Some (none-made p t w Open.no_fd _ h)
 
-fd-place : (g n : ℕ) → n < 64 → (64 * g + n) % 64 ≡ n
-fd-place g n h = omega (arith, h)
-
 open-reads : (p : Providers) (t : List ℕ) (w : World) (prov : Prov) (nonblock : Bool) (g : Go) → KnowsNoMore p w → TellsNone p w (call.TOpen prov nonblock) → Within t (named p w (call.TOpen prov nonblock))
     → step p (only t w) (call.TOpen prov nonblock) g ≡ option_map (restrict t) (step p w (call.TOpen prov nonblock) g)
 unfolding step plan
@@ -87,9 +88,9 @@ open-reads p t w prov nonblock g k n within = go (opening_place p (the_switch p 
 
     go : (o : Option ℕ) → opening_place p (the_switch p w) prov ≡ o → step p (only t w) (call.TOpen prov nonblock) g ≡ option_map (restrict t) (step p w (call.TOpen prov nonblock) g)
     go (Some m) h =
-        let i : m < 64 = opening-small p (the_switch p w) prov m k h in
+        let i : m < places p = opening-small p (the_switch p w) prov m k h in
         step-local p t w (call.TOpen prov nonblock) g within
-        (ap (λ z. is_among t (place_of p (Open.plan_where p (the_switch p w) prov nonblock z).fd)) h ∙ (ap (is_among t) (fd-place (place_at (the_switch p w) m).generation m i) ∙ (subst (λ z. Within t (option_to_list z)) h within.1).0))
+        (ap (λ z. is_among t (place_of p (Open.plan_where p (the_switch p w) prov nonblock z).fd)) h ∙ (ap (is_among t) (place-is p (place_at (the_switch p w) m).generation m i) ∙ (subst (λ z. Within t (option_to_list z)) h within.1).0))
     go None h =
         ap (λ s. step_of p (only t w) (Open.plan_in p s prov nonblock)) same ∙
         (ap (λ z. step_of p (only t w) (Open.plan_where p (the_switch p w) prov nonblock z)) h ∙
