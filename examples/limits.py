@@ -150,10 +150,33 @@ def longest_input():
     return whole * count + frame(words(T_DATA_IND, 0), octets(rest - 16))
 
 
+def requests_of_a_full_queue():
+    """A listener's queue is filled, its first request accepted on r and the others rejected, with the most data and options."""
+    options = "o:" + ",".join(f"1/{number}" for number in range(16))
+    callers = [f"d{number}" for number in range(7)]
+    calls = ["open l ticots nonblock", "bind l addr=f:64 qlen=8", "open r ticots nonblock", "open c ticots nonblock", "bind c addr=t:c"]
+    calls += [f"open {name} ticots nonblock" for name in callers] + [f"bind {name}" for name in callers]
+    calls += ["optmgmt c negotiate opt=o:65535/4097=65536", "optmgmt r negotiate opt=o:65535/4098=65536", f"optmgmt r current opt={options}"]
+    calls += [f"connect c addr=f:64 opt={options} udata=f:64"] + [f"connect {name} addr=f:64 udata=f:64" for name in callers]
+    calls += [f"listen l q{number}" for number in range(8)] + [f"accept l r q0 opt={options} udata=f:64"]
+    return calls + [f"snddis l q{number} udata=f:64" for number in range(1, 8)] + ["rcvconnect c", "rcvdis d6"]
+
+
+def connections():
+    """As much as may wait at one end of a connection: bytes, parts, ends of messages and expedited data, and then one more."""
+    calls = requests_of_a_full_queue() + ["snd c data=f:65536"] * 2 + ["snd c data=t:x"] + ["rcv r"] * 2
+    calls += ["sndv c parts=" + ",".join(["f:4096"] * 16), "rcvv r sizes=" + ",".join(["4096"] * 16)]
+    calls += ["snd c data=f:128 flags=2"] * 2 + ["snd c data=t:x flags=2"] + ["rcv r"] * 2
+    calls += ["snd c data=t:e flags=2"] * 17 + ["rcv r"] * 16 + ["snd r data=t:m"] * 257
+    calls += ["rcv c", "look r", "snddis r - udata=f:64", "rcvdis c"]
+    return script(f"0 {call}" for call in calls)
+
+
 INPUTS = {
     "a-datagram-of-the-most-bytes": datagram_in_one,
     "a-datagram-of-the-most-bytes-in-parts": datagram_in_parts,
     "a-datagram-over-the-limit": datagram_over_its_limit,
+    "connections-at-their-limits": connections,
     "as-many-bytes-as-a-script-may-have": hexadecimal,
     "a-byte-more-than-a-script-may-have": hexadecimal_over_its_limit,
     "as-many-lines-as-a-script-may-have": lambda: lines(MOST_LINES),

@@ -171,7 +171,7 @@ enum Field<'a> {
 }
 
 /// The start of a frame: at least what stands before the parts, and all of a frame that takes no memory.
-type Front = ArrayVec<u8, INLINE>;
+pub(crate) type Front = ArrayVec<u8, INLINE>;
 
 /// A primitive whose fields are lent.
 #[derive(Clone, Copy)]
@@ -309,7 +309,7 @@ fn offset_of(len: u32, place: u32) -> u32
 
 /// Writes a word, high byte first.
 #[inline(always)]
-fn put_word(out: &mut Front, word: u32)
+pub(crate) fn put_word(out: &mut Front, word: u32)
     requires { array_vec_len out.old + 4 ≤ INLINE }
     ensures items { out.new.items ≡ out.old.items ++ be word }
     ensures len { array_vec_len out.new ≡ array_vec_len out.old + 4 }

@@ -17,13 +17,13 @@ use Rattle.xti_sound.proofs.SoundGives.{datagrams-alone}
 use Rattle.xti_sound.proofs.Lent.{lent-cell, cell-endpoint}
 use Rattle.xti_lent.specs.Kept.{Distinct, IsPlace}
 use Rattle.xti_lent.specs.Lending.{Lending, held_in, held_at, cell_lent, cells_by}
-use Rattle.xti_lent.specs.Fit.{IsSound, KnownTo, Agree, IsBuilt, IsOfDatagrams, IsFit, place_of_held}
+use Rattle.xti_lent.specs.Fit.{IsSound, KnownTo, Agree, IsFit, place_of_held}
 use Rattle.xti_lent.proofs.Worlds.{at_number, cell_at-is}
 use Rattle.xti_lent.proofs.Places.{place-cell}
 use Rattle.xti_lent.proofs.Lendings.{cell-is, lent-switch, switch-is}
 use Rattle.xti_lent.proofs.Open.{held-all}
 use Rattle.xti_lent.proofs.Named.{all-among}
-use Rattle.xti_core.specs.Standing.{IsLoan, is_served}
+use Rattle.xti_core.specs.Standing.{IsLoan}
 use Rattle.xti_core.proofs.SomeCells.{Sub, switch-sub}
 
 pub held-sound : (l : Lending) (n : ℕ) (h : Held) → AllByRecursion IsSound l.held → held_at l n ≡ Some h → is_sound_body h.body ≡ true
@@ -76,41 +76,6 @@ lent-at at l h u loan e =
 held-fits : (at : ℕ → Option Cell) (l : Lending) (h : Held) → SoundWorld l.providers (cells_by l.providers at) → Sub (cell_lent l) at → IsLoan l → held_at l h.place ≡ Some h → SoundWhenLent l.providers (the_switch l.providers (cells_by l.providers at)) h.place (cell h)
 held-fits at l h s u loan e = lent-cell l.providers (cells_by l.providers at) h.place (at_number h.place (cell h)) s (place-of l h loan e) (lent-at at l h u loan e)
 
--- an open endpoint of a provider that has code is of the provider of datagrams
-of-ticlts : (prov : Prov) → is_served prov ≡ true → prov ≡ Ticlts
-of-ticlts Ticots h = absurd (false≢true h)
-of-ticlts Ticotsord h = absurd (false≢true h)
-of-ticlts Ticlts h = refl
-of-ticlts Other h = absurd (false≢true h)
-
--- an endpoint of datagrams of a sound world has nothing of a connection
-of-datagrams : (e : Endpoint) → e.prov ≡ Ticlts → DatagramsAlone e → IsOfDatagrams e
-of-datagrams e t a = record {
-  of_ticlts = t;
-  pending = a.no_requests.1;
-  outstanding = a.no_requests.2;
-  target = a.no_requests.3;
-  peer = a.no_peer.0;
-  normal = a.no_data.0;
-  flow_normal = a.no_data.5;
-  flow_expedited = a.no_data.6;
-  disconnects = a.no_peer.3;
-  confirmation = a.no_peer.2;
-  expedited = a.no_data.1;
-  release = a.no_peer.4;
-}
-
-held-built : (at : ℕ → Option Cell) (l : Lending) (h : Held) → SoundWorld l.providers (cells_by l.providers at) → OpenProvidersPass is_served l.providers (cells_by l.providers at) → Sub (cell_lent l) at → IsLoan l → held_at l h.place ≡ Some h → IsBuilt h
-held-built at l h w s u loan e = go h.body refl
-  where
-    go : (o : Option Endpoint) → h.body ≡ o → IfSome o IsOfDatagrams
-    go None i = tt
-    go (Some b) i =
-        let fd = descriptor l.providers h.generation h.place in
-        let c = cell-endpoint l.providers (cells_by l.providers at) h.place h.generation b (at_number h.place (cell h)) (place-of l h loan e) (lent-at at l h u loan e) (ap (endpoint_cell h.generation) i) in
-        let t : b.prov ≡ Ticlts = of-ticlts b.prov (s fd b c) in
-        of-datagrams b t (datagrams-alone b (ap has_datagrams t) (w.endpoints fd b c) (w.links.good fd b c))
-
 pub sounds : (at : ℕ → Option Cell) (l : Lending) → SoundWorld l.providers (cells_by l.providers at) → Sub (cell_lent l) at → IsLoan l → AllByRecursion IsSound l.held
 sounds at l s u loan = each-held IsSound l.numbers l.held loan.kept.distinct loan.own (λ h e. (held-fits at l h s u loan e).is_sound_alone)
 
@@ -118,12 +83,11 @@ table-there : (l : Lending) (k : Known) → l.registry ≡ Some k → is_some (c
 table-there l k i = ap is_some (lent-switch l ∙ ap (option_map (λ (k : Known). switch_cell k.switch)) i)
 
 -- lent cells of a sound world are fit
-pub fits : (at : ℕ → Option Cell) (l : Lending) → SoundWorld l.providers (cells_by l.providers at) → OpenProvidersPass is_served l.providers (cells_by l.providers at) → Sub (cell_lent l) at → IsLoan l → IsFit l
-fits at l s q u loan = record {
+pub fits : (at : ℕ → Option Cell) (l : Lending) → SoundWorld l.providers (cells_by l.providers at) → Sub (cell_lent l) at → IsLoan l → IsFit l
+fits at l s u loan = record {
   places = loan.own;
   sound = sounds at l s u loan;
   agree = agree l.registry refl;
-  built = each-held IsBuilt l.numbers l.held loan.kept.distinct loan.own (λ h e. held-built at l h s q u loan e);
 }
   where
     agree : (o : Option Known) → l.registry ≡ o → Agree l.providers o l.held

@@ -21,7 +21,7 @@ use Rattle.xti_lent.specs.Fit.{place_of_held}
 use Rattle.xti_lent.proofs.Places.{not-switch}
 use Rattle.xti_lent.proofs.Worlds.{from_number}
 use Rattle.xti_lent.proofs.Lendings.{lent-switch}
-use Rattle.xti_core.specs.Standing.{Standing, IsStanding, is_served}
+use Rattle.xti_core.specs.Standing.{Standing, IsStanding}
 
 -- the numbers of places
 pub numbers-push : (from k n : ℕ) → n ≡ from + k → numbers from k ++ n ∷ [] ≡ numbers from (k + 1)
@@ -123,7 +123,6 @@ pub stands-first : (p : Providers) (k : Known) (l : Lending) → valid p ≡ tru
 stands-first p k l v a = record {
   valid_providers = valid_l;
   sound = subst (λ (q : Providers). SoundWorld q (cells l)) (sym a.providers) (subst (SoundWorld p) (sym (opens p k l a)) (opening-sound p));
-  served = subst (λ (q : Providers). OpenProvidersPass is_served q (cells l)) (sym a.providers) (subst (OpenProvidersPass is_served p) (sym (opens p k l a)) (opening-providers is_served p));
   loan = record {
     kept = record {
       valid_providers = valid_l;

@@ -2,16 +2,16 @@
 
 ghost use Rattle.std.specs.Prelude.{◌≡◌, true, IfOk, OnErr};
 ghost use Rattle.xti_model.specs.World.{place_of};
-ghost use Rattle.xti_model.specs.Built.{is_built};
 ghost use Rattle.xti_model.specs.Touched.{touched};
 ghost use Rattle.xti_end.specs.Taken.{IsAt};
-ghost use Rattle.xti_lent.specs.Answers.{AnswersCall, IsSureOf, StaysBlocked};
+ghost use Rattle.xti_lent.specs.Answers.{AnswersCall, IsSureOf, IsUnchanged, StaysBlocked};
 ghost use Rattle.xti_lent.specs.Lending.{cells, is_lent};
 ghost use Rattle.xti_lent.specs.Fit.{AllLent, AtOwnPlaces, IsFit, SameCells};
 
 use crate::looking::look;
 use std::alloc::AllocError;
 use xti_base::Fd;
+use xti_data::data_step;
 use xti_dgram::dgram_step;
 use xti_lent::Lent;
 use xti_model::{Applied, Call, Go};
@@ -33,30 +33,46 @@ pub(crate) fn local(lent: &mut Lent, call: &Call, fd: Fd, _go: Go) -> Result<App
     e.local(call, _go, &p)
 }
 
-/// One step of a built call over the lent cells, which are to be those that it touches: what it answers, and the state of its
-/// endpoint afterwards. Where it is blocked, and where it runs out of memory, all is as before.
-pub fn apply(lent: &mut Lent, call: &Call, _go: Go) -> Result<Applied, AllocError>
-    requires built { is_built call.now ≡ true }
+/// One step of a call over the lent cells, which are to be those that it touches: what it answers, and the state of its endpoint
+/// afterwards. Where it is blocked all is as before; where it runs out of memory the cells are, and room for more may have been
+/// taken.
+pub fn apply(lent: &mut Lent, call: &Call, go: Go) -> Result<Applied, AllocError>
     requires fit { IsFit lent.old }
     requires lent { AllLent lent.old (touched lent.old.providers (cells lent.old) call.now) }
-    ensures step { IfOk result (AnswersCall call.now _go lent.old lent.new) }
+    ensures step { IfOk result (AnswersCall call.now go lent.old lent.new) }
     ensures still { IfOk result (StaysBlocked lent.old lent.new) }
     ensures kept { SameCells lent.old lent.new }
-    ensures err { OnErr result (lent.new ≡ lent.old) }
-    ensures sure { IsSureOf call.now _go lent.old result }
+    ensures err { OnErr result (IsUnchanged lent.old lent.new) }
+    ensures sure { IsSureOf call.now go lent.old result }
 {
     match call {
-        Call::TRcvUData { fd, .. }
+        Call::TConnect { fd, .. } => match go {
+            Go::Begin => switch_step(lent, call),
+            Go::More(_) => local(lent, call, *fd, go),
+        },
+        Call::TOpen { .. }
+        | Call::TClose { .. }
+        | Call::TBind { .. }
+        | Call::TUnbind { .. }
+        | Call::TAccept { .. }
+        | Call::TSndDis { .. } => switch_step(lent, call),
+        Call::TSnd { .. } | Call::TSndV { .. } | Call::TSndRel { .. } => data_step(lent, call, go),
+        Call::TSndUData { .. } | Call::TSndVUData { .. } => dgram_step(lent, call),
+        Call::TLookAt { fd } => Ok(look(lent, *fd)),
+        Call::TRcvConnect { fd, .. }
+        | Call::TListen { fd, .. }
+        | Call::TRcv { fd, .. }
+        | Call::TRcvV { fd, .. }
+        | Call::TRcvDis { fd, .. }
+        | Call::TRcvRel { fd }
+        | Call::TRcvUData { fd, .. }
         | Call::TRcvVUData { fd, .. }
         | Call::TRcvUDErr { fd, .. }
         | Call::TGetState { fd }
         | Call::TSync { fd }
-        | Call::SetMode { fd, .. } => local(lent, call, *fd, _go),
-        Call::TSndUData { .. } | Call::TSndVUData { .. } => dgram_step(lent, call),
-        Call::TOpen { .. } | Call::TClose { .. } | Call::TBind { .. } | Call::TUnbind { .. } => {
-            switch_step(lent, call)
-        }
-        Call::TLookAt { fd } => Ok(look(lent, *fd)),
-        _ => unreachable!(),
+        | Call::TGetInfo { fd }
+        | Call::TGetProtAddr { fd, .. }
+        | Call::TOptMgmt { fd, .. }
+        | Call::SetMode { fd, .. } => local(lent, call, *fd, go),
     }
 }

@@ -1,7 +1,6 @@
 //! The world for one thread.
 
 ghost use Rattle.std.specs.Prelude.{◌≡◌, true, false, None, IfOk, IsOk, OnErr};
-ghost use Rattle.xti_model.specs.Built.{is_built};
 ghost use Rattle.xti_model.specs.Memory.{may_run_out};
 ghost use Rattle.xti_model.specs.Profile.{valid};
 ghost use Rattle.xti_model.specs.Step.{step};
@@ -49,15 +48,14 @@ impl World {
         Ok(World { lent })
     }
 
-    /// One step of a built call: what it answers, and the state of its endpoint afterwards. Where it is blocked, and where it
+    /// One step of a call: what it answers, and the state of its endpoint afterwards. Where it is blocked, and where it
     /// runs out of memory, all is as before. The cost is in proportion to the touched cells and to the bytes that move.
     ///
     /// A step that is refused, blocked, or not ready with O_NONBLOCK can't run out of memory; nor can t_open, t_unbind, t_look,
-    /// t_getstate, t_sync and the mode, and t_close of an endpoint that has no peer and takes part in no request.
+    /// t_getstate, t_sync, t_getinfo and the mode, and t_close of an endpoint that has no peer and takes part in no request.
     ///
     /// The cells are fit for the step, as those of every world that `worlds_stay_sound` speaks of; the world stays one of these.
     pub fn step(&mut self, call: &Call, go: Go) -> Result<Applied, AllocError>
-        requires { is_built call.now ≡ true }
         ensures step { IfOk result (λ a. taken a self.new.cells ≡ step self.old.providers self.old.cells call.now go) }
         ensures still { IfOk result (λ a. taken a self.new.cells ≡ None → self.new ≡ self.old) }
         ensures providers { self.new.providers ≡ self.old.providers }

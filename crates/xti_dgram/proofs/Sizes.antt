@@ -1,4 +1,4 @@
--- Sums that don't wrap, and sizes that no limit lets through.
+-- Sizes that no limit lets through.
 use Rattle.std.proofs.Common.{◌≡◌, ◌≤◌, ◌<◌, ◌+◌, ◌-◌, ◌^◌, ℕ, zero, suc, Bool, true, false, not, eqb, ltb, ◌&&◌, ◌||◌, List, [], ◌∷◌, ◌++◌, length, take, get_or, refl, sym, ap, arith}
 use Rattle.std.specs.Prelude.{min}
 use Rattle.std.specs.List.{concat}
@@ -10,38 +10,17 @@ use Rattle.xti_base.specs.declared.limit.Limit.{Limit}
 use Rattle.xti_base.specs.declared.limit.Limit.TheVariants.{At, Infinite, Invalid}
 use Rattle.xti_base.specs.declared.kinds.Prov.{Prov}
 use Rattle.xti_base.specs.declared.kinds.Prov.TheVariants.{Ticots, Ticotsord, Ticlts, Other}
+use Rattle.xti_lent.proofs.Joined.{most}
 use Rattle.xti_model.specs.declared.profile.Providers.{Providers}
 use Rattle.xti_model.specs.Profile.{valid, has_limit, valid_datagrams}
 use Rattle.xti_model.specs.Provider.{profile, has_datagrams}
 use Rattle.xti_model.specs.Calls.Datagrams.{is_over, is_bad_datagram}
-
-abbrev pub most : ℕ
-most = 2 ^ 64 - 1
-
-pub capped-sum : (a b : ℕ) → min (min a most + b) most ≡ min (a + b) most
-capped-sum a b = grind (arith, nat_tests)
 
 pub capped-over : (limit m n : ℕ) → limit < 4294967296 → n ≡ min m most → ltb limit n ≡ ltb limit m
 capped-over limit m n lt e = grind (arith, nat_tests)
 
 pub capped-zero : (m n : ℕ) → n ≡ min m most → eqb n 0 ≡ eqb m 0
 capped-zero m n e = grind (arith, nat_tests)
-
-take-parts : (xs : List (List ℕ)) (i : ℕ) (x : List ℕ) → i < length xs → x ≡ get_or xs i x → concat (take (suc i) xs) ≡ concat (take i xs) ++ x
-take-parts [] i x lt e = absurd (omega arith)
-take-parts (y ∷ ys) zero x lt e = rw (append-nil y) (sym e)
-take-parts (y ∷ ys) (suc i) x lt e = rw (take-parts ys i x (omega arith) e) (sym (append_assoc y (concat (take i ys)) x))
-
--- one more part
-pub longer : (parts : List (List ℕ)) (i : ℕ) (x : List ℕ) → i < length parts → x ≡ get_or parts i x → concat (take (i + 1) parts) ≡ concat (take i parts) ++ x
-longer parts i x lt e = rw add-one (take-parts parts i x lt e)
-
-pub part-fits : (parts : List (List ℕ)) (i : ℕ) (x : List ℕ) → i < length parts → x ≡ get_or parts i x → length (concat (take i parts)) + length x ≤ length (concat parts)
-part-fits [] i x lt e = absurd (omega arith)
-part-fits (y ∷ ys) zero x lt e = let s : length x ≡ length y = ap length e in omega (arith, length-append y (concat ys))
-part-fits (y ∷ ys) (suc i) x lt e =
-    let h = part-fits ys i x (omega arith) e in
-    omega (arith, h, length-append y (concat (take i ys)), length-append y (concat ys))
 
 or-parts : (a b : Bool) → (a || b) ≡ false → (a ≡ false) × (b ≡ false)
 or-parts true b e = cc

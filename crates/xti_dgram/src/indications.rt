@@ -1,6 +1,6 @@
 //! The indications of datagrams and their errors, as frames.
 
-ghost use Rattle.std.specs.Prelude.{◌≡◌, ◌≤◌, ◌^◌, ◌-◌, length, min, true, Some, IfOk, IsErrOf};
+ghost use Rattle.std.specs.Prelude.{◌≡◌, ◌≤◌, length, true, Some, IfOk, IsErrOf};
 ghost use Rattle.std.specs.List.{concat};
 ghost use Rattle.xti_base.specs.declared.limits.TheConstants.{MOST_ADDRESS, MOST_OPTIONS, MOST_SEND};
 ghost use Rattle.tpi_grammar.specs.declared.kind.Kind.TheVariants.{T_UNITDATA_IND, T_UDERROR_IND};
@@ -16,18 +16,7 @@ use tpi_prim::{EncodeFail, Frame, encode_uderror_ind, encode_unitdata_ind};
 use xti_base::Octets;
 use xti_base::reasons::UNDELIVERABLE;
 use xti_end::Endpoint;
-use xti_lent::{address_of, unless_too_big};
-
-/// How many bytes the parts have, up to the greatest number.
-pub(crate) fn total(parts: &[Octets]) -> usize
-    ensures { result ≡ min (length (concat parts.now)) (2 ^ 64 - 1) }
-{
-    let mut total = 0usize;
-    for part in parts {
-        total = total.saturating_add(part.as_slice().len());
-    }
-    total
-}
+use xti_lent::{address_of, total, unless_too_big};
 
 /// The parts, joined.
 fn joined(alloc: Global, parts: &[Octets]) -> Result<Vec<u8>, AllocError>

@@ -7,11 +7,10 @@ ghost use Rattle.xti_model.specs.Plan.{answers};
 ghost use Rattle.xti_end.specs.Held as Held;
 ghost use Rattle.xti_dgram.specs.Sends.{refusal_of};
 
-use crate::indications::total;
 use xti_base::limits::MOST_PARTS;
 use xti_base::{Errno, Event, Limit, Octets, State};
 use xti_end::{Endpoint, has_datagrams, profile};
-use xti_lent::{is_bad_address, is_bad_options};
+use xti_lent::{is_bad_address, is_bad_options, total};
 use xti_model::{Profile, Providers, Reply};
 
 /// Whether so many bytes are over the limit, where those are counted up to the greatest number.

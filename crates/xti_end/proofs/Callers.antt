@@ -1,8 +1,9 @@
 -- The callers of requests, and the request with a number.
 use Rattle.std.proofs.Common.{◌≡◌, ℕ, zero, suc, ◌+◌, ◌-◌, ◌<◌, ◌≤◌, Bool, true, false, eqb, cond, List, [], ◌∷◌, ◌++◌, length, drop, ◌&&◌, Option, Some, None, refl, sym, ap, ◌∙◌, subst, arith}
-use Rattle.std.specs.Prelude.{map, slice_index_or, nat_le, nat_lt, is_none, is_some, option_map, unwrap_or}
+use Rattle.std.specs.Prelude.{map, slice_get, slice_index_or, nat_le, nat_lt, is_none, is_some, option_map, unwrap_or}
 use Rattle.std.specs.List.{AllByRecursion}
 use Rattle.std.proofs.lemmas.Bool.{eq-eqb, ne_eqb, leb-true}
+use Rattle.std.proofs.lemmas.Option.{slice_get-map, slice_get_read}
 use Rattle.tpi_grammar.specs.declared.kind.Kind.TheVariants as kind
 use Rattle.tpi_prim.specs.declared.primitive.Prim.TheVariants as prim
 use Rattle.tpi_prim.specs.Primitive.{seq_of}
@@ -17,7 +18,7 @@ use Rattle.xti_model.proofs.RisingNumbers.{listed-one, listed-none}
 use Rattle.xti_end.specs.declared.parts.Parts.{Parts}
 use Rattle.xti_end.specs.declared.parts.Waiting.{Waiting}
 use Rattle.xti_end.specs.declared.indications.Ind.{Ind}
-use Rattle.xti_end.specs.Callers.{caller_place, with_numbers}
+use Rattle.xti_end.specs.Callers.{caller_and_number, caller_place, with_numbers}
 use Rattle.xti_end.specs.Frames.{indication_of, AreRequests, IsRequest}
 use Rattle.xti_end.specs.Held.{body_of, endpoint_of, parts_of}
 
@@ -134,3 +135,13 @@ callers-few (Some e) w i j s =
     let b = and-parts (nat_le e.qlen 8 && nat_le (length (unwrap_or e.address [])) 64) (nat_le (length (map indication_of w.pending.items) + length (map indication_of w.outstanding.items)) e.qlen) a.0 in
     let c = and-parts (nat_le e.qlen 8) (nat_le (length (unwrap_or e.address [])) 64) b.0 in
     omega (arith, leb-true e.qlen 8 c.0, leb-true (length (map indication_of w.pending.items) + length (map indication_of w.outstanding.items)) e.qlen b.1, length-map w.pending.items, length-map w.outstanding.items)
+
+who-asks : (i : Ind) → IsRequest i → (indication_of i).caller ≡ i.caller.0
+who-asks i k = rw (request-is i.frame k) refl
+
+-- the caller and the number of the request at a place
+pub caller-at : (xs : List Ind) (k : ℕ) (x : Ind) (n : ℕ) → AreRequests xs → k < length xs → x ≡ slice_index_or xs k x → seq_of (primitive_in x.frame) ≡ Some n
+    → Some (x.caller.0, n) ≡ option_map caller_and_number (slice_get (map indication_of xs) k)
+caller-at xs k x n all lt e s =
+    let r : IsRequest x = request-at k xs x all lt e in
+    rw (slice_get-map indication_of xs k, slice_get_read xs (length xs) k x refl lt e, who-asks x r, number-is x n r s) refl

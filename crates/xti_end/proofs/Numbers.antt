@@ -8,7 +8,7 @@ use Rattle.xti_model.specs.Endpoint.{Indication, without_number}
 use Rattle.xti_end.specs.declared.indications.Ind.{Ind}
 use Rattle.xti_end.specs.declared.parts.Parts.{Parts}
 use Rattle.xti_end.specs.declared.parts.Waiting.{Waiting}
-use Rattle.xti_end.specs.Held.{body_of, without_outstanding}
+use Rattle.xti_end.specs.Held.{body_of, without_outstanding, without_pending}
 use Rattle.xti_end.specs.WaitingList.{WaitingList as Listed}
 use Rattle.xti_end.proofs.Views.{map-removed}
 use Rattle.xti_end.specs.Frames.{indication_of, AreRequests}
@@ -60,3 +60,8 @@ pub number-dropped : (o : Option Parts) (w : Waiting) (r : Listed Ind) (n place 
     → body_of o (record w { outstanding = r }) ≡ option_map (without_outstanding n) (body_of o w)
 number-dropped None w r n place h e = refl
 number-dropped (Some x) w r n place h e = rw (h, e, map-removed indication_of w.outstanding.items place) refl
+
+pub pending-dropped : (o : Option Parts) (w : Waiting) (r : Listed Ind) (n place : ℕ) → r.items ≡ remove w.pending.items place → without_number n (map indication_of w.pending.items) ≡ remove (map indication_of w.pending.items) place
+    → body_of o (record w { pending = r }) ≡ option_map (without_pending n) (body_of o w)
+pending-dropped None w r n place h e = refl
+pending-dropped (Some x) w r n place h e = rw (h, e, map-removed indication_of w.pending.items place) refl

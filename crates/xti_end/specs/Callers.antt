@@ -1,5 +1,7 @@
 -- The cells of the callers of requests.
 use Rattle.std.specs.Prelude.{◌≡◌, ℕ, List, [], ◌∷◌, Option, option_map, map, remove}
+use Rattle.xti_base.specs.declared.kinds.Fd.{Fd}
+use Rattle.xti_base.specs.declared.kinds.Seq.{Seq}
 use Rattle.xti_model.specs.declared.profile.Providers.{Providers}
 use Rattle.xti_model.specs.Cells.{with_number}
 use Rattle.xti_model.specs.World.{place_of}
@@ -27,3 +29,10 @@ caller_with number h = option_map (λ i. i.caller) (request_with number h)
 -- a request with the number stands at a place, and none before it
 abbrev pub StandsFirstAt : ℕ → List Ind → ℕ → Type 0
 StandsFirstAt number is place = without_number number (map indication_of is) ≡ remove (map indication_of is) place
+
+-- who asks, and the number of the request
+abbrev pub caller_and_number : Indication → ℕ × ℕ
+caller_and_number i = (i.caller, i.number)
+
+abbrev pub numbers_of : Fd × Seq → ℕ × ℕ
+numbers_of r = (r.0.0, r.1.0)

@@ -219,6 +219,10 @@ without_pending_at place e = record e { pending = remove e.pending place }
 abbrev pub without_outstanding_at : ℕ → Endpoint → Endpoint
 without_outstanding_at place e = record e { outstanding = remove e.outstanding place }
 
+-- the pending request with the number is gone
+abbrev pub without_pending : ℕ → Endpoint → Endpoint
+without_pending number e = record e { pending = without_number number e.pending }
+
 -- the outstanding request with the number is gone
 abbrev pub without_outstanding : ℕ → Endpoint → Endpoint
 without_outstanding number e = record e { outstanding = without_number number e.outstanding }

@@ -1,6 +1,6 @@
 //! The requests to connect that wait at an endpoint, and what is told of its own.
 
-ghost use Rattle.std.specs.Prelude.{◌≡◌, ◌≤◌, ◌<◌, ◌+◌, [], true, Some, None, is_some, length, map, max, remove, slice_get, IfSome, IfNone, OnOk, OnErr};
+ghost use Rattle.std.specs.Prelude.{◌≡◌, ◌≤◌, ◌<◌, ◌+◌, ◌++◌, [], true, Some, None, is_some, length, map, max, remove, slice_get, IfSome, IfNone, OnOk, OnErr};
 ghost use Rattle.std.specs.Option.{option_copied, option_map};
 ghost use Rattle.tpi_grammar.specs.declared.kind.Kind.TheVariants.{T_CONN_IND, T_CONN_CON, T_DISCON_IND};
 ghost use Rattle.tpi_prim.specs.Fields.{kind_in};
@@ -11,9 +11,10 @@ ghost use Rattle.xti_model.specs.Endpoint.{find_number, without_number};
 ghost use Rattle.xti_model.specs.Events.{some_wait};
 ghost use Rattle.xti_model.specs.Sound.{is_sound_body, requests};
 ghost use Rattle.xti_model.specs.Touched.{of_some, caller_cells};
-ghost use Rattle.xti_end.specs.Callers.{caller_place, caller_with, request_with, with_numbers, StandsFirstAt};
+ghost use Rattle.xti_end.specs.Callers.{caller_and_number, caller_place, caller_with, numbers_of, request_with, with_numbers, StandsFirstAt};
 ghost use Rattle.xti_end.specs.Frames.{indication_of, request_in, confirmation_in, disconnect_in, AreRequests, IsRequest};
-ghost use Rattle.xti_end.specs.Held.{is_open, parts, with_parts, without_pending_at, without_outstanding, without_outstanding_at, without_disconnect_at, pending_at, outstanding_at, disconnect_at};
+ghost use Rattle.xti_end.specs.Held.{is_open, parts, with_parts, without_pending, without_pending_at, without_outstanding, without_outstanding_at, without_disconnect_at};
+ghost use Rattle.xti_end.specs.Held.{pending_at, outstanding_at, disconnect_at};
 ghost use Rattle.xti_end.specs.Held.{AddsPending, AddsOutstanding, AddsDisconnect};
 
 use crate::endpoint::Endpoint;
@@ -248,6 +249,38 @@ impl Endpoint {
         Some(ind.caller)
     }
 
+    /// Whether a pending request has this sequence number. Takes no memory.
+    pub fn is_pending(&self, seq: Seq) -> bool
+        requires { is_open self.now ≡ true }
+        ensures { result ≡ is_some (find_number seq.0 (parts self.now).pending) }
+    {
+        find_number(self.waiting.pending.as_slice(), seq).is_some()
+    }
+
+    /// The pending request with this sequence number is gone, if it is there. Takes no memory.
+    pub fn drop_pending(&mut self, seq: Seq)
+        requires { is_open self.old ≡ true }
+        ensures { self.new ≡ with_parts (without_pending seq.0) self.old }
+    {
+        if let Some(place) = number_place(self.waiting.pending.as_slice(), seq) {
+            self.waiting.pending.discard(place);
+        }
+    }
+
+    /// The caller and the sequence number of the request at a place, where the outstanding ones stand after the pending ones;
+    /// `None` exactly past the end. Takes no memory.
+    pub fn request_at(&self, place: usize) -> Option<(Fd, Seq)>
+        requires { is_open self.now ≡ true }
+        ensures { option_map numbers_of result ≡ option_map caller_and_number (slice_get ((parts self.now).pending ++ (parts self.now).outstanding) place) }
+    {
+        let pending = self.waiting.pending.as_slice();
+        if place < pending.len() {
+            caller_and_number(pending, place)
+        } else {
+            caller_and_number(self.waiting.outstanding.as_slice(), place - pending.len())
+        }
+    }
+
     /// The outstanding request with this sequence number is gone, if it is there. Takes no memory.
     fn drop_number(&mut self, seq: Seq)
         requires { is_open self.old ≡ true }
@@ -292,6 +325,15 @@ fn find_number(inds: &[Ind], seq: Seq) -> Option<&Ind>
         }
     }
     None
+}
+
+/// The caller and the sequence number of the request at a place; `None` exactly past the end.
+fn caller_and_number(inds: &[Ind], place: usize) -> Option<(Fd, Seq)>
+    requires { AreRequests inds.now }
+    ensures { option_map numbers_of result ≡ option_map caller_and_number (slice_get (map indication_of inds.now) place) }
+{
+    let ind = inds.get(place)?;
+    Some((ind.caller, Seq(ind.frame.seq())))
 }
 
 /// Where the request with this sequence number stands; `None` exactly where there is none.

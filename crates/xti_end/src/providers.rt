@@ -46,7 +46,7 @@ pub fn has_release(prov: Prov) -> bool
 }
 
 /// Whether normal data are a stream of bytes, without ends.
-pub(crate) fn is_stream(p: &Providers, prov: Prov) -> bool
+pub fn is_stream(p: &Providers, prov: Prov) -> bool
     ensures { result ≡ is_stream p.now prov }
 {
     match profile(p, prov).tsdu {

@@ -28,7 +28,7 @@ fn flags(expedited: bool, more: bool) -> u32
 
 impl Endpoint {
     /// The event that is told instead of data.
-    fn event_before_data(&self) -> Option<Event>
+    pub fn event_before_data(&self) -> Option<Event>
         requires { is_open self.now ≡ true }
         ensures { result ≡ looked looks_data (parts self.now) }
     {

@@ -23,7 +23,7 @@ use xti_base::{Errno, Fd, Seq, State};
 use xti_model::{Applied, Providers, Reply};
 
 /// Whether there is a connection, or a request for one.
-fn is_connected_or_asking(state: State) -> bool
+pub fn is_connected_or_asking(state: State) -> bool
     ensures { result ≡ list_any (same_state state) connected_or_asking }
 {
     match state {

@@ -9,3 +9,5 @@ pub mod Named
 pub mod Agreeing
 pub mod Opened
 pub mod Sound
+pub mod Sequences
+pub mod Joined

@@ -2,13 +2,12 @@
 
 ghost use Rattle.std.specs.Prelude.{◌≡◌, ◌<◌, true, false, None, Some, [], ◌==◌, length, is_some, option_map, IfNone, IfSome, position, nat_eq};
 ghost use Rattle.std.specs.Borrow.{sem};
-ghost use Rattle.std.specs.List.{AllByRecursion};
 ghost use Rattle.std.specs.Option.{option_copied};
 ghost use Rattle.xti_base.specs.declared.limits.TheConstants.{MOST_PLACES};
 ghost use Rattle.xti_model.specs.Profile.{valid};
 ghost use Rattle.xti_model.specs.World.{endpoint, place_of, places};
 ghost use Rattle.xti_end.specs.Held.{is_open_as, parts};
-ghost use Rattle.xti_lent.specs.Fit.{AtOwnPlaces, IsBuilt};
+ghost use Rattle.xti_lent.specs.Fit.{AtOwnPlaces};
 ghost use Rattle.xti_lent.specs.Kept.{Distinct};
 ghost use Rattle.xti_lent.specs.Lending.{held_at, is_lent, cells, lending, without_place};
 ghost use Rattle.xti_lent.specs.Lends.{IsOpenAt, LendsEndpoint, LendsRegistry};
@@ -158,7 +157,6 @@ impl Lent {
         ensures endpoint { option_map parts (option_copied result) ≡ endpoint self.now.providers (cells self.now) fd.0 }
         ensures open { IfSome result (λ e. is_open_as self.now.providers fd.0 e.now ≡ true) }
         ensures held { IfSome result (λ e. held_at self.now (place_of self.now.providers fd.0) ≡ Some e.now) }
-        ensures built { AllByRecursion IsBuilt self.now.held → IfSome result (λ e. IsBuilt e.now) }
     {
         let e = self.find(self.place_of(fd))?;
         if e.is(&self.providers, fd) {

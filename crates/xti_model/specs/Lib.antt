@@ -17,7 +17,6 @@ pub mod History
 pub mod Resolve
 pub mod Robin
 pub mod Touched
-pub mod Built
 pub mod Work
 pub mod Complete
 pub mod Streams

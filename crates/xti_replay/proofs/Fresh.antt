@@ -49,7 +49,7 @@ places-other lines line worker other =
 
 pub fresh-of : (lines : List Line) (number : ℕ) (w : Worker) → w.places.items ≡ places_of lines number → w.begun ≡ 0 → Knows lines [] number w.names → w.part ≡ None → w.next ≡ None → IsFresh lines number w
 fresh-of lines number w places count names part idle = record {
-  told = record { places = places; count = count; names = names; part = ap part_going part; built = rw part refl };
+  told = record { places = places; count = count; names = names; part = ap part_going part };
   idle = idle;
 }
 
@@ -66,7 +66,6 @@ again lines more number w new f places begun names part next = record {
     count = begun ∙ f.told.count;
     names = subst (Knows more [] number) (sym names) (knows-none lines more number w.names f.told.names);
     part = ap part_going part ∙ f.told.part;
-    built = rw part f.told.built;
   };
   idle = next ∙ f.idle;
 }

@@ -13,9 +13,8 @@ use Rattle.xti_model.specs.declared.entry.Entry.{Entry}
 use Rattle.xti_model.specs.declared.script.Line.{Line}
 use Rattle.xti_model.specs.declared.profile.Providers.{Providers}
 use Rattle.xti_model.specs.World.{World, opening}
-use Rattle.xti_model.specs.Built.{is_built, is_built_named}
 use Rattle.xti_model.specs.History.{Going, own, unfinished, begins, made_by, doing, step_going, step_at, left_by, Fits, LegalFrom}
-use Rattle.xti_model.specs.Resolve.{Placed, placed, meanings, begun, is_begin}
+use Rattle.xti_model.specs.Resolve.{Placed, placed, begun, is_begin}
 use Rattle.xti_model.specs.Robin.{last_worker}
 use Rattle.xti_model.specs.Complete.{begun_calls, resolved_in, Follows, is_worker, IsHistoryOf}
 use Rattle.xti_model.proofs.Appending.{own-append, begun_calls-append}
@@ -23,11 +22,9 @@ use Rattle.xti_model.proofs.GoingOn.{history-follows}
 use Rattle.xti_replay.specs.declared.workers.Part.{Part}
 use Rattle.xti_replay.specs.declared.workers.Worker.{Worker}
 use Rattle.xti_replay.specs.Spots.{Spot, spots_of}
-use Rattle.xti_replay.specs.Playable.{are_playable}
 use Rattle.xti_replay.specs.Progress.{Told, Of, AreKept, AreFresh, MayTake, IsKnown, part_going}
 use Rattle.xti_replay.proofs.Each.{at-worker, of-changed}
-use Rattle.xti_replay.proofs.Lines.{has-next, next_spot, placed_by, placed-spots, spot-line, playable-line, line-built, told-other}
-use Rattle.xti_replay.proofs.Meanings.{numbers-built}
+use Rattle.xti_replay.proofs.Lines.{has-next, next_spot, placed_by, placed-spots, told-other}
 use Rattle.xti_replay.proofs.Steps.{IsAdvance, advance-begun, advance-more}
 
 last-by : (x : Entry) (past : List Entry) (n : ℕ) (e : Entry) → length past ≡ n → slice_get (x ∷ past) n ≡ Some e → last_worker x.worker past ≡ e.worker
@@ -84,13 +81,12 @@ pub record IsBegun (lines : List Line) (past : List Entry) (number : ℕ) (c : C
   pub spot : Spot
   pub next : next_spot lines past number ≡ Some spot
   pub whole : unfinished past number ≡ None
-  pub built : is_built c ≡ true
 
 own-more : (past : List Entry) (e : Entry) (rest : List Entry) → own (past ++ e ∷ rest) e.worker ≡ own past e.worker ++ e ∷ own rest e.worker
 own-more past e rest = own-append past (e ∷ rest) e.worker ∙ rw (eq-eqb e.worker e.worker refl) refl
 
-entry-begins : (p : Providers) (lines : List Line) (past : List Entry) (e : Entry) (rest : List Entry) (c : Call) → IsHistoryOf p lines (past ++ e ∷ rest) → are_playable lines ≡ true → e.act ≡ act.Begin c → IsBegun lines past e.worker c
-entry-begins p lines past e rest c h playable begins = record { spot = spot.0; next = spot.1; whole = by (unfinished past e.worker) refl; built = built }
+entry-begins : (p : Providers) (lines : List Line) (past : List Entry) (e : Entry) (rest : List Entry) (c : Call) → IsHistoryOf p lines (past ++ e ∷ rest) → e.act ≡ act.Begin c → IsBegun lines past e.worker c
+entry-begins p lines past e rest c h begins = record { spot = spot.0; next = spot.1; whole = by (unfinished past e.worker) refl }
   where
     number : ℕ
     number = e.worker
@@ -119,12 +115,6 @@ entry-begins p lines past e rest c h playable begins = record { spot = spot.0; n
 
     spot : (s : Spot) × (next_spot lines past number ≡ Some s) × (placed_by lines s ≡ line.0)
     spot = mapped (placed_by lines) (slice_get (spots_of lines number) m) line.0 (sym (placed-spots [] lines 0 number m refl) ∙ there)
-
-    built : is_built c ≡ true
-    built =
-        let i = spot-line lines 0 number m spot.0 spot.1 in
-        let named : is_built_named spot.0.line.call ≡ true = line-built spot.0.line (playable-line lines i.index spot.0.line playable i.line) in
-        ap is_built (sym line.2 ∙ ap (resolved_in history) (sym spot.2)) ∙ numbers-built (meanings (placed_by lines spot.0).earlier spot.0.line.worker history) spot.0.line.call named
 
     doing_it : doing past e ≡ None → ⊥
     doing_it = let l = legal-at p (opening p) [] past e rest h.legal in doing-some p l.0 past e l.1
@@ -168,7 +158,7 @@ worker-small : (past : List Entry) (e : Entry) (rest : List Entry) → list_all 
 worker-small [] e rest h = ltb-true e.worker WORKERS (and_parts (is_worker e) (list_all is_worker rest) h).0
 worker-small (x ∷ past) e rest h = worker-small past e rest (and_parts (is_worker x) (list_all is_worker (past ++ e ∷ rest)) h).1
 
-module _ {p : Providers} {lines : List Line} {history : List Entry} (h : IsHistoryOf p lines history) (playable : are_playable lines ≡ true) (i : ℕ) (lt : i < length history) (e : Entry) (at : e ≡ get_or history i e) where
+module _ {p : Providers} {lines : List Line} {history : List Entry} (h : IsHistoryOf p lines history) (i : ℕ) (lt : i < length history) (e : Entry) (at : e ≡ get_or history i e) where
   abbrev past : List Entry
   past = take i history
 
@@ -187,7 +177,7 @@ module _ {p : Providers} {lines : List Line} {history : List Entry} (h : IsHisto
       by : (a : Act) → e.act ≡ a → MayTake lines w a
       by act.More q = tt
       by (act.Begin c) q =
-          let b = entry-begins p lines past e (drop (suc i) history) c here playable q in
+          let b = entry-begins p lines past e (drop (suc i) history) c here q in
           let n = has-next lines past e.worker w b.spot t b.whole b.next in
           let place : get_or w.places.items w.begun 0 ≡ b.spot.place = get_or_from_slice_get w.places.items w.begun b.spot.place 0 n.place in
           (slice_get_within w.places.items w.begun b.spot.place n.place, subst (λ (k : ℕ). k < length lines) (sym place) (slice_get_within lines b.spot.place b.spot.line n.line))
@@ -198,8 +188,8 @@ module _ {p : Providers} {lines : List Line} {history : List Entry} (h : IsHisto
       by : (x : Act) → e.act ≡ x → Told lines (past ++ e ∷ []) e.worker new
       by act.More q = let g = entry-goes p lines past e (drop (suc i) history) w here q t in advance-more lines past e e.worker g.0 w new t g.1 refl q (subst (λ (x : Act). IsAdvance lines w new x e.outcome) q a)
       by (act.Begin c) q =
-          let b = entry-begins p lines past e (drop (suc i) history) c here playable q in
-          advance-begun lines past e e.worker c w new b.spot t (has-next lines past e.worker w b.spot t b.whole b.next) refl q b.built (subst (λ (x : Act). IsAdvance lines w new x e.outcome) q a)
+          let b = entry-begins p lines past e (drop (suc i) history) c here q in
+          advance-begun lines past e e.worker c w new b.spot t (has-next lines past e.worker w b.spot t b.whole b.next) refl q (subst (λ (x : Act). IsAdvance lines w new x e.outcome) q a)
 
   pub told-step : (ws : List Worker) (w new : Worker) → AreTold lines (take i history) ws → w ≡ get_or ws e.worker w → new.next ≡ w.next → IsAdvance lines w new e.act e.outcome → AreTold lines (take (i + 1) history) (set ws e.worker new)
   told-step ws w new f is next a = subst (λ (es : List Entry). AreTold lines es (set ws e.worker new)) (sym grown) (record {

@@ -11,11 +11,8 @@ use Rattle.xti_model.specs.declared.call.Call.{Call}
 use Rattle.xti_model.specs.declared.entry.Act.{Act}
 use Rattle.xti_model.specs.declared.entry.Act.TheVariants as act
 use Rattle.xti_model.specs.declared.entry.Go.TheVariants as go
-use Rattle.xti_model.specs.declared.entry.Outcome.{Outcome}
-use Rattle.xti_model.specs.declared.entry.Outcome.TheVariants as outcome
 use Rattle.xti_model.specs.declared.entry.Entry.{Entry}
 use Rattle.xti_model.specs.declared.script.Line.{Line}
-use Rattle.xti_model.specs.Built.{is_built, is_built_named}
 use Rattle.xti_model.specs.History.{Going, own, call_after, going_after, unfinished_from, unfinished}
 use Rattle.xti_model.specs.Resolve.{is_of, lines_of, is_begin, begun, answer_of, or_else, opened_fd, listened_number, opens, listens, Meanings, Placed, placed_from, meanings, with_numbers, if_own}
 use Rattle.xti_model.specs.Robin.{begin_line, next_or, next_going}
@@ -26,8 +23,8 @@ use Rattle.xti_replay.specs.Playable.{is_playable, are_playable}
 use Rattle.xti_replay.specs.Spots.{Spot, spots_from, spots_of, places_of}
 use Rattle.xti_replay.specs.Known.{Knows, HasLearnt, meanings_before}
 use Rattle.xti_replay.specs.declared.workers.Part.{Part}
-use Rattle.xti_replay.specs.Progress.{Told, IsNext, part_going, part_call, is_built_part}
-use Rattle.xti_replay.proofs.Meanings.{meanings-same, numbers-built}
+use Rattle.xti_replay.specs.Progress.{Told, IsNext, part_going, part_call}
+use Rattle.xti_replay.proofs.Meanings.{meanings-same}
 use Rattle.xti_replay.proofs.Learning.{knows-still, knows-more}
 
 -- The lines of a worker by their places.
@@ -162,19 +159,14 @@ playable-line [] i line p h = absurd cc
 playable-line (x ∷ lines) zero line p h = rw (← same_Some x line h) (and_parts (is_playable x) (are_playable lines) p).0
 playable-line (x ∷ lines) (suc i) line p h = playable-line lines i line (and_parts (is_playable x) (are_playable lines) p).1 h
 
-pub line-built : (line : Line) → is_playable line ≡ true → is_built_named line.call ≡ true
-line-built line p = (and_parts _ (is_built_named line.call) p).1
-
 pub line-worker : (line : Line) → is_playable line ≡ true → line.worker < WORKERS
-line-worker line p = ltb-true line.worker WORKERS (and_parts _ (is_built_named line.call) p).0
+line-worker line p = ltb-true line.worker WORKERS p
 
 -- the call that the tables give is the worker's next
-pub next-call : (lines : List Line) (past : List Entry) (number : ℕ) (w setup : Worker) (s : Spot) (call : Call) → Told lines past number w → Told lines past 0 setup → HasNext lines past number w s → is_built_named s.line.call ≡ true
+pub next-call : (lines : List Line) (past : List Entry) (number : ℕ) (w setup : Worker) (s : Spot) (call : Call) → Told lines past number w → Told lines past 0 setup → HasNext lines past number w s
     → call ≡ with_numbers (meanings_before s.place w.names setup.names) s.line.call → IsNext lines past number (Some call)
-next-call lines past number w setup s call t z h b e = record {
-  going = ap (λ (c : Call). Some (beginning c)) (e ∙ ap (λ (m : Meanings). with_numbers m s.line.call) (meanings-same lines past number s.place w.names setup.names t.names z.names)) ∙ sym h.going;
-  built = ap is_built e ∙ numbers-built (meanings_before s.place w.names setup.names) s.line.call b;
-}
+next-call lines past number w setup s call t z h e =
+    ap (λ (c : Call). Some (beginning c)) (e ∙ ap (λ (m : Meanings). with_numbers m s.line.call) (meanings-same lines past number s.place w.names setup.names t.names z.names)) ∙ sym h.going
 
 -- One entry more.
 
@@ -198,7 +190,6 @@ told-other lines past e number w ne t = record {
   count = t.count ∙ ap length (sym (begun-other past e number ne));
   names = knows-still lines past (past ++ e ∷ []) number w.names (begun-other past e number ne) t.names;
   part = t.part ∙ sym (ap (unfinished_from None None) (own-other past e number ne));
-  built = t.built;
 }
 
 -- the worker's next call by its own entries and those of worker 0
@@ -236,30 +227,18 @@ begun-same past e worker same begins =
 unfinished-same : (past : List Entry) (e : Entry) (worker : ℕ) → e.worker ≡ worker → unfinished (past ++ e ∷ []) worker ≡ going_after (call_after (call_from None (own past worker)) e.act) e.outcome
 unfinished-same past e worker same = ap (unfinished_from None None) (own-same past e worker same) ∙ unfinished_from-snoc None None (own past worker) e
 
-call_in : Call → Option Going → Call
-call_in c None = c
-call_in c (Some g) = g.call
-
--- what is left of a built call is of it
-built-after : (part : Option Part) (c : Call) (o : Outcome) → part_going part ≡ going_after (Some c) o → is_built c ≡ true → is_built_part part ≡ true
-unfolding call_in
-built-after None c o h b = refl
-built-after (Some p) c (outcome.Done reply) h b = absurd (none-some _ (sym h))
-built-after (Some p) c (outcome.Part n) h b = ap is_built (ap (call_in c) h) ∙ b
-
 -- its own entry begins its next line
 pub told-begun : (lines : List Line) (past : List Entry) (e : Entry) (number : ℕ) (c : Call) (w new : Worker) (s : Spot) → Told lines past number w → HasNext lines past number w s
-    → e.worker ≡ number → e.act ≡ act.Begin c → is_built c ≡ true → new.places ≡ w.places → new.begun ≡ w.begun + 1 → part_going new.part ≡ going_after (Some c) e.outcome
+    → e.worker ≡ number → e.act ≡ act.Begin c → new.places ≡ w.places → new.begun ≡ w.begun + 1 → part_going new.part ≡ going_after (Some c) e.outcome
     → HasLearnt s.place s.line.call e.outcome w.names new.names
     → Told lines (past ++ e ∷ []) number new
-told-begun lines past e number c w new s t h same begins built places count part names =
+told-begun lines past e number c w new s t h same begins places count part names =
     let grown = begun-same past e number same (ap is_begin begins) in
     record {
       places = ap (λ (v : Vec ℕ Global). v.items) places ∙ t.places;
       count = count ∙ ap (λ (k : ℕ). k + 1) t.count ∙ sym (length_push (begun past number) e) ∙ ap length (sym grown);
       names = knows-more lines past (past ++ e ∷ []) number s e w.names new.names h.spot grown t.names names;
       part = part ∙ sym (unfinished-same past e number same ∙ ap (λ (a : Act). going_after (call_after (call_from None (own past number)) a) e.outcome) begins);
-      built = built-after new.part c e.outcome part built;
     }
 
 begun-quiet : (past : List Entry) (e : Entry) (worker : ℕ) → e.worker ≡ worker → is_begin e.act ≡ false → begun (past ++ e ∷ []) worker ≡ begun past worker
@@ -282,5 +261,4 @@ told-more lines past e number p w new t is same goes places count names part =
       count = count ∙ t.count ∙ ap length (sym quiet);
       names = subst (Knows lines (past ++ e ∷ []) number) (sym names) (knows-still lines past (past ++ e ∷ []) number w.names quiet t.names);
       part = left ∙ sym (unfinished-same past e number same ∙ ap (λ (a : Act). going_after (call_after (call_from None (own past number)) a) e.outcome) goes ∙ ap (λ (c : Option Call). going_after c e.outcome) call);
-      built = built-after new.part p.call e.outcome left (sym (ap is_built_part is) ∙ t.built);
     }

@@ -8,10 +8,7 @@ use Rattle.xti_base.specs.declared.kinds.Seq.{Seq}
 use Rattle.xti_model.specs.declared.entry.Outcome.{Outcome}
 use Rattle.xti_model.specs.declared.entry.Entry.{Entry}
 use Rattle.xti_model.specs.declared.script.Line.{Line}
-use Rattle.xti_model.specs.declared.script.NamedCall.{NamedCall}
-use Rattle.xti_model.specs.declared.script.NamedCall.TheVariants as named
-use Rattle.xti_model.specs.Built.{is_built, is_built_named}
-use Rattle.xti_model.specs.Resolve.{Meanings, is_of, lines_of, begun, answer_of, answer_to, or_else, meanings, with_numbers}
+use Rattle.xti_model.specs.Resolve.{Meanings, is_of, lines_of, begun, answer_of, answer_to, or_else, meanings}
 use Rattle.xti_replay.specs.declared.names.Known.{Known}
 use Rattle.xti_replay.specs.declared.names.Names.{Names}
 use Rattle.xti_replay.specs.Spots.{Spot, spots_from}
@@ -117,20 +114,3 @@ pub meanings-same : (lines : List Line) (past : List Entry) (worker place : ℕ)
 meanings-same lines past worker place own setup k z =
     ap (λ (fd : List ℕ → Fd). meanings_by fd (meanings_before place own setup).seq) (fun_ext (λ name. ap fd_of (number-same endpoints lines past worker place own.endpoints setup.endpoints k.endpoints z.endpoints name)))
     ∙ ap (meanings_by (meanings (take place lines) worker past).fd) (fun_ext (λ name. ap seq_of (number-same sequences lines past worker place own.sequences setup.sequences k.sequences z.sequences name)))
-
--- a built call is built whatever its names stand for
-pub numbers-built : (m : Meanings) (c : NamedCall) → is_built_named c ≡ true → is_built (with_numbers m c) ≡ true
-numbers-built m (named.TOpen name prov nonblock) b = b
-numbers-built m (named.TBind fd addr qlen amax) b = refl
-numbers-built m (named.TSndUData fd addr opt bytes) b = refl
-numbers-built m (named.TRcvUData fd max amax omax) b = refl
-numbers-built m (named.TClose fd) b = refl
-numbers-built m (named.TUnbind fd) b = refl
-numbers-built m (named.TSndVUData fd addr opt parts) b = refl
-numbers-built m (named.TRcvVUData fd sizes amax omax) b = refl
-numbers-built m (named.TRcvUDErr fd amax omax) b = refl
-numbers-built m (named.TLookAt fd) b = refl
-numbers-built m (named.TGetState fd) b = refl
-numbers-built m (named.TSync fd) b = refl
-numbers-built m (named.SetMode fd nonblock) b = refl
-numbers-built m other b = absurd cc

@@ -18,7 +18,6 @@ use Rattle.xti_core.specs.Standing.{Standing}
 use Rattle.xti_replay.specs.declared.workers.Part.{Part}
 use Rattle.xti_replay.specs.declared.workers.Worker.{Worker}
 use Rattle.xti_replay.specs.declared.run.Run.{Run}
-use Rattle.xti_replay.specs.Playable.{are_playable}
 use Rattle.xti_replay.specs.Progress.{Told, IsKept, AreKept, Asked, part_going, is_finished}
 use Rattle.xti_replay.specs.Turns.{LeavesOutFinished, AreTurns}
 use Rattle.xti_replay.specs.Runs.{StandsAfter, AsksOthers, HasAsked, GoesOn, put_back}
@@ -134,7 +133,6 @@ pub asks-others : (past : List Entry) (base r : Run) (many i : ℕ) → StandsAf
 asks-others past base r many i k through a =
     let all = all-split IsOther a.before a.after (subst (AllByRecursion IsOther) a.order (order-others (last_worker 0 past) k.last)) in
     record {
-      playable = ap are_playable a.lines ∙ k.playable;
       kept = subst (λ (ls : List Line). AreKept ls past r.workers.items) (sym a.lines) a.kept;
       through = ap (λ (ls : List Line). is_through ls past 0) a.lines ∙ through;
       within = subst (AllByRecursion IsOther) (sym a.turns)
@@ -240,7 +238,6 @@ asked-turn past base r s many i entry e k through a n h lines some = by (turn_in
           sym some ∙ h.0,
           h.1,
           record {
-            playable = ap are_playable lines_are ∙ k.playable;
             kept = subst (λ (ls : List Line). AreKept ls later s.workers.items) (sym lines) h.3;
             turns = subst (λ (ls : List Line). AreTurns ls later s.turns.items) (sym lines_are) (turns made);
             last = subst (λ (w : ℕ). w < WORKERS) (sym (last-push 0 past t.entry ∙ h.2)) turned.2;
@@ -284,7 +281,6 @@ asked-all past base r many i k through a le = by a.firsts refl
           refl,
           a.world,
           record {
-            playable = ap are_playable a.lines ∙ k.playable;
             kept = subst (λ (ls : List Line). AreKept ls past r.workers.items) (sym a.lines) a.kept;
             turns = subst (λ (ls : List Line). AreTurns ls past r.turns.items) (sym a.lines) turns;
             last = k.last;
@@ -303,7 +299,7 @@ none-made None h = refl
 none-made (Some e) h = absurd cc
 
 pub stands-with : (past : List Entry) (r : Run) (m : Option Entry) → StandsAfter past r → StandsAfter past (record r { made = m })
-stands-with past r m k = record { playable = k.playable; kept = k.kept; turns = k.turns; last = k.last; setup = k.setup }
+stands-with past r m k = record { kept = k.kept; turns = k.turns; last = k.last; setup = k.setup }
 
 -- the entry is handed out
 pub goes-out : (past : List Entry) (old mid : Run) (m n : Option Entry) (o : Option Turn) → GoesOn past (record old { made = n }) mid mid.made o → GoesOn past old (record mid { made = m }) mid.made o

@@ -8,7 +8,6 @@ use Rattle.xti_model.specs.declared.script.Line.{Line}
 use Rattle.xti_model.specs.Robin.{is_through, last_worker, order_after, Turn, first_turn}
 use Rattle.xti_replay.specs.declared.workers.Worker.{Worker}
 use Rattle.xti_replay.specs.declared.run.Run.{Run}
-use Rattle.xti_replay.specs.Playable.{are_playable}
 use Rattle.xti_replay.specs.Progress.{IsKept, AreKept, Asked, is_finished}
 use Rattle.xti_replay.specs.Turns.{LeavesOutFinished, AreTurns}
 use Rattle.xti_replay.specs.Runs.{StandsAfter, GoesOn}
@@ -36,7 +35,6 @@ setup-asked past r s entry k through a lines turns = subst (GoesOn past r s entr
       a.0,
       a.1,
       record {
-        playable = ap are_playable lines ∙ k.playable;
         kept = subst (λ (ls : List Line). AreKept ls past s.workers.items) (sym lines) a.2;
         turns = subst (λ (ls : List Line). AreTurns ls past s.turns.items) (sym lines) (rw turns k.turns);
         last = k.last;
@@ -47,7 +45,6 @@ setup-asked past r s entry k through a lines turns = subst (GoesOn past r s entr
       a.0,
       a.1,
       record {
-        playable = ap are_playable lines ∙ k.playable;
         kept = subst (λ (ls : List Line). AreKept ls later s.workers.items) (sym lines) a.3;
         turns = subst (λ (ls : List Line). AreTurns ls later s.turns.items) (sym lines) (rw turns (subst (λ (w : ℕ). LeavesOutFinished r.lines.now later (order_after w) r.turns.items) (k.setup through ∙ sym last) (leaves-later r.lines.now past later (order_after (last_worker 0 past)) r.turns.items stays k.turns)));
         last = subst (λ (w : ℕ). w < WORKERS) (sym last) (omega arith);

@@ -51,7 +51,7 @@ stall-some lines past number ws w v act stalls f lt at unfinished acts left = (
   record {
     many = length-set ws number v ∙ f.kept.many;
     each = of-changed (IsKept lines past) (IsKept lines past) ws number v f.kept.each (λ j x ne l h. h) (λ l. subst (IsKept lines past number) (sym left) (record {
-      told = record { places = kept.told.places; count = kept.told.count; names = kept.told.names; part = kept.told.part; built = kept.told.built };
+      told = record { places = kept.told.places; count = kept.told.count; names = kept.told.names; part = kept.told.part };
       known = tt;
     }));
   },

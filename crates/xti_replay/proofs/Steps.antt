@@ -1,7 +1,6 @@
 -- A worker's next call, and its step.
 use Rattle.std.proofs.Common.{◌≡◌, ◌≢◌, ℕ, ◌+◌, ◌<◌, ◌⊎◌, inl, inr, Bool, true, false, eqb, List, [], ◌∷◌, ◌++◌, length, get_or, set, Option, Some, None, refl, sym, ap, ◌∙◌, subst, arith}
 use Rattle.std.specs.Prelude.{is_none, unwrap_or, option_map, option_and_then, slice_get}
-use Rattle.std.proofs.lemmas.Bool.{and_parts}
 use Rattle.std.proofs.lemmas.Bool.Decides.{eqb_tells}
 use Rattle.std.proofs.lemmas.List.{length-set, get_or-set_same, set-get_or}
 use Rattle.std.proofs.lemmas.Option.{none-some, slice_get_within, get_or_from_slice_get}
@@ -15,7 +14,6 @@ use Rattle.xti_model.specs.declared.entry.Outcome.{Outcome}
 use Rattle.xti_model.specs.declared.entry.Entry.{Entry}
 use Rattle.xti_model.specs.declared.script.Line.{Line}
 use Rattle.xti_model.specs.declared.profile.Providers.{Providers}
-use Rattle.xti_model.specs.Built.{is_built}
 use Rattle.xti_model.specs.History.{Going, unfinished, step_going, call_after, going_after}
 use Rattle.xti_model.specs.World.{World}
 use Rattle.xti_model.specs.Step.{Step, step}
@@ -26,10 +24,9 @@ use Rattle.xti_core.specs.Standing.{Standing}
 use Rattle.xti_replay.specs.declared.workers.Part.{Part}
 use Rattle.xti_replay.specs.declared.workers.Worker.{Worker}
 use Rattle.xti_replay.specs.Spots.{Spot}
-use Rattle.xti_replay.specs.Playable.{are_playable}
 use Rattle.xti_replay.specs.Known.{HasLearnt, meanings_before}
-use Rattle.xti_replay.specs.Progress.{Told, IsNext, MayAsk, IsKnown, IsKept, AreKept, IsReady, IsFound, MayTake, begun_by, Learns, Makes, Asked, part_going, part_call, is_built_part, is_built_or_none, is_built_next, pending, or_going, going_of, call_of, so_far_of, next_act}
-use Rattle.xti_replay.proofs.Lines.{beginning, HasNext, next-at, through-at, next-by, next-call, playable-line, line-built, own-other, told-other, next-other, told-begun, told-more}
+use Rattle.xti_replay.specs.Progress.{Told, IsNext, MayAsk, IsKnown, IsKept, AreKept, IsReady, IsFound, MayTake, begun_by, Learns, Makes, Asked, part_going, part_call, going_of, call_of, so_far_of, next_act}
+use Rattle.xti_replay.proofs.Lines.{beginning, HasNext, next-at, through-at, next-by, next-call, own-other, told-other, next-other, told-begun, told-more}
 use Rattle.xti_replay.proofs.Each.{at-worker, get_or_any, of-changed}
 
 pub whole-of : (lines : List Line) (past : List Entry) (number : ℕ) (w : Worker) → Told lines past number w → w.part ≡ None → unfinished past number ≡ None
@@ -42,17 +39,17 @@ place-within lines past number w place t whole there =
     let n = next-at lines past number w place t (whole-of lines past number w t whole) there in
     slice_get_within lines place n.0.line (subst (λ (k : ℕ). slice_get lines k ≡ Some n.0.line) n.1 n.2.line)
 
-pub place-next : (lines : List Line) (past : List Entry) (number : ℕ) (w setup : Worker) (place : ℕ) (line : Line) (call : Call) → are_playable lines ≡ true → Told lines past number w → Told lines past 0 setup → w.part ≡ None
+pub place-next : (lines : List Line) (past : List Entry) (number : ℕ) (w setup : Worker) (place : ℕ) (line : Line) (call : Call) → Told lines past number w → Told lines past 0 setup → w.part ≡ None
     → slice_get w.places.items w.begun ≡ Some place → line ≡ get_or lines place line → call ≡ with_numbers (meanings_before place w.names setup.names) line.call → IsNext lines past number (Some call)
-place-next lines past number w setup place line call playable t z whole there at made =
+place-next lines past number w setup place line call t z whole there at made =
     let n = next-at lines past number w place t (whole-of lines past number w t whole) there in
     let got : slice_get lines place ≡ Some n.0.line = subst (λ (k : ℕ). slice_get lines k ≡ Some n.0.line) n.1 n.2.line in
     let same : line ≡ n.0.line = at ∙ get_or_from_slice_get lines place n.0.line line got in
-    next-call lines past number w setup n.0 call t z n.2 (line-built n.0.line (playable-line lines place n.0.line playable got))
+    next-call lines past number w setup n.0 call t z n.2
     (made ∙ ap (λ (k : ℕ). with_numbers (meanings_before k w.names setup.names) line.call) (sym n.1) ∙ ap (λ (l : Line). with_numbers (meanings_before n.0.place w.names setup.names) l.call) same)
 
 pub place-none : (lines : List Line) (past : List Entry) (number : ℕ) (w : Worker) → Told lines past number w → w.part ≡ None → slice_get w.places.items w.begun ≡ None → IsNext lines past number None
-place-none lines past number w t whole there = record { going = sym (through-at lines past number w t (whole-of lines past number w t whole) there); built = refl }
+place-none lines past number w t whole there = sym (through-at lines past number w t (whole-of lines past number w t whole) there)
 
 -- The step.
 
@@ -102,11 +99,11 @@ pub record IsAdvance (lines : List Line) (w new : Worker) (a : Act) (outcome : O
   pub part : part_going new.part ≡ going_after (call_after (part_call w.part) a) outcome
   pub names : Learns lines (get_or w.places.items w.begun 0) a outcome w.names new.names
 
-pub advance-begun : (lines : List Line) (past : List Entry) (e : Entry) (number : ℕ) (c : Call) (w new : Worker) (s : Spot) → Told lines past number w → HasNext lines past number w s → e.worker ≡ number → e.act ≡ act.Begin c → is_built c ≡ true
+pub advance-begun : (lines : List Line) (past : List Entry) (e : Entry) (number : ℕ) (c : Call) (w new : Worker) (s : Spot) → Told lines past number w → HasNext lines past number w s → e.worker ≡ number → e.act ≡ act.Begin c
     → IsAdvance lines w new (act.Begin c) e.outcome → Told lines (past ++ e ∷ []) number new
-advance-begun lines past e number c w new s t h own begins built a =
+advance-begun lines past e number c w new s t h own begins a =
     let place : get_or w.places.items w.begun 0 ≡ s.place = get_or_from_slice_get w.places.items w.begun s.place 0 h.place in
-    told-begun lines past e number c w new s t h own begins built a.places a.count a.part
+    told-begun lines past e number c w new s t h own begins a.places a.count a.part
     (subst (λ (k : ℕ). HasLearnt k s.line.call e.outcome w.names new.names) place (a.names s.line (subst (λ (k : ℕ). slice_get lines k ≡ Some s.line) (sym place) h.line)))
 
 pub advance-more : (lines : List Line) (past : List Entry) (e : Entry) (number : ℕ) (p : Part) (w new : Worker) → Told lines past number w → w.part ≡ Some p → e.worker ≡ number → e.act ≡ act.More
@@ -116,7 +113,7 @@ advance-more lines past e number p w new t is own goes a =
     told-more lines past e number p w new t is own goes a.places same a.names a.part
 
 idle-told : (lines : List Line) (past : List Entry) (number : ℕ) (w : Worker) → Told lines past number w → Told lines past number (record w { next = None })
-idle-told lines past number w t = record { places = t.places; count = t.count; names = t.names; part = t.part; built = t.built }
+idle-told lines past number w t = record { places = t.places; count = t.count; names = t.names; part = t.part }
 
 pub makes-made : (p : Providers) (lines : List Line) (number : ℕ) (past : List Entry) (before after : Standing) (w v new : Worker) (a : Act) (outcome : Outcome) (state : State)
     → IsReady lines past number w → Some (record { outcome = outcome; after = state; world = after.cells }) ≡ option_and_then (step_going p before.cells) (going_of w)
@@ -160,11 +157,10 @@ makes-made p lines number past before after w v new a outcome state r made acts 
     by (Some c) n =
         let acted : next_act w ≡ act.Begin c = ap (λ (o : Option Call). next_act (record w { next = o })) n in
         let goes : next_going lines past number ≡ Some (beginning c) = sym r.going ∙ ap (λ (o : Option Call). going_of (record w { next = o })) n in
-        let built : is_built c ≡ true = sym (ap is_built_or_none n) ∙ (and_parts (is_built_or_none w.next) (is_built_part w.part) r.built).0 in
         let h = begin-next lines past number w c r n in
         let h2 : HasNext lines past number (record w { next = None }) h.0 = record { spot = h.1.spot; place = h.1.place; line = h.1.line; own = h.1.own; going = h.1.going } in
         finished (beginning c) (act.Begin c) goes (acts ∙ acted) refl
-        (advance-begun lines past _ number c (record w { next = None }) new h.0 (idle-told lines past number w r.kept.told) h2 refl refl built (subst (λ (y : Act). IsAdvance lines (record w { next = None }) new y outcome) acted from))
+        (advance-begun lines past _ number c (record w { next = None }) new h.0 (idle-told lines past number w r.kept.told) h2 refl refl (subst (λ (y : Act). IsAdvance lines (record w { next = None }) new y outcome) acted from))
 
 -- the step of a worker's call, as far as that has come
 pub step-going : (p : Providers) (before : World) (o : Option Going) (c : Call) (g : Go) → Some c ≡ call_of o → g ≡ so_far_of o → step p before c g ≡ option_and_then (step_going p before) o
@@ -174,14 +170,6 @@ step-going p before (Some x) c g h i = ap (λ (z : Call). step p before z g) (ap
 pub still-going : (p : Providers) (before : World) (o : Option Going) → None ≡ call_of o → None ≡ option_and_then (step_going p before) o
 still-going p before None h = refl
 still-going p before (Some x) h = absurd (none-some x.call h)
-
-pub built-going : (w : Worker) (c : Call) → is_built_next w ≡ true → Some c ≡ call_of (going_of w) → is_built c ≡ true
-built-going w c b h = by w.next w.part (and_parts (is_built_or_none w.next) (is_built_part w.part) b) h
-  where
-    by : (n : Option Call) (q : Option Part) → (is_built_or_none n ≡ true) × (is_built_part q ≡ true) → Some c ≡ call_of (or_going (pending n) (part_going q)) → is_built c ≡ true
-    by (Some d) q k i = ap is_built (ap (λ (o : Option Call). unwrap_or o c) i) ∙ k.0
-    by None (Some x) k i = ap is_built (ap (λ (o : Option Call). unwrap_or o c) i) ∙ k.1
-    by None None k i = absurd (none-some c (sym i))
 
 -- no step: the worker has none, or it is blocked
 pub makes-none : (p : Providers) (lines : List Line) (number : ℕ) (past : List Entry) (before after : Standing) (w : Worker) → IsReady lines past number w → None ≡ option_and_then (step_going p before.cells) (going_of w) → after ≡ before
@@ -207,7 +195,7 @@ known-other lines past e number (Some c) ne unfinished k = by (eqb_tells e.worke
     by : ((eqb e.worker 0 ≡ true) × (e.worker ≡ 0)) ⊎ ((eqb e.worker 0 ≡ false) × (e.worker ≢ 0)) → MayAsk lines past number → IsKnown lines (past ++ e ∷ []) number (Some c)
     by (inl z) (inl m) = absurd (ne (z.1 ∙ sym m))
     by (inl z) (inr m) = absurd (let no : false ≡ true = sym (unfinished z.1) ∙ m in cc)
-    by (inr z) m = (record { going = k.0.going ∙ sym (next-other lines past e number ne z.1); built = k.0.built }, may m)
+    by (inr z) m = (k.0 ∙ sym (next-other lines past e number ne z.1), may m)
       where
         may : MayAsk lines past number → MayAsk lines (past ++ e ∷ []) number
         may (inl m) = inl m
@@ -260,8 +248,7 @@ found-known lines past ws number w k lt at not = record { kept = k; ready = λ d
             let known = subst (IsKnown lines past number) n h.known in
             record {
               kept = h;
-              going = ap (λ (o : Option Call). going_of (record v { next = o })) n ∙ known.0.going;
-              built = rw n (rw known.0.built h.told.built);
+              going = ap (λ (o : Option Call). going_of (record v { next = o })) n ∙ known.0;
             }
         by None n = part v.part refl
           where
@@ -270,7 +257,6 @@ found-known lines past ws number w k lt at not = record { kept = k; ready = λ d
             part (Some x) q = record {
               kept = h;
               going = ap (λ (o : Option Call). going_of (record v { next = o })) n ∙ ap part_going q ∙ ap (next_or lines past number) (sym (ap part_going q) ∙ h.told.part);
-              built = rw n h.told.built;
             }
 
 pub found-next : (lines : List Line) (past : List Entry) (ws vs : List Worker) (number : ℕ) (w : Worker) (next : Option Call) → AreKept lines past ws → MayAsk lines past number → number < length ws → w ≡ get_or ws number w → w.part ≡ None → IsNext lines past number next
@@ -283,7 +269,6 @@ found-next lines past ws vs number w next k may lt at whole n items = subst (IsF
   ready = λ d. subst (IsReady lines past number) (sym (get_or-set_same ws number (record w { next = next }) d lt)) (record {
     kept = kept;
     going = by next n;
-    built = rw n.built told.built;
   });
 })
   where
@@ -295,8 +280,8 @@ found-next lines past ws vs number w next k may lt at whole n items = subst (IsF
     known (Some c) m = (m, may)
 
     kept : IsKept lines past number (record w { next = next })
-    kept = record { told = record { places = told.places; count = told.count; names = told.names; part = told.part; built = told.built }; known = known next n }
+    kept = record { told = record { places = told.places; count = told.count; names = told.names; part = told.part }; known = known next n }
 
     by : (o : Option Call) → IsNext lines past number o → going_of (record w { next = o }) ≡ next_going lines past number
-    by None m = ap part_going whole ∙ m.going
-    by (Some c) m = m.going
+    by None m = ap part_going whole ∙ m
+    by (Some c) m = m

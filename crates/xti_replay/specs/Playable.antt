@@ -1,17 +1,16 @@
 -- Scripts that can be played.
-use Rattle.std.specs.Prelude.{◌≡◌, ◌+◌, ◌≤◌, ◌&&◌, Bool, true, List, length, nat_lt, IsTrue}
+use Rattle.std.specs.Prelude.{◌≡◌, ◌+◌, ◌≤◌, Bool, true, List, length, nat_lt, IsTrue}
 use Rattle.std.specs.List.{list_all}
 use Rattle.xti_base.specs.declared.limits.TheConstants.{WORKERS}
 use Rattle.xti_model.specs.declared.script.Line.{Line}
 use Rattle.xti_model.specs.declared.script.Script.{Script}
 use Rattle.xti_model.specs.Profile.{valid}
-use Rattle.xti_model.specs.Built.{is_built_named}
 use Rattle.xti_model.specs.Work.{script_bytes}
 use Rattle.xti_model.specs.Robin.{most_steps}
 
--- a built call of a worker that a script may have
+-- of a worker that a script may have
 abbrev pub is_playable : Line → Bool
-is_playable line = nat_lt line.worker WORKERS && is_built_named line.call
+is_playable line = nat_lt line.worker WORKERS
 
 abbrev pub are_playable : List Line → Bool
 are_playable lines = list_all is_playable lines

@@ -9,7 +9,6 @@ use Rattle.xti_model.specs.declared.entry.Go.TheVariants as go
 use Rattle.xti_model.specs.declared.entry.Outcome.{Outcome}
 use Rattle.xti_model.specs.declared.entry.Entry.{Entry}
 use Rattle.xti_model.specs.declared.script.Line.{Line}
-use Rattle.xti_model.specs.Built.{is_built}
 use Rattle.xti_model.specs.History.{Going, unfinished}
 use Rattle.xti_model.specs.Resolve.{begun}
 use Rattle.xti_model.specs.Robin.{next_going, is_through, Turn}
@@ -29,18 +28,10 @@ abbrev pub part_call : Option Part → Option Call
 part_call None = None
 part_call (Some p) = Some p.call
 
-abbrev pub is_built_part : Option Part → Bool
-is_built_part None = true
-is_built_part (Some p) = is_built p.call
-
 -- a call that begins
 abbrev pub pending : Option Call → Option Going
 pending None = None
 pending (Some c) = Some (record { call = c; so_far = go.Begin })
-
-abbrev pub is_built_or_none : Option Call → Bool
-is_built_or_none None = true
-is_built_or_none (Some c) = is_built c
 
 -- the first of two, where there is one
 abbrev pub or_going : Option Going → Option Going → Option Going
@@ -60,9 +51,6 @@ abbrev pub so_far_of : Option Going → Go
 so_far_of None = go.Begin
 so_far_of (Some g) = g.so_far
 
-abbrev pub is_built_next : Worker → Bool
-is_built_next w = is_built_or_none w.next && is_built_part w.part
-
 -- the worker has made all its calls
 abbrev pub is_finished : Worker → Bool
 is_finished w = is_none w.part && nat_le (length w.places.items) w.begun
@@ -81,12 +69,10 @@ pub record Told (lines : List Line) (past : List Entry) (number : ℕ) (w : Work
   pub count : w.begun ≡ length (begun past number)
   pub names : Knows lines past number w.names
   pub part : part_going w.part ≡ unfinished past number
-  pub built : is_built_part w.part ≡ true
 
 -- the worker's next call
-pub record IsNext (lines : List Line) (past : List Entry) (number : ℕ) (next : Option Call) : Type 0 where
-  pub going : pending next ≡ next_going lines past number
-  pub built : is_built_or_none next ≡ true
+abbrev pub IsNext : List Line → List Entry → ℕ → Option Call → Type 0
+IsNext lines past number next = pending next ≡ next_going lines past number
 
 -- worker 0 may always be asked, another one once worker 0 is finished
 abbrev pub MayAsk : List Line → List Entry → ℕ → Type 0
@@ -124,7 +110,6 @@ pub record AreFresh (lines : List Line) (ws : List Worker) : Type 0 where
 pub record IsReady (lines : List Line) (past : List Entry) (number : ℕ) (w : Worker) : Type 0 where
   pub kept : IsKept lines past number w
   pub going : going_of w ≡ next_going lines past number
-  pub built : is_built_next w ≡ true
 
 pub record IsFound (lines : List Line) (past : List Entry) (number : ℕ) (ws : List Worker) : Type 0 where
   pub kept : AreKept lines past ws

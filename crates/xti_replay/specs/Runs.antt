@@ -7,13 +7,11 @@ use Rattle.xti_model.specs.declared.script.Line.{Line}
 use Rattle.xti_model.specs.declared.script.Script.{Script}
 use Rattle.xti_model.specs.Robin.{is_through, last_worker, robin_from, most_steps, Turn}
 use Rattle.xti_replay.specs.declared.run.Run.{Run}
-use Rattle.xti_replay.specs.Playable.{are_playable}
 use Rattle.xti_replay.specs.Progress.{AreKept}
 use Rattle.xti_replay.specs.Turns.{AreTurns}
 
 -- the run stands where its lines have come by these entries
 pub record StandsAfter (past : List Entry) (r : Run) : Type 0 where
-  pub playable : are_playable r.lines.now ≡ true
   pub kept : AreKept r.lines.now past r.workers.items
   pub turns : AreTurns r.lines.now past r.turns.items
   pub last : last_worker 0 past < WORKERS
@@ -26,7 +24,6 @@ GoesOn past old new entry (Some t) = (entry ≡ Some t.entry) × (new.world.cell
 
 -- worker 0 is finished, and each worker stands as the entries so far have it
 pub record AsksOthers (past : List Entry) (r : Run) : Type 0 where
-  pub playable : are_playable r.lines.now ≡ true
   pub kept : AreKept r.lines.now past r.workers.items
   pub through : is_through r.lines.now past 0 ≡ true
   pub within : AllByRecursion (λ number. (0 < number) × (number < WORKERS)) r.turns.items

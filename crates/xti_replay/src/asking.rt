@@ -4,7 +4,6 @@ ghost use Rattle.std.specs.Prelude.{◌≡◌, ◌<◌, ℕ, List, None, OnOk, t
 ghost use Rattle.xti_base.specs.declared.limits.TheConstants.{WORKERS};
 ghost use Rattle.xti_model.specs.declared.entry.Entry.{Entry};
 ghost use Rattle.xti_model.specs.Robin.{turn};
-ghost use Rattle.xti_replay.specs.Playable.{are_playable};
 ghost use Rattle.xti_replay.specs.Progress.{AreKept, MayAsk, IsFound, IsReady, Makes, Asked};
 
 use crate::workers::Worker;
@@ -58,7 +57,6 @@ pub(crate) fn find_next(
     workers: &mut Vec<Worker>,
     number: usize,
 ) -> Result<(), AllocError>
-    requires lines { are_playable lines.now ≡ true }
     requires kept { (past : List Entry) × AreKept lines.now past workers.old.items }
     requires number { number < WORKERS }
     ensures { OnOk result ((past : List Entry) → AreKept lines.now past workers.old.items → MayAsk lines.now past number → IsFound lines.now past number workers.new.items) }
@@ -82,7 +80,6 @@ pub(crate) fn ask(
     number: usize,
     made: &mut Option<Entry>,
 ) -> Result<(), AllocError>
-    requires lines { are_playable lines.now ≡ true }
     requires kept { (past : List Entry) × AreKept lines.now past workers.old.items × MayAsk lines.now past number }
     requires number { number < WORKERS }
     requires none { made.old ≡ None }

@@ -3,7 +3,6 @@
 ghost use Rattle.std.specs.Prelude.{◌≡◌, ◌++◌, ◌<◌, List, IfOk, OnOk, true, if◌then◌else◌};
 ghost use Rattle.xti_base.specs.declared.limits.TheConstants.{WORKERS};
 ghost use Rattle.xti_model.specs.declared.entry.Entry.{Entry};
-ghost use Rattle.xti_replay.specs.Playable.{are_playable};
 ghost use Rattle.xti_replay.specs.Progress.{AreKept, MayAsk, is_finished};
 ghost use Rattle.xti_replay.specs.Stalls.{stall_at, stalls_after};
 
@@ -20,7 +19,6 @@ fn add_stall(
     number: usize,
     stalls: &mut Stalls,
 ) -> Result<(), AllocError>
-    requires lines { are_playable lines.now ≡ true }
     requires kept { (past : List Entry) × AreKept lines.now past workers.old.items × MayAsk lines.now past number }
     requires number { number < WORKERS }
     ensures { OnOk result ((past : List Entry) → AreKept lines.now past workers.old.items → MayAsk lines.now past number → (stalls.new ≡ stalls.old ++ stall_at lines.now past number) × AreKept lines.now past workers.new.items) }
@@ -50,7 +48,6 @@ pub(crate) fn stall_lines(
     lines: &[Line],
     workers: &mut Vec<Worker>,
 ) -> Result<Stalls, AllocError>
-    requires lines { are_playable lines.now ≡ true }
     requires kept { (past : List Entry) × AreKept lines.now past workers.old.items }
     ensures { IfOk result (λ stalls. (past : List Entry) → AreKept lines.now past workers.old.items → stalls ≡ stalls_after lines.now past) }
 {

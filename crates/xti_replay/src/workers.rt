@@ -6,7 +6,6 @@ ghost use Rattle.xti_model.specs.declared.entry.Entry.{Entry};
 ghost use Rattle.xti_model.specs.declared.script.Line.{Line};
 ghost use Rattle.xti_model.specs.History.{call_after, going_after};
 ghost use Rattle.xti_replay.specs.Known.{known_in, HasLearnt};
-ghost use Rattle.xti_replay.specs.Playable.{are_playable};
 ghost use Rattle.xti_replay.specs.Progress.{is_finished, Told, IsNext, MayTake, Learns, begun_by, next_act, part_call, part_going, going_of, call_of, so_far_of};
 
 use crate::names::Names;
@@ -118,7 +117,6 @@ impl Worker {
 
     /// The call of its next line, with numbers in place of names; `None` where it has begun them all.
     pub fn next_call(&self, lines: &[Line], setup: &Worker) -> Result<Option<Call>, AllocError>
-        requires lines { are_playable lines.now ≡ true }
         requires told { (past : List Entry) × (number : ℕ) × Told lines.now past number self.now × Told lines.now past 0 setup.now }
         requires whole { self.now.part ≡ None }
         ensures { IfOk result (λ next. (past : List Entry) (number : ℕ) → Told lines.now past number self.now → Told lines.now past 0 setup.now → IsNext lines.now past number next) }

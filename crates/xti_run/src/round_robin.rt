@@ -13,7 +13,7 @@ ghost use Rattle.xti_streams.specs.Laws.{PrefixLaw, WaitingLaw, ReleaseLaw};
 
 use std::alloc::{AllocError, Global};
 use xti_model::{Journal, Script, usual_is_valid};
-use xti_script::{scripts_are_built, scripts_are_small, scripts_have_workers};
+use xti_script::{scripts_are_small, scripts_have_usual_providers, scripts_have_workers};
 use xti_streams::scripts_keep_order;
 
 /// A script that has a text can be played.
@@ -21,7 +21,7 @@ pub(crate) fn texts_are_playable()
     ensures { (s : Script) → HasText s → IsPlayable s }
 {
     usual_is_valid();
-    scripts_are_built();
+    scripts_have_usual_providers();
     scripts_have_workers();
     scripts_are_small();
 }

@@ -1,27 +1,34 @@
 -- What fields say in bytes is bytes, and so is each argument of a call that is made of them.
-use Rattle.std.proofs.Common.{◌≡◌, ℕ, ◌+◌, ◌-◌, ◌*◌, ◌≤◌, ◌<◌, Bool, true, false, cond, ◌&&◌, ◌||◌, eqb, leb, List, [], ◌∷◌, ◌++◌, drop, inl, inr, Option, Some, None, refl, subst, arith}
-use Rattle.std.specs.Prelude.{codes, nat_eq, option_map, length}
+use Rattle.std.proofs.Common.{◌≡◌, ℕ, zero, suc, ◌%◌, ◌+◌, ◌-◌, ◌*◌, ◌≤◌, ◌<◌, Bool, true, false, cond, ◌&&◌, ◌||◌, eqb, leb, List, [], ◌∷◌, ◌++◌, drop, inl, inr, Option, Some, None, refl, sym, subst, arith}
+use Rattle.std.specs.Prelude.{All, codes, nat_eq, option_map, length, replicate}
 use Rattle.std.specs.List.{concat, list_all, starts_with}
+use Rattle.std.specs.Str.{bytes_eq}
+use Rattle.std.specs.Int.{byte_at, bytes_high_first}
 use Rattle.std.proofs.lemmas.Bool.{and_parts, leb-true, eqb-true}
-use Rattle.std.proofs.lemmas.List.Elements.{All-nil, All-cons, All-append}
-use Rattle.xti_base.specs.declared.limits.TheConstants.{MOST_SEND, MOST_ADDRESS, MOST_OPTIONS}
+use Rattle.std.proofs.lemmas.List.Elements.{All-nil, All-cons, All-append, All-replicate}
+use Rattle.std.proofs.lemmas.List.FromFn.{map-range_with_len_more}
+use Rattle.xti_base.specs.declared.options.Opt.{Opt}
+use Rattle.xti_base.specs.Options.{word_bytes, filling, option_bytes, options_bytes}
+use Rattle.xti_opt.specs.Written.{IsWritable}
+use Rattle.xti_model.specs.Resolve.{listens}
+use Rattle.xti_base.specs.declared.limits.TheConstants.{MOST_SEND, MOST_ADDRESS, MOST_OPTIONS, MOST_CONNECT_DATA}
 use Rattle.xti_model.specs.declared.script.NamedCall.{NamedCall}
 use Rattle.xti_model.specs.declared.script.NamedCall.TheVariants as call
-use Rattle.xti_model.specs.declared.script.NamedCall.TheVariants.{TOpen, SetMode}
 use Rattle.xti_model.specs.declared.script.Line.{Line}
 use Rattle.xti_model.specs.declared.script.Script.{Script}
 use Rattle.xti_model.specs.SentBytes.{AreBytes, HasByteArguments, NamedSendsBytes, AllHaveByteArguments, LinesSendBytes}
 use Rattle.xti_script.specs.Kinds.{Kind}
 use Rattle.xti_script.specs.Kinds.{Kind as kind}
 use Rattle.xti_script.specs.FieldValue.{Value}
-use Rattle.xti_script.specs.FieldValue.Value.{Bytes, Number, Parts, Sizes}
+use Rattle.xti_script.specs.FieldValue.Value.{Bytes, Number, Parts, Sizes, Name, NameOrNone, Provider, Mode}
 use Rattle.xti_script.specs.declared.fields.Key.{Key}
 use Rattle.xti_script.specs.declared.fields.Key.TheVariants as key
 use Rattle.xti_script.specs.declared.verbs.Verb.{Verb}
-use Rattle.xti_script.specs.declared.verbs.Verb.TheVariants.{Close, Unbind, Bind, SndUData, SndVUData, RcvUData, RcvVUData, RcvUDErr, Look, GetState, Sync}
+use Rattle.xti_script.specs.declared.verbs.Verb.TheVariants.{Open, Close, Bind, Unbind, Connect, RcvConnect, Listen, Accept, Snd, SndV, Rcv, RcvV, SndDis, RcvDis, SndRel, RcvRel, SndUData, SndVUData, RcvUData, RcvVUData, RcvUDErr, Look, GetState, Sync, GetInfo, GetProtAddr, OptMgmt, SetMode}
 use Rattle.xti_script.specs.declared.values.TheConstants.{MOST_PIECES}
 use Rattle.xti_script.specs.Texts.{pieces_of, is_lower, is_upper, is_digit, is_text_byte, is_plain_text}
-use Rattle.xti_script.specs.Values.{number_in, hex_digit, hex_pair, hex_bytes, plain_bytes, onto, bytes_in, each_in, list_in, value_in}
+use Rattle.xti_script.specs.Names.{Spot, after, is_defined, can_name}
+use Rattle.xti_script.specs.Values.{number_in, hex_digit, hex_pair, hex_bytes, plain_bytes, counted, counted_bytes, onto, bytes_in, each_in, list_in, plain_option, valued_option, option_at, option_of, option_in, options_in, named, sequence_or_none, provider_in, mode_in, action_in, value_in}
 use Rattle.xti_script.specs.Fields.{field, kind_of, usual_value, AreFields}
 use Rattle.xti_script.specs.Calls.{call_with}
 use Rattle.xti_script.specs.Grammar.{IsCall, AreLines, HasText}
@@ -103,15 +110,109 @@ hex-bytes (c ∷ d ∷ text) bs h =
     let b = begins (hex_pair (hex_digit c) (hex_digit d)) (hex_bytes text) bs h in
     subst AreBytes b.both (All-cons (λ b. b < 256) b.first b.others (hex-pair (hex_digit c) (hex_digit d) b.first (hex-digit c) (hex-digit d) b.one) (hex-bytes text b.others b.rest))
 
+counted-all : (n : ℕ) → AreBytes (counted n)
+counted-all zero = All-nil (λ b. b < 256)
+counted-all (suc n) =
+    let e : counted (n + 1) ≡ counted n ++ n % 256 ∷ [] = map-range_with_len_more (λ i. i % 256) 0 n n (omega arith) in
+    let one : AreBytes (n % 256 ∷ []) = All-cons (λ b. b < 256) (n % 256) [] (omega arith) (All-nil (λ b. b < 256)) in
+    let more : n + 1 ≡ suc n = omega arith in
+    subst (λ m. AreBytes (counted m)) more (subst AreBytes (sym e) (All-append (λ b. b < 256) (counted n) (n % 256 ∷ []) (counted-all n) one))
+
+counted-bytes : (n : Option ℕ) (bs : List ℕ) → counted_bytes n ≡ Some bs → AreBytes bs
+counted-bytes None bs h = absurd (none-is bs h)
+counted-bytes (Some n) bs h = go (leb n MOST_SEND) h
+  where
+    go : (b : Bool) → cond b (Some (counted n)) None ≡ Some bs → AreBytes bs
+    go true h = subst AreBytes (some-is (counted n) bs h) (counted-all n)
+    go false h = absurd (none-is bs h)
+
 -- a word for bytes stands for numbers below 256
 word-bytes : (word bs : List ℕ) → bytes_in word ≡ Some bs → AreBytes bs
 unfolding bytes_in
-word-bytes word bs h = go (starts_with nat_eq word (codes "t:")) (starts_with nat_eq word (codes "x:")) h
+word-bytes word bs h = go (starts_with nat_eq word (codes "t:")) (starts_with nat_eq word (codes "x:")) (starts_with nat_eq word (codes "f:")) h
   where
-    go : (a b : Bool) → cond a (plain_bytes (drop 2 word)) (cond b (hex_bytes (drop 2 word)) None) ≡ Some bs → AreBytes bs
-    go true b h = plain-bytes (drop 2 word) bs h
-    go false true h = hex-bytes (drop 2 word) bs h
-    go false false h = absurd (none-is bs h)
+    go : (a b c : Bool) → cond a (plain_bytes (drop 2 word)) (cond b (hex_bytes (drop 2 word)) (cond c (counted_bytes (number_in (drop 2 word))) None)) ≡ Some bs → AreBytes bs
+    go true b c h = plain-bytes (drop 2 word) bs h
+    go false true c h = hex-bytes (drop 2 word) bs h
+    go false false true h = counted-bytes (number_in (drop 2 word)) bs h
+    go false false false h = absurd (none-is bs h)
+
+-- ---- options
+
+byte-small : (k n : ℕ) → byte_at k n < 256
+byte-small zero n = omega arith
+byte-small (suc k) n = omega arith
+
+high-first : (k n : ℕ) → AreBytes (bytes_high_first k n)
+high-first zero n = All-nil (λ b. b < 256)
+high-first (suc k) n = All-cons (λ b. b < 256) (byte_at k n) (bytes_high_first k n) (byte-small k n) (high-first k n)
+
+four-bytes : (n : ℕ) → AreBytes (word_bytes n)
+four-bytes n = high-first 4 n
+
+-- a value that is one word or none
+abbrev IsPlain : Opt → Type 0
+IsPlain o = AreBytes o.value × (length o.value ≤ 4)
+
+plain-is : (level name : Option ℕ) (value : List ℕ) (o : Opt) → AreBytes value → length value ≤ 4 → plain_option level name value ≡ Some o → IsPlain o
+plain-is None name value o a l h = absurd (none-is o h)
+plain-is (Some level) None value o a l h = absurd (none-is o h)
+plain-is (Some level) (Some name) value o a l h = let e = some-is (record { level = level; name = name; status = 0; value = value }) o h in subst IsPlain e (a, l)
+
+valued-is : (level name value : Option ℕ) (o : Opt) → valued_option level name value ≡ Some o → IsPlain o
+valued-is level name None o h = absurd (none-is o h)
+valued-is level name (Some value) o h = plain-is level name (word_bytes value) o (four-bytes value) (omega arith) h
+
+at-is : (level : Option ℕ) (pieces : List (List ℕ)) (o : Opt) → option_at level pieces ≡ Some o → IsPlain o
+at-is level [] o h = absurd (none-is o h)
+at-is level (name ∷ []) o h = plain-is level (number_in name) [] o (All-nil (λ b. b < 256)) (omega arith) h
+at-is level (name ∷ value ∷ []) o h = valued-is level (number_in name) (number_in value) o h
+at-is level (name ∷ value ∷ x ∷ xs) o h = absurd (none-is o h)
+
+option-is : (pieces : List (List ℕ)) (o : Opt) → option_of pieces ≡ Some o → IsPlain o
+option-is [] o h = absurd (none-is o h)
+option-is (level ∷ []) o h = absurd (none-is o h)
+option-is (level ∷ others ∷ []) o h = at-is (number_in level) (pieces_of 61 others) o h
+option-is (level ∷ others ∷ x ∷ xs) o h = absurd (none-is o h)
+
+plain-option : (piece : List ℕ) (o : Opt) → option_in piece ≡ Some o → IsPlain o
+unfolding option_in
+plain-option piece o h = option-is (pieces_of 47 piece) o h
+
+written-option : (o : Opt) → AreBytes o.value → AreBytes (option_bytes o)
+written-option o h =
+    let fill : List ℕ = replicate (filling (length o.value)) 0 in
+    let status : List ℕ = word_bytes o.status ++ o.value ++ fill in
+    let name : List ℕ = word_bytes o.name ++ status in
+    let below : 0 < 256 = omega arith in
+    All-append (λ b. b < 256) (word_bytes (16 + length o.value)) (word_bytes o.level ++ name) (four-bytes (16 + length o.value))
+    (All-append (λ b. b < 256) (word_bytes o.level) name (four-bytes o.level)
+    (All-append (λ b. b < 256) (word_bytes o.name) status (four-bytes o.name)
+    (All-append (λ b. b < 256) (word_bytes o.status) (o.value ++ fill) (four-bytes o.status)
+    (All-append (λ b. b < 256) o.value fill h (All-replicate (λ b. b < 256) (filling (length o.value)) 0 below)))))
+
+-- options that are read can be written, as bytes
+pub written-options : (pieces : List (List ℕ)) (os : List Opt) → each_in option_in pieces ≡ Some os → All IsWritable os × AreBytes (options_bytes os)
+written-options [] os h = subst (λ os. All IsWritable os × AreBytes (options_bytes os)) (some-is [] os h) (All-nil IsWritable, All-nil (λ b. b < 256))
+written-options (piece ∷ pieces) os h =
+    let b = begins (option_in piece) (each_in option_in pieces) os h in
+    let one = plain-option piece b.first b.one in
+    let others = written-options pieces b.others b.rest in
+    let short = one.1 in
+    subst (λ os. All IsWritable os × AreBytes (options_bytes os)) b.both
+    (All-cons IsWritable b.first b.others (omega arith) others.0, All-append (λ b. b < 256) (option_bytes b.first) (options_bytes b.others) (written-option b.first one.0) others.1)
+
+option-bytes : (word bs : List ℕ) → options_in word ≡ Some bs → AreBytes bs
+unfolding options_in
+option-bytes word bs h = go (starts_with nat_eq word (codes "o:")) h
+  where
+    all : (o : Option (List Opt)) → each_in option_in (pieces_of 44 (drop 2 word)) ≡ o → option_map options_bytes o ≡ Some bs → AreBytes bs
+    all None e h = absurd (none-is bs h)
+    all (Some os) e h = subst AreBytes (some-is (options_bytes os) bs h) (written-options (pieces_of 44 (drop 2 word)) os e).1
+
+    go : (b : Bool) → cond b (option_map options_bytes (each_in option_in (pieces_of 44 (drop 2 word)))) (bytes_in word) ≡ Some bs → AreBytes bs
+    go true h = all (each_in option_in (pieces_of 44 (drop 2 word))) refl h
+    go false h = word-bytes word bs h
 
 each-bytes : (words parts : List (List ℕ)) → each_in bytes_in words ≡ Some parts → AreBytes (concat parts)
 each-bytes [] parts h = subst (λ ps. AreBytes (concat ps)) (some-is [] parts h) (All-nil (λ b. b < 256))
@@ -143,65 +244,111 @@ mapped : {A : Type 0} (f : A → Value) (o : Option A) (v : Value) → ((a : A) 
 mapped f None v k h = absurd (none-is v h)
 mapped f (Some a) v k h = subst IsOfBytes (some-is (f a) v h) (k a refl)
 
-written-bytes : (k : Kind) (text : List ℕ) (v : Value) → value_in k text ≡ Some v → IsOfBytes v
-written-bytes kind.Bytes text v h = mapped Bytes (bytes_in text) v (word-bytes text) h
-written-bytes kind.Number text v h = mapped Number (number_in text) v (λ n i. tt) h
-written-bytes kind.Parts text v h = mapped Parts (list_in bytes_in text) v (part-bytes text) h
-written-bytes kind.Sizes text v h = mapped Sizes (list_in number_in text) v (λ n i. tt) h
+named-bytes : (b : Bool) (text : List ℕ) (v : Value) → named b text ≡ Some v → IsOfBytes v
+named-bytes true text v h = subst IsOfBytes (some-is (Name text) v h) tt
+named-bytes false text v h = absurd (none-is v h)
+
+sequence-bytes : (a b : Bool) (text : List ℕ) (v : Value) → sequence_or_none a b text ≡ Some v → IsOfBytes v
+sequence-bytes true b text v h = subst IsOfBytes (some-is (NameOrNone None) v h) tt
+sequence-bytes false true text v h = subst IsOfBytes (some-is (NameOrNone (Some text)) v h) tt
+sequence-bytes false false text v h = absurd (none-is v h)
+
+written-bytes : (s : Spot) (k : Kind) (text : List ℕ) (v : Value) → value_in s k text ≡ Some v → IsOfBytes v
+written-bytes s kind.Bytes text v h = mapped Bytes (bytes_in text) v (word-bytes text) h
+written-bytes s kind.Options text v h = mapped Bytes (options_in text) v (option-bytes text) h
+written-bytes s kind.Number text v h = mapped Number (number_in text) v (λ n i. tt) h
+written-bytes s kind.Parts text v h = mapped Parts (list_in bytes_in text) v (part-bytes text) h
+written-bytes s kind.Sizes text v h = mapped Sizes (list_in number_in text) v (λ n i. tt) h
+written-bytes s kind.NewEndpoint text v h = named-bytes (can_name s kind.NewEndpoint text) text v h
+written-bytes s kind.Endpoint text v h = named-bytes (can_name s kind.Endpoint text) text v h
+written-bytes s kind.NewSequence text v h = named-bytes (can_name s kind.NewSequence text) text v h
+written-bytes s kind.Sequence text v h = named-bytes (can_name s kind.Sequence text) text v h
+written-bytes s kind.SequenceOrNone text v h = sequence-bytes (bytes_eq text (codes "-")) (is_defined listens s text) text v h
+written-bytes s kind.Provider text v h = mapped Provider (provider_in text) v (λ n i. tt) h
+written-bytes s kind.Mode text v h = mapped Mode (mode_in text) v (λ n i. tt) h
+written-bytes s kind.Action text v h = mapped Number (action_in text) v (λ n i. tt) h
 
 usual-bytes : (k : Key) (v : Value) → usual_value k ≡ Some v → IsOfBytes v
 unfolding field
+usual-bytes key.NewEndpoint v h = absurd (none-is v h)
+usual-bytes key.Endpoint v h = absurd (none-is v h)
+usual-bytes key.NewSequence v h = absurd (none-is v h)
+usual-bytes key.Sequence v h = absurd (none-is v h)
+usual-bytes key.SequenceOrNone v h = absurd (none-is v h)
+usual-bytes key.Provider v h = absurd (none-is v h)
+usual-bytes key.Mode v h = absurd (none-is v h)
+usual-bytes key.ModeOrBlock v h = subst IsOfBytes (some-is (Mode false) v h) tt
+usual-bytes key.Action v h = absurd (none-is v h)
 usual-bytes key.Addr v h = subst IsOfBytes (some-is (Bytes []) v h) (All-nil (λ b. b < 256))
 usual-bytes key.Opt v h = subst IsOfBytes (some-is (Bytes []) v h) (All-nil (λ b. b < 256))
+usual-bytes key.UData v h = subst IsOfBytes (some-is (Bytes []) v h) (All-nil (λ b. b < 256))
 usual-bytes key.Data v h = absurd (none-is v h)
 usual-bytes key.Parts v h = absurd (none-is v h)
 usual-bytes key.Sizes v h = absurd (none-is v h)
 usual-bytes key.Qlen v h = subst IsOfBytes (some-is (Number 0) v h) tt
+usual-bytes key.Flags v h = subst IsOfBytes (some-is (Number 0) v h) tt
 usual-bytes key.Max v h = subst IsOfBytes (some-is (Number MOST_SEND) v h) tt
 usual-bytes key.Amax v h = subst IsOfBytes (some-is (Number MOST_ADDRESS) v h) tt
+usual-bytes key.Pmax v h = subst IsOfBytes (some-is (Number MOST_ADDRESS) v h) tt
 usual-bytes key.Omax v h = subst IsOfBytes (some-is (Number MOST_OPTIONS) v h) tt
+usual-bytes key.Umax v h = subst IsOfBytes (some-is (Number MOST_CONNECT_DATA) v h) tt
 
 -- the values of any fields
-field-bytes : (keys : List Key) (values : List Value) (words : List (List ℕ)) → AreFields keys values words → AllOfBytes values
-field-bytes [] [] [] h = tt
-field-bytes [] [] (word ∷ words) h = tt
-field-bytes [] (v ∷ vs) words h = absurd h
-field-bytes (k ∷ ks) [] words h = tt
-field-bytes (k ∷ ks) (v ∷ vs) [] h = (usual-bytes k v h.0, field-bytes ks vs [] h.1)
-field-bytes (k ∷ ks) (v ∷ vs) (word ∷ words) (inl h) = (written-bytes (kind_of k) h.0.text v h.0.stands_for, field-bytes ks vs words h.1)
-field-bytes (k ∷ ks) (v ∷ vs) (word ∷ words) (inr h) = (usual-bytes k v h.0, field-bytes ks vs (word ∷ words) h.1)
+field-bytes : (s : Spot) (keys : List Key) (values : List Value) (words : List (List ℕ)) → AreFields s keys values words → AllOfBytes values
+field-bytes s [] [] [] h = tt
+field-bytes s [] [] (word ∷ words) h = tt
+field-bytes s [] (v ∷ vs) words h = absurd h
+field-bytes s (k ∷ ks) [] words h = tt
+field-bytes s (k ∷ ks) (v ∷ vs) [] h = (usual-bytes k v h.0, field-bytes s ks vs [] h.1)
+field-bytes s (k ∷ ks) (v ∷ vs) (word ∷ words) (inl h) = (written-bytes s (kind_of k) h.0.text v h.0.stands_for, field-bytes s ks vs words h.1)
+field-bytes s (k ∷ ks) (v ∷ vs) (word ∷ words) (inr h) = (usual-bytes k v h.0, field-bytes s ks vs (word ∷ words) h.1)
 
 -- ---- calls
 
 same : (c d : NamedCall) → HasByteArguments c → Some c ≡ Some d → HasByteArguments d
 same c d h e = subst HasByteArguments (some-is c d e) h
 
-call-bytes : (verb : Verb) (fd : List ℕ) (values : List Value) (d : NamedCall) → AllOfBytes values → call_with verb fd values ≡ Some d → HasByteArguments d
+call-bytes : (verb : Verb) (values : List Value) (d : NamedCall) → AllOfBytes values → call_with verb values ≡ Some d → HasByteArguments d
 unfolding call_with
-call-bytes Close fd [] d h e = same (call.TClose fd) d tt e
-call-bytes Unbind fd [] d h e = same (call.TUnbind fd) d tt e
-call-bytes Bind fd (Bytes a ∷ Number b ∷ Number c ∷ []) d h e = same (call.TBind fd a b c) d h.0 e
-call-bytes SndUData fd (Bytes a ∷ Bytes b ∷ Bytes c ∷ []) d h e = same (call.TSndUData fd a b c) d (h.0, h.1.0, h.1.1.0) e
-call-bytes SndVUData fd (Bytes a ∷ Bytes b ∷ Parts c ∷ []) d h e = same (call.TSndVUData fd a b c) d (h.0, h.1.0, h.1.1.0) e
-call-bytes RcvUData fd (Number a ∷ Number b ∷ Number c ∷ []) d h e = same (call.TRcvUData fd a b c) d tt e
-call-bytes RcvVUData fd (Sizes a ∷ Number b ∷ Number c ∷ []) d h e = same (call.TRcvVUData fd a b c) d tt e
-call-bytes RcvUDErr fd (Number a ∷ Number b ∷ []) d h e = same (call.TRcvUDErr fd a b) d tt e
-call-bytes Look fd [] d h e = same (call.TLookAt fd) d tt e
-call-bytes GetState fd [] d h e = same (call.TGetState fd) d tt e
-call-bytes Sync fd [] d h e = same (call.TSync fd) d tt e
-call-bytes verb fd values d h e = absurd (none-is d e)
+call-bytes Open (Name v1 ∷ Provider v2 ∷ Mode v3 ∷ []) d h e = same (call.TOpen v1 v2 v3) d tt e
+call-bytes Close (Name v1 ∷ []) d h e = same (call.TClose v1) d tt e
+call-bytes Bind (Name v1 ∷ Bytes v2 ∷ Number v3 ∷ Number v4 ∷ []) d h e = same (call.TBind v1 v2 v3 v4) d h.1.0 e
+call-bytes Unbind (Name v1 ∷ []) d h e = same (call.TUnbind v1) d tt e
+call-bytes Connect (Name v1 ∷ Bytes v2 ∷ Bytes v3 ∷ Bytes v4 ∷ Number v5 ∷ Number v6 ∷ Number v7 ∷ []) d h e = same (call.TConnect v1 v2 v3 v4 v5 v6 v7) d (h.1.0, h.1.1.0, h.1.1.1.0) e
+call-bytes RcvConnect (Name v1 ∷ Number v2 ∷ Number v3 ∷ Number v4 ∷ []) d h e = same (call.TRcvConnect v1 v2 v3 v4) d tt e
+call-bytes Listen (Name v1 ∷ Name v2 ∷ Number v3 ∷ Number v4 ∷ Number v5 ∷ []) d h e = same (call.TListen v1 v2 v3 v4 v5) d tt e
+call-bytes Accept (Name v1 ∷ Name v2 ∷ Name v3 ∷ Bytes v4 ∷ Bytes v5 ∷ []) d h e = same (call.TAccept v1 v2 v3 v4 v5) d (h.1.1.1.0, h.1.1.1.1.0) e
+call-bytes Snd (Name v1 ∷ Bytes v2 ∷ Number v3 ∷ []) d h e = same (call.TSnd v1 v2 v3) d h.1.0 e
+call-bytes SndV (Name v1 ∷ Parts v2 ∷ Number v3 ∷ []) d h e = same (call.TSndV v1 v2 v3) d h.1.0 e
+call-bytes Rcv (Name v1 ∷ Number v2 ∷ []) d h e = same (call.TRcv v1 v2) d tt e
+call-bytes RcvV (Name v1 ∷ Sizes v2 ∷ []) d h e = same (call.TRcvV v1 v2) d tt e
+call-bytes SndDis (Name v1 ∷ NameOrNone v2 ∷ Bytes v3 ∷ []) d h e = same (call.TSndDis v1 v2 v3) d h.1.1.0 e
+call-bytes RcvDis (Name v1 ∷ Number v2 ∷ []) d h e = same (call.TRcvDis v1 v2) d tt e
+call-bytes SndRel (Name v1 ∷ []) d h e = same (call.TSndRel v1) d tt e
+call-bytes RcvRel (Name v1 ∷ []) d h e = same (call.TRcvRel v1) d tt e
+call-bytes SndUData (Name v1 ∷ Bytes v2 ∷ Bytes v3 ∷ Bytes v4 ∷ []) d h e = same (call.TSndUData v1 v2 v3 v4) d (h.1.0, h.1.1.0, h.1.1.1.0) e
+call-bytes SndVUData (Name v1 ∷ Bytes v2 ∷ Bytes v3 ∷ Parts v4 ∷ []) d h e = same (call.TSndVUData v1 v2 v3 v4) d (h.1.0, h.1.1.0, h.1.1.1.0) e
+call-bytes RcvUData (Name v1 ∷ Number v2 ∷ Number v3 ∷ Number v4 ∷ []) d h e = same (call.TRcvUData v1 v2 v3 v4) d tt e
+call-bytes RcvVUData (Name v1 ∷ Sizes v2 ∷ Number v3 ∷ Number v4 ∷ []) d h e = same (call.TRcvVUData v1 v2 v3 v4) d tt e
+call-bytes RcvUDErr (Name v1 ∷ Number v2 ∷ Number v3 ∷ []) d h e = same (call.TRcvUDErr v1 v2 v3) d tt e
+call-bytes Look (Name v1 ∷ []) d h e = same (call.TLookAt v1) d tt e
+call-bytes GetState (Name v1 ∷ []) d h e = same (call.TGetState v1) d tt e
+call-bytes Sync (Name v1 ∷ []) d h e = same (call.TSync v1) d tt e
+call-bytes GetInfo (Name v1 ∷ []) d h e = same (call.TGetInfo v1) d tt e
+call-bytes GetProtAddr (Name v1 ∷ Number v2 ∷ Number v3 ∷ []) d h e = same (call.TGetProtAddr v1 v2 v3) d tt e
+call-bytes OptMgmt (Name v1 ∷ Number v2 ∷ Bytes v3 ∷ Number v4 ∷ []) d h e = same (call.TOptMgmt v1 v2 v3 v4) d h.1.1.0 e
+call-bytes SetMode (Name v1 ∷ Mode v2 ∷ []) d h e = same (call.SetMode v1 v2) d tt e
+call-bytes verb values d h e = absurd (none-is d e)
 
-argument-bytes : (earlier : List Line) (worker : ℕ) (c : NamedCall) (words : List (List ℕ)) → IsCall earlier worker c words → HasByteArguments c
-argument-bytes earlier worker (TOpen name prov nonblock) words h = tt
-argument-bytes earlier worker (SetMode fd nonblock) words h = tt
-argument-bytes earlier worker other words h = call-bytes h.verb h.name h.values other (field-bytes _ h.values h.fields h.are_fields) h.made
+argument-bytes : (s : Spot) (c : NamedCall) (words : List (List ℕ)) → IsCall s c words → HasByteArguments c
+argument-bytes s c words h = call-bytes h.verb h.values c (field-bytes s _ h.values h.fields h.are_fields) h.made
 
 -- ---- scripts
 
 lines-bytes : (earlier lines : List Line) (texts : List (List ℕ)) → AreLines earlier lines texts → AllHaveByteArguments lines
 lines-bytes earlier [] texts h = tt
 lines-bytes earlier (line ∷ lines) [] h = absurd h
-lines-bytes earlier (line ∷ lines) (text ∷ texts) h = (argument-bytes earlier line.worker line.call h.0.words h.0.call, lines-bytes (earlier ++ line ∷ []) lines texts h.1)
+lines-bytes earlier (line ∷ lines) (text ∷ texts) h = (argument-bytes (after earlier line.worker) line.call h.0.words h.0.call, lines-bytes (earlier ++ line ∷ []) lines texts h.1)
 
 pub script_has_byte_arguments : (s : Script) → HasText s → AllHaveByteArguments s.lines
 script_has_byte_arguments s h = lines-bytes [] s.lines h.1.texts h.1.lines

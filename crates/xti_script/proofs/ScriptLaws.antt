@@ -4,34 +4,16 @@ use Rattle.std.specs.List.{list_all}
 use Rattle.std.proofs.lemmas.Bool.{le-leb}
 use Rattle.std.proofs.lemmas.List.{append-nil, length-append}
 use Rattle.std.proofs.lemmas.List.Sums.{sum_by-append}
-use Rattle.xti_model.specs.declared.script.NamedCall.{NamedCall}
-use Rattle.xti_model.specs.declared.script.NamedCall.TheVariants.{TOpen, SetMode}
 use Rattle.xti_model.specs.declared.script.Line.{Line}
 use Rattle.xti_model.specs.declared.script.Script.{Script}
-use Rattle.xti_model.specs.Built.{is_built_named}
 use Rattle.xti_model.specs.Robin.{most_steps}
 use Rattle.xti_model.specs.Work.{argument_bytes, script_bytes}
 use Rattle.xti_base.specs.declared.limits.TheConstants.{MOST_LINES, MOST_ARGUMENT_BYTES, LAST_WORKER}
-use Rattle.xti_script.specs.Grammar.{IsCall, AreLines, HasText}
-use Rattle.xti_script.proofs.CallLaws.{made, regroup}
-
-call_is_built : (earlier : List Line) (worker : ℕ) (c : NamedCall) (words : List (List ℕ)) → IsCall earlier worker c words → is_built_named c ≡ true
-call_is_built earlier worker (TOpen name prov nonblock) words h = h.built
-call_is_built earlier worker (SetMode fd nonblock) words h = refl
-call_is_built earlier worker other words h = (made h.verb h.name h.values other h.made).built
-
-abbrev is_built_line : Line → Bool
-is_built_line line = is_built_named line.call
+use Rattle.xti_script.specs.Grammar.{AreLines, HasText}
+use Rattle.xti_script.proofs.CallLaws.{regroup}
 
 abbrev has_worker : Line → Bool
 has_worker line = leb line.worker LAST_WORKER
-
-lines_are_built : (earlier lines : List Line) (texts : List (List ℕ)) → AreLines earlier lines texts → list_all is_built_line lines ≡ true
-lines_are_built earlier [] texts h = refl
-lines_are_built earlier (line ∷ lines) [] h = absurd h
-lines_are_built earlier (line ∷ lines) (text ∷ texts) h =
-    let one : is_built_named line.call ≡ true = call_is_built earlier line.worker line.call h.0.words h.0.call in
-    rw (one, lines_are_built (earlier ++ line ∷ []) lines texts h.1) refl
 
 lines_have_workers : (earlier lines : List Line) (texts : List (List ℕ)) → AreLines earlier lines texts → list_all has_worker lines ≡ true
 lines_have_workers earlier [] texts h = refl
@@ -39,9 +21,6 @@ lines_have_workers earlier (line ∷ lines) [] h = absurd h
 lines_have_workers earlier (line ∷ lines) (text ∷ texts) h =
     let one : leb line.worker LAST_WORKER ≡ true = le-leb _ _ h.0.is_worker in
     rw (one, lines_have_workers (earlier ++ line ∷ []) lines texts h.1) refl
-
-pub script_is_built : (s : Script) → HasText s → list_all is_built_line s.lines ≡ true
-script_is_built s h = lines_are_built [] s.lines h.1.texts h.1.lines
 
 pub script_has_workers : (s : Script) → HasText s → list_all has_worker s.lines ≡ true
 script_has_workers s h = lines_have_workers [] s.lines h.1.texts h.1.lines

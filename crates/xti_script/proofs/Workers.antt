@@ -9,12 +9,12 @@ use Rattle.std.proofs.lemmas.List.Sums.{sum_by-append}
 use Rattle.std.proofs.Math.Seq.{take-append_seam}
 use Rattle.xti_model.specs.declared.script.NamedCall.{NamedCall}
 use Rattle.xti_model.specs.declared.script.Line.{Line}
-use Rattle.xti_model.specs.Resolve.{opens}
+use Rattle.xti_model.specs.Resolve.{opens, listens}
 use Rattle.xti_model.specs.Work.{argument_bytes, script_bytes}
 use Rattle.xti_base.specs.declared.limits.TheConstants.{MOST_LINES, MOST_ARGUMENT_BYTES}
-use Rattle.xti_script.specs.Grammar.{defines, is_defined}
+use Rattle.xti_script.specs.Names.{Defining, after, defines, is_defined}
 use Rattle.xti_script.specs.TextSets.{TextSet, has, has_at}
-use Rattle.xti_script.specs.Known.{is_own, Knows}
+use Rattle.xti_script.specs.Known.{is_own, TakesName, HaveNames, Knows}
 use Rattle.xti_script.specs.Reading.{less, room_after, extended}
 
 -- ---- one more text in the set at a place
@@ -78,21 +78,23 @@ exchange false true false d = refl
 exchange false false c d = refl
 
 -- a name is defined for a worker by its own lines or by those of worker 0
-pub own_or_setup : (lines : List Line) (worker : ℕ) (name : List ℕ) → is_defined lines worker name ≡ (list_any (is_own worker name) lines || list_any (is_own 0 name) lines)
-own_or_setup [] worker name = refl
-own_or_setup (line ∷ lines) worker name =
-    let one : defines worker name line ≡ (is_own worker name line || is_own 0 name line) = same_or (eqb line.worker worker) (eqb line.worker 0) (opens name line.call) true in
-    rw (one, own_or_setup lines worker name) (exchange (is_own worker name line) (is_own 0 name line) (list_any (is_own worker name) lines) (list_any (is_own 0 name) lines))
+pub own_or_setup : (d : Defining) (lines : List Line) (worker : ℕ) (name : List ℕ) → is_defined d (after lines worker) name ≡ (list_any (is_own d worker name) lines || list_any (is_own d 0 name) lines)
+own_or_setup d [] worker name = refl
+own_or_setup d (line ∷ lines) worker name =
+    let one : defines d worker name line ≡ (is_own d worker name line || is_own d 0 name line) = same_or (eqb line.worker worker) (eqb line.worker 0) (d name line.call) true in
+    rw (one, own_or_setup d lines worker name) (exchange (is_own d worker name line) (is_own d 0 name line) (list_any (is_own d worker name) lines) (list_any (is_own d 0 name) lines))
 
 or_nothing : (a : Bool) → (a || false) ≡ a
 or_nothing true = refl
 or_nothing false = refl
 
-pub own_of_more : (lines : List Line) (line : Line) (old new : List TextSet) → ((worker : ℕ) (name : List ℕ) → has_at old worker name ≡ list_any (is_own worker name) lines)
-    → ((worker : ℕ) (name : List ℕ) → has_at new worker name ≡ (has_at old worker name || is_own worker name line)) → (worker : ℕ) (name : List ℕ) → has_at new worker name ≡ list_any (is_own worker name) (lines ++ line ∷ [])
-own_of_more lines line old new h k worker name =
-    let all : list_any (is_own worker name) (lines ++ line ∷ []) ≡ (list_any (is_own worker name) lines || (is_own worker name line || false)) = list_any-append (is_own worker name) lines (line ∷ []) in
-    rw (all, k worker name, h worker name) (ap (λ (b : Bool). list_any (is_own worker name) lines || b) (sym (or_nothing (is_own worker name line))))
+have_more : (d : Defining) (lines : List Line) (line : Line) (old new : List TextSet) → HaveNames d lines old → length new ≡ length old → TakesName d line old new → HaveNames d (lines ++ line ∷ []) new
+have_more d lines line old new h w k = record { workers = w ∙ h.workers; own = own }
+  where
+    own : (worker : ℕ) (name : List ℕ) → has_at new worker name ≡ list_any (is_own d worker name) (lines ++ line ∷ [])
+    own worker name =
+        let all : list_any (is_own d worker name) (lines ++ line ∷ []) ≡ (list_any (is_own d worker name) lines || (is_own d worker name line || false)) = list_any-append (is_own d worker name) lines (line ∷ []) in
+        rw (all, k worker name, h.own worker name) (ap (λ (b : Bool). list_any (is_own d worker name) lines || b) (sym (or_nothing (is_own d worker name line))))
 
 -- ---- bytes
 
@@ -128,11 +130,11 @@ less_none left a b o e s = by_test (leb a left) refl (sym e ∙ s)
         at_last false q h = refl
         at_last true q h = let v : a + b ≤ left = leb-true _ _ q in absurd (omega arith)
 
-pub defined_is : (lines now : List Line) (sets : List TextSet) (left worker : ℕ) (name : List ℕ) (r : Bool) → Knows lines sets left → lines ≡ now → r ≡ (has_at sets worker name || has_at sets 0 name) → r ≡ is_defined now worker name
-defined_is lines now sets left worker name r k v e =
-    let a : has_at sets worker name ≡ list_any (is_own worker name) lines = k.own worker name in
-    let b : has_at sets 0 name ≡ list_any (is_own 0 name) lines = k.own 0 name in
-    rw (← v) (rw (a, b) at e ∙ sym (own_or_setup lines worker name))
+pub defined_is : (d : Defining) (lines now : List Line) (sets : List TextSet) (worker : ℕ) (name : List ℕ) (r : Bool) → HaveNames d lines sets → lines ≡ now → r ≡ (has_at sets worker name || has_at sets 0 name) → r ≡ is_defined d (after now worker) name
+defined_is d lines now sets worker name r k v e =
+    let a : has_at sets worker name ≡ list_any (is_own d worker name) lines = k.own worker name in
+    let b : has_at sets 0 name ≡ list_any (is_own d 0 name) lines = k.own 0 name in
+    rw (← v) (rw (a, b) at e ∙ sym (own_or_setup d lines worker name))
 
 -- ---- one more line
 
@@ -186,18 +188,18 @@ leaves : (total left used n more : ℕ) → left + used ≡ total → n ≤ left
 leaves total left used n more h k e = omega arith
 
 -- the limits allow a line where there is room for it
-pub line_added : (lines now more_lines : List Line) (names : List TextSet) (left more : ℕ) (line : Line) (o : Option ℕ) → Knows lines names left → lines ≡ now → more_lines ≡ lines ++ line ∷ [] → o ≡ room_after (length lines) left line.call → o ≡ Some more
+pub line_added : (lines now more_lines : List Line) (opened listened : List TextSet) (left more : ℕ) (line : Line) (o : Option ℕ) → Knows lines opened listened left → lines ≡ now → more_lines ≡ lines ++ line ∷ [] → o ≡ room_after (length lines) left line.call → o ≡ Some more
     → (true, more_lines) ≡ extended now line
 unfolding extended
-line_added lines now more_lines names left more line o k v m e s =
+line_added lines now more_lines opened listened left more line o k v m e s =
     let t = room_is (length lines) left line.call more o e s in
     let count : ltb (length lines) MOST_LINES ≡ true = lt-ltb _ _ t.few in
     let size : leb (script_bytes lines + argument_bytes line.call) MOST_ARGUMENT_BYTES ≡ true = le-leb _ _ (fits_in MOST_ARGUMENT_BYTES left (script_bytes lines) (argument_bytes line.call) k.bytes t.fits) in
     rw (← v, m) (rw (count, size) refl)
 
-pub line_refused : (lines now more_lines : List Line) (names : List TextSet) (left : ℕ) (line : Line) (o : Option ℕ) → Knows lines names left → lines ≡ now → more_lines ≡ lines → o ≡ room_after (length lines) left line.call → o ≡ None → (false, more_lines) ≡ extended now line
+pub line_refused : (lines now more_lines : List Line) (opened listened : List TextSet) (left : ℕ) (line : Line) (o : Option ℕ) → Knows lines opened listened left → lines ≡ now → more_lines ≡ lines → o ≡ room_after (length lines) left line.call → o ≡ None → (false, more_lines) ≡ extended now line
 unfolding extended room_after
-line_refused lines now more_lines names left line o k v m e s = rw (← v, m) (by_test (ltb (length lines) MOST_LINES) refl (sym e ∙ s))
+line_refused lines now more_lines opened listened left line o k v m e s = rw (← v, m) (by_test (ltb (length lines) MOST_LINES) refl (sym e ∙ s))
   where
     nothing : Option ℕ
     nothing = None
@@ -209,14 +211,18 @@ line_refused lines now more_lines names left line o k v m e s = rw (← v, m) (b
         let size : leb (script_bytes lines + argument_bytes line.call) MOST_ARGUMENT_BYTES ≡ false = test_no (script_bytes lines + argument_bytes line.call) MOST_ARGUMENT_BYTES (leb (script_bytes lines + argument_bytes line.call) MOST_ARGUMENT_BYTES) refl (is_over MOST_ARGUMENT_BYTES left (script_bytes lines) (argument_bytes line.call) k.bytes over) in
         rw size (rw and_no refl)
 
-pub knows_more : (lines more_lines : List Line) (line : Line) (old new : List TextSet) (left more : ℕ) (o : Option ℕ) → Knows lines old left → more_lines ≡ lines ++ line ∷ [] → o ≡ room_after (length lines) left line.call → o ≡ Some more
-    → length new ≡ length old → ((worker : ℕ) (name : List ℕ) → has_at new worker name ≡ (has_at old worker name || is_own worker name line)) → Knows more_lines new more
-knows_more lines more_lines line old new left more o k m e s w names =
+pub knows_more : (lines more_lines : List Line) (line : Line) (opened listened new_opened new_listened : List TextSet) (left more : ℕ) (o : Option ℕ) → Knows lines opened listened left → more_lines ≡ lines ++ line ∷ [] → o ≡ room_after (length lines) left line.call → o ≡ Some more
+    → length new_opened ≡ length opened → TakesName opens line opened new_opened → length new_listened ≡ length listened → TakesName listens line listened new_listened → Knows more_lines new_opened new_listened more
+knows_more lines more_lines line opened listened new_opened new_listened left more o k m e s w names v sequences =
     let t = room_is (length lines) left line.call more o e s in
     let sum : script_bytes (lines ++ line ∷ []) ≡ script_bytes lines + (0 + argument_bytes line.call) = sum_by-append (λ (l : Line). argument_bytes l.call) lines (line ∷ []) in
     let bytes : more + script_bytes (lines ++ line ∷ []) ≡ MOST_ARGUMENT_BYTES = ap (λ (n : ℕ). more + n) sum ∙ leaves MOST_ARGUMENT_BYTES left (script_bytes lines) (argument_bytes line.call) more k.bytes t.fits t.rest in
-    rw m (record { workers = w ∙ k.workers; own = own_of_more lines line old new k.own names; bytes = bytes })
+    rw m (record {
+      endpoints = have_more opens lines line opened new_opened k.endpoints w names;
+      sequences = have_more listens lines line listened new_listened k.sequences v sequences;
+      bytes = bytes;
+    })
 
--- the names as a slice of the whole writes them back
-pub knows_written : (lines : List Line) (new rest : List TextSet) (count left : ℕ) → Knows lines new left → count ≡ length new → Knows lines (take count (new ++ rest)) left
-knows_written lines new rest count left k e = rw (e, take-append_seam new rest) k
+-- the names as slices of the whole write them back
+pub knows_written : (lines : List Line) (opened more_opened listened more_listened : List TextSet) (count long left : ℕ) → Knows lines opened listened left → count ≡ length opened → long ≡ length listened → Knows lines (take count (opened ++ more_opened)) (take long (listened ++ more_listened)) left
+knows_written lines opened more_opened listened more_listened count long left k e f = rw (e, f, take-append_seam opened more_opened, take-append_seam listened more_listened) k

@@ -3,7 +3,8 @@
 ghost use Rattle.std.specs.Prelude.{◌≡◌, ◌≤◌, ◌<◌, ◌+◌, ◌++◌, ◌∷◌, [], take, length, IfOk, IfSome, IfNone, OnErr};
 ghost use Rattle.std.specs.List.{concat};
 ghost use Rattle.xti_model.specs.Work.{argument_bytes};
-ghost use Rattle.xti_script.specs.Grammar.{is_defined};
+ghost use Rattle.xti_model.specs.Resolve.{opens, listens};
+ghost use Rattle.xti_script.specs.Names.{after, is_defined};
 ghost use Rattle.xti_script.specs.Known.{TakesName};
 ghost use Rattle.xti_script.specs.Reading.{less, room_after, extended};
 
@@ -108,22 +109,27 @@ pub(crate) type Added = Result<bool, AllocError>;
 
 /// What is left of so many bytes after the line, whose name is added; `None` where a limit is in the way.
 fn admit(
-    names: &mut [TextSet],
+    opened: &mut [TextSet],
+    listened: &mut [TextSet],
     alloc: Global,
     count: usize,
     left: usize,
     line: &Line,
 ) -> Result<Option<usize>, AllocError>
-    requires { line.now.worker < length names.old }
+    requires endpoints { line.now.worker < length opened.old }
+    requires sequences { line.now.worker < length listened.old }
     ensures room { IfOk result (λ room. room ≡ room_after count left line.now.call) }
-    ensures some { IfOk result (λ room. IfSome room (λ _. TakesName line.now names.old names.new)) }
-    ensures none { IfOk result (λ room. IfNone room (names.new ≡ names.old)) }
-    ensures err { OnErr result (names.new ≡ names.old) }
+    ensures opened { IfOk result (λ room. IfSome room (λ _. TakesName opens line.now opened.old opened.new)) }
+    ensures listened { IfOk result (λ room. IfSome room (λ _. TakesName listens line.now listened.old listened.new)) }
+    ensures opened_same { IfOk result (λ room. IfNone room (opened.new ≡ opened.old)) }
+    ensures listened_same { IfOk result (λ room. IfNone room (listened.new ≡ listened.old)) }
+    ensures opened_kept { OnErr result (opened.new ≡ opened.old) }
+    ensures listened_kept { OnErr result (listened.new ≡ listened.old) }
 {
     let Some(left) = room_after(count, left, &line.call) else {
         return Ok(None);
     };
-    add_name(alloc, names, line)?;
+    add_name(alloc, opened, listened, line)?;
     Ok(Some(left))
 }
 
@@ -139,23 +145,28 @@ fn shorten(lines: &mut Vec<Line>, count: usize)
 /// then, and where memory runs out, nothing is added.
 fn add_line(
     lines: &mut Vec<Line>,
-    names: &mut [TextSet],
+    opened: &mut [TextSet],
+    listened: &mut [TextSet],
     left: usize,
     line: Line,
 ) -> Result<Option<usize>, AllocError>
-    requires { line.worker < length names.old }
+    requires endpoints { line.worker < length opened.old }
+    requires sequences { line.worker < length listened.old }
     ensures room { IfOk result (λ room. room ≡ room_after (length lines.old.items) left line.call) }
-    ensures some { IfOk result (λ room. IfSome room (λ _. TakesName line names.old names.new)) }
+    ensures opened { IfOk result (λ room. IfSome room (λ _. TakesName opens line opened.old opened.new)) }
+    ensures listened { IfOk result (λ room. IfSome room (λ _. TakesName listens line listened.old listened.new)) }
     ensures more { IfOk result (λ room. IfSome room (λ _. lines.new.items ≡ lines.old.items ++ line ∷ [])) }
-    ensures none { IfOk result (λ room. IfNone room (names.new ≡ names.old)) }
+    ensures opened_same { IfOk result (λ room. IfNone room (opened.new ≡ opened.old)) }
+    ensures listened_same { IfOk result (λ room. IfNone room (listened.new ≡ listened.old)) }
     ensures same { IfOk result (λ room. IfNone room (lines.new.items ≡ lines.old.items)) }
-    ensures err { OnErr result (names.new ≡ names.old) }
+    ensures opened_kept { OnErr result (opened.new ≡ opened.old) }
+    ensures listened_kept { OnErr result (listened.new ≡ listened.old) }
     ensures kept { OnErr result (lines.new.items ≡ lines.old.items) }
 {
     let alloc = *lines.allocator();
     let count = lines.as_slice().len();
     lines.push(line)?;
-    match admit(names, alloc, count, left, &lines[count]) {
+    match admit(opened, listened, alloc, count, left, &lines[count]) {
         Ok(Some(left)) => Ok(Some(left)),
         refused => {
             shorten(lines, count);
@@ -168,8 +179,10 @@ fn add_line(
 #[derive(Drop)]
 pub(crate) struct Draft {
     lines: Vec<Line>,
-    /// The names that each worker's lines define.
-    names: Vec<TextSet>,
+    /// The names of endpoints that each worker's lines define.
+    opened: Vec<TextSet>,
+    /// The names of sequence numbers that each worker's lines define.
+    listened: Vec<TextSet>,
     /// How many bytes the arguments of further lines may have.
     left: usize,
 }
@@ -183,7 +196,7 @@ impl Model for Draft {
 
     ghost view = { λ d. d.lines.items };
 
-    ghost invariant = { λ d. Knows d.lines.items d.names.items d.left };
+    ghost invariant = { λ d. Knows d.lines.items d.opened.items d.listened.items d.left };
 }
 
 impl Draft {
@@ -192,7 +205,8 @@ impl Draft {
         ensures { IfOk result (λ draft. draft ≡ []) }
     {
         Ok(Draft {
-            names: empty_sets(alloc)?,
+            opened: empty_sets(alloc)?,
+            listened: empty_sets(alloc)?,
             lines: Vec::new(alloc),
             left: MOST_ARGUMENT_BYTES,
         })
@@ -204,7 +218,9 @@ impl Draft {
         ensures ok { IfOk result (λ added. (added, self.new) ≡ extended self.old line) }
         ensures err { OnErr result (self.new ≡ self.old) }
     {
-        match add_line(&mut self.lines, self.names.as_mut_slice(), self.left, line)? {
+        let opened = self.opened.as_mut_slice();
+        let listened = self.listened.as_mut_slice();
+        match add_line(&mut self.lines, opened, listened, self.left, line)? {
             Some(left) => {
                 self.left = left;
                 Ok(true)
@@ -226,10 +242,17 @@ impl Draft {
         Lines::from_vec(lines)
     }
 
-    /// Whether a line of the worker or of worker 0 defines the name.
-    pub(crate) fn defines(&self, worker: u32, name: &[u8]) -> bool
-        ensures { result ≡ is_defined self.now worker name.now }
+    /// Whether a line of the worker or of worker 0 defines the name of an endpoint.
+    pub(crate) fn has_endpoint(&self, worker: u32, name: &[u8]) -> bool
+        ensures { result ≡ is_defined opens (after self.now worker) name.now }
     {
-        is_defined(self.names.as_slice(), worker, name)
+        is_defined(self.opened.as_slice(), worker, name)
+    }
+
+    /// Whether a line of the worker or of worker 0 defines the name of a sequence number.
+    pub(crate) fn has_sequence(&self, worker: u32, name: &[u8]) -> bool
+        ensures { result ≡ is_defined listens (after self.now worker) name.now }
+    {
+        is_defined(self.listened.as_slice(), worker, name)
     }
 }

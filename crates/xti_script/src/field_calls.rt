@@ -1,103 +1,228 @@
-//! Reading the calls of an endpoint from their fields.
+//! Reading calls from their fields.
 
-ghost use Rattle.std.specs.Prelude.{◌≡◌, ◌≤◌, []};
-ghost use Rattle.xti_script.specs.Reading.{fields_of, with_call};
-ghost use Rattle.xti_script.specs.Unread.{alone, call_of_fields, AddsUnlessWrong};
+ghost use Rattle.std.specs.Prelude.{◌≡◌, true, [], IfOk};
+ghost use Rattle.xti_script.specs.Calls.{form};
+ghost use Rattle.xti_script.specs.Families.{is_plain, is_local, is_connecting, is_data, is_datagram};
+ghost use Rattle.xti_script.specs.Reading.{with_values};
+ghost use Rattle.xti_script.specs.Unread.{unread, Makes};
 
-use crate::draft::Draft;
 use crate::fields::{FieldFail, Fields};
-use crate::verbs::{Verb, form};
-use crate::words::Words;
-use xti_base::limits::LAST_WORKER;
-use xti_model::{Line, Name, NamedCall};
+use crate::verbs::Verb;
+use xti_model::NamedCall;
 
-/// Whether a line was added, or why not.
-type AddedCall = Result<bool, FieldFail>;
+/// A call, or why its fields aren't read.
+pub(crate) type ReadCall = Result<NamedCall, FieldFail>;
 
-/// Adds the call, where no word is left after its fields.
-#[inline(always)]
-#[tactic(auto, unfolding(crate::specs::Reading::extended))]
-fn add_call(draft: &mut Draft, worker: u32, call: NamedCall, words: &Words) -> AddedCall
-    requires { worker ≤ LAST_WORKER }
-    ensures { AddsUnlessWrong result draft.new (with_call draft.old worker (alone call (fields_of [] words.now))) }
+/// A call that says no more than which endpoint.
+#[tactic(auto, unfolding(crate::specs::Fields::field, crate::specs::Calls::form_of, crate::specs::Calls::call_with))]
+fn read_plain(verb: Verb, fields: &mut Fields) -> ReadCall
+    requires family { is_plain verb ≡ true }
+    requires keys { fields.old.keys.now ≡ form verb }
+    ensures call { Makes (with_values verb (unread fields.old)) (unread fields.new) result }
+    ensures keys { IfOk result (λ _. fields.new.keys.now ≡ []) }
 {
-    if !words.is_empty() {
-        return Err(FieldFail::Wrong);
+    match verb {
+        Verb::Close => Ok(NamedCall::TClose { fd: fields.name()? }),
+        Verb::Unbind => Ok(NamedCall::TUnbind { fd: fields.name()? }),
+        Verb::SndRel => Ok(NamedCall::TSndRel { fd: fields.name()? }),
+        Verb::RcvRel => Ok(NamedCall::TRcvRel { fd: fields.name()? }),
+        Verb::Look => Ok(NamedCall::TLookAt { fd: fields.name()? }),
+        Verb::GetState => Ok(NamedCall::TGetState { fd: fields.name()? }),
+        Verb::Sync => Ok(NamedCall::TSync { fd: fields.name()? }),
+        Verb::GetInfo => Ok(NamedCall::TGetInfo { fd: fields.name()? }),
+        _ => unreachable!(),
     }
-    Ok(draft.add(Line { worker, call })?)
 }
 
-/// Adds the call of the endpoint whose fields the words are.
+/// A call that opens an endpoint, or sets or asks what belongs to it.
 #[tactic(auto, unfolding(crate::specs::Fields::field, crate::specs::Calls::form_of, crate::specs::Calls::call_with))]
-pub(crate) fn read_fields(
-    draft: &mut Draft,
-    worker: u32,
-    verb: Verb,
-    fd: Name,
-    words: &mut Words,
-) -> AddedCall
-    requires { worker ≤ LAST_WORKER }
-    ensures { AddsUnlessWrong result draft.new (with_call draft.old worker (call_of_fields verb fd words.old)) }
+fn read_local(verb: Verb, fields: &mut Fields) -> ReadCall
+    requires family { is_local verb ≡ true }
+    requires keys { fields.old.keys.now ≡ form verb }
+    ensures call { Makes (with_values verb (unread fields.old)) (unread fields.new) result }
+    ensures keys { IfOk result (λ _. fields.new.keys.now ≡ []) }
 {
-    let mut fields = Fields::new(draft.alloc(), form(verb));
     match verb {
-        Verb::Close => add_call(draft, worker, NamedCall::TClose { fd }, words),
-        Verb::Unbind => add_call(draft, worker, NamedCall::TUnbind { fd }, words),
-        Verb::Bind => {
-            let call = NamedCall::TBind {
-                fd,
-                addr: fields.bytes(words)?,
-                qlen: fields.number(words)?,
-                amax: fields.number(words)?,
-            };
-            add_call(draft, worker, call, words)
-        }
-        Verb::SndUData => {
-            let call = NamedCall::TSndUData {
-                fd,
-                addr: fields.bytes(words)?,
-                opt: fields.bytes(words)?,
-                bytes: fields.bytes(words)?,
-            };
-            add_call(draft, worker, call, words)
-        }
-        Verb::SndVUData => {
-            let call = NamedCall::TSndVUData {
-                fd,
-                addr: fields.bytes(words)?,
-                opt: fields.bytes(words)?,
-                parts: fields.parts(words)?,
-            };
-            add_call(draft, worker, call, words)
-        }
-        Verb::RcvUData => {
-            let call = NamedCall::TRcvUData {
-                fd,
-                max: fields.number(words)?,
-                amax: fields.number(words)?,
-                omax: fields.number(words)?,
-            };
-            add_call(draft, worker, call, words)
-        }
-        Verb::RcvVUData => {
-            let call = NamedCall::TRcvVUData {
-                fd,
-                sizes: fields.sizes(words)?,
-                amax: fields.number(words)?,
-                omax: fields.number(words)?,
-            };
-            add_call(draft, worker, call, words)
-        }
-        Verb::RcvUDErr => {
-            let call = NamedCall::TRcvUDErr {
-                fd,
-                amax: fields.number(words)?,
-                omax: fields.number(words)?,
-            };
-            add_call(draft, worker, call, words)
-        }
-        Verb::Look => add_call(draft, worker, NamedCall::TLookAt { fd }, words),
-        Verb::GetState => add_call(draft, worker, NamedCall::TGetState { fd }, words),
-        Verb::Sync => add_call(draft, worker, NamedCall::TSync { fd }, words),
+        Verb::Open => Ok(NamedCall::TOpen {
+            name: fields.name()?,
+            prov: fields.provider()?,
+            nonblock: fields.mode()?,
+        }),
+        Verb::Bind => Ok(NamedCall::TBind {
+            fd: fields.name()?,
+            addr: fields.bytes()?,
+            qlen: fields.number()?,
+            amax: fields.number()?,
+        }),
+        Verb::SetMode => Ok(NamedCall::SetMode {
+            fd: fields.name()?,
+            nonblock: fields.mode()?,
+        }),
+        Verb::GetProtAddr => Ok(NamedCall::TGetProtAddr {
+            fd: fields.name()?,
+            amax: fields.number()?,
+            pmax: fields.number()?,
+        }),
+        Verb::OptMgmt => Ok(NamedCall::TOptMgmt {
+            fd: fields.name()?,
+            action: fields.action()?,
+            opt: fields.options()?,
+            omax: fields.number()?,
+        }),
+        _ => unreachable!(),
+    }
+}
+
+/// A call that makes a connection or breaks it.
+#[tactic(auto, unfolding(crate::specs::Fields::field, crate::specs::Calls::form_of, crate::specs::Calls::call_with))]
+fn read_connecting(verb: Verb, fields: &mut Fields) -> ReadCall
+    requires family { is_connecting verb ≡ true }
+    requires keys { fields.old.keys.now ≡ form verb }
+    ensures call { Makes (with_values verb (unread fields.old)) (unread fields.new) result }
+    ensures keys { IfOk result (λ _. fields.new.keys.now ≡ []) }
+{
+    match verb {
+        Verb::Connect => Ok(NamedCall::TConnect {
+            fd: fields.name()?,
+            addr: fields.bytes()?,
+            opt: fields.options()?,
+            udata: fields.bytes()?,
+            amax: fields.number()?,
+            omax: fields.number()?,
+            umax: fields.number()?,
+        }),
+        Verb::RcvConnect => Ok(NamedCall::TRcvConnect {
+            fd: fields.name()?,
+            amax: fields.number()?,
+            omax: fields.number()?,
+            umax: fields.number()?,
+        }),
+        Verb::Listen => Ok(NamedCall::TListen {
+            fd: fields.name()?,
+            name: fields.name()?,
+            amax: fields.number()?,
+            omax: fields.number()?,
+            umax: fields.number()?,
+        }),
+        Verb::Accept => Ok(NamedCall::TAccept {
+            fd: fields.name()?,
+            resfd: fields.name()?,
+            seq: fields.name()?,
+            opt: fields.options()?,
+            udata: fields.bytes()?,
+        }),
+        Verb::SndDis => Ok(NamedCall::TSndDis {
+            fd: fields.name()?,
+            seq: fields.sequence_or_none()?,
+            udata: fields.bytes()?,
+        }),
+        Verb::RcvDis => Ok(NamedCall::TRcvDis {
+            fd: fields.name()?,
+            umax: fields.number()?,
+        }),
+        _ => unreachable!(),
+    }
+}
+
+/// A call that sends or receives on a connection.
+#[tactic(auto, unfolding(crate::specs::Fields::field, crate::specs::Calls::form_of, crate::specs::Calls::call_with))]
+fn read_data(verb: Verb, fields: &mut Fields) -> ReadCall
+    requires family { is_data verb ≡ true }
+    requires keys { fields.old.keys.now ≡ form verb }
+    ensures call { Makes (with_values verb (unread fields.old)) (unread fields.new) result }
+    ensures keys { IfOk result (λ _. fields.new.keys.now ≡ []) }
+{
+    match verb {
+        Verb::Snd => Ok(NamedCall::TSnd {
+            fd: fields.name()?,
+            bytes: fields.bytes()?,
+            flags: fields.number()?,
+        }),
+        Verb::SndV => Ok(NamedCall::TSndV {
+            fd: fields.name()?,
+            parts: fields.parts()?,
+            flags: fields.number()?,
+        }),
+        Verb::Rcv => Ok(NamedCall::TRcv {
+            fd: fields.name()?,
+            max: fields.number()?,
+        }),
+        Verb::RcvV => Ok(NamedCall::TRcvV {
+            fd: fields.name()?,
+            sizes: fields.sizes()?,
+        }),
+        _ => unreachable!(),
+    }
+}
+
+/// A call that sends or receives a datagram, or the error of one.
+#[tactic(auto, unfolding(crate::specs::Fields::field, crate::specs::Calls::form_of, crate::specs::Calls::call_with))]
+fn read_datagram(verb: Verb, fields: &mut Fields) -> ReadCall
+    requires family { is_datagram verb ≡ true }
+    requires keys { fields.old.keys.now ≡ form verb }
+    ensures call { Makes (with_values verb (unread fields.old)) (unread fields.new) result }
+    ensures keys { IfOk result (λ _. fields.new.keys.now ≡ []) }
+{
+    match verb {
+        Verb::SndUData => Ok(NamedCall::TSndUData {
+            fd: fields.name()?,
+            addr: fields.bytes()?,
+            opt: fields.options()?,
+            bytes: fields.bytes()?,
+        }),
+        Verb::SndVUData => Ok(NamedCall::TSndVUData {
+            fd: fields.name()?,
+            addr: fields.bytes()?,
+            opt: fields.options()?,
+            parts: fields.parts()?,
+        }),
+        Verb::RcvUData => Ok(NamedCall::TRcvUData {
+            fd: fields.name()?,
+            max: fields.number()?,
+            amax: fields.number()?,
+            omax: fields.number()?,
+        }),
+        Verb::RcvVUData => Ok(NamedCall::TRcvVUData {
+            fd: fields.name()?,
+            sizes: fields.sizes()?,
+            amax: fields.number()?,
+            omax: fields.number()?,
+        }),
+        Verb::RcvUDErr => Ok(NamedCall::TRcvUDErr {
+            fd: fields.name()?,
+            amax: fields.number()?,
+            omax: fields.number()?,
+        }),
+        _ => unreachable!(),
+    }
+}
+
+/// The call whose fields these are.
+pub(crate) fn read_fields(verb: Verb, fields: &mut Fields) -> ReadCall
+    requires { fields.old.keys.now ≡ form verb }
+    ensures call { Makes (with_values verb (unread fields.old)) (unread fields.new) result }
+    ensures keys { IfOk result (λ _. fields.new.keys.now ≡ []) }
+{
+    match verb {
+        Verb::Close
+        | Verb::Unbind
+        | Verb::SndRel
+        | Verb::RcvRel
+        | Verb::Look
+        | Verb::GetState
+        | Verb::Sync
+        | Verb::GetInfo => read_plain(verb, fields),
+        Verb::Open | Verb::Bind | Verb::SetMode | Verb::GetProtAddr | Verb::OptMgmt => read_local(
+            verb, fields,
+        ),
+        Verb::Connect
+        | Verb::RcvConnect
+        | Verb::Listen
+        | Verb::Accept
+        | Verb::SndDis
+        | Verb::RcvDis => read_connecting(verb, fields),
+        Verb::Snd | Verb::SndV | Verb::Rcv | Verb::RcvV => read_data(verb, fields),
+        Verb::SndUData | Verb::SndVUData | Verb::RcvUData | Verb::RcvVUData | Verb::RcvUDErr =>
+            read_datagram(verb, fields),
     }
 }

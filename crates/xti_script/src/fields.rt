@@ -1,27 +1,54 @@
-//! The fields of calls: words `key=value` in a fixed order, of which those with a usual value may be left out.
+//! The fields of calls: words in a fixed order, of which those with a usual value may be left out.
 
-ghost use Rattle.std.specs.Prelude.{◌≡◌, ◌<◌, ◌==◌, ◌∷◌, option_map, drop, length};
+ghost use Rattle.std.specs.Prelude.{◌≡◌, ◌<◌, ◌∷◌, [], Some, None, if◌then◌else◌, option_map, drop, length};
 ghost use Rattle.std.specs.Option.{option_copied};
 ghost use Rattle.xti_script.specs.FieldValue.{Value as value};
-ghost use Rattle.xti_script.specs.Fields.{key_word, usual_value};
+ghost use Rattle.xti_script.specs.Fields.{key_word, kind_of, usual_value};
+ghost use Rattle.xti_script.specs.Names.{Spot, after, can_name};
+ghost use Rattle.xti_script.specs.Values.{onto};
 ghost use Rattle.xti_script.specs.Reading.{behind_key, written_value, field_value, field_rest, fields_of};
-ghost use Rattle.xti_script.specs.Unread.{usual_is, unread, NextIs, Reads};
+ghost use Rattle.xti_script.specs.Unread.{usual_is, spot_of, unread, NextIs, NextIsName, Reads};
 ghost use Rattle.xti_script.specs.Kinds.{Kind as kind};
 ghost use Rattle.xti_script.specs.declared.fields.FieldFail.TheVariants.{OutOfMemory};
 
+use crate::draft::Draft;
+use crate::operands::{action_in, mode_in, provider_in};
+use crate::options::options_in;
+use crate::texts::is_name;
 use crate::values::{bytes_in, number_in, parts_in, sizes_in};
 use crate::words::Words;
-use std::alloc::{AllocError, Global};
-use xti_base::limits::{MOST_ADDRESS, MOST_OPTIONS, MOST_SEND};
-use xti_base::{Octets, Parts, Sizes};
+use std::alloc::AllocError;
+use xti_base::limits::{MOST_ADDRESS, MOST_CONNECT_DATA, MOST_OPTIONS, MOST_SEND};
+use xti_base::{Octets, Parts, Prov, Sizes};
+use xti_model::Name;
 
-/// The keys of fields.
+/// The keys of fields. The first nine are written without a key, as one word.
 #[derive(Clone, Copy, Debug, PartialEq, Eq)]
 pub(crate) enum Key {
+    /// The name that an open defines.
+    NewEndpoint,
+    /// The name of an endpoint.
+    Endpoint,
+    /// The name that a listen defines.
+    NewSequence,
+    /// The name of a sequence number.
+    Sequence,
+    /// The name of a sequence number, or `-` for none.
+    SequenceOrNone,
+    /// A provider.
+    Provider,
+    /// `block` or `nonblock`.
+    Mode,
+    /// The same, or nothing for `block`.
+    ModeOrBlock,
+    /// The action of t_optmgmt.
+    Action,
     /// An address.
     Addr,
     /// Options.
     Opt,
+    /// The data that go with a request, a confirmation or a disconnect.
+    UData,
     /// The data of a send.
     Data,
     /// The data of a send in parts.
@@ -30,12 +57,18 @@ pub(crate) enum Key {
     Sizes,
     /// The length of the queue of indications.
     Qlen,
+    /// The flags of a send.
+    Flags,
     /// The most bytes that a receive takes.
     Max,
     /// The most bytes of an address that the caller takes.
     Amax,
+    /// The most bytes of the peer's address that the caller takes.
+    Pmax,
     /// The most bytes of options that the caller takes.
     Omax,
+    /// The most bytes of the peer's data that the caller takes.
+    Umax,
 }
 
 /// The value of a field that is left out.
@@ -44,23 +77,38 @@ enum Usual {
     /// No bytes.
     Empty,
     Number(u32),
+    /// The mode `block`.
+    Blocking,
 }
 
-/// The key as it is written, with its sign.
+/// The key as it is written, with its sign; empty for a word without a key.
 #[tactic(auto, unfolding(crate::specs::Fields::field))]
 fn key_word(key: Key) -> &'static [u8]
     ensures { result.now ≡ key_word key }
 {
     match key {
+        Key::NewEndpoint
+        | Key::Endpoint
+        | Key::NewSequence
+        | Key::Sequence
+        | Key::SequenceOrNone
+        | Key::Provider
+        | Key::Mode
+        | Key::ModeOrBlock
+        | Key::Action => b"",
         Key::Addr => b"addr=",
         Key::Opt => b"opt=",
+        Key::UData => b"udata=",
         Key::Data => b"data=",
         Key::Parts => b"parts=",
         Key::Sizes => b"sizes=",
         Key::Qlen => b"qlen=",
+        Key::Flags => b"flags=",
         Key::Max => b"max=",
         Key::Amax => b"amax=",
+        Key::Pmax => b"pmax=",
         Key::Omax => b"omax=",
+        Key::Umax => b"umax=",
     }
 }
 
@@ -70,12 +118,14 @@ fn usual_value(key: Key) -> Option<Usual>
     ensures { option_map usual_is result ≡ usual_value key }
 {
     match key {
-        Key::Addr | Key::Opt => Some(Usual::Empty),
-        Key::Data | Key::Parts | Key::Sizes => None,
-        Key::Qlen => Some(Usual::Number(0)),
+        Key::Addr | Key::Opt | Key::UData => Some(Usual::Empty),
+        Key::Qlen | Key::Flags => Some(Usual::Number(0)),
         Key::Max => Some(Usual::Number(MOST_SEND as u32)),
-        Key::Amax => Some(Usual::Number(MOST_ADDRESS as u32)),
+        Key::Amax | Key::Pmax => Some(Usual::Number(MOST_ADDRESS as u32)),
         Key::Omax => Some(Usual::Number(MOST_OPTIONS as u32)),
+        Key::Umax => Some(Usual::Number(MOST_CONNECT_DATA as u32)),
+        Key::ModeOrBlock => Some(Usual::Blocking),
+        _ => None,
     }
 }
 
@@ -107,7 +157,7 @@ fn behind_key<'a>(key: &[u8], word: &'a [u8]) -> Option<&'a [u8]>
 
 /// What is after the key of the next word, where this is a field with the key; the word is taken then.
 fn field_text<'a>(key: Key, words: &mut Words<'a>) -> Option<&'a [u8]>
-    ensures text { written_value key (option_copied result) ≡ field_value key words.old }
+    ensures text { (s : Spot) → written_value s key (option_copied result) ≡ field_value s key words.old }
     ensures rest { words.new ≡ field_rest key words.old }
 {
     let text = behind_key(key_word(key), words.first()?)?;
@@ -117,47 +167,87 @@ fn field_text<'a>(key: Key, words: &mut Words<'a>) -> Option<&'a [u8]>
 
 /// The fields of a call that are not read yet.
 #[derive(Drop)]
-pub(crate) struct Fields {
-    /// Where their values are allocated.
-    alloc: Global,
+pub(crate) struct Fields<'a> {
+    /// The lines before that of the call.
+    draft: &'a Draft,
+    /// The worker that makes the call.
+    worker: u32,
     /// Their keys.
     keys: &'static [Key],
+    /// The words in which they stand.
+    words: Words<'a>,
 }
 
-impl Fields {
+impl<'a> Fields<'a> {
     /// The fields with these keys.
-    pub(crate) fn new(alloc: Global, keys: &'static [Key]) -> Fields
-        ensures { result.keys.now ≡ keys.now }
+    pub(crate) fn new(
+        draft: &'a Draft,
+        worker: u32,
+        keys: &'static [Key],
+        words: Words<'a>,
+    ) -> Fields<'a>
+        ensures keys { result.keys.now ≡ keys.now }
+        ensures value { unread result ≡ fields_of (after draft.now worker) keys.now words.entry }
     {
-        Fields { alloc, keys }
+        Fields {
+            draft,
+            worker,
+            keys,
+            words,
+        }
+    }
+
+    /// Whether no word is left.
+    pub(crate) fn are_read(&self) -> bool
+        requires { self.now.keys.now ≡ [] }
+        ensures { unread self.now ≡ (if result then Some [] else None) }
+    {
+        self.words.is_empty()
     }
 
     /// Takes the next key, and the word with it where the field is written: what is after the key, or `None`.
     #[inline(always)]
-    fn next<'a>(&mut self, words: &mut Words<'a>) -> (Key, Option<&'a [u8]>)
+    fn next(&mut self) -> (Key, Option<&'a [u8]>)
         requires { 0 < length self.old.keys.now }
+        ensures spot { spot_of self.new ≡ spot_of self.old }
         ensures keys { self.old.keys.now ≡ result.0 ∷ self.new.keys.now }
-        ensures text { written_value result.0 (option_copied result.1) ≡ field_value result.0 words.old }
-        ensures rest { words.new ≡ field_rest result.0 words.old }
+        ensures value { unread self.old ≡ onto (written_value (spot_of self.new) result.0 (option_copied result.1)) (unread self.new) }
     {
         let key = self.keys[0];
         self.keys = &self.keys[1..];
-        (key, field_text(key, words))
+        (key, field_text(key, &mut self.words))
     }
 
     /// The bytes of the next field.
     #[inline(always)]
     #[tactic(auto, unfolding(crate::specs::Fields::field))]
-    pub(crate) fn bytes(&mut self, words: &mut Words) -> Result<Octets, FieldFail>
+    pub(crate) fn bytes(&mut self) -> Result<Octets, FieldFail>
         requires { NextIs kind.Bytes self.old.keys.now }
         ensures keys { self.new.keys.now ≡ drop 1 self.old.keys.now }
-        ensures value { Reads value.Bytes (unread self.old words.old) (unread self.new words.new) result }
+        ensures value { Reads value.Bytes (unread self.old) (unread self.new) result }
     {
-        let (key, text) = self.next(words);
+        let (key, text) = self.next();
         match text {
-            Some(text) => bytes_in(self.alloc, text)?.ok_or(FieldFail::Wrong),
+            Some(text) => bytes_in(self.draft.alloc(), text)?.ok_or(FieldFail::Wrong),
             None => match usual_value(key) {
-                Some(Usual::Empty) => Ok(Octets::new(self.alloc)),
+                Some(Usual::Empty) => Ok(Octets::new(self.draft.alloc())),
+                _ => Err(FieldFail::Wrong),
+            },
+        }
+    }
+
+    /// The options of the next field, in bytes.
+    #[tactic(auto, unfolding(crate::specs::Fields::field))]
+    pub(crate) fn options(&mut self) -> Result<Octets, FieldFail>
+        requires { NextIs kind.Options self.old.keys.now }
+        ensures keys { self.new.keys.now ≡ drop 1 self.old.keys.now }
+        ensures value { Reads value.Bytes (unread self.old) (unread self.new) result }
+    {
+        let (key, text) = self.next();
+        match text {
+            Some(text) => options_in(self.draft.alloc(), text)?.ok_or(FieldFail::Wrong),
+            None => match usual_value(key) {
+                Some(Usual::Empty) => Ok(Octets::new(self.draft.alloc())),
                 _ => Err(FieldFail::Wrong),
             },
         }
@@ -166,12 +256,12 @@ impl Fields {
     /// The number of the next field.
     #[inline(always)]
     #[tactic(auto, unfolding(crate::specs::Fields::field))]
-    pub(crate) fn number(&mut self, words: &mut Words) -> Result<u32, FieldFail>
+    pub(crate) fn number(&mut self) -> Result<u32, FieldFail>
         requires { NextIs kind.Number self.old.keys.now }
         ensures keys { self.new.keys.now ≡ drop 1 self.old.keys.now }
-        ensures value { Reads value.Number (unread self.old words.old) (unread self.new words.new) result }
+        ensures value { Reads value.Number (unread self.old) (unread self.new) result }
     {
-        let (key, text) = self.next(words);
+        let (key, text) = self.next();
         match text {
             Some(text) => number_in(text).ok_or(FieldFail::Wrong),
             None => match usual_value(key) {
@@ -183,26 +273,116 @@ impl Fields {
 
     /// The parts of the next field, which has no usual value.
     #[tactic(auto, unfolding(crate::specs::Fields::field))]
-    pub(crate) fn parts(&mut self, words: &mut Words) -> Result<Parts, FieldFail>
+    pub(crate) fn parts(&mut self) -> Result<Parts, FieldFail>
         requires { NextIs kind.Parts self.old.keys.now }
         ensures keys { self.new.keys.now ≡ drop 1 self.old.keys.now }
-        ensures value { Reads value.Parts (unread self.old words.old) (unread self.new words.new) result }
+        ensures value { Reads value.Parts (unread self.old) (unread self.new) result }
     {
-        match self.next(words) {
-            (_, Some(text)) => parts_in(self.alloc, text)?.ok_or(FieldFail::Wrong),
+        match self.next() {
+            (_, Some(text)) => parts_in(self.draft.alloc(), text)?.ok_or(FieldFail::Wrong),
             (_, None) => Err(FieldFail::Wrong),
         }
     }
 
     /// The sizes of the next field, which has no usual value.
     #[tactic(auto, unfolding(crate::specs::Fields::field))]
-    pub(crate) fn sizes(&mut self, words: &mut Words) -> Result<Sizes, FieldFail>
+    pub(crate) fn sizes(&mut self) -> Result<Sizes, FieldFail>
         requires { NextIs kind.Sizes self.old.keys.now }
         ensures keys { self.new.keys.now ≡ drop 1 self.old.keys.now }
-        ensures value { Reads value.Sizes (unread self.old words.old) (unread self.new words.new) result }
+        ensures value { Reads value.Sizes (unread self.old) (unread self.new) result }
     {
-        match self.next(words) {
-            (_, Some(text)) => sizes_in(self.alloc, text)?.ok_or(FieldFail::Wrong),
+        match self.next() {
+            (_, Some(text)) => sizes_in(self.draft.alloc(), text)?.ok_or(FieldFail::Wrong),
+            (_, None) => Err(FieldFail::Wrong),
+        }
+    }
+
+    /// Whether the text can stand as the name that the field is: one that is defined, or a new one.
+    #[tactic(auto, unfolding(crate::specs::Fields::field))]
+    fn can_name(&self, key: Key, text: &[u8]) -> bool
+        ensures { result ≡ can_name (spot_of self.now) (kind_of key) text.now }
+    {
+        match key {
+            Key::NewEndpoint => is_name(text) && !self.draft.has_endpoint(self.worker, text),
+            Key::Endpoint => self.draft.has_endpoint(self.worker, text),
+            Key::NewSequence => is_name(text) && !self.draft.has_sequence(self.worker, text),
+            Key::Sequence => self.draft.has_sequence(self.worker, text),
+            _ => false,
+        }
+    }
+
+    /// The name that the next field is.
+    #[tactic(auto, unfolding(crate::specs::Fields::field))]
+    pub(crate) fn name(&mut self) -> Result<Name, FieldFail>
+        requires { NextIsName self.old.keys.now }
+        ensures keys { self.new.keys.now ≡ drop 1 self.old.keys.now }
+        ensures value { Reads value.Name (unread self.old) (unread self.new) result }
+    {
+        match self.next() {
+            (key, Some(text)) if self.can_name(key, text) => Ok(Name::copy_of(
+                self.draft.alloc(),
+                text,
+            )?),
+            _ => Err(FieldFail::Wrong),
+        }
+    }
+
+    /// The name of a sequence number that the next field is; `None` for `-`.
+    #[tactic(auto, unfolding(crate::specs::Fields::field))]
+    pub(crate) fn sequence_or_none(&mut self) -> Result<Option<Name>, FieldFail>
+        requires { NextIs kind.SequenceOrNone self.old.keys.now }
+        ensures keys { self.new.keys.now ≡ drop 1 self.old.keys.now }
+        ensures value { Reads value.NameOrNone (unread self.old) (unread self.new) result }
+    {
+        match self.next() {
+            (_, Some(b"-")) => Ok(None),
+            (_, Some(text)) if self.draft.has_sequence(self.worker, text) => Ok(Some(Name::copy_of(
+                self.draft.alloc(),
+                text,
+            )?)),
+            _ => Err(FieldFail::Wrong),
+        }
+    }
+
+    /// The provider that the next field is.
+    #[tactic(auto, unfolding(crate::specs::Fields::field))]
+    pub(crate) fn provider(&mut self) -> Result<Prov, FieldFail>
+        requires { NextIs kind.Provider self.old.keys.now }
+        ensures keys { self.new.keys.now ≡ drop 1 self.old.keys.now }
+        ensures value { Reads value.Provider (unread self.old) (unread self.new) result }
+    {
+        match self.next() {
+            (_, Some(text)) => provider_in(text).ok_or(FieldFail::Wrong),
+            (_, None) => Err(FieldFail::Wrong),
+        }
+    }
+
+    /// Whether the mode that the next field is, is `nonblock`.
+    #[tactic(auto, unfolding(crate::specs::Fields::field))]
+    pub(crate) fn mode(&mut self) -> Result<bool, FieldFail>
+        requires { NextIs kind.Mode self.old.keys.now }
+        ensures keys { self.new.keys.now ≡ drop 1 self.old.keys.now }
+        ensures value { Reads value.Mode (unread self.old) (unread self.new) result }
+    {
+        let (key, text) = self.next();
+        match text {
+            Some(text) => mode_in(text).ok_or(FieldFail::Wrong),
+            None => match usual_value(key) {
+                Some(Usual::Blocking) => Ok(false),
+                _ => Err(FieldFail::Wrong),
+            },
+        }
+    }
+
+    /// The action that the next field is.
+    #[tactic(auto, unfolding(crate::specs::Fields::field))]
+    pub(crate) fn action(&mut self) -> Result<u32, FieldFail>
+        requires { NextIs kind.Action self.old.keys.now }
+        ensures keys { self.new.keys.now ≡ drop 1 self.old.keys.now }
+        ensures value { Reads value.Number (unread self.old) (unread self.new) result }
+    {
+        match self.next() {
+            (_, Some(text)) => action_in(text).ok_or(FieldFail::Wrong),
             (_, None) => Err(FieldFail::Wrong),
         }
     }

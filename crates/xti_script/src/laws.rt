@@ -3,7 +3,6 @@
 ghost use Rattle.std.specs.Prelude.{◌≡◌, ◌≤◌, ◌+◌, ℕ, true, List, nat_le, length};
 ghost use Rattle.std.specs.List.{list_all};
 ghost use Rattle.xti_base.specs.declared.limits.TheConstants.{LAST_WORKER};
-ghost use Rattle.xti_model.specs.Built.{is_built_named};
 ghost use Rattle.xti_model.specs.Profile.{usual};
 ghost use Rattle.xti_model.specs.Robin.{most_steps};
 ghost use Rattle.xti_model.specs.SentBytes.{AllHaveByteArguments, LinesSendBytes};
@@ -22,10 +21,9 @@ pub fn one_script()
     ensures { (text : List ℕ) (s t : Script) → IsScript s text → IsScript t text → s ≡ t }
 {}
 
-/// Each call of a script that has a text is one that is built, and the providers have their usual values.
-pub fn scripts_are_built()
-    ensures built { (s : Script) → HasText s → list_all (λ line. is_built_named line.call) s.lines ≡ true }
-    ensures usual { (s : Script) → HasText s → s.providers ≡ usual }
+/// The providers of a script that has a text have their usual values.
+pub fn scripts_have_usual_providers()
+    ensures { (s : Script) → HasText s → s.providers ≡ usual }
 {}
 
 /// Each worker of a script that has a text is one of 0 to 32.

@@ -7,6 +7,8 @@ mod field_calls;
 mod fields;
 mod laws;
 mod names;
+mod operands;
+mod options;
 mod script_text;
 mod texts;
 mod values;
@@ -14,7 +16,7 @@ mod verbs;
 mod words;
 
 pub use laws::{
-    never_both, one_script, scripts_are_built, scripts_are_small, scripts_have_workers,
+    never_both, one_script, scripts_are_small, scripts_have_usual_providers, scripts_have_workers,
     scripts_send_bytes,
 };
 pub use script_text::{ScriptFail, read_script};

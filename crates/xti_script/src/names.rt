@@ -1,6 +1,7 @@
 //! The names that each worker's lines define.
 
 ghost use Rattle.std.specs.Prelude.{◌≡◌, ◌<◌, ◌||◌, ℕ, false, List, length, IfOk, OnOk, OnErr};
+ghost use Rattle.xti_model.specs.Resolve.{opens, listens};
 ghost use Rattle.xti_script.specs.TextSets.{has_at, HasMore, HasMoreAt};
 ghost use Rattle.xti_script.specs.Known.{TakesName};
 
@@ -56,16 +57,25 @@ pub(crate) fn empty_sets(alloc: Global) -> Result<Vec<TextSet>, AllocError>
     Ok(sets)
 }
 
-/// Adds the name that the line defines; where memory runs out the names are as before.
-pub(crate) fn add_name(alloc: Global, sets: &mut [TextSet], line: &Line) -> Result<(), AllocError>
-    requires { line.now.worker < length sets.old }
-    ensures ok { OnOk result (TakesName line.now sets.old sets.new) }
-    ensures err { OnErr result (sets.new ≡ sets.old) }
+/// Adds the name that the line defines, to those of endpoints or of sequence numbers; where memory runs out the names are
+/// as before.
+pub(crate) fn add_name(
+    alloc: Global,
+    opened: &mut [TextSet],
+    listened: &mut [TextSet],
+    line: &Line,
+) -> Result<(), AllocError>
+    requires endpoints { line.now.worker < length opened.old }
+    requires sequences { line.now.worker < length listened.old }
+    ensures opened { OnOk result (TakesName opens line.now opened.old opened.new) }
+    ensures listened { OnOk result (TakesName listens line.now listened.old listened.new) }
+    ensures opened_kept { OnErr result (opened.new ≡ opened.old) }
+    ensures listened_kept { OnErr result (listened.new ≡ listened.old) }
 {
+    let worker = line.worker as usize;
     match &line.call {
-        NamedCall::TOpen { name, .. } => {
-            add_at(alloc, sets, line.worker as usize, name.as_slice())
-        }
+        NamedCall::TOpen { name, .. } => add_at(alloc, opened, worker, name.as_slice()),
+        NamedCall::TListen { name, .. } => add_at(alloc, listened, worker, name.as_slice()),
         _ => Ok(()),
     }
 }

@@ -2,12 +2,13 @@
 
 ghost use Rattle.std.specs.Prelude.{◌≡◌, ◌==◌, ◌≤◌, ◌∷◌, [], length, IfOk, Some};
 ghost use Rattle.xti_script.specs.Texts.{is_plain_text};
-ghost use Rattle.xti_script.specs.Values.{number_in, hex_digit, hex_bytes, plain_bytes, bytes_in, each_in, list_in};
+ghost use Rattle.xti_script.specs.Values.{number_in, hex_digit, hex_bytes, plain_bytes, counted, counted_bytes, bytes_in, each_in, list_in};
 ghost use Rattle.xti_script.specs.Numbers.{with_digit, digits_behind, can_begin, first_byte};
 ghost use Rattle.xti_script.specs.Reading.{views, behind_key};
 
 use crate::texts::{is_digit, is_plain_text, pieces_of};
 use std::alloc::{AllocError, Global};
+use xti_base::limits::MOST_SEND;
 use xti_base::{Octets, Parts, Sizes};
 
 /// The most parts or sizes of a word.
@@ -103,7 +104,28 @@ fn plain_bytes(alloc: Global, text: &[u8]) -> Result<Option<Octets>, AllocError>
     Ok(Some(Octets::copy_of(alloc, text)?))
 }
 
-/// The bytes that a word stands for: `t:` and plain text, or `x:` and pairs of hexadecimal digits.
+/// The bytes i mod 256 for each i from 0 below the number.
+fn counted(alloc: Global, count: usize) -> Result<Octets, AllocError>
+    ensures { IfOk result (λ bytes. bytes ≡ counted count) }
+{
+    let mut bytes = Vec::with_capacity(alloc, count)?;
+    for i in 0..count {
+        bytes.push((i % 256) as u8)?;
+    }
+    Ok(Octets::from_vec(bytes))
+}
+
+fn counted_bytes(alloc: Global, word: &[u8]) -> Result<Option<Octets>, AllocError>
+    ensures { IfOk result (λ bytes. bytes ≡ counted_bytes (number_in word.now)) }
+{
+    match number_in(word) {
+        Some(count) if count as usize <= MOST_SEND => Ok(Some(counted(alloc, count as usize)?)),
+        _ => Ok(None),
+    }
+}
+
+/// The bytes that a word stands for: `t:` and plain text, `x:` and pairs of hexadecimal digits, or `f:` and how many bytes
+/// are counted up from 0.
 #[tactic(auto, unfolding(crate::specs::Values::bytes_in))]
 pub(crate) fn bytes_in(alloc: Global, word: &[u8]) -> Result<Option<Octets>, AllocError>
     ensures { IfOk result (λ bytes. bytes ≡ bytes_in word.now) }
@@ -112,6 +134,8 @@ pub(crate) fn bytes_in(alloc: Global, word: &[u8]) -> Result<Option<Octets>, All
         plain_bytes(alloc, &word[2..])
     } else if word.starts_with(b"x:".as_slice()) {
         hex_bytes(alloc, &word[2..])
+    } else if word.starts_with(b"f:".as_slice()) {
+        counted_bytes(alloc, &word[2..])
     } else {
         Ok(None)
     }

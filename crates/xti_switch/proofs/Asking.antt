@@ -3,19 +3,21 @@ use Rattle.std.proofs.Common.{◌≡◌, ℕ, ◌+◌, Bool, true, false, not, c
 use Rattle.std.specs.Prelude.{IfSome, Result, option_map}
 use Rattle.xti_base.specs.declared.kinds.Seq.{Seq}
 use Rattle.xti_base.specs.declared.reasons.TheConstants.{NO_LISTENER, QUEUE_FULL}
-use Rattle.xti_model.specs.declared.entry.Outcome.TheVariants.{Done}
-use Rattle.xti_model.specs.declared.entry.Reply.{Reply}
+use Rattle.xti_model.specs.declared.entry.Applied.{Applied}
+use Rattle.xti_model.specs.declared.entry.Outcome.{Outcome}
 use Rattle.xti_model.specs.declared.profile.Providers.{Providers}
 use Rattle.xti_model.specs.Endpoint.{Endpoint, Indication, address_of}
-use Rattle.xti_model.specs.World.{World, Change, endpoint, changed, at_endpoint}
-use Rattle.xti_model.specs.Plan.{Refusal, answers, first, has_effect, if_open}
+use Rattle.xti_model.specs.World.{World, Change, endpoint, the_switch, changed, at_endpoint}
+use Rattle.xti_model.specs.Switch.{listener}
+use Rattle.xti_model.specs.Plan.{first, if_open}
 use Rattle.xti_model.specs.Step.{step_of, step_by, made}
 use Rattle.xti_model.specs.Calls.Connect as Connect
 use Rattle.xti_end.specs.Frames.{request_in}
-use Rattle.xti_lent.specs.Answers.{Changed}
+use Rattle.xti_end.specs.Taken.{taken}
+use Rattle.xti_lent.specs.Answers.{Changed, IsMade}
 use Rattle.xti_lent.specs.Lending.{Lending, cells}
 use Rattle.xti_lent.proofs.Opened.{open_alike, then_changed}
-use Rattle.xti_switch.specs.Connects.{open_at, number_for, queued, IsRequestOf}
+use Rattle.xti_switch.specs.Connects.{open_at, number_for, queued, IsRequestOf, Requests}
 
 abbrev given : Bool → Bool → ℕ → Result Seq ℕ
 given a b n = cond a (Err NO_LISTENER) (cond b (Err QUEUE_FULL) (Ok (record { 0 = n })))
@@ -80,3 +82,20 @@ if-some P (Some e) h = h e
 pub if-some-too : (P Q : Endpoint → Type 0) (o : Option Endpoint) → IfSome o P → ((e : Endpoint) → P e → Q e) → IfSome o Q
 if-some-too P Q None h f = tt
 if-some-too P Q (Some e) h f = f e h
+
+-- a request that no row refuses
+connect-made : (p : Providers) (w : World) (fd : ℕ) (address options udata : List ℕ) (e : Endpoint) → endpoint p w fd ≡ Some e → None ≡ first (Connect.rows address options udata e)
+    → step_of p w (Connect.plan p w fd address options udata) ≡ Some (made p fd (Connect.outcome e) (changed p w (Connect.request fd options udata e (Connect.found p w fd address e))))
+connect-made p w fd address options udata e o r =
+    ap (λ (x : Option Endpoint). step_of p w (if_open fd x (λ e. Connect.plan_to fd address options udata e (Connect.found p w fd address e)))) o
+    ∙ ap (step_by p w (Connect.plan_to fd address options udata e (Connect.found p w fd address e))) (sym r)
+
+pub connects : (l k : Lending) (fd : ℕ) (address options udata : List ℕ) (e : Endpoint) (to : Option ℕ) (outcome : Outcome) (a : Applied) → open_at l fd ≡ Some e → None ≡ first (Connect.rows address options udata e)
+    → to ≡ listener (the_switch l.providers (cells l)) e.prov address fd → outcome ≡ Connect.outcome e → Requests l k fd to options udata → k.providers ≡ l.providers → IsMade k fd outcome a
+    → taken a (cells k) ≡ step_of l.providers (cells l) (Connect.plan l.providers (cells l) fd address options udata)
+connects l k fd address options udata e to outcome a o r t u q same m =
+    let c : Changed (Connect.request fd options udata e (Connect.found_at l.providers (cells l) to)) l k = rw o at q in
+    m ∙ ap (λ (p : Providers). Some (made p fd outcome (cells k))) same
+    ∙ ap (λ (w : World). Some (made l.providers fd outcome w)) (c ∙ ap (λ (n : Option ℕ). changed l.providers (cells l) (Connect.request fd options udata e (Connect.found_at l.providers (cells l) n))) t)
+    ∙ ap (λ (x : Outcome). Some (made l.providers fd x (changed l.providers (cells l) (Connect.request fd options udata e (Connect.found l.providers (cells l) fd address e))))) u
+    ∙ sym (connect-made l.providers (cells l) fd address options udata e o r)

@@ -2,3 +2,9 @@ pub mod Openings
 pub mod Touches
 pub mod Binds
 pub mod Asking
+pub mod Accepting
+pub mod Hearings
+pub mod Reaching
+pub mod Breakings
+pub mod GivingUp
+pub mod Closing

@@ -1,6 +1,6 @@
 //! The frames of requests to connect, of their answers, and of disconnects.
 
-ghost use Rattle.std.specs.Prelude.{◌≡◌, ◌≤◌, ℕ, [], length, true, IfOk};
+ghost use Rattle.std.specs.Prelude.{◌≡◌, ◌≤◌, ℕ, length, true, IfOk};
 ghost use Rattle.xti_base.specs.declared.limits.TheConstants.{MOST_ADDRESS, MOST_CONNECT_DATA, MOST_OPTIONS};
 ghost use Rattle.tpi_grammar.specs.declared.kind.Kind.TheVariants.{T_CONN_IND, T_CONN_CON, T_DISCON_IND};
 ghost use Rattle.tpi_prim.specs.Fields.{kind_in};
@@ -48,10 +48,16 @@ pub(crate) fn confirmation(
     unless_too_big(encode_conn_con(alloc, address, options, udata))
 }
 
-/// The T_DISCON_IND that answers a request in the place of a listener.
-pub(crate) fn refusal(alloc: Global, reason: u32) -> Result<Frame, AllocError>
+/// The T_DISCON_IND with a reason, the number of a request or 0, and data.
+pub(crate) fn disconnect(
+    alloc: Global,
+    reason: u32,
+    number: u32,
+    udata: &[u8],
+) -> Result<Frame, AllocError>
+    requires { length udata.now ≤ MOST_CONNECT_DATA }
     ensures kind { IfOk result (λ frame. kind_in frame ≡ T_DISCON_IND) }
-    ensures disconnect { IfOk result (λ frame. disconnect_in frame ≡ record { reason = reason; number = 0; udata = [] }) }
+    ensures disconnect { IfOk result (λ frame. disconnect_in frame ≡ record { reason = reason; number = number; udata = udata.now }) }
 {
-    unless_too_big(encode_discon_ind(alloc, reason, 0, &[]))
+    unless_too_big(encode_discon_ind(alloc, reason, number, udata))
 }

@@ -1,10 +1,16 @@
-//! The calls that change the switch: t_open, t_close, t_bind and t_unbind.
+//! The calls that go through the switch: t_open, t_close, t_bind, t_unbind, t_connect, t_accept and t_snddis.
 #![tactic(auto)]
 
+mod accept;
 mod bind;
+mod breaking;
+mod callers;
 mod close;
 mod connect;
+mod disconnect;
 mod frames;
+mod links;
+mod notices;
 mod open;
 mod refusals;
 mod requests;

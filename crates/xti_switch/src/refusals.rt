@@ -1,14 +1,15 @@
 //! What refuses to ask for a connection, and to accept one.
 
-ghost use Rattle.std.specs.Prelude.{◌≡◌, ◌∷◌, [], true, option_map};
-ghost use Rattle.std.specs.Option.{option_copied};
-ghost use Rattle.xti_model.specs.Events.{looks_connecting};
+ghost use Rattle.std.specs.Prelude.{◌≡◌, ◌==◌, ◌&&◌, ◌∷◌, [], ℕ, nat_lt, not, true, option_map};
+ghost use Rattle.xti_model.specs.Endpoint.{ocnt};
+ghost use Rattle.xti_model.specs.Events.{is_state, looks_connecting};
 ghost use Rattle.xti_model.specs.Plan.{answers, first, looks};
+ghost use Rattle.xti_model.specs.Provider.{profile};
 ghost use Rattle.xti_model.specs.Calls.Connect as Connect;
 ghost use Rattle.xti_model.specs.Calls.Listen as Listen;
 ghost use Rattle.xti_end.specs.Held.{is_open, parts};
 
-use xti_base::{Errno, Event, Fd, Seq, State};
+use xti_base::{Errno, Event, Seq, State};
 use xti_end::{Endpoint, has_connections, profile};
 use xti_lent::{address_of, is_bad_address, is_bad_options, is_bad_udata};
 use xti_model::{Providers, Reply};
@@ -49,7 +50,31 @@ pub(crate) fn connect_refusal(e: &Endpoint, addr: &[u8], opt: &[u8], udata: &[u8
     Some(Reply::Refused { errno })
 }
 
-/// Whether the responding endpoint has another address than the listener.
+/// Whether another endpoint than the listener isn't in a state to answer.
+fn is_engaged(r: &Endpoint, is_same: bool) -> bool
+    requires { is_open r.now ≡ true }
+    ensures { result ≡ (not is_same && not (is_state (State.T_UNBND ∷ State.T_IDLE ∷ []) (parts r.now))) }
+{
+    !is_same && !r.state().is(State::T_UNBND) && !r.state().is(State::T_IDLE)
+}
+
+/// Whether the listener itself can't answer, as other requests are outstanding there.
+fn has_more_requests(e: &Endpoint, is_same: bool) -> bool
+    requires { is_open e.now ≡ true }
+    ensures { result ≡ (is_same && nat_lt 1 (ocnt (parts e.now))) }
+{
+    is_same && e.ocnt() > 1
+}
+
+/// Whether another endpoint than the listener has a queue of its own.
+fn is_listener_too(r: &Endpoint, is_same: bool) -> bool
+    requires { is_open r.now ≡ true }
+    ensures { result ≡ (not is_same && nat_lt 0 (parts r.now).qlen) }
+{
+    !is_same && r.qlen() > 0
+}
+
+/// Whether the responding endpoint is bound to another address than the listener.
 fn is_elsewhere(e: &Endpoint, r: &Endpoint) -> bool
     requires listener { is_open e.now ≡ true }
     requires responding { is_open r.now ≡ true }
@@ -59,4 +84,54 @@ fn is_elsewhere(e: &Endpoint, r: &Endpoint) -> bool
         Some(address) => address.as_slice() != address_of(e),
         None => false,
     }
+}
+
+/// Whether the provider doesn't let the endpoint answer from its address.
+fn is_at_bad_address(p: &Providers, e: &Endpoint, r: &Endpoint) -> bool
+    requires listener { is_open e.now ≡ true }
+    requires responding { is_open r.now ≡ true }
+    ensures { result ≡ ((profile p.now (parts e.now).prov).same_addr && Listen.is_elsewhere (parts e.now) (parts r.now).address) }
+{
+    profile(p, e.prov()).same_addr && is_elsewhere(e, r)
+}
+
+/// What refuses to accept the request with this number of the open endpoint `e` on the open endpoint `r`, which is the same one
+/// or another.
+pub(crate) fn accept_refusal(
+    p: &Providers,
+    is_same: bool,
+    e: &Endpoint,
+    r: &Endpoint,
+    seq: Seq,
+    opt: &[u8],
+    udata: &[u8],
+) -> Option<Reply>
+    requires listener { is_open e.now ≡ true }
+    requires responding { is_open r.now ≡ true }
+    ensures { (fd resfd : ℕ) → is_same ≡ (fd == resfd) → option_map (λ reply. answers reply) result ≡ first (Listen.accept_rows p.now fd resfd seq.0 opt.now udata.now (parts e.now) (parts r.now)) }
+{
+    let errno = if !has_connections(e.prov()) {
+        Errno::TNOTSUPPORT
+    } else if !e.state().is(State::T_INCON) {
+        Errno::TOUTSTATE
+    } else if !e.prov().is(r.prov()) {
+        Errno::TPROVMISMATCH
+    } else if is_engaged(r, is_same) {
+        Errno::TOUTSTATE
+    } else if e.request(seq).is_none() {
+        Errno::TBADSEQ
+    } else if has_more_requests(e, is_same) {
+        Errno::TINDOUT
+    } else if is_listener_too(r, is_same) {
+        Errno::TRESQLEN
+    } else if is_at_bad_address(p, e, r) {
+        Errno::TRESADDR
+    } else if is_bad_options(opt) {
+        Errno::TBADOPT
+    } else if is_bad_udata(udata) {
+        Errno::TBADDATA
+    } else {
+        return looked(e);
+    };
+    Some(Reply::Refused { errno })
 }

@@ -93,7 +93,7 @@ pub(crate) fn turn_away(lent: &mut Lent, fd: Fd, reason: u32) -> Result<(), Allo
     ensures kept { SameCells lent.old lent.new }
     ensures err { OnErr result (lent.new ≡ lent.old) }
 {
-    let frame = frames::refusal(lent.alloc(), reason)?;
+    let frame = frames::disconnect(lent.alloc(), reason, 0, &[])?;
     match lent.open_place(fd) {
         Some(place) => push_refusal(lent.endpoint(place), frame),
         None => Ok(()),

@@ -1,39 +1,41 @@
-//! One step of a call that changes the switch.
+//! One step of a call that goes through the switch.
 
 ghost use Rattle.std.specs.Prelude.{◌≡◌, true, IfOk, OnErr};
 ghost use Rattle.xti_model.specs.declared.entry.Go.{Go};
-ghost use Rattle.xti_model.specs.Built.{is_built};
 ghost use Rattle.xti_model.specs.Touched.{touched};
-ghost use Rattle.xti_lent.specs.Answers.{AnswersCall, IsSureOf, StaysBlocked};
+ghost use Rattle.xti_lent.specs.Answers.{AnswersCall, IsSureOf, IsUnchanged, StaysBlocked};
 ghost use Rattle.xti_lent.specs.Lending.{cells};
 ghost use Rattle.xti_lent.specs.Fit.{IsFit, AllLent, SameCells};
-ghost use Rattle.xti_switch.specs.Calls.{changes_switch};
+ghost use Rattle.xti_switch.specs.Calls.{goes_through_switch};
 
+use crate::accept::accept;
 use crate::bind::bind;
 use crate::close::close;
+use crate::connect::connect;
+use crate::disconnect::snddis;
 use crate::open::open;
 use crate::unbind::unbind;
 use std::alloc::AllocError;
 use xti_lent::Lent;
 use xti_model::{Applied, Call};
 
-/// One step of t_open, t_close, t_bind or t_unbind on the cells that the call touches: what it answers, and the state of its
-/// endpoint afterwards. None of them is ever blocked. Where memory runs out all is as before.
+/// One step of t_open, t_close, t_bind, t_unbind, t_accept or t_snddis, or the first step of t_connect, on the cells that the call
+/// touches: what it answers, and the state of its endpoint afterwards. None of them is ever blocked. Where memory runs out the cells are as before,
+/// and room for more may have been taken.
 #[tactic(auto, unfolding(xti_model::specs::Step::step, xti_model::specs::Step::plan))]
 pub fn switch_step(lent: &mut Lent, call: &Call) -> Result<Applied, AllocError>
-    requires call { changes_switch call.now ≡ true }
-    requires built { is_built call.now ≡ true }
+    requires call { goes_through_switch call.now Go.Begin ≡ true }
     requires fit { IsFit lent.old }
     requires lent { AllLent lent.old (touched lent.old.providers (cells lent.old) call.now) }
-    ensures step { IfOk result (λ a. (g : Go) → AnswersCall call.now g lent.old lent.new a) }
+    ensures step { IfOk result (λ a. (g : Go) → goes_through_switch call.now g ≡ true → AnswersCall call.now g lent.old lent.new a) }
     ensures still { IfOk result (StaysBlocked lent.old lent.new) }
     ensures kept { SameCells lent.old lent.new }
-    ensures err { OnErr result (lent.new ≡ lent.old) }
-    ensures sure { (g : Go) → IsSureOf call.now g lent.old result }
+    ensures err { OnErr result (IsUnchanged lent.old lent.new) }
+    ensures sure { (g : Go) → goes_through_switch call.now g ≡ true → IsSureOf call.now g lent.old result }
 {
     match call {
         Call::TOpen { prov, nonblock } => Ok(open(lent, *prov, *nonblock)),
-        Call::TClose { fd } => Ok(close(lent, *fd)),
+        Call::TClose { fd } => close(lent, *fd),
         Call::TBind {
             fd,
             addr,
@@ -41,6 +43,21 @@ pub fn switch_step(lent: &mut Lent, call: &Call) -> Result<Applied, AllocError>
             amax,
         } => bind(lent, *fd, addr.as_slice(), *qlen, *amax),
         Call::TUnbind { fd } => Ok(unbind(lent, *fd)),
+        Call::TConnect {
+            fd,
+            addr,
+            opt,
+            udata,
+            ..
+        } => connect(lent, *fd, addr.as_slice(), opt.as_slice(), udata.as_slice()),
+        Call::TAccept {
+            fd,
+            resfd,
+            seq,
+            opt,
+            udata,
+        } => accept(lent, *fd, *resfd, *seq, opt.as_slice(), udata.as_slice()),
+        Call::TSndDis { fd, seq, udata } => snddis(lent, *fd, *seq, udata.as_slice()),
         _ => unreachable!(),
     }
 }

@@ -5,7 +5,7 @@ use std::alloc::Global;
 use std::test::Fail;
 use tpi_grammar::{Measure, measure_frame};
 use tpi_prim::primitive::Prim;
-use tpi_prim::{FrameReader, encode};
+use tpi_prim::{FrameReader, Gathering, encode};
 
 /// T_DATA_IND, MORE_flag 0, two bytes of user data.
 const DATA: &[u8] = b"\0\0\0\x08\0\0\0\x02\0\0\0\x0e\0\0\0\0hi";
@@ -175,5 +175,15 @@ fn feeds(rt: HostRuntime) -> Result<(), Fail> {
         assert_eq!(rt; reader.feed(piece)?.len(), *wanted);
     }
     assert_eq!(rt; reader.rest(), 3);
+    Ok(())
+}
+
+#[test]
+fn user_data_in_pieces(rt: HostRuntime) -> Result<(), Fail> {
+    let mut gathering = Gathering::begin(rt.alloc(), false, false, 2)?;
+    gathering.put(b"h");
+    gathering.put(b"");
+    gathering.put(b"i");
+    assert_eq!(rt; gathering.finish().bytes(), DATA);
     Ok(())
 }

@@ -3,6 +3,7 @@
 use std::alloc::{AllocError, Global};
 use std::test::*;
 use xti_base::{Calls, Octets, Parts, Room};
+use xti_data::Gather;
 
 fn parts(alloc: Global) -> Result<Parts, AllocError> {
     let mut bytes = Octets::copy_of(alloc, b"ab")?;
@@ -36,5 +37,17 @@ fn bytes_of_each_length(rt: HostRuntime) -> Result<(), Fail> {
         let copy = Octets::copy_of(alloc, front)?.copy()?;
         assert_eq!(rt; copy.as_slice(), front, "{length}");
     }
+    Ok(())
+}
+
+#[test]
+fn parts_of_a_vector_send(rt: HostRuntime) -> Result<(), Fail> {
+    let mut gather = Gather::new(rt.alloc());
+    gather.add(b"ab")?;
+    gather.add(b"c")?;
+    let parts = gather.parts().as_slice();
+    assert_eq!(rt; parts.len(), 2);
+    assert_eq!(rt; parts[0].as_slice(), b"ab".as_slice());
+    assert_eq!(rt; parts[1].as_slice(), b"c".as_slice());
     Ok(())
 }

@@ -1,5 +1,5 @@
 use Rattle.std.proofs.Common.{◌∙◌, sym}
-use Rattle.xti_dgram.proofs.Sizes.{longer}
+use Rattle.xti_lent.proofs.Joined.{longer}
 use Rattle.xti_dgram.proofs.indications.joined.Goals as goal
 
 pub loop-part-preserved : goal.loop-part-preserved

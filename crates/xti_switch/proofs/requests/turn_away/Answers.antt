@@ -1,10 +1,9 @@
-use Rattle.std.proofs.Common.{sym, ap, ◌≡◌, ◌∙◌, [], List, ℕ}
+use Rattle.std.proofs.Common.{sym, ap, ◌∙◌}
 use Rattle.std.proofs.lemmas.Result.{IfOk-weaker, on_err_weaker}
-use Rattle.xti_model.specs.Endpoint.{Disconnect, Endpoint, in_state}
+use Rattle.xti_model.specs.Endpoint.{Disconnect, in_state}
 use Rattle.xti_model.specs.Calls.Connect.{turned_away}
 use Rattle.xti_base.specs.declared.kinds.State.TheVariants.{T_OUTCON}
-use Rattle.xti_end.specs.Frames.{disconnect_in}
-use Rattle.xti_end.specs.Held.{Held, cell, with_disconnect, with_parts}
+use Rattle.xti_end.specs.Held.{cell, with_disconnect, with_parts}
 use Rattle.xti_lent.proofs.Opened.{open_here, open_written, open_same, closed_unchanged}
 use Rattle.xti_lent.proofs.Written.{unwritten}
 use Rattle.xti_switch.proofs.requests.turn_away.Goals as goal

@@ -1,4 +1,4 @@
-use Rattle.std.proofs.Common.{◌≤◌, ◌∙◌, length, List, ℕ, subst}
+use Rattle.std.proofs.Common.{◌≤◌, length, List, ℕ, subst}
 use Rattle.tpi_grammar.specs.declared.kind.TheConstants.{MOST_DATA}
 use Rattle.tpi_grammar.specs.Frame.{AreBytes}
 use Rattle.tpi_prim.proofs.FrameReads.{user_is, user_bytes, user_most}

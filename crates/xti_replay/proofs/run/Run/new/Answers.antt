@@ -8,7 +8,6 @@ turns_after-requires-clause-last c = history-last c.args.world.providers c.args.
 
 pub returns-clause-stands : goal.returns-clause-stands
 returns-clause-stands c = record {
-  playable = c.requires.lines;
   kept = c.in_ok-workers.ensures;
   turns = c.in_ok-turns.ensures c.args.lines.now (subst (AreKept c.args.lines.now c.args.history.now) (sym c.as_slice.ensures.value) c.in_ok-workers.ensures);
   last = history-last c.args.world.providers c.args.lines.now c.args.history.now c.requires.history;

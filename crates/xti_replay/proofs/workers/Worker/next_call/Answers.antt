@@ -15,4 +15,4 @@ returns-in-None c = λ past number told setup. place-none c.args.lines.now past 
 
 pub returns-in_ok-call-in-Some : goal.returns-in_ok-call-in-Some
 returns-in_ok-call-in-Some c = λ past number told setup.
-    place-next c.args.lines.now past number c.args.self.now c.args.setup.now _ c.index-lines-place.result c.in_ok-call-in-Some.call c.requires.lines told setup c.requires.whole (sym c.in-Some.ensures) c.index-lines-place.is c.in_ok-call-in-Some.ensures
+    place-next c.args.lines.now past number c.args.self.now c.args.setup.now _ c.index-lines-place.result c.in_ok-call-in-Some.call told setup c.requires.whole (sym c.in-Some.ensures) c.index-lines-place.is c.in_ok-call-in-Some.ensures

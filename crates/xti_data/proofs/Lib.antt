@@ -1,0 +1,4 @@
+pub mod Reached
+pub mod Shares
+pub mod Changes
+pub mod Rows

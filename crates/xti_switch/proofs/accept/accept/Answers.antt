@@ -1,0 +1,33 @@
+use Rattle.std.proofs.Common.{sym}
+use Rattle.xti_model.specs.Endpoint.{find_number}
+use Rattle.xti_model.specs.World.{place_of}
+use Rattle.xti_end.specs.Held.{parts}
+use Rattle.xti_lent.proofs.Sound.{short-source}
+use Rattle.xti_switch.proofs.Accepting.{Unrefused, request-there, short-options, short-data, short-answering, accepts-kind, accepts}
+use Rattle.xti_switch.proofs.accept.accept.Goals as goal
+
+pub prepare-requires-clause-address : goal.prepare-requires-clause-address
+prepare-requires-clause-address c =
+    short-answering (parts c.in-Some.e.now) (parts c.in-Some-open_endpoint.r.now)
+    (short-source c.args.lent.now (place_of c.args.lent.now.providers c.args.fd.0) c.args.fd.0 c.in-Some.e.now c.requires.fit c.in-Some.ensures.held c.in-Some.ensures.«open»)
+    (short-source c.args.lent.now (place_of c.args.lent.now.providers c.args.resfd.0) c.args.resfd.0 c.in-Some-open_endpoint.r.now c.requires.fit c.in-Some-open_endpoint.ensures.held c.in-Some-open_endpoint.ensures.«open»)
+
+pub prepare-requires-clause-options : goal.prepare-requires-clause-options
+prepare-requires-clause-options c =
+    short-options c.providers.result.now c.args.fd.0 c.args.resfd.0 c.args.seq.0 c.args.opt.now c.args.udata.now (parts c.in-Some.e.now) (parts c.in-Some-open_endpoint.r.now) (c.in_default-accept_refusal.ensures c.args.fd.0 c.args.resfd.0 c.eq.ensures)
+
+pub prepare-requires-clause-data : goal.prepare-requires-clause-data
+prepare-requires-clause-data c =
+    short-data c.providers.result.now c.args.fd.0 c.args.resfd.0 c.args.seq.0 c.args.opt.now c.args.udata.now (parts c.in-Some.e.now) (parts c.in-Some-open_endpoint.r.now) (c.in_default-accept_refusal.ensures c.args.fd.0 c.args.resfd.0 c.eq.ensures)
+
+pub link-requires-clause-kind : goal.link-requires-clause-kind
+link-requires-clause-kind c =
+    accepts-kind (parts c.in-Some.e.now) (parts c.in-Some-open_endpoint.r.now) (find_number c.args.seq.0 (parts c.in-Some.e.now).outstanding) c.args.opt.now c.args.udata.now c.in_ok-acceptance.acceptance
+    (request-there c.providers.result.now c.args.fd.0 c.args.resfd.0 c.args.seq.0 c.args.opt.now c.args.udata.now (parts c.in-Some.e.now) (parts c.in-Some-open_endpoint.r.now) (c.in_default-accept_refusal.ensures c.args.fd.0 c.args.resfd.0 c.eq.ensures)) c.in_ok-acceptance.ensures
+
+pub returns-clause-step : goal.returns-clause-step
+returns-clause-step c =
+    let u : Unrefused c.args.lent.now.providers c.args.fd.0 c.args.resfd.0 c.args.seq.0 c.args.opt.now c.args.udata.now (parts c.in-Some.e.now) (parts c.in-Some-open_endpoint.r.now) =
+    rw c.providers.ensures.providers at (c.in_default-accept_refusal.ensures c.args.fd.0 c.args.resfd.0 c.eq.ensures) in
+    accepts c.args.lent.now c.link.new.lent c.args.fd.0 c.args.resfd.0 c.args.seq.0 c.args.opt.now c.args.udata.now (parts c.in-Some.e.now) (parts c.in-Some-open_endpoint.r.now) c.in_ok-acceptance.acceptance c.done-2.result
+    (sym c.in-Some.ensures.endpoint) (sym c.in-Some-open_endpoint.ensures.endpoint) u c.in_ok-acceptance.ensures c.in_ok-link.ensures.ok c.in_ok-link.ensures.kept.providers c.done-2.ensures

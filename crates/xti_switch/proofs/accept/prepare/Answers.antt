@@ -1,0 +1,18 @@
+use Rattle.std.proofs.Common.{◌≡◌, ◌∙◌, Some, sym}
+use Rattle.xti_model.specs.Endpoint.{find_number}
+use Rattle.xti_end.specs.Frames.{indication_of}
+use Rattle.xti_end.specs.Held.{parts}
+use Rattle.xti_switch.proofs.Accepting.{caller-is}
+use Rattle.xti_switch.proofs.accept.prepare.Goals as goal
+
+pub returns : goal.returns
+returns c =
+    let i : find_number c.args.seq.0 (parts c.args.e.now).outstanding ≡ Some (indication_of c.in-Some.ind.now) = sym c.in-Some.ensures.request in
+    rw i record {
+      caller = sym (caller-is c.in-Some.ind.now c.in-Some.ensures.kind);
+      source = c.in_ok-copy_of.ensures.copy ∙ c.caller_address.ensures;
+      address = c.in_ok-copy_of-2.ensures.copy ∙ c.answering_address-address.ensures;
+      kind = c.in_ok-confirmation.ensures.kind;
+      confirmation = rw (← c.answering_address-address.ensures) c.in_ok-confirmation.ensures.confirmation;
+      given = c.in_ok-given.ensures;
+    }
