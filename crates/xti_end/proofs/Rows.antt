@@ -1,16 +1,21 @@
 -- The plan of a call on an open endpoint, once its refusals are passed.
-use Rattle.std.proofs.Common.{◌≡◌, ℕ, Bool, true, false, ◌&&◌, eqb, [], ◌∷◌, Option, Some, None, refl}
+use Rattle.std.proofs.Common.{◌≡◌, ℕ, Bool, true, false, ◌&&◌, eqb, [], ◌∷◌, Option, Some, None, refl, sym, ap, ◌∙◌}
 use Rattle.std.specs.Prelude.{is_some, is_none}
 use Rattle.xti_base.specs.Kinds.{same_state}
 use Rattle.xti_base.specs.declared.kinds.State.TheVariants.{T_IDLE, T_INCON, T_OUTCON}
 use Rattle.xti_model.specs.declared.profile.Providers.{Providers}
-use Rattle.xti_model.specs.Endpoint.{Endpoint, ocnt}
+use Rattle.xti_model.specs.Endpoint.{Endpoint, address_of, ocnt}
 use Rattle.xti_model.specs.Events.{is_state, some_wait, connected_or_asking}
-use Rattle.xti_model.specs.Provider.{has_connections}
-use Rattle.xti_model.specs.Step.{step_of}
-use Rattle.xti_model.specs.World.{endpoint, place_of, generation_of}
+use Rattle.std.specs.List.{list_any}
+use Rattle.xti_model.specs.declared.entry.Outcome.TheVariants.{Done}
+use Rattle.xti_model.specs.declared.entry.Reply.TheVariants.{Addresses}
+use Rattle.xti_model.specs.Calls.Show as Show
+use Rattle.xti_model.specs.Plan.{Plan, is_too_long, trimmed, if_open, loses, overflows, plan_of}
+use Rattle.xti_model.specs.Provider.{has_connections, has_datagrams}
+use Rattle.xti_model.specs.Step.{made, step_of}
+use Rattle.xti_model.specs.World.{World, changed, endpoint, place_of, generation_of}
 use Rattle.xti_end.specs.Held.{Held, alone, is_open_as, parts, parts_of}
-use Rattle.xti_end.specs.Taken.{confirmation_step, confirming, disconnect_step, receiving_disconnect, listening, request_step}
+use Rattle.xti_end.specs.Taken.{confirmation_step, confirming, disconnect_step, receiving_disconnect, listening, request_step, error_step, receiving_error, showing_addresses}
 
 and-parts : (a b : Bool) → (a && b) ≡ true → (a ≡ true) × (b ≡ true)
 and-parts true true h = (refl, refl)
@@ -45,3 +50,16 @@ pub confirmation-told : (p : Providers) (h : Held) (fd amax omax umax : ℕ) →
     → some_wait (parts h).disconnects ≡ false → is_some (parts h).confirmation ≡ true
     → confirmation_step p (alone h) fd amax omax umax (parts h) ≡ step_of p (alone h) (confirming p h fd amax omax umax)
 confirmation-told p h fd amax omax umax o a b d w = rw (alone-open p fd h o, a, b, d, none-waits (parts h).confirmation w) refl
+
+pub error-told : (p : Providers) (h : Held) (fd amax omax : ℕ) → is_open_as p fd h ≡ true → has_datagrams (parts h).prov ≡ true → same_state (parts h).state T_IDLE ≡ true → some_wait (parts h).datagram_errors ≡ true
+    → error_step p (alone h) fd amax omax (parts h) ≡ step_of p (alone h) (receiving_error p h fd amax omax)
+error-told p h fd amax omax o a b w = rw (alone-open p fd h o, a, b, w) refl
+
+nothing-lost : (p : Providers) (w : World) (plan : Plan) (b : Bool) → b ≡ false → plan.rows ≡ record { holds = b; refusal = loses } ∷ [] → step_of p w plan ≡ Some (made p plan.fd plan.outcome (changed p w plan.changes))
+nothing-lost p w plan b f r = rw (r, f) refl
+
+pub addresses-told : (p : Providers) (h : Held) (fd amax pmax : ℕ) → is_open_as p fd h ≡ true → list_any is_too_long (Show.address_fields (parts h) amax pmax) ≡ false
+    → Some (made p fd (Done (Addresses (trimmed (address_of (parts h)) amax) (trimmed (Show.shown_peer (parts h)) pmax))) (alone h)) ≡ step_of p (alone h) (showing_addresses p h fd amax pmax)
+addresses-told p h fd amax pmax o f =
+    let shows = λ (e : Endpoint). plan_of fd e (overflows (Show.address_fields e amax pmax) ∷ []) [] (Done (Addresses (trimmed (address_of e) amax) (trimmed (Show.shown_peer e) pmax))) in
+    sym (nothing-lost p (alone h) (shows (parts h)) (list_any is_too_long (Show.address_fields (parts h) amax pmax)) f refl) ∙ ap (λ x. step_of p (alone h) (if_open fd x shows)) (sym (alone-open p fd h o))

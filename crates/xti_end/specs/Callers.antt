@@ -1,12 +1,14 @@
 -- The cells of the callers of requests.
-use Rattle.std.specs.Prelude.{ℕ, List, [], ◌∷◌}
+use Rattle.std.specs.Prelude.{◌≡◌, ℕ, List, [], ◌∷◌, Option, option_map, map, remove}
 use Rattle.xti_base.specs.declared.kinds.Fd.{Fd}
 use Rattle.xti_base.specs.declared.kinds.Seq.{Seq}
-use Rattle.xti_model.specs.Endpoint.{Indication}
 use Rattle.xti_model.specs.declared.profile.Providers.{Providers}
 use Rattle.xti_model.specs.Cells.{with_number}
 use Rattle.xti_model.specs.World.{place_of}
 use Rattle.xti_end.specs.declared.indications.Ind.{Ind}
+use Rattle.xti_model.specs.Endpoint.{Indication, find_number, without_number}
+use Rattle.xti_end.specs.Frames.{indication_of}
+use Rattle.xti_end.specs.Held.{Held, parts}
 
 -- the cell of a caller
 abbrev pub caller_place : Providers → Ind → ℕ
@@ -16,6 +18,17 @@ caller_place p i = place_of p i.caller.0
 abbrev pub with_numbers : List ℕ → List ℕ → List ℕ
 with_numbers [] ms = ms
 with_numbers (n ∷ ns) ms = with_number n (with_numbers ns ms)
+
+-- the outstanding request with a number, and its caller
+abbrev pub request_with : ℕ → Held → Option Indication
+request_with number h = find_number number (parts h).outstanding
+
+abbrev pub caller_with : ℕ → Held → Option ℕ
+caller_with number h = option_map (λ i. i.caller) (request_with number h)
+
+-- a request with the number stands at a place, and none before it
+abbrev pub StandsFirstAt : ℕ → List Ind → ℕ → Type 0
+StandsFirstAt number is place = without_number number (map indication_of is) ≡ remove (map indication_of is) place
 
 -- who asks, and the number of the request
 abbrev pub caller_and_number : Indication → ℕ × ℕ

@@ -1,5 +1,5 @@
 -- What contracts see of an endpoint: the cell of its place, and how much more it takes with no memory.
-use Rattle.std.specs.Prelude.{◌≡◌, ℕ, Bool, false, ◌==◌, ◌&&◌, List, [], ◌∷◌, ◌++◌, Option, Some, None, is_some, unwrap_or, option_map, option_and_then, map, remove}
+use Rattle.std.specs.Prelude.{◌≡◌, ℕ, Bool, false, ◌==◌, ◌&&◌, List, [], ◌∷◌, ◌++◌, Option, Some, None, is_some, unwrap_or, option_map, option_and_then, map, remove, slice_get}
 use Rattle.xti_base.specs.declared.kinds.Fd.{Fd}
 use Rattle.xti_base.specs.declared.kinds.Seq.{Seq}
 use Rattle.xti_base.specs.declared.kinds.Prov.TheVariants.{Ticlts}
@@ -8,6 +8,7 @@ use Rattle.xti_model.specs.declared.profile.Providers.{Providers}
 use Rattle.xti_model.specs.Endpoint.{Endpoint, Target, Indication, Disconnect, Datagram, DatagramError, without_number}
 use Rattle.xti_model.specs.Calls.Datagrams.{with_datagram, with_error}
 use Rattle.xti_model.specs.Spot.{spot_bytes}
+use Rattle.xti_model.specs.Symbols as waiting
 use Rattle.xti_model.specs.World.{World, Cell, endpoint_cell, generation_of, place_of, closed_places}
 use Rattle.xti_queue.specs.Queue.{frames, symbols}
 use Rattle.xti_end.specs.declared.parts.Parts.{Parts}
@@ -231,3 +232,20 @@ without_disconnect_at place e = record e { disconnects = remove e.disconnects pl
 
 abbrev pub without_error_at : ℕ → Endpoint → Endpoint
 without_error_at place e = record e { datagram_errors = remove e.datagram_errors place }
+
+-- the members at a place of what waits
+abbrev pub pending_at : Held → ℕ → Option Indication
+pending_at h place = slice_get (parts h).pending place
+
+abbrev pub outstanding_at : Held → ℕ → Option Indication
+outstanding_at h place = slice_get (parts h).outstanding place
+
+abbrev pub disconnect_at : Held → ℕ → Option Disconnect
+disconnect_at h place = slice_get (parts h).disconnects place
+
+-- so many bytes were taken of the first normal or expedited message
+abbrev pub without_normal : ℕ → Endpoint → Endpoint
+without_normal max e = record e { normal = waiting.rest max e.normal }
+
+abbrev pub without_expedited : ℕ → Endpoint → Endpoint
+without_expedited max e = record e { expedited = waiting.rest max e.expedited }

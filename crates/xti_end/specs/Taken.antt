@@ -8,6 +8,8 @@ use Rattle.xti_model.specs.declared.entry.Go.{Go}
 use Rattle.xti_model.specs.declared.entry.Go.TheVariants as go
 use Rattle.xti_model.specs.declared.entry.Applied.TheVariants as applied
 use Rattle.xti_model.specs.declared.entry.Outcome.TheVariants.{Done}
+use Rattle.xti_model.specs.declared.entry.Reply.{Reply}
+use Rattle.xti_model.specs.Events.{some_wait}
 use Rattle.xti_model.specs.World.{World, place_of, at_endpoint}
 use Rattle.xti_model.specs.Endpoint.{Endpoint, Confirmation}
 use Rattle.xti_model.specs.Plan.{Plan, Field, field, first, has_effect, overflows, plan_of}
@@ -138,3 +140,15 @@ showing_addresses p h fd amax pmax = Show.addresses_plan p (alone h) fd amax pma
 -- the first datagram was received or lost, in however many sizes
 abbrev pub Receives : {E : Type 0} → Providers → ℕ → ℕ → ℕ → ℕ → Held → Held → Result Applied E → Type 0
 Receives p fd max amax omax old new r = IfOk r (λ a. (sizes : ℕ) → taken a (alone new) ≡ receive_step p (alone old) fd sizes max amax omax (parts old))
+
+-- the oldest request was told, or lost but for its number
+abbrev pub TellsRequest : {E : Type 0} → Providers → ℕ → ℕ → ℕ → ℕ → Held → Held → Result Applied E → Type 0
+TellsRequest p fd amax omax umax old new r = Makes (request_step p (alone old) fd amax omax umax (parts old)) new r
+
+-- the confirmation was told or lost
+abbrev pub TellsConfirmation : {E : Type 0} → Providers → ℕ → ℕ → ℕ → ℕ → Held → Held → Result Applied E → Type 0
+TellsConfirmation p fd amax omax umax old new r = Makes (confirmation_step p (alone old) fd amax omax umax (parts old)) new r
+
+-- what is told of data: expedited ones where there are any
+abbrev pub data_reply : Providers → ℕ → Held → Reply
+data_reply p max h = Receive.got p (some_wait (parts h).expedited) max (parts h)

@@ -8,8 +8,8 @@ ghost use Rattle.xti_model.specs.Plan.{is_too_long};
 ghost use Rattle.xti_model.specs.World.{place_of};
 ghost use Rattle.xti_model.specs.Calls.Connect as Connect;
 ghost use Rattle.xti_end.specs.Frames.{confirmation_in};
-ghost use Rattle.xti_end.specs.Held.{alone, is_open, is_open_as, parts, with_parts, SameRoom};
-ghost use Rattle.xti_end.specs.Taken.{confirmation_of, confirming, confirmation_step, IsSureBy, Makes, MakesBy, StillBlocked};
+ghost use Rattle.xti_end.specs.Held.{is_open, is_open_as, parts, with_parts, SameRoom};
+ghost use Rattle.xti_end.specs.Taken.{confirmation_of, confirming, IsSureBy, MakesBy, StillBlocked, TellsConfirmation};
 
 use crate::answers::{done, refused};
 use crate::endpoint::Endpoint;
@@ -106,7 +106,7 @@ impl Endpoint {
         requires place { place_of p.now fd.0 ≡ self.old.place }
         requires open { is_open_as p.now fd.0 self.old ≡ true }
         requires waits { is_some (parts self.old).confirmation ≡ true }
-        ensures step { Makes (confirmation_step p.now (alone self.old) fd.0 amax omax umax (parts self.old)) self.new result }
+        ensures step { TellsConfirmation p.now fd.0 amax omax umax self.old self.new result }
         ensures still { StillBlocked self.old self.new result }
         ensures room { SameRoom self.old self.new }
         ensures err { OnErr result (self.new ≡ self.old) }

@@ -11,9 +11,10 @@ ghost use Rattle.xti_model.specs.Endpoint.{find_number, without_number};
 ghost use Rattle.xti_model.specs.Events.{some_wait};
 ghost use Rattle.xti_model.specs.Sound.{is_sound_body, requests};
 ghost use Rattle.xti_model.specs.Touched.{of_some, caller_cells};
-ghost use Rattle.xti_end.specs.Callers.{caller_and_number, caller_place, numbers_of, with_numbers};
+ghost use Rattle.xti_end.specs.Callers.{caller_and_number, caller_place, caller_with, numbers_of, request_with, with_numbers, StandsFirstAt};
 ghost use Rattle.xti_end.specs.Frames.{indication_of, request_in, confirmation_in, disconnect_in, AreRequests, IsRequest};
 ghost use Rattle.xti_end.specs.Held.{is_open, parts, with_parts, without_pending, without_pending_at, without_outstanding, without_outstanding_at, without_disconnect_at};
+ghost use Rattle.xti_end.specs.Held.{pending_at, outstanding_at, disconnect_at};
 ghost use Rattle.xti_end.specs.Held.{AddsPending, AddsOutstanding, AddsDisconnect};
 
 use crate::endpoint::Endpoint;
@@ -33,7 +34,7 @@ impl Endpoint {
     /// The pending request at a place, a T_CONN_IND; `None` exactly past the end. Takes no memory.
     pub fn pending(&self, place: usize) -> Option<&Ind>
         requires { is_open self.now ≡ true }
-        ensures indication { option_map indication_of (option_copied result) ≡ slice_get (parts self.now).pending place }
+        ensures indication { option_map indication_of (option_copied result) ≡ pending_at self.now place }
         ensures kind { IfSome result (λ indication. kind_in indication.now.frame ≡ T_CONN_IND) }
     {
         self.waiting.pending.get(place)
@@ -83,7 +84,7 @@ impl Endpoint {
     /// The outstanding request at a place, a T_CONN_IND; `None` exactly past the end. Takes no memory.
     pub fn outstanding(&self, place: usize) -> Option<&Ind>
         requires { is_open self.now ≡ true }
-        ensures indication { option_map indication_of (option_copied result) ≡ slice_get (parts self.now).outstanding place }
+        ensures indication { option_map indication_of (option_copied result) ≡ outstanding_at self.now place }
         ensures kind { IfSome result (λ indication. kind_in indication.now.frame ≡ T_CONN_IND) }
     {
         self.waiting.outstanding.get(place)
@@ -125,7 +126,7 @@ impl Endpoint {
     /// The disconnect at a place, a T_DISCON_IND; `None` exactly past the end. Takes no memory.
     pub fn disconnect(&self, place: usize) -> Option<&Frame>
         requires { is_open self.now ≡ true }
-        ensures disconnect { option_map disconnect_in (option_copied result) ≡ slice_get (parts self.now).disconnects place }
+        ensures disconnect { option_map disconnect_in (option_copied result) ≡ disconnect_at self.now place }
         ensures kind { IfSome result (λ disconnect. kind_in disconnect.now ≡ T_DISCON_IND) }
     {
         self.waiting.disconnects.get(place)
@@ -233,7 +234,7 @@ impl Endpoint {
     /// The outstanding request with this sequence number, a T_CONN_IND; `None` exactly where there is none. Takes no memory.
     pub fn request(&self, seq: Seq) -> Option<&Ind>
         requires { is_open self.now ≡ true }
-        ensures request { option_map indication_of (option_copied result) ≡ find_number seq.0 (parts self.now).outstanding }
+        ensures request { option_map indication_of (option_copied result) ≡ request_with seq.0 self.now }
         ensures kind { IfSome result (λ ind. IsRequest ind.now) }
     {
         find_number(self.waiting.outstanding.as_slice(), seq)
@@ -242,7 +243,7 @@ impl Endpoint {
     /// The caller of the outstanding request with this sequence number; `None` exactly where there is none. Takes no memory.
     pub fn caller(&self, seq: Seq) -> Option<Fd>
         requires { is_open self.now ≡ true }
-        ensures { option_map (λ fd. fd.0) result ≡ option_map (λ i. i.caller) (find_number seq.0 (parts self.now).outstanding) }
+        ensures { option_map (λ fd. fd.0) result ≡ caller_with seq.0 self.now }
     {
         let ind = find_number(self.waiting.outstanding.as_slice(), seq)?;
         Some(ind.caller)
@@ -338,7 +339,7 @@ fn caller_and_number(inds: &[Ind], place: usize) -> Option<(Fd, Seq)>
 /// Where the request with this sequence number stands; `None` exactly where there is none.
 fn number_place(inds: &[Ind], seq: Seq) -> Option<usize>
     requires { AreRequests inds.now }
-    ensures found { IfSome result (λ place. without_number seq.0 (map indication_of inds.now) ≡ remove (map indication_of inds.now) place) }
+    ensures found { IfSome result (StandsFirstAt seq.0 inds.now) }
     ensures bound { IfSome result (λ place. place < length inds.now) }
     ensures none { IfNone result (without_number seq.0 (map indication_of inds.now) ≡ map indication_of inds.now) }
 {

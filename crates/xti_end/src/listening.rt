@@ -10,8 +10,8 @@ ghost use Rattle.xti_model.specs.Plan.{is_too_long};
 ghost use Rattle.xti_model.specs.World.{place_of};
 ghost use Rattle.xti_model.specs.Calls.Listen as Listen;
 ghost use Rattle.xti_end.specs.Frames.{indication_of, IsRequest};
-ghost use Rattle.xti_end.specs.Held.{alone, is_open, is_open_as, parts, with_parts, SameRoom};
-ghost use Rattle.xti_end.specs.Taken.{listening, request_step, IsSureBy, Makes, MakesBy, StillBlocked};
+ghost use Rattle.xti_end.specs.Held.{is_open, is_open_as, parts, with_parts, SameRoom};
+ghost use Rattle.xti_end.specs.Taken.{listening, IsSureBy, MakesBy, StillBlocked, TellsRequest};
 
 use crate::answers::{done, refused};
 use crate::endpoint::Endpoint;
@@ -137,7 +137,7 @@ impl Endpoint {
         requires place { place_of p.now fd.0 ≡ self.old.place }
         requires open { is_open_as p.now fd.0 self.old ≡ true }
         requires waits { some_wait (parts self.old).pending ≡ true }
-        ensures step { Makes (request_step p.now (alone self.old) fd.0 amax omax umax (parts self.old)) self.new result }
+        ensures step { TellsRequest p.now fd.0 amax omax umax self.old self.new result }
         ensures still { StillBlocked self.old self.new result }
         ensures room { SameRoom self.old self.new }
         ensures err { OnErr result (self.new ≡ self.old) }

@@ -1,12 +1,12 @@
 //! t_rcv and t_rcvv.
 
 ghost use Rattle.std.specs.Prelude.{◌≡◌, true, IfOk, OnOk, OnErr};
-ghost use Rattle.xti_model.specs.Events.{looked, looks_data, some_wait};
+ghost use Rattle.xti_model.specs.Events.{looked, looks_data};
 ghost use Rattle.xti_model.specs.Symbols as waiting;
 ghost use Rattle.xti_model.specs.World.{place_of};
 ghost use Rattle.xti_model.specs.Calls.Receive as Receive;
-ghost use Rattle.xti_end.specs.Held.{is_open, parts, with_parts, SameRoom};
-ghost use Rattle.xti_end.specs.Taken.{receiving_data, receiving_data_all, IsSureBy, MakesBy, StillBlocked};
+ghost use Rattle.xti_end.specs.Held.{is_open, parts, with_parts, without_normal, without_expedited, SameRoom};
+ghost use Rattle.xti_end.specs.Taken.{data_reply, receiving_data, receiving_data_all, IsSureBy, MakesBy, StillBlocked};
 
 use crate::answers::{done, refused};
 use crate::endpoint::Endpoint;
@@ -54,7 +54,7 @@ impl Endpoint {
         requires { is_open self.old ≡ true }
         ensures bytes { IfOk result (λ r. r.bytes ≡ waiting.front max (parts self.old).normal) }
         ensures ended { IfOk result (λ r. r.ended ≡ waiting.ended max (parts self.old).normal) }
-        ensures left { OnOk result (self.new ≡ with_parts (λ e. record e { normal = waiting.rest max e.normal }) self.old) }
+        ensures left { OnOk result (self.new ≡ with_parts (without_normal max) self.old) }
         ensures err { OnErr result (self.new ≡ self.old) }
     {
         self.waiting.normal.take(max)
@@ -65,7 +65,7 @@ impl Endpoint {
         requires { is_open self.old ≡ true }
         ensures bytes { IfOk result (λ r. r.bytes ≡ waiting.front max (parts self.old).expedited) }
         ensures ended { IfOk result (λ r. r.ended ≡ waiting.ended max (parts self.old).expedited) }
-        ensures left { OnOk result (self.new ≡ with_parts (λ e. record e { expedited = waiting.rest max e.expedited }) self.old) }
+        ensures left { OnOk result (self.new ≡ with_parts (without_expedited max) self.old) }
         ensures err { OnErr result (self.new ≡ self.old) }
     {
         self.waiting.expedited.take(max)
@@ -74,7 +74,7 @@ impl Endpoint {
     /// Receives at most `max` bytes, expedited ones where there are any; where memory runs out all is as before.
     fn receive_data(&mut self, p: &Providers, max: usize) -> Result<Reply, AllocError>
         requires { is_open self.old ≡ true }
-        ensures reply { IfOk result (λ r. r ≡ Receive.got p.now (some_wait (parts self.old).expedited) max (parts self.old)) }
+        ensures reply { IfOk result (λ r. r ≡ data_reply p.now max self.old) }
         ensures left { OnOk result (self.new ≡ with_parts (Receive.received p.now max) self.old) }
         ensures err { OnErr result (self.new ≡ self.old) }
     {
