@@ -1,20 +1,15 @@
 -- Which lent cells are fit for a step.
 use Rattle.std.proofs.Common.{◌≡◌, ℕ, ◌<◌, Bool, true, false, ◌||◌, cond, eqb, List, [], ◌∷◌, map, length, Option, Some, None, refl, sym, ap, ◌∙◌, subst}
-use Rattle.std.specs.Prelude.{option_map, is_some, IfSome}
+use Rattle.std.specs.Prelude.{option_map, is_some}
 use Rattle.std.specs.List.{AllByRecursion}
-use Rattle.std.proofs.lemmas.Bool.{eq-eqb, eqb-true, false≢true}
-use Rattle.xti_base.specs.declared.kinds.Prov.{Prov}
-use Rattle.xti_base.specs.declared.kinds.Prov.TheVariants.{Ticots, Ticotsord, Ticlts, Other}
-use Rattle.xti_model.specs.Endpoint.{Endpoint}
+use Rattle.std.proofs.lemmas.Bool.{eq-eqb, eqb-true}
 use Rattle.xti_model.specs.Sound.{is_sound_body, Agrees}
-use Rattle.xti_model.specs.World.{Cell, Switch, cell_at, endpoint_cell, switch_cell, switch_number, is_among, the_switch, places, descriptor}
+use Rattle.xti_model.specs.World.{Cell, Switch, cell_at, switch_cell, switch_number, is_among, the_switch, places}
 use Rattle.xti_registry.specs.Known.{Known}
 use Rattle.xti_end.specs.Held.{Held, cell}
 use Rattle.xti_sound.specs.Invariant.{SoundWorld}
-use Rattle.xti_model.specs.Provider.{has_datagrams}
-use Rattle.xti_sound.specs.Laws.{SoundWhenLent, OpenProvidersPass, DatagramsAlone}
-use Rattle.xti_sound.proofs.SoundGives.{datagrams-alone}
-use Rattle.xti_sound.proofs.Lent.{lent-cell, cell-endpoint}
+use Rattle.xti_sound.specs.Laws.{SoundWhenLent}
+use Rattle.xti_sound.proofs.Lent.{lent-cell}
 use Rattle.xti_lent.specs.Kept.{Distinct, IsPlace}
 use Rattle.xti_lent.specs.Lending.{Lending, held_in, held_at, cell_lent, cells_by}
 use Rattle.xti_lent.specs.Fit.{IsSound, KnownTo, Agree, IsFit, place_of_held}

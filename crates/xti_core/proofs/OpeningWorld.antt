@@ -12,9 +12,7 @@ use Rattle.xti_model.specs.World.{World, Cell, endpoint_cell, switch_cell, switc
 use Rattle.xti_registry.specs.Known.{Known}
 use Rattle.xti_end.specs.Held.{Held, cell}
 use Rattle.xti_sound.specs.Invariant.{SoundWorld}
-use Rattle.xti_sound.specs.Laws.{OpenProvidersPass}
 use Rattle.xti_sound.proofs.Beginning.{opening-sound}
-use Rattle.xti_sound.proofs.ProvidersStay.{opening-providers}
 use Rattle.xti_lent.specs.Kept.{Distinct, IsPlace}
 use Rattle.xti_lent.specs.Lending.{Lending, held_in, held_at, cell_lent, cells, cells_by, numbered_cell}
 use Rattle.xti_lent.specs.Fit.{place_of_held}

@@ -1,5 +1,5 @@
 -- A step of a world all of whose cells are lent.
-use Rattle.std.proofs.Common.{◌≡◌, suc, true, [], ◌∷◌, length, map, List, None, refl, sym, ap, ◌∙◌, subst}
+use Rattle.std.proofs.Common.{◌≡◌, suc, [], ◌∷◌, length, map, List, None, refl, sym, ap, ◌∙◌, subst}
 use Rattle.std.specs.Prelude.{Result, Ok, Err, IfOk, OnErr}
 use Rattle.std.specs.List.{AllByRecursion}
 use Rattle.xti_end.specs.Held.{Held}
