@@ -1,11 +1,13 @@
 -- The cells of a send are lent.
-use Rattle.std.proofs.Common.{◌≡◌, ℕ, true, List, [], ◌∷◌, Option, ap, ◌∙◌, sym, subst}
-use Rattle.std.specs.Prelude.{is_some}
+use Rattle.std.proofs.Common.{◌≡◌, ℕ, true, List, [], ◌∷◌, Option, Some, None, refl, ap, ◌∙◌, sym, subst}
+use Rattle.std.specs.Prelude.{is_some, IfSome}
+use Rattle.xti_base.specs.declared.kinds.Fd.{Fd}
 use Rattle.xti_model.specs.declared.profile.Providers.{Providers}
 use Rattle.xti_model.specs.Cells.{listed}
 use Rattle.xti_model.specs.Endpoint.{Endpoint}
 use Rattle.xti_model.specs.Touched.{peer_cell, of_open, of_some, cell_of}
-use Rattle.xti_model.specs.World.{is_among, place_of}
+use Rattle.xti_model.specs.World.{is_among, endpoint, place_of}
+use Rattle.xti_end.specs.Held.{peer_at, parts_of}
 use Rattle.xti_lent.specs.Lending.{Lending, cells, held_at}
 use Rattle.xti_lent.specs.Fit.{AllLent, SameCells}
 use Rattle.xti_lent.proofs.Places.{place-below}
@@ -13,6 +15,7 @@ use Rattle.xti_lent.proofs.Named.{first-among, later-among, named-lent, held-len
 use Rattle.xti_lent.proofs.Written.{still-held}
 use Rattle.xti_lent.specs.Lends.{IsHeld}
 use Rattle.xti_data.specs.Reach.{CanReach}
+use Rattle.xti_data.specs.Sends.{number_of}
 
 -- the cells that a send names
 abbrev named : Lending → ℕ → List ℕ
@@ -33,3 +36,12 @@ pub held-after : (l k : Lending) (fd : ℕ) → SameCells l k → IsHeld l fd �
 held-after l k fd s h =
     subst (λ (q : Providers). is_some (held_at k (place_of q fd)) ≡ true) (sym s.providers)
     (still-held l k (place_of l.providers fd) s ∙ h)
+
+-- the peer that the open endpoint names
+pub peer-named : (o : Option Endpoint) → peer_at o ≡ (parts_of o).peer
+peer-named None = refl
+peer-named (Some e) = refl
+
+pub peer-reached : (l : Lending) (fd : ℕ) (e : Endpoint) (peer : Option Fd) → CanReach l fd → endpoint l.providers (cells l) fd ≡ Some e → number_of peer ≡ e.peer → IfSome peer (λ (x : Fd). IsHeld l x.0)
+peer-reached l fd e None r o h = tt
+peer-reached l fd e (Some x) r o h = r e x.0 o (sym h)

@@ -1,5 +1,5 @@
 -- The calls that send data and releases, and what they make of lent cells.
-use Rattle.std.specs.Prelude.{◌≡◌, ◌∷◌, ◌++◌, ℕ, true, List, [], length, take, Option, None, IfSome, option_map, option_and_then}
+use Rattle.std.specs.Prelude.{◌≡◌, ◌∷◌, ◌++◌, ℕ, true, List, [], length, take, Option, None, IfSome, option_map, option_and_then, Bool, if◌then◌else◌}
 use Rattle.std.specs.Borrow.{Bor}
 use Rattle.std.specs.List.{concat}
 use Rattle.std.specs.Option.{option_copied}
@@ -8,6 +8,8 @@ use Rattle.xti_model.specs.declared.call.Call.{Call}
 use Rattle.xti_model.specs.declared.call.Call.TheVariants as call
 use Rattle.xti_model.specs.declared.entry.Go.{Go}
 use Rattle.xti_model.specs.declared.entry.Go.TheVariants as go
+use Rattle.xti_model.specs.declared.entry.Outcome.{Outcome}
+use Rattle.xti_model.specs.declared.entry.Outcome.TheVariants.{Done, Part}
 use Rattle.xti_model.specs.declared.entry.Reply.{Reply}
 use Rattle.xti_model.specs.declared.entry.Reply.TheVariants.{Sent}
 use Rattle.xti_model.specs.declared.profile.Providers.{Providers}
@@ -18,8 +20,8 @@ use Rattle.xti_model.specs.Endpoint.{Endpoint}
 use Rattle.xti_model.specs.Links.{at_linked, if_back}
 use Rattle.xti_model.specs.Plan.{Plan, Refusal, first}
 use Rattle.xti_model.specs.Step.{send}
-use Rattle.xti_model.specs.World.{Change, endpoint, place_of, generation_of, at_endpoint, change_endpoint}
-use Rattle.xti_end.specs.Held.{Held, cell, is_open, parts, parts_of}
+use Rattle.xti_model.specs.World.{Change, endpoint, at_endpoint}
+use Rattle.xti_end.specs.Held.{Held, is_open, parts, parts_of}
 use Rattle.xti_lent.specs.Lending.{Lending, cells}
 
 abbrev pub IsData : Call → Type 0
@@ -59,6 +61,10 @@ taken_before (go.More n) = n
 abbrev pub told : Go → Reply → Reply
 told go.Begin reply = reply
 told (go.More n) reply = Sent n
+
+-- what a step that isn't refused comes to
+abbrev pub outcome_of : Bool → ℕ → Outcome
+outcome_of is_done taken = if is_done then Done (Sent taken) else Part taken
 
 -- where there is no room, the first step sets the flow mark
 abbrev pub flow_marks : ℕ → ℕ → Go → List Change

@@ -1,7 +1,8 @@
 //! t_snd and t_sndv.
 
-ghost use Rattle.std.specs.Prelude.{◌≡◌, ◌≤◌, ◌<◌, ◌+◌, ◌^◌, ◌∷◌, [], true, IfOk, IfSome, OnOk, OnErr};
+ghost use Rattle.std.specs.Prelude.{◌≡◌, ◌≤◌, ◌==◌, ◌||◌, length, true, IfOk, IfSome, OnOk, OnErr};
 ghost use Rattle.std.specs.List.{concat};
+ghost use Rattle.xti_base.specs.declared.limits.TheConstants.{MOST_SEND};
 ghost use Rattle.xti_model.specs.Calls.Send as Send;
 ghost use Rattle.xti_end.specs.Held as Held;
 ghost use Rattle.xti_lent.specs.Answers.{AnswersBy, Changed, IsDoneAfter, IsSureBy, StaysBlocked};
@@ -9,7 +10,7 @@ ghost use Rattle.xti_lent.specs.Fit.{AtOwnPlaces, IsFit, SameCells};
 ghost use Rattle.xti_lent.specs.Lends.{IsHeld};
 ghost use Rattle.xti_data.specs.Portions.{giving, pushing, IsOfParts, IsWithin};
 ghost use Rattle.xti_data.specs.Reach.{CanReach};
-ghost use Rattle.xti_data.specs.Sends.{flow_marks, number_of, sender, sending, taken_before, told};
+ghost use Rattle.xti_data.specs.Sends.{flow_marks, number_of, outcome_of, sender, sending, taken_before, told};
 
 use crate::limits::is_expedited;
 use crate::portions::{Portion, indication, next_portion};
@@ -42,17 +43,23 @@ fn told(go: Go, reply: Reply) -> Reply
     }
 }
 
-/// What the step comes to once so many bytes of all were taken.
-fn outcome(e: &Endpoint, total: usize, taken: usize) -> Outcome
+/// Whether the send is done once so many bytes were taken: all of them, or what there was room for where it doesn't wait.
+fn is_done(e: &Endpoint, parts: &[Octets], taken: usize) -> bool
     requires open { Held.is_open e.now ≡ true }
-    requires taken { taken < 2 ^ 32 }
-    ensures { result ≡ Send.outcome (Held.parts e.now) total taken }
+    requires few { length (concat parts.now) ≤ MOST_SEND }
+    ensures { result ≡ ((taken == length (concat parts.now)) || (Held.parts e.now).nonblock) }
 {
-    let n = taken as u32;
-    if taken == total || e.nonblock() {
-        Outcome::Done(Reply::Sent { n })
+    taken == total(parts) || e.nonblock()
+}
+
+/// What a step comes to that isn't refused.
+fn outcome(is_done: bool, taken: u32) -> Outcome
+    ensures { result ≡ outcome_of is_done taken }
+{
+    if is_done {
+        Outcome::Done(Reply::Sent { n: taken })
     } else {
-        Outcome::Part { taken: n }
+        Outcome::Part { taken }
     }
 }
 
@@ -147,9 +154,10 @@ pub(crate) fn send(
     match room(e, linked(lent, fd, peer), is_expedited(flags)) {
         Some(room) => {
             let portion = next_portion(lent.providers(), e, parts, flags, before, room);
-            let outcome = outcome(e, total(parts), before + portion.count);
+            let taken = before + portion.count;
+            let is_done = is_done(e, parts, taken);
             give(lent, fd, peer, parts, portion)?;
-            Ok(with_outcome(lent, fd, outcome))
+            Ok(with_outcome(lent, fd, outcome(is_done, taken as u32)))
         }
         None if e.nonblock() => Ok(refuse_flow(lent, fd, flags, go)),
         None => Ok(Applied::Blocked),

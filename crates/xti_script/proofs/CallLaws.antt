@@ -12,8 +12,8 @@ use Rattle.xti_script.specs.FieldValue.{Value}
 use Rattle.xti_script.specs.declared.verbs.Verb.{Verb}
 use Rattle.xti_script.specs.declared.verbs.Verb.TheVariants.{Open, Close, Bind, Unbind, Connect, RcvConnect, Listen, Accept, Snd, SndV, Rcv, RcvV, SndDis, RcvDis, SndRel, RcvRel, SndUData, SndVUData, RcvUData, RcvVUData, RcvUDErr, Look, GetState, Sync, GetInfo, GetProtAddr, OptMgmt, SetMode}
 use Rattle.xti_script.specs.Names.{Spot, after}
-use Rattle.xti_script.specs.Texts.{words_of}
-use Rattle.xti_script.specs.Values.{number_in}
+use Rattle.xti_words.specs.Texts.{words_of}
+use Rattle.xti_words.specs.Values.{number_in}
 use Rattle.xti_script.specs.Calls.{form_of, verb_word, form}
 use Rattle.xti_base.specs.declared.limits.TheConstants.{MOST_LINES, MOST_ARGUMENT_BYTES, LAST_WORKER}
 use Rattle.xti_script.specs.Grammar.{IsCall, IsLine, AreLines}

@@ -11,7 +11,8 @@ use Rattle.xti_script.specs.declared.fields.Key.{Key}
 use Rattle.xti_script.specs.declared.verbs.Verb.{Verb}
 use Rattle.xti_script.specs.declared.verbs.Verb.TheVariants.{Open, Close, Bind, Unbind, Connect, RcvConnect, Listen, Accept, Snd, SndV, Rcv, RcvV, SndDis, RcvDis, SndRel, RcvRel, SndUData, SndVUData, RcvUData, RcvVUData, RcvUDErr, Look, GetState, Sync, GetInfo, GetProtAddr, OptMgmt, SetMode}
 use Rattle.xti_script.specs.Names.{Spot}
-use Rattle.xti_script.specs.Values.{value_in, onto}
+use Rattle.xti_words.specs.Values.{onto}
+use Rattle.xti_script.specs.Values.{value_in}
 use Rattle.xti_script.specs.Fields.{field, key_word, kind_of, usual_value, IsWritten, AreFields}
 use Rattle.xti_script.specs.Calls.{form_of, form}
 use Rattle.xti_script.specs.Reading.{written_value, fields_of}

@@ -7,7 +7,7 @@ use Rattle.std.proofs.lemmas.List.{append-nil, take-append-le, map-append, lengt
 use Rattle.xti_model.specs.declared.script.Line.{Line}
 use Rattle.xti_model.specs.declared.script.Script.{Script}
 use Rattle.xti_model.specs.Profile.{usual}
-use Rattle.xti_script.specs.Texts.{lines_of, words_of}
+use Rattle.xti_words.specs.Texts.{lines_of, words_of}
 use Rattle.xti_script.specs.Grammar.{AreLines, IsScript}
 use Rattle.xti_script.specs.Refused.{some, ended_lines, CanBegin, IsRefusedAt}
 use Rattle.xti_script.specs.Reading.{behind, line_of, lines_from, all_of}

@@ -1,13 +1,8 @@
-pub mod Lines
-pub mod FirstWord
-pub mod LineEnd
-pub mod WordLaws
 pub mod FieldLaws
 pub mod CallLaws
 pub mod Least
 pub mod Scripts
 pub mod Loop
-pub mod TextBytes
 pub mod TextSets
 pub mod Workers
 pub mod ScriptLaws

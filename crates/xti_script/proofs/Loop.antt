@@ -3,7 +3,7 @@ use Rattle.std.proofs.Common.{◌≡◌, ℕ, ◌+◌, List, [], ◌∷◌, ◌+
 use Rattle.std.proofs.lemmas.Bool.{eqb-true}
 use Rattle.std.proofs.lemmas.List.{nil_from_length}
 use Rattle.xti_model.specs.declared.script.Line.{Line}
-use Rattle.xti_script.specs.Texts.{lines_of, words_of}
+use Rattle.xti_words.specs.Texts.{lines_of, words_of}
 use Rattle.xti_script.specs.Reading.{longer, line_of, lines_from}
 
 record Grown (earlier : List Line) (o : Option Line) (more : List Line) : Type 0 where

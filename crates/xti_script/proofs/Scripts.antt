@@ -6,7 +6,7 @@ use Rattle.xti_model.specs.declared.profile.Providers.{Providers}
 use Rattle.xti_model.specs.Profile.{usual}
 use Rattle.xti_script.specs.declared.script_text.ScriptFail.{ScriptFail}
 use Rattle.xti_script.specs.declared.script_text.ScriptFail.TheVariants.{Bad, OutOfMemory}
-use Rattle.xti_script.specs.Texts.{lines_of}
+use Rattle.xti_words.specs.Texts.{lines_of}
 use Rattle.xti_script.specs.Grammar.{IsScript}
 use Rattle.xti_script.specs.Gives.{Fails}
 use Rattle.xti_script.specs.Read.{IsRead, IsBad}

@@ -9,8 +9,8 @@ use Rattle.xti_model.specs.Work.{argument_bytes, script_bytes}
 use Rattle.xti_script.specs.FieldValue.{Value}
 use Rattle.xti_script.specs.declared.verbs.Verb.{Verb}
 use Rattle.xti_script.specs.Names.{Spot, after}
-use Rattle.xti_script.specs.Texts.{lines_of, words_of}
-use Rattle.xti_script.specs.Values.{number_in}
+use Rattle.xti_words.specs.Texts.{lines_of, words_of}
+use Rattle.xti_words.specs.Values.{number_in}
 use Rattle.xti_script.specs.Fields.{AreFields}
 use Rattle.xti_script.specs.Calls.{verb_word, form, call_with}
 

@@ -1,10 +1,7 @@
-pub mod Texts
-pub mod Words
 pub mod Kinds
 pub mod Names
 pub mod FieldValue
 pub mod Values
-pub mod Numbers
 pub mod Unread
 pub mod Families
 pub mod Fields

@@ -6,7 +6,7 @@ use Rattle.xti_model.specs.declared.script.Line.{Line}
 use Rattle.xti_model.specs.Resolve.{opens, listens}
 use Rattle.xti_script.specs.Kinds.{Kind}
 use Rattle.xti_script.specs.Kinds.{Kind as kind}
-use Rattle.xti_script.specs.Texts.{is_name}
+use Rattle.xti_words.specs.Texts.{is_name}
 
 -- where a line stands: the lines before it, and its worker
 pub record Spot : Type 0 where

@@ -1,8 +1,7 @@
 -- Reading lines from left to right, each after the earlier ones.
-use Rattle.std.specs.Prelude.{ℕ, ◌+◌, ◌-◌, ◌==◌, Bool, true, false, ◌&&◌, nat_eq, nat_lt, nat_le, List, [], ◌∷◌, ◌++◌, length, drop, codes, map, find, Option, Some, None, if◌then◌else◌, Result, Ok, Err}
+use Rattle.std.specs.Prelude.{ℕ, ◌+◌, ◌-◌, ◌==◌, Bool, true, false, ◌&&◌, nat_eq, nat_lt, nat_le, List, [], ◌∷◌, ◌++◌, length, drop, codes, find, Option, Some, None, if◌then◌else◌, Result, Ok, Err}
 use Rattle.std.specs.Str.{bytes_eq}
 use Rattle.std.specs.List.{starts_with}
-use denote.Ref.{Bor}
 use Rattle.xti_model.specs.declared.script.NamedCall.{NamedCall}
 use Rattle.xti_model.specs.declared.script.Line.{Line}
 use Rattle.xti_model.specs.Work.{argument_bytes, script_bytes}
@@ -11,15 +10,12 @@ use Rattle.xti_script.specs.declared.fields.Key.{Key}
 use Rattle.xti_script.specs.declared.verbs.Verb.{Verb}
 use Rattle.xti_script.specs.declared.verbs.Verb.TheVariants.{Open, Close, Bind, Unbind, Connect, RcvConnect, Listen, Accept, Snd, SndV, Rcv, RcvV, SndDis, RcvDis, SndRel, RcvRel, SndUData, SndVUData, RcvUData, RcvVUData, RcvUDErr, Look, GetState, Sync, GetInfo, GetProtAddr, OptMgmt, SetMode}
 use Rattle.xti_script.specs.Names.{Spot, after}
-use Rattle.xti_script.specs.Texts.{words_of}
-use Rattle.xti_script.specs.Values.{value_in, number_in, onto}
+use Rattle.xti_words.specs.Texts.{words_of}
+use Rattle.xti_words.specs.Values.{number_in, onto}
+use Rattle.xti_script.specs.Values.{value_in}
 use Rattle.xti_script.specs.Fields.{key_word, kind_of, usual_value}
 use Rattle.xti_script.specs.Calls.{verb_word, form, call_with}
 use Rattle.xti_base.specs.declared.limits.TheConstants.{LAST_WORKER, MOST_LINES, MOST_ARGUMENT_BYTES}
-
--- what slices hold
-abbrev pub views : List (Bor (List ℕ)) → List (List ℕ)
-views words = map (λ w. w.now) words
 
 -- ---- fields
 

@@ -1,7 +1,7 @@
 -- The first line by which a text is no script.
 use Rattle.std.specs.Prelude.{◌≡◌, ℕ, ◌<◌, List, [], ◌∷◌, ◌++◌, map, take, Option, Some, None}
 use Rattle.xti_model.specs.declared.script.Script.{Script}
-use Rattle.xti_script.specs.Texts.{lines_of}
+use Rattle.xti_words.specs.Texts.{lines_of}
 use Rattle.xti_script.specs.Grammar.{IsScript}
 
 abbrev pub some : List ℕ → Option (List ℕ)

@@ -12,7 +12,7 @@ use Rattle.xti_script.specs.declared.fields.Fields.{Fields}
 use Rattle.xti_script.specs.declared.fields.FieldFail.{FieldFail}
 use Rattle.xti_script.specs.declared.fields.FieldFail.TheVariants.{Wrong, OutOfMemory}
 use Rattle.xti_script.specs.Names.{Spot, after}
-use Rattle.xti_script.specs.Values.{onto}
+use Rattle.xti_words.specs.Values.{onto}
 use Rattle.xti_script.specs.Fields.{kind_of}
 use Rattle.xti_script.specs.Reading.{fields_of}
 

@@ -1,7 +1,7 @@
 //! Reading the words of a line.
 
 ghost use Rattle.std.specs.Prelude.{◌≡◌, ◌≤◌, IfSome};
-ghost use Rattle.xti_script.specs.Texts.{words_of};
+ghost use Rattle.xti_words.specs.Texts.{words_of};
 ghost use Rattle.xti_script.specs.Gives.{Adds};
 ghost use Rattle.xti_script.specs.Names.{after};
 ghost use Rattle.xti_script.specs.Reading.{call_of, worker_of, longer, line_of};
@@ -10,12 +10,11 @@ ghost use Rattle.xti_script.specs.Unread.{IsReadCall};
 use crate::draft::{Added, Draft};
 use crate::field_calls::{ReadCall, read_fields};
 use crate::fields::{FieldFail, Fields};
-use crate::values::number_in;
 use crate::verbs::{form, verb_of};
-use crate::words::Words;
 use std::alloc::AllocError;
 use xti_base::limits::LAST_WORKER;
 use xti_model::Line;
+use xti_words::{Words, number_in};
 
 /// The call of the worker that the words give after the lines so far.
 #[tactic(auto, unfolding(crate::specs::Reading::call_of))]

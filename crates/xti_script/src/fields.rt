@@ -5,22 +5,21 @@ ghost use Rattle.std.specs.Option.{option_copied};
 ghost use Rattle.xti_script.specs.FieldValue.{Value as value};
 ghost use Rattle.xti_script.specs.Fields.{key_word, kind_of, usual_value};
 ghost use Rattle.xti_script.specs.Names.{Spot, after, can_name};
-ghost use Rattle.xti_script.specs.Values.{onto};
+ghost use Rattle.xti_words.specs.Values.{onto};
 ghost use Rattle.xti_script.specs.Reading.{behind_key, written_value, field_value, field_rest, fields_of};
 ghost use Rattle.xti_script.specs.Unread.{usual_is, spot_of, unread, NextIs, NextIsName, Reads};
 ghost use Rattle.xti_script.specs.Kinds.{Kind as kind};
 ghost use Rattle.xti_script.specs.declared.fields.FieldFail.TheVariants.{OutOfMemory};
 
 use crate::draft::Draft;
-use crate::operands::{action_in, mode_in, provider_in};
-use crate::options::options_in;
-use crate::texts::is_name;
-use crate::values::{bytes_in, number_in, parts_in, sizes_in};
-use crate::words::Words;
 use std::alloc::AllocError;
 use xti_base::limits::{MOST_ADDRESS, MOST_CONNECT_DATA, MOST_OPTIONS, MOST_SEND};
 use xti_base::{Octets, Parts, Prov, Sizes};
 use xti_model::Name;
+use xti_words::{
+    Words, action_in, bytes_in, is_name, mode_in, number_in, options_in, parts_in, provider_in,
+    sizes_in,
+};
 
 /// The keys of fields. The first nine are written without a key, as one word.
 #[derive(Clone, Copy, Debug, PartialEq, Eq)]

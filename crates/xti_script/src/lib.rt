@@ -7,18 +7,13 @@ mod field_calls;
 mod fields;
 mod laws;
 mod names;
-mod operands;
-mod options;
 mod script_text;
-mod texts;
-mod values;
 mod verbs;
-mod words;
 
 pub use laws::{
     never_both, one_script, scripts_are_small, scripts_have_usual_providers, scripts_have_workers,
     scripts_send_bytes,
 };
 pub use script_text::{ScriptFail, read_script};
-pub use values::MOST_PIECES;
 pub use xti_model::{Line, Lines, Name, NamedCall, Script};
+pub use xti_words::MOST_PIECES;

@@ -3,7 +3,7 @@
 ghost use Rattle.std.specs.Prelude.{◌≡◌, [], ℕ, List, IfOk, IfErr};
 ghost use Rattle.xti_model.specs.declared.script.Script.{Script};
 ghost use Rattle.xti_script.specs.declared.script_text.ScriptFail.TheVariants.{OutOfMemory};
-ghost use Rattle.xti_script.specs.Texts.{lines_of};
+ghost use Rattle.xti_words.specs.Texts.{lines_of};
 ghost use Rattle.xti_script.specs.Grammar.{IsScript};
 ghost use Rattle.xti_script.specs.Refused.{IsRefusedAt};
 ghost use Rattle.xti_script.specs.Reading.{lines_from, all_of};
@@ -12,10 +12,10 @@ ghost use Rattle.xti_script.specs.Gives.{Gives};
 
 use crate::calls::read_line;
 use crate::draft::Draft;
-use crate::texts::first_line;
 use std::alloc::{AllocError, Global};
 use thiserror::Error;
 use xti_model::{Lines, Providers, Script};
+use xti_words::first_line;
 
 /// Why a text was not read.
 #[derive(Clone, Copy, Debug, PartialEq, Eq, Error)]

@@ -1,5 +1,5 @@
 -- The peer and the listener hear one after the other.
-use Rattle.std.proofs.Common.{◌≡◌, ℕ, ◌+◌, ◌<◌, Bool, true, false, ◌&&◌, ◌||◌, eqb, cond, List, [], ◌∷◌, ◌++◌, length, Option, Some, None, IfSome, refl, sym, ap, ◌∙◌, subst, arith}
+use Rattle.std.proofs.Common.{◌≡◌, ℕ, ◌+◌, Bool, true, false, ◌&&◌, ◌||◌, eqb, cond, List, [], ◌∷◌, ◌++◌, length, Option, Some, None, IfSome, refl, sym, ap, ◌∙◌, subst, arith}
 use Rattle.std.specs.Prelude.{is_some, is_none, option_map, option_and_then}
 use Rattle.std.proofs.lemmas.Bool.{eqb-true}
 use Rattle.std.proofs.lemmas.Bool.Decides.{nat_tests}
@@ -8,12 +8,12 @@ use Rattle.xti_base.specs.declared.reasons.TheConstants.{REJECTED}
 use Rattle.xti_model.specs.declared.profile.Providers.{Providers}
 use Rattle.xti_model.specs.Calls.Disconnect.{reject}
 use Rattle.xti_model.specs.Calls.Listen.{taken_out}
-use Rattle.xti_model.specs.Endpoint.{Endpoint, Disconnect, Indication, Target, find_number, has_number}
+use Rattle.xti_model.specs.Endpoint.{Endpoint, Disconnect, Indication, Target, find_number}
 use Rattle.xti_model.specs.Links.{at_linked, break, broken, names, take_back}
 use Rattle.xti_model.specs.Sound.{is_sound, is_sound_body, requests}
-use Rattle.xti_model.specs.World.{World, Change, endpoint, at_endpoint, changed, generation_of, place_of}
+use Rattle.xti_model.specs.World.{World, Change, endpoint, at_endpoint, generation_of, place_of}
 use Rattle.xti_end.specs.Frames.{disconnect_in}
-use Rattle.xti_end.specs.Held.{Held, cell}
+use Rattle.xti_end.specs.Held.{Held}
 use Rattle.xti_lent.specs.Answers.{Changed}
 use Rattle.xti_lent.specs.Fit.{IsFit, SameCells}
 use Rattle.xti_lent.specs.Lending.{Lending, held_at, cells}
@@ -24,7 +24,7 @@ use Rattle.xti_switch.specs.declared.notices.News.{News}
 use Rattle.xti_switch.specs.declared.notices.News.TheVariants as news
 use Rattle.xti_switch.specs.declared.notices.Notice.{Notice}
 use Rattle.xti_switch.specs.Hearing.{Breaks, IsNotice, IsNoticeOf, IsReady, Silences, TakesRoom, concerns, heard, listener_news, peer_news, telling, telling_any}
-use Rattle.xti_switch.proofs.Reaching.{some-all, of-some}
+use Rattle.xti_switch.proofs.Reaching.{some-all}
 
 -- an open endpoint is sound
 sound-by : (b : Bool) (o : Option Endpoint) (x : Endpoint) → cond b o None ≡ Some x → is_sound_body o ≡ true → is_sound x ≡ true

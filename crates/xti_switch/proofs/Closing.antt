@@ -1,5 +1,5 @@
 -- An endpoint closes after all that it is linked with heard of it.
-use Rattle.std.proofs.Common.{◌≡◌, ◌≢◌, ℕ, ◌+◌, ◌<◌, Bool, true, false, not, ◌||◌, ◌&&◌, eqb, List, [], ◌∷◌, ◌++◌, length, Option, Some, None, IfSome, refl, sym, ap, ◌∙◌, subst, arith}
+use Rattle.std.proofs.Common.{◌≡◌, ℕ, ◌+◌, ◌<◌, Bool, true, false, not, ◌||◌, ◌&&◌, eqb, List, [], ◌∷◌, ◌++◌, length, Option, Some, None, IfSome, refl, sym, ap, ◌∙◌, subst, arith}
 use Rattle.std.specs.Prelude.{is_some, is_none, map, option_map}
 use Rattle.std.specs.List.{AllByRecursion}
 use Rattle.std.specs.Option.{option_copied}
@@ -20,8 +20,7 @@ use Rattle.xti_model.specs.Sound.{is_sound, requests}
 use Rattle.xti_model.specs.Step.{made}
 use Rattle.xti_model.specs.Switch.{place_at}
 use Rattle.xti_model.specs.Touched.{named, touched, of_some, peer_cell, target_cell, caller_cells}
-use Rattle.xti_model.specs.World.{World, Change, is_among, place_of, switch_number, endpoint, changed}
-use Rattle.xti_registry.specs.Known.{Known}
+use Rattle.xti_model.specs.World.{World, Change, is_among, place_of, switch_number, endpoint}
 use Rattle.xti_end.specs.Held.{Held, parts}
 use Rattle.xti_lent.specs.Answers.{AnswersBy, Changed, IsDone}
 use Rattle.xti_lent.specs.Fit.{AllLent, IsFit, SameCells}

@@ -1,15 +1,14 @@
 -- What a notice makes of the endpoint that hears it, and of the notices that are left.
-use Rattle.std.proofs.Common.{◌≡◌, ◌≤◌, ◌<◌, ℕ, Bool, true, false, ◌&&◌, ◌||◌, cond, eqb, List, [], ◌∷◌, Option, Some, None, IfSome, refl, sym, ap, ◌∙◌, subst, arith}
+use Rattle.std.proofs.Common.{◌≡◌, ◌≤◌, ◌<◌, ℕ, Bool, true, false, ◌&&◌, ◌||◌, cond, eqb, Option, Some, None, IfSome, refl, ap, ◌∙◌, subst, arith}
 use Rattle.std.specs.Prelude.{is_some, option_map}
 use Rattle.std.proofs.lemmas.Bool.{eq-eqb, eqb-true}
 use Rattle.tpi_grammar.specs.declared.kind.Kind.TheVariants.{T_DISCON_IND}
 use Rattle.tpi_prim.specs.Fields.{kind_in}
 use Rattle.xti_model.specs.declared.profile.Providers.{Providers}
 use Rattle.xti_model.specs.Endpoint.{Endpoint, Disconnect, find_number}
-use Rattle.xti_model.specs.World.{place_of, generation_of, places, endpoint, endpoint_cell, change_endpoint}
+use Rattle.xti_model.specs.World.{place_of, generation_of, places, endpoint, change_endpoint}
 use Rattle.xti_end.specs.Frames.{disconnect_in}
 use Rattle.xti_end.specs.Held.{Held, cell, parts, parts_of, with_parts, is_open_as}
-use Rattle.xti_lent.specs.Fit.{SameCells}
 use Rattle.xti_lent.specs.Lending.{Lending, held_at, with_held, cells}
 use Rattle.xti_lent.proofs.Lendings.{put-same, put-other}
 use Rattle.xti_lent.proofs.Open.{endpoint-open}

@@ -1,5 +1,5 @@
 -- The places of those that hear of a disconnect or a close are lent.
-use Rattle.std.proofs.Common.{◌≡◌, ℕ, ◌<◌, Bool, true, false, ◌||◌, List, [], ◌∷◌, ◌++◌, Option, Some, None, IfSome, refl, sym, ap, ◌∙◌, subst}
+use Rattle.std.proofs.Common.{◌≡◌, ℕ, Bool, true, false, ◌||◌, List, [], ◌∷◌, ◌++◌, Option, Some, None, IfSome, refl, sym, ap, ◌∙◌, subst}
 use Rattle.std.specs.Prelude.{is_some, option_map, option_and_then}
 use Rattle.xti_base.specs.declared.kinds.Fd.{Fd}
 use Rattle.xti_base.specs.declared.kinds.Seq.{Seq}
@@ -7,7 +7,7 @@ use Rattle.xti_model.specs.declared.call.Call.TheVariants as call
 use Rattle.xti_model.specs.declared.profile.Providers.{Providers}
 use Rattle.xti_model.specs.Endpoint.{Endpoint, Indication, Target, find_number}
 use Rattle.xti_model.specs.Touched.{named, touched, cell_of, of_some, peer_cell, target_cell, caller_cell}
-use Rattle.xti_model.specs.World.{is_among, place_of, places, endpoint}
+use Rattle.xti_model.specs.World.{is_among, place_of, endpoint}
 use Rattle.xti_lent.specs.Lending.{Lending, held_at, cells}
 use Rattle.xti_lent.specs.Lends.{IsHeld}
 use Rattle.xti_lent.specs.Fit.{AllLent, SameCells}

@@ -5,7 +5,7 @@ use Rattle.xti_base.specs.declared.kinds.Seq.{Seq}
 use Rattle.xti_base.specs.declared.reasons.TheConstants.{NO_LISTENER, QUEUE_FULL}
 use Rattle.xti_model.specs.Endpoint.{Endpoint, Indication, address_of}
 use Rattle.xti_model.specs.Plan.{Plan}
-use Rattle.xti_model.specs.World.{Change, endpoint, at_endpoint}
+use Rattle.xti_model.specs.World.{endpoint, at_endpoint}
 use Rattle.xti_model.specs.Calls.Connect as Connect
 use Rattle.xti_end.specs.Frames.{request_in}
 use Rattle.xti_lent.specs.Answers.{Changed}

@@ -3,7 +3,6 @@ use Rattle.std.specs.Prelude.{◌≡◌, ◌≤◌, ℕ, ◌&&◌, ◌||◌, Boo
 use Rattle.tpi_grammar.specs.declared.kind.Kind.TheVariants.{T_DISCON_IND}
 use Rattle.tpi_prim.specs.Fields.{kind_in}
 use Rattle.xti_base.specs.declared.kinds.Fd.{Fd}
-use Rattle.xti_base.specs.declared.kinds.Seq.{Seq}
 use Rattle.xti_model.specs.declared.profile.Providers.{Providers}
 use Rattle.xti_model.specs.Endpoint.{Endpoint, Disconnect, reset, find_number, without_number, is_target}
 use Rattle.xti_model.specs.Links.{break, names, if_names}

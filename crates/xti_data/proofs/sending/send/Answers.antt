@@ -1,16 +1,108 @@
-use Rattle.std.proofs.Common.{◌≡◌, ◌∙◌, sym, length, Some}
+use Rattle.std.proofs.Common.{◌≡◌, ◌∙◌, ◌+◌, ℕ, true, false, Option, sym, ap, subst, length, Some}
+use Rattle.std.specs.Prelude.{IfSome}
 use Rattle.std.specs.List.{concat}
-use Rattle.xti_model.specs.World.{endpoint}
+use Rattle.xti_model.specs.Arguments.{is_expedited}
+use Rattle.xti_model.specs.Calls.Send as Send
+use Rattle.xti_model.specs.Endpoint.{Endpoint}
+use Rattle.xti_model.specs.Links.{linked}
 use Rattle.xti_model.specs.Plan.{first, answers}
+use Rattle.xti_model.specs.Sending.{ready_for, room_for}
+use Rattle.xti_model.specs.Step.{made}
+use Rattle.xti_model.specs.World.{endpoint, changed}
 use Rattle.xti_end.specs.Held.{parts}
 use Rattle.xti_lent.specs.Lending.{cells}
-use Rattle.xti_data.specs.Sends.{taken_before}
-use Rattle.xti_data.proofs.Rows.{early, send-refused}
+use Rattle.xti_data.specs.declared.portions.Portion.{Portion}
+use Rattle.xti_data.specs.Portions.{giving, portion_of, IsWithin}
+use Rattle.xti_data.specs.Sends.{linked_with, number_of, peer_seen, taken_before}
+use Rattle.xti_data.proofs.Changes.{made-after}
+use Rattle.xti_data.proofs.Reached.{peer-named, peer-reached}
+use Rattle.xti_data.proofs.Rows.{early, few-bytes, has-room, portion-within, send-blocked, send-flow, send-refused, send-went, taken_of, Unrefused}
 use Rattle.xti_data.proofs.sending.send.Goals as goal
 
 pub returns-in-Some-refusal-clause-step : goal.returns-in-Some-refusal-clause-step
 returns-in-Some-refusal-clause-step c =
     let l = c.args.lent.now in
-    let o : endpoint l.providers (cells l) c.args.fd.0 ≡ Some (parts c.in-Some.e.now) = sym c.in-Some.ensures.endpoint in
-    let r : first (early l.providers (length c.args.parts.now) (concat c.args.parts.now) c.args.flags (taken_before c.args.go) (parts c.in-Some.e.now)) ≡ Some (answers c.in-Some-refusal.reply) = rw (c.providers.ensures.providers, c.taken_before-before.ensures) at (sym c.in-Some-refusal.ensures) in
-    (rw c.told-in-Some-refusal.ensures at c.done-in-Some-refusal.ensures) ∙ sym (send-refused l.providers (cells l) c.args.fd.0 (length c.args.parts.now) (concat c.args.parts.now) c.args.flags c.args.go (parts c.in-Some.e.now) c.in-Some-refusal.reply o r)
+    let e = parts c.in-Some.e.now in
+    let o : endpoint l.providers (cells l) c.args.fd.0 ≡ Some e = sym c.in-Some.ensures.endpoint in
+    let r : first (early l.providers (length c.args.parts.now) (concat c.args.parts.now) c.args.flags (taken_before c.args.go) e) ≡ Some (answers c.in-Some-refusal.reply) = rw (c.providers.ensures.providers, c.taken_before-before.ensures) at (sym c.in-Some-refusal.ensures) in
+    (rw c.told-in-Some-refusal.ensures at c.done-in-Some-refusal.ensures) ∙ sym (send-refused l.providers (cells l) c.args.fd.0 (length c.args.parts.now) (concat c.args.parts.now) c.args.flags c.args.go e c.in-Some-refusal.reply o r)
+
+pub next_portion-portion-requires-clause-few : goal.next_portion-portion-requires-clause-few
+next_portion-portion-requires-clause-few c =
+    let l = c.args.lent.now in
+    let u : Unrefused l.providers (length c.args.parts.now) (concat c.args.parts.now) c.args.flags (taken_before c.args.go) (parts c.in-Some.e.now) = rw (c.providers.ensures.providers, c.taken_before-before.ensures) at (sym c.in_default-refusal.ensures) in
+    few-bytes l.providers (length c.args.parts.now) (concat c.args.parts.now) c.args.flags (taken_before c.args.go) (parts c.in-Some.e.now) u
+
+pub is_done-is_done-requires-clause-few : goal.is_done-is_done-requires-clause-few
+is_done-is_done-requires-clause-few c =
+    let l = c.args.lent.now in
+    let u : Unrefused l.providers (length c.args.parts.now) (concat c.args.parts.now) c.args.flags (taken_before c.args.go) (parts c.in-Some.e.now) = rw (c.providers.ensures.providers, c.taken_before-before.ensures) at (sym c.in_default-refusal.ensures) in
+    few-bytes l.providers (length c.args.parts.now) (concat c.args.parts.now) c.args.flags (taken_before c.args.go) (parts c.in-Some.e.now) u
+
+pub give-requires-clause-peer : goal.give-requires-clause-peer
+give-requires-clause-peer c =
+    peer-reached c.args.lent.now c.args.fd.0 (parts c.in-Some.e.now) c.peer-peer.result c.requires.reach (sym c.in-Some.ensures.endpoint) (c.peer-peer.ensures ∙ peer-named c.in-Some.e.now.body)
+
+pub give-requires-clause-within : goal.give-requires-clause-within
+give-requires-clause-within c =
+    let l = c.args.lent.now in
+    let e = parts c.in-Some.e.now in
+    let u : Unrefused l.providers (length c.args.parts.now) (concat c.args.parts.now) c.args.flags (taken_before c.args.go) e = rw (c.providers.ensures.providers, c.taken_before-before.ensures) at (sym c.in_default-refusal.ensures) in
+    let w = portion-within l.providers c.args.parts.now (length c.args.parts.now) c.args.flags (taken_before c.args.go) c.in-Some-room.room e u in
+    let q : c.next_portion-portion.result ≡ portion_of l.providers c.args.parts.now c.args.flags (taken_before c.args.go) c.in-Some-room.room e = rw (c.providers-in-Some-room.ensures.providers, c.taken_before-before.ensures) at c.next_portion-portion.ensures in
+    subst (λ (x : Option Endpoint). IfSome x (IsWithin l.providers c.next_portion-portion.result)) c.in-Some.ensures.endpoint
+    (subst (λ (x : Portion). IsWithin l.providers x e) (sym q) w)
+
+pub returns-in_err-give-in-Some-room-clause-sure : goal.returns-in_err-give-in-Some-room-clause-sure
+returns-in_err-give-in-Some-room-clause-sure c none =
+    let l = c.args.lent.now in
+    let e = parts c.in-Some.e.now in
+    let u : Unrefused l.providers (length c.args.parts.now) (concat c.args.parts.now) c.args.flags (taken_before c.args.go) e = rw (c.providers.ensures.providers, c.taken_before-before.ensures) at (sym c.in_default-refusal.ensures) in
+    let peer : number_of c.peer-peer.result ≡ e.peer = c.peer-peer.ensures ∙ peer-named c.in-Some.e.now.body in
+    let link : peer_seen c.linked.result ≡ linked l.providers (cells l) c.args.fd.0 e = c.linked.ensures.linked ∙ ap (linked_with l c.args.fd.0) peer in
+    let t : ready_for (is_expedited c.args.flags) e (linked l.providers (cells l) c.args.fd.0 e) ≡ true = rw (link, c.is_expedited.ensures) at (sym c.in-Some-room.ensures.ready) in
+    let h = has-room l.providers (cells l) c.args.fd.0 (length c.args.parts.now) (concat c.args.parts.now) c.args.flags c.args.go e (sym c.in-Some.ensures.endpoint) u t in
+    let no : true ≡ false = sym h ∙ none in
+    cc no
+
+pub returns-in_ok-give-in-Some-room-clause-step : goal.returns-in_ok-give-in-Some-room-clause-step
+returns-in_ok-give-in-Some-room-clause-step c =
+    let l = c.args.lent.now in
+    let m = c.give.new.lent in
+    let e = parts c.in-Some.e.now in
+    let fd = c.args.fd.0 in
+    let bytes = concat c.args.parts.now in
+    let before = taken_before c.args.go in
+    let u : Unrefused l.providers (length c.args.parts.now) bytes c.args.flags before e = rw (c.providers.ensures.providers, c.taken_before-before.ensures) at (sym c.in_default-refusal.ensures) in
+    let peer : number_of c.peer-peer.result ≡ e.peer = c.peer-peer.ensures ∙ peer-named c.in-Some.e.now.body in
+    let link : peer_seen c.linked.result ≡ linked l.providers (cells l) fd e = c.linked.ensures.linked ∙ ap (linked_with l fd) peer in
+    let t : ready_for (is_expedited c.args.flags) e (linked l.providers (cells l) fd e) ≡ true = rw (link, c.is_expedited.ensures) at (sym c.in-Some-room.ensures.ready) in
+    let room : c.in-Some-room.room ≡ room_for (is_expedited c.args.flags) e (linked l.providers (cells l) fd e) = rw (link, c.is_expedited.ensures) at c.in-Some-room.ensures.room in
+    let q : c.next_portion-portion.result ≡ taken_of l.providers (cells l) fd c.args.parts.now c.args.flags before e =
+    (rw (c.providers-in-Some-room.ensures.providers, c.taken_before-before.ensures) at c.next_portion-portion.ensures) ∙ ap (λ (n : ℕ). portion_of l.providers c.args.parts.now c.args.flags before n e) room in
+    let ends : c.outcome.result ≡ Send.outcome e (length bytes) (before + c.next_portion-portion.result.count) = rw (c.is_done-is_done.ensures, c.taken_before-before.ensures) at c.outcome.ensures in
+    made-after l m fd (giving l.providers fd (number_of c.peer-peer.result) bytes c.next_portion-portion.result) c.outcome.result c.with_outcome.result c.in_ok-give-in-Some-room.ensures.kept c.in_ok-give-in-Some-room.ensures.ok c.with_outcome.ensures
+    ∙ ap (λ x. Some (made l.providers fd x (changed l.providers (cells l) (giving l.providers fd (number_of c.peer-peer.result) bytes c.next_portion-portion.result)))) ends
+    ∙ ap (λ (x : Option ℕ). Some (made l.providers fd (Send.outcome e (length bytes) (before + c.next_portion-portion.result.count)) (changed l.providers (cells l) (giving l.providers fd x bytes c.next_portion-portion.result)))) peer
+    ∙ ap (λ (x : Portion). Some (made l.providers fd (Send.outcome e (length bytes) (before + x.count)) (changed l.providers (cells l) (giving l.providers fd e.peer bytes x)))) q
+    ∙ sym (send-went l.providers (cells l) fd c.args.parts.now c.args.flags c.args.go e (sym c.in-Some.ensures.endpoint) u t)
+
+pub returns-in-None-clause-step : goal.returns-in-None-clause-step
+returns-in-None-clause-step c =
+    let l = c.args.lent.now in
+    let e = parts c.in-Some.e.now in
+    let u : Unrefused l.providers (length c.args.parts.now) (concat c.args.parts.now) c.args.flags (taken_before c.args.go) e = rw (c.providers.ensures.providers, c.taken_before-before.ensures) at (sym c.in_default-refusal.ensures) in
+    let peer : number_of c.peer-peer.result ≡ e.peer = c.peer-peer.ensures ∙ peer-named c.in-Some.e.now.body in
+    let link : peer_seen c.linked.result ≡ linked l.providers (cells l) c.args.fd.0 e = c.linked.ensures.linked ∙ ap (linked_with l c.args.fd.0) peer in
+    let t : ready_for (is_expedited c.args.flags) e (linked l.providers (cells l) c.args.fd.0 e) ≡ false = rw (link, c.is_expedited.ensures) at (sym c.in-None.ensures.ready) in
+    c.refuse_flow.ensures.step ∙ sym (send-flow l.providers (cells l) c.args.fd.0 (length c.args.parts.now) (concat c.args.parts.now) c.args.flags c.args.go e (sym c.in-Some.ensures.endpoint) u t (sym c.nonblock.ensures ∙ c.if-nonblock.true))
+
+pub returns-in-None-2-clause-step : goal.returns-in-None-2-clause-step
+returns-in-None-2-clause-step c =
+    let l = c.args.lent.now in
+    let e = parts c.in-Some.e.now in
+    let u : Unrefused l.providers (length c.args.parts.now) (concat c.args.parts.now) c.args.flags (taken_before c.args.go) e = rw (c.providers.ensures.providers, c.taken_before-before.ensures) at (sym c.in_default-refusal.ensures) in
+    let peer : number_of c.peer-peer.result ≡ e.peer = c.peer-peer.ensures ∙ peer-named c.in-Some.e.now.body in
+    let link : peer_seen c.linked.result ≡ linked l.providers (cells l) c.args.fd.0 e = c.linked.ensures.linked ∙ ap (linked_with l c.args.fd.0) peer in
+    let t : ready_for (is_expedited c.args.flags) e (linked l.providers (cells l) c.args.fd.0 e) ≡ false = rw (link, c.is_expedited.ensures) at (sym c.in-None-2.ensures.ready) in
+    sym (send-blocked l.providers (cells l) c.args.fd.0 (length c.args.parts.now) (concat c.args.parts.now) c.args.flags c.args.go e (sym c.in-Some.ensures.endpoint) u t (sym c.nonblock.ensures ∙ c.if-nonblock.false))

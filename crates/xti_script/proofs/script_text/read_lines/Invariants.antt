@@ -1,5 +1,5 @@
 use Rattle.std.proofs.Common.{◌≡◌, ◌+◌, ◌≤◌, [], length}
-use Rattle.xti_script.specs.Texts.{lines_of}
+use Rattle.xti_words.specs.Texts.{lines_of}
 use Rattle.xti_script.specs.Reading.{lines_from}
 use Rattle.xti_script.proofs.script_text.read_lines.Given as goal
 

@@ -1,6 +1,5 @@
-use Rattle.std.proofs.Common.{◌≡◌, ◌≤◌, length, ap, sym, ◌∙◌, arith}
+use Rattle.std.proofs.Common.{arith}
 use Rattle.xti_lent.proofs.Written.{own-kept}
-use Rattle.xti_switch.specs.Closes.{unanswered_at}
 use Rattle.xti_switch.proofs.Hearings.{no-room-taken, room-then}
 use Rattle.xti_switch.proofs.GivingUp.{gathered-all, gathered-none, gathered-one, caller-held, unanswered-same}
 use Rattle.xti_switch.proofs.callers.notices_to_callers.Goals as goal

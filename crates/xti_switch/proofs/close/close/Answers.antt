@@ -1,9 +1,8 @@
-use Rattle.std.proofs.Common.{ap, drop, refl, ◌∙◌, ◌≡◌, true}
+use Rattle.std.proofs.Common.{ap, drop, refl, ◌∙◌}
 use Rattle.std.specs.Prelude.{is_some}
 use Rattle.xti_model.specs.declared.call.Call.TheVariants as call
 use Rattle.xti_model.specs.Touched.{others}
 use Rattle.xti_model.specs.World.{endpoint, place_of, switch_number}
-use Rattle.xti_registry.specs.Known.{Known}
 use Rattle.xti_lent.specs.Lending.{cells}
 use Rattle.xti_lent.proofs.Open.{open-lent}
 use Rattle.xti_switch.proofs.Closing.{callers-reached, close-reaches, closed, known-still, open-there}

@@ -1,8 +1,0 @@
-use Rattle.std.proofs.Common.{◌≡◌, drop}
-use Rattle.xti_script.specs.Values.{bytes_in, each_in}
-use Rattle.xti_script.specs.Reading.{views}
-use Rattle.xti_script.proofs.WordLaws.{before}
-use Rattle.xti_script.proofs.values.each_bytes.Given as goal
-
-abbrev pub invariant-loop-piece : goal.invariant-loop-piece
-invariant-loop-piece l = before l.parts (each_in bytes_in (views (drop l.piece-index l.pieces))) ≡ each_in bytes_in (views l.pieces)

@@ -1,9 +1,0 @@
-use Rattle.std.proofs.Common.{arith}
-use Rattle.xti_script.proofs.FirstWord.{word_found, last_word}
-use Rattle.xti_script.proofs.words.first_word.Goals as goal
-
-pub returns-in-Some : goal.returns-in-Some
-returns-in-Some c = word_found c.args.line.now _ _ (omega arith) c.in-Some.ensures
-
-pub returns-in-None : goal.returns-in-None
-returns-in-None c = last_word c.args.line.now c.in-None.ensures

@@ -1,0 +1,6 @@
+pub mod Lines
+pub mod FirstWord
+pub mod LineEnd
+pub mod WordLaws
+pub mod TextBytes
+pub mod WordBytes

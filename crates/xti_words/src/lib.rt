@@ -1,0 +1,14 @@
+//! Words of scripts: the lines of a text, the words of a line, and what words stand for.
+#![tactic(auto)]
+
+mod operands;
+mod options;
+mod texts;
+mod values;
+mod words;
+
+pub use operands::{action_in, mode_in, provider_in};
+pub use options::options_in;
+pub use texts::{first_line, is_name};
+pub use values::{MOST_PIECES, bytes_in, number_in, parts_in, sizes_in};
+pub use words::Words;
