@@ -1,5 +1,5 @@
 -- The cells of the callers of requests.
-use Rattle.std.specs.Prelude.{◌≡◌, ℕ, List, [], ◌∷◌, Option, option_map, map, remove}
+use Rattle.std.specs.Prelude.{◌≡◌, ℕ, List, [], ◌∷◌, Option, option_map, map, remove, slice_get}
 use Rattle.xti_base.specs.declared.kinds.Fd.{Fd}
 use Rattle.xti_base.specs.declared.kinds.Seq.{Seq}
 use Rattle.xti_model.specs.declared.profile.Providers.{Providers}
@@ -36,3 +36,7 @@ caller_and_number i = (i.caller, i.number)
 
 abbrev pub numbers_of : Fd × Seq → ℕ × ℕ
 numbers_of r = (r.0.0, r.1.0)
+
+-- those of the request at a place
+abbrev pub numbers_at : List Indication → ℕ → Option (ℕ × ℕ)
+numbers_at is place = option_map caller_and_number (slice_get is place)

@@ -11,7 +11,7 @@ ghost use Rattle.xti_model.specs.Endpoint.{find_number, without_number};
 ghost use Rattle.xti_model.specs.Events.{some_wait};
 ghost use Rattle.xti_model.specs.Sound.{is_sound_body, requests};
 ghost use Rattle.xti_model.specs.Touched.{of_some, caller_cells};
-ghost use Rattle.xti_end.specs.Callers.{caller_and_number, caller_place, caller_with, numbers_of, request_with, with_numbers, StandsFirstAt};
+ghost use Rattle.xti_end.specs.Callers.{caller_place, caller_with, numbers_at, numbers_of, request_with, with_numbers, StandsFirstAt};
 ghost use Rattle.xti_end.specs.Frames.{indication_of, request_in, confirmation_in, disconnect_in, AreRequests, IsRequest};
 ghost use Rattle.xti_end.specs.Held.{is_open, parts, with_parts, without_pending, without_pending_at, without_outstanding, without_outstanding_at, without_disconnect_at};
 ghost use Rattle.xti_end.specs.Held.{pending_at, outstanding_at, disconnect_at};
@@ -271,7 +271,7 @@ impl Endpoint {
     /// `None` exactly past the end. Takes no memory.
     pub fn request_at(&self, place: usize) -> Option<(Fd, Seq)>
         requires { is_open self.now ≡ true }
-        ensures { option_map numbers_of result ≡ option_map caller_and_number (slice_get ((parts self.now).pending ++ (parts self.now).outstanding) place) }
+        ensures { option_map numbers_of result ≡ numbers_at ((parts self.now).pending ++ (parts self.now).outstanding) place }
     {
         let pending = self.waiting.pending.as_slice();
         if place < pending.len() {
@@ -330,7 +330,7 @@ fn find_number(inds: &[Ind], seq: Seq) -> Option<&Ind>
 /// The caller and the sequence number of the request at a place; `None` exactly past the end.
 fn caller_and_number(inds: &[Ind], place: usize) -> Option<(Fd, Seq)>
     requires { AreRequests inds.now }
-    ensures { option_map numbers_of result ≡ option_map caller_and_number (slice_get (map indication_of inds.now) place) }
+    ensures { option_map numbers_of result ≡ numbers_at (map indication_of inds.now) place }
 {
     let ind = inds.get(place)?;
     Some((ind.caller, Seq(ind.frame.seq())))

@@ -7,8 +7,8 @@ ghost use Rattle.xti_model.specs.Provider.{profile};
 ghost use Rattle.xti_model.specs.World.{place_of};
 ghost use Rattle.xti_model.specs.Calls.Show as Show;
 ghost use Rattle.xti_end.specs.Held.{is_open, is_open_as, parts, with_parts, SameRoom};
-ghost use Rattle.xti_end.specs.Negotiating.{negotiating, IsAnswerSize, IsNegotiated, IsRefusedWith, Negotiates};
-ghost use Rattle.xti_end.specs.Taken.{IsSureBy, MakesBy, StillBlocked};
+ghost use Rattle.xti_end.specs.Negotiating.{negotiating, IsAnswerSize, IsNegotiated, IsRefusedWith, MakesNegotiation, Negotiates};
+ghost use Rattle.xti_end.specs.Taken.{IsSureBy, StillBlocked};
 
 use crate::answers::{done, refused};
 use crate::endpoint::Endpoint;
@@ -101,7 +101,7 @@ impl Endpoint {
         omax: u32,
     ) -> Result<Applied, AllocError>
         requires { place_of p.now fd.0 ≡ self.old.place }
-        ensures step { MakesBy p.now (negotiating p.now self.old fd.0 action options.now omax) self.old self.new result }
+        ensures step { MakesNegotiation p.now fd.0 action options.now omax self.old self.new result }
         ensures still { StillBlocked self.old self.new result }
         ensures room { SameRoom self.old self.new }
         ensures err { OnErr result (self.new ≡ self.old) }

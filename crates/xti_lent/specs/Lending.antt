@@ -2,6 +2,8 @@
 use Rattle.std.specs.Prelude.{ℕ, ◌+◌, ◌==◌, Bool, List, [], ◌∷◌, ◌++◌, Option, Some, None, option_map, is_some, if◌then◌else◌}
 use Rattle.std.specs.List.{flat_map}
 use Rattle.xti_model.specs.declared.profile.Providers.{Providers}
+use Rattle.xti_model.specs.Endpoint.{Endpoint}
+use Rattle.xti_model.specs.Links.{linked}
 use Rattle.xti_model.specs.World.{World, Cell, switch_cell, places, switch_number}
 use Rattle.xti_model.specs.Robin.{numbers}
 use Rattle.xti_registry.specs.Known.{Known}
@@ -70,3 +72,7 @@ cells_by p at = flat_map (λ n. numbered_cell n (at n)) (numbers 0 (places p + 1
 -- the lent cells
 abbrev pub cells : Lending → World
 cells l = cells_by l.providers (cell_lent l)
+
+-- the endpoint that one with the descriptor is linked with, among those that are lent
+abbrev pub linked_in : Lending → ℕ → Endpoint → Option Endpoint
+linked_in l fd e = linked l.providers (cells l) fd e

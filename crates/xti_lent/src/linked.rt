@@ -2,12 +2,11 @@
 
 ghost use Rattle.std.specs.Prelude.{◌≡◌, true, Some, option_map, IfSome};
 ghost use Rattle.std.specs.Option.{option_copied};
-ghost use Rattle.xti_model.specs.Links.{linked};
 ghost use Rattle.xti_model.specs.Sending.{byte_bound, end_bound, ready_for, waiting_of};
 ghost use Rattle.xti_queue.specs.Queue.{symbols};
 ghost use Rattle.xti_end.specs.Held.{is_open, parts};
 ghost use Rattle.xti_lent.specs.Fit.{AtOwnPlaces};
-ghost use Rattle.xti_lent.specs.Lending.{cells};
+ghost use Rattle.xti_lent.specs.Lending.{linked_in};
 
 use crate::lent::Lent;
 use xti_base::Fd;
@@ -21,7 +20,7 @@ impl Lent {
     pub fn linked(&self, fd: Fd, e: &Endpoint) -> Option<&Endpoint>
         requires places { AtOwnPlaces self.now }
         requires open { is_open e.now ≡ true }
-        ensures peer { option_map parts (option_copied result) ≡ linked self.now.providers (cells self.now) fd.0 (parts e.now) }
+        ensures peer { option_map parts (option_copied result) ≡ linked_in self.now fd.0 (parts e.now) }
         ensures open { IfSome result (λ peer. is_open peer.now ≡ true) }
     {
         let peer = self.open_endpoint(e.peer()?)?;

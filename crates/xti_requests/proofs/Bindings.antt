@@ -1,6 +1,6 @@
 -- Each address is bound by an open endpoint of its provider.
 use Rattle.std.proofs.Common.{ℕ, Bool, true, false, List, [], ◌∷◌, ◌++◌, ◌+◌, ◌≡◌, ◌⊎◌, inl, inr, refl, sym, ap, ◌∙◌, subst, cond, eqb, not, ◌&&◌, map, filter, min, Option, Some, None, arith}
-use Rattle.std.proofs.lemmas.Bool.{eqb-true, eq-eqb, ne_eqb}
+use Rattle.std.proofs.lemmas.Bool.{eqb-true, eq-eqb}
 use Rattle.std.specs.Prelude.{option_map, ◌%◌, bytes_eq}
 use Rattle.xti_base.specs.Kinds.{same_prov}
 use Rattle.xti_base.specs.declared.kinds.Prov.{Prov}
@@ -55,9 +55,6 @@ all-open p w w' h [] a = tt
 all-open p w w' h (b ∷ bs) a = (bound-open p w' b.fd b.prov (h b.fd b.prov (has-prov p w b.fd b.prov a.0)), all-open p w w' h bs a.1)
 
 -- The switch after a change.
-place-not-switch : (x : ℕ) → eqb 64 (x % 64) ≡ false
-place-not-switch x = ne_eqb 64 (x % 64) (λ e. omega (arith, e))
-
 switch-kept : (p : Providers) (n : ℕ) (f : Cell → Cell) → ((c : Cell) → switch_in (f c) ≡ switch_in c) → (w : World) → the_switch p (change n f w) ≡ the_switch p w
 switch-kept p n f h w = go (eqb (switch_number p) n) refl
   where

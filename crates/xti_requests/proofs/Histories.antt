@@ -4,7 +4,7 @@ use Rattle.std.specs.Prelude.{option_and_then}
 use Rattle.xti_model.specs.declared.entry.Entry.{Entry}
 use Rattle.xti_model.specs.declared.profile.Providers.{Providers}
 use Rattle.xti_model.specs.Endpoint.{Endpoint}
-use Rattle.xti_model.specs.World.{World, Numbered, endpoint_cell, switch_cell, opening, opening_switch, closed_places, cell_at, endpoint, endpoint_in, place_of, generation_of}
+use Rattle.xti_model.specs.World.{World, Numbered, endpoint_cell, switch_cell, opening, opening_switch, closed_places, cell_at, endpoint, endpoint_in, place_of, places, generation_of, switch_number}
 use Rattle.xti_model.specs.Step.{Step, step}
 use Rattle.xti_model.specs.History.{Going, doing, step_going, step_at, left_by, after_from}
 use Rattle.xti_requests.specs.Requests.{SoundLinks, BoundToOpen}
@@ -46,9 +46,9 @@ closed-none p fd from (suc n) w h = go (eqb from (place_of p fd)) (closed-none p
 
 pub opening-none : (p : Providers) (fd : ℕ) → endpoint p (opening p) fd ≡ None
 unfolding opening
-opening-none p fd = closed-none p fd 0 64 (record { number = 64; cell = switch_cell (opening_switch 64) } ∷ []) (go (eqb 64 (place_of p fd)))
+opening-none p fd = closed-none p fd 0 (places p) (record { number = switch_number p; cell = switch_cell (opening_switch (places p)) } ∷ []) (go (eqb (switch_number p) (place_of p fd)))
   where
-    go : (b : Bool) → option_and_then (λ (z : Numbered). endpoint_in (generation_of p fd) z.cell) (cond b (Some (record { number = 64; cell = switch_cell (opening_switch 64) })) None) ≡ None
+    go : (b : Bool) → option_and_then (λ (z : Numbered). endpoint_in (generation_of p fd) z.cell) (cond b (Some (record { number = switch_number p; cell = switch_cell (opening_switch (places p)) })) None) ≡ None
     go true = refl
     go false = refl
 

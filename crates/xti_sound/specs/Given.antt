@@ -1,6 +1,7 @@
 -- What a sound world gives of its open endpoints, its places and its switch, and what a step of it keeps.
 use Rattle.std.specs.Prelude.{ℕ, Bool, true, List, [], ◌∷◌, length, Some, None, is_some, All, ◌≡◌, ◌≤◌, ◌<◌}
 use Rattle.xti_base.specs.declared.kinds.Prov.{Prov}
+use Rattle.xti_base.specs.declared.limits.TheConstants.{MOST_QUEUE}
 use Rattle.xti_base.specs.declared.kinds.State.TheVariants.{T_OUTCON}
 use Rattle.xti_model.specs.declared.call.Call.{Call}
 use Rattle.xti_model.specs.declared.entry.Entry.{Entry}
@@ -42,8 +43,8 @@ abbrev pub AlwaysFewEnds : Type 0
 AlwaysFewEnds = (p : Providers) (entries : List Entry) → valid p ≡ true → Legal p entries → SoundSymbols p (after p entries)
 
 -- the providers of open endpoints pass a test after a step too
-abbrev pub ProvidersStayPassing : (Prov → Bool) → Providers → World → Call → Go → Type 0
-ProvidersStayPassing test p w c g = OpensPassing test c → OpenProvidersPass test p w → OfStep p w c g (λ s. OpenProvidersPass test p s.world)
+abbrev pub ProvidersStayPassing : (Prov → Bool) → Providers → World → Type 0
+ProvidersStayPassing test p w = (c : Call) (g : Go) → OpensPassing test c → OpenProvidersPass test p w → OfStep p w c g (λ s. OpenProvidersPass test p s.world)
 
 -- each field of a step's reply is short
 abbrev pub RepliesShortly : Providers → World → Call → Go → Type 0
@@ -59,6 +60,10 @@ CellSoundWhenLent p w fd e = SoundWhenLent p (the_switch p w) (place_of p fd) (e
 
 abbrev pub AloneIfDatagrams : Endpoint → Type 0
 AloneIfDatagrams e = has_datagrams e.prov ≡ true → DatagramsAlone e
+
+-- no more disconnects wait than a queue takes
+abbrev pub FewDisconnects : Endpoint → Type 0
+FewDisconnects e = length e.disconnects ≤ MOST_QUEUE
 
 abbrev pub NumbersFit : Endpoint → Type 0
 NumbersFit e = All NumberFits e.pending × All NumberFits e.outstanding

@@ -3,7 +3,7 @@
 
 ghost use Rattle.std.specs.Prelude.{◌≡◌, ◌<◌, ◌≤◌, Bool, List, length, true, All};
 ghost use Rattle.xti_base.specs.declared.kinds.Prov.{Prov};
-ghost use Rattle.xti_base.specs.declared.limits.TheConstants.{NO_NUMBER, MOST_QUEUE, MOST_TOUCHED};
+ghost use Rattle.xti_base.specs.declared.limits.TheConstants.{NO_NUMBER, MOST_TOUCHED};
 ghost use Rattle.xti_model.specs.declared.call.Call.{Call};
 ghost use Rattle.xti_model.specs.declared.entry.Go.{Go};
 ghost use Rattle.xti_model.specs.declared.entry.Entry.{Entry};
@@ -23,7 +23,7 @@ ghost use Rattle.xti_sound.specs.Progress.{Progress};
 ghost use Rattle.xti_sound.specs.Symbols.{SoundSymbols};
 ghost use Rattle.xti_sound.specs.Laws.{OfAllProviders, OpenProvidersPass};
 ghost use Rattle.xti_sound.specs.Given.{OfOpen, OfStep, StaysSound, PlacesSoundWhenLent, CellSoundWhenLent};
-ghost use Rattle.xti_sound.specs.Given.{AloneIfDatagrams, NumbersFit, UnbrokenWithPeer, OneOpenEach};
+ghost use Rattle.xti_sound.specs.Given.{AloneIfDatagrams, FewDisconnects, NumbersFit, UnbrokenWithPeer, OneOpenEach};
 ghost use Rattle.xti_sound.specs.Given.{PeersApart, CallersApart, TargetsApart, ListenersApart};
 ghost use Rattle.xti_sound.specs.Given.{LinkedWhereItSends, LinkedWhereConfirmed, HasSwitch, BoundAreOpen, ListenersAreOpen};
 ghost use Rattle.xti_sound.specs.Given.{ChoiceIsFree, ChoiceIsShort, FewEndsStay, AlwaysFewEnds, ProvidersStayPassing, RepliesShortly};
@@ -47,7 +47,7 @@ pub fn sound_when_lent()
     ensures cell { (p : Providers) (w : World) → SoundWorld p w → PlacesSoundWhenLent p w }
     ensures opened { (p : Providers) (w : World) → SoundWorld p w → OfOpen p w (CellSoundWhenLent p w) }
     ensures fits { (p : Providers) (w : World) → SoundWorld p w → OfOpen p w (λ fd e. fd < NO_NUMBER) }
-    ensures disconnects { (p : Providers) (w : World) → SoundWorld p w → OfOpen p w (λ fd e. length e.disconnects ≤ MOST_QUEUE) }
+    ensures disconnects { (p : Providers) (w : World) → SoundWorld p w → OfOpen p w (λ fd e. FewDisconnects e) }
 {}
 
 /// A sound world gives of its endpoints what a step takes for granted.
@@ -114,7 +114,7 @@ pub fn few_ends_wait()
 /// test, and what the call opens does, it is so after the step. `known`: none but the three providers is ever open.
 pub fn providers_stay()
     ensures start { (test : Prov → Bool) (p : Providers) → OpenProvidersPass test p (opening p) }
-    ensures step { (test : Prov → Bool) (p : Providers) (w : World) (c : Call) (g : Go) → ProvidersStayPassing test p w c g }
+    ensures step { (test : Prov → Bool) (p : Providers) (w : World) → ProvidersStayPassing test p w }
     ensures known { (p : Providers) (entries : List Entry) → OpenProvidersPass is_provider p (after p entries) }
 {}
 
