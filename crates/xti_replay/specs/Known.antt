@@ -4,6 +4,7 @@ use Rattle.std.specs.declared.alloc.Global.{Global}
 use Rattle.std.specs.BTreeMap.{BTreeMap, get_by}
 use Rattle.std.specs.Cmp.Lexicographic.{slice_cmp}
 use Rattle.std.specs.Ordering.{nat_cmp}
+use Rattle.std.specs.Str.{bytes_eq}
 use Rattle.xti_model.specs.declared.entry.Outcome.{Outcome}
 use Rattle.xti_model.specs.declared.entry.Entry.{Entry}
 use Rattle.xti_model.specs.declared.script.Line.{Line}
@@ -60,6 +61,10 @@ pub record Knows (lines : List Line) (past : List Entry) (number : ℕ) (names :
 abbrev pub Adds : Kind → ℕ → NamedCall → Outcome → Table → Table → Type 0
 Adds kind place call outcome old new = (name : List ℕ) → known_in new name ≡ or_known (known_in old name) (told_by kind place call outcome name)
 
+-- the name stands for this, where it stood for nothing, and other names stand for what they did
+abbrev pub AddsName : List ℕ → Known → Table → Table → Type 0
+AddsName name known old new = (other : List ℕ) → known_in new other ≡ or_known (known_in old other) (if bytes_eq name other then Some known else None)
+
 pub record HasLearnt (place : ℕ) (call : NamedCall) (outcome : Outcome) (old new : Names) : Type 0 where
   pub endpoints : Adds endpoints place call outcome old.endpoints new.endpoints
   pub sequences : Adds sequences place call outcome old.sequences new.sequences
@@ -74,9 +79,13 @@ abbrev pub or_number : Option ℕ → Option ℕ → Option ℕ
 or_number None other = other
 or_number (Some n) other = Some n
 
--- what a name of a line at this place stands for, by the worker's own table and then by worker 0's
+-- the number of a name of a line at this place, by the worker's own table and then by worker 0's
+abbrev pub first_number : ℕ → Table → Table → List ℕ → Option ℕ
+first_number place own setup name = or_number (number_before place (known_in own name)) (number_before place (known_in setup name))
+
+-- what such a name stands for, also where it has no number
 abbrev pub stands_for : Kind → ℕ → Table → Table → List ℕ → ℕ
-stands_for kind place own setup name = unwrap_or (or_number (number_before place (known_in own name)) (number_before place (known_in setup name))) (kind.number None)
+stands_for kind place own setup name = unwrap_or (first_number place own setup name) (kind.number None)
 
 -- what the names of a line at this place stand for, by what its worker and worker 0 know
 abbrev pub meanings_before : ℕ → Names → Names → Meanings

@@ -3,6 +3,8 @@ pub mod Stalls
 pub mod Spots
 pub mod Known
 pub mod Progress
+pub mod Asking
+pub mod Stalling
 pub mod Turns
 pub mod Runs
 pub mod Families

@@ -1,5 +1,5 @@
 -- What is kept of a worker, beside its script and the entries so far.
-use Rattle.std.specs.Prelude.{ℕ, ◌≡◌, ◌<◌, ◌⊎◌, ◌&&◌, Bool, true, List, [], ◌∷◌, ◌++◌, length, slice_get, slice_index, slice_index_or, is_none, nat_le, Option, Some, None}
+use Rattle.std.specs.Prelude.{ℕ, ◌≡◌, ◌<◌, ◌⊎◌, ◌&&◌, Bool, true, List, [], ◌∷◌, ◌++◌, length, slice_get, slice_index, slice_index_or, is_none, nat_le, Option, Some, None, if◌then◌else◌}
 use Rattle.xti_base.specs.declared.limits.TheConstants.{WORKERS}
 use Rattle.xti_model.specs.declared.call.Call.{Call}
 use Rattle.xti_model.specs.declared.entry.Act.{Act}
@@ -9,7 +9,7 @@ use Rattle.xti_model.specs.declared.entry.Go.TheVariants as go
 use Rattle.xti_model.specs.declared.entry.Outcome.{Outcome}
 use Rattle.xti_model.specs.declared.entry.Entry.{Entry}
 use Rattle.xti_model.specs.declared.script.Line.{Line}
-use Rattle.xti_model.specs.History.{Going, unfinished}
+use Rattle.xti_model.specs.History.{Going, unfinished, going_after, call_after}
 use Rattle.xti_model.specs.Resolve.{begun}
 use Rattle.xti_model.specs.Robin.{next_going, is_through, Turn}
 use Rattle.xti_core.specs.Standing.{Standing}
@@ -55,6 +55,14 @@ so_far_of (Some g) = g.so_far
 abbrev pub is_finished : Worker → Bool
 is_finished w = is_none w.part && nat_le (length w.places.items) w.begun
 
+-- these numbers, and the worker's last where it isn't finished
+abbrev pub turns_with : Worker → ℕ → List ℕ → List ℕ
+turns_with w number turns = if is_finished w then turns else turns ++ number ∷ []
+
+-- where the worker's next line stands, if it has one
+abbrev pub next_place : Worker → ℕ
+next_place w = slice_index w.places.items w.begun
+
 -- how an entry shows the worker's next step
 abbrev pub act_by : Option Call → Act
 act_by (Some c) = act.Begin c
@@ -73,6 +81,14 @@ pub record Told (lines : List Line) (past : List Entry) (number : ℕ) (w : Work
 -- the worker's next call
 abbrev pub IsNext : List Line → List Entry → ℕ → Option Call → Type 0
 IsNext lines past number next = pending next ≡ next_going lines past number
+
+-- some history of the lines has the worker and worker 0 as they are
+abbrev pub HaveHistory : List Line → Worker → Worker → Type 0
+HaveHistory lines w setup = (past : List Entry) × (number : ℕ) × Told lines past number w × Told lines past 0 setup
+
+-- it is the worker's next call after each history that has the worker and worker 0 as they are
+abbrev pub IsNextCall : List Line → Worker → Worker → Option Call → Type 0
+IsNextCall lines w setup next = (past : List Entry) (number : ℕ) → Told lines past number w → Told lines past 0 setup → IsNext lines past number next
 
 -- worker 0 may always be asked, another one once worker 0 is finished
 abbrev pub MayAsk : List Line → List Entry → ℕ → Type 0
@@ -115,9 +131,17 @@ pub record IsFound (lines : List Line) (past : List Entry) (number : ℕ) (ws : 
   pub kept : AreKept lines past ws
   pub ready : (d : Worker) → IsReady lines past number (slice_index_or ws number d)
 
+-- all of the worker but its lines stays
+abbrev pub KeepsAllButLines : Worker → Worker → Type 0
+KeepsAllButLines old new = (new.begun ≡ old.begun) × (new.names ≡ old.names) × (new.part ≡ old.part) × (new.next ≡ old.next)
+
+-- the worker's lines stay, its call that is part way, and its next call
+abbrev pub KeepsLinesAndCalls : Worker → Worker → Type 0
+KeepsLinesAndCalls old new = (new.places ≡ old.places) × (new.part ≡ old.part) × (new.next ≡ old.next)
+
 -- the worker has a next line for an entry that begins one
 abbrev pub MayTake : List Line → Worker → Act → Type 0
-MayTake lines w (act.Begin c) = (w.begun < length w.places.items) × (slice_index w.places.items w.begun < length lines)
+MayTake lines w (act.Begin c) = (w.begun < length w.places.items) × (next_place w < length lines)
 MayTake lines w act.More = Unit
 
 -- how many lines the entry begins
@@ -125,10 +149,26 @@ abbrev pub begun_by : Act → ℕ
 begun_by (act.Begin c) = 1
 begun_by act.More = 0
 
--- the names have what the entry tells that begins the line at this place, beside what they had
+-- what is left of a call that was part way, or of the one that the entry begins
+abbrev pub left_after : Option Part → Act → Outcome → Option Going
+left_after part a outcome = going_after (call_after (part_call part) a) outcome
+
+-- the names have what the entry of the line at this place tells, beside what they had
+abbrev pub LearnsLine : List Line → ℕ → Outcome → Names → Names → Type 0
+LearnsLine lines place outcome old new = (line : Line) → slice_get lines place ≡ Some line → HasLearnt place line.call outcome old new
+
+-- the names have what an entry tells that begins the line at this place, beside what they had; one that goes on tells nothing
 abbrev pub Learns : List Line → ℕ → Act → Outcome → Names → Names → Type 0
-Learns lines place (act.Begin c) outcome old new = (line : Line) → slice_get lines place ≡ Some line → HasLearnt place line.call outcome old new
+Learns lines place (act.Begin c) outcome old new = LearnsLine lines place outcome old new
 Learns lines place act.More outcome old new = new ≡ old
+
+-- the worker's names have what the entry of its next line tells
+abbrev pub LearnsNextLine : List Line → Outcome → Worker → Worker → Type 0
+LearnsNextLine lines outcome old new = LearnsLine lines (next_place old) outcome old.names new.names
+
+-- the worker's names have what its next entry tells
+abbrev pub LearnsEntry : List Line → Act → Outcome → Worker → Worker → Type 0
+LearnsEntry lines a outcome old new = Learns lines (next_place old) a outcome old.names new.names
 
 -- one worker's step was made, or there was none
 abbrev pub Makes : List Line → ℕ → List Entry → Standing → Standing → Worker → Worker → Option Entry → Option Turn → Type 0

@@ -5,9 +5,11 @@ use Rattle.xti_base.specs.declared.limits.TheConstants.{WORKERS}
 use Rattle.xti_model.specs.declared.entry.Entry.{Entry}
 use Rattle.xti_model.specs.declared.script.Line.{Line}
 use Rattle.xti_model.specs.declared.script.Script.{Script}
-use Rattle.xti_model.specs.Robin.{is_through, last_worker, robin_from, most_steps, Turn}
+use Rattle.xti_model.specs.declared.script.StallLine.{StallLine}
+use Rattle.xti_model.specs.Robin.{is_through, last_worker, robin_from, most_steps, Turn, turn, next_turn}
 use Rattle.xti_replay.specs.declared.run.Run.{Run}
 use Rattle.xti_replay.specs.Progress.{AreKept}
+use Rattle.xti_replay.specs.Stalls.{stalls_after}
 use Rattle.xti_replay.specs.Turns.{AreTurns}
 
 -- the run stands where its lines have come by these entries
@@ -21,6 +23,26 @@ pub record StandsAfter (past : List Entry) (r : Run) : Type 0 where
 abbrev pub GoesOn : List Entry → Run → Run → Option Entry → Option Turn → Type 0
 GoesOn past old new entry None = (entry ≡ None) × (new.world ≡ old.world) × StandsAfter past new
 GoesOn past old new entry (Some t) = (entry ≡ Some t.entry) × (new.world.cells ≡ t.world) × StandsAfter (past ++ t.entry ∷ []) new
+
+-- the next turn of the run, by the definition
+abbrev pub next_turn_of : Run → List Entry → Option Turn
+next_turn_of r past = next_turn r.world.providers r.lines.now r.world.cells past
+
+-- whatever history the run stood after, it has gone on by its next turn and answered the entry of that, if there is one
+abbrev pub TakesNextTurn : Run → Run → Option Entry → Type 0
+TakesNextTurn old new entry = (past : List Entry) → StandsAfter past old → GoesOn past old new entry (next_turn_of old past)
+
+-- the run stands after some history in which worker 0 is finished
+abbrev pub StandsPastSetup : Run → Type 0
+StandsPastSetup r = (past : List Entry) × StandsAfter past r × (is_through r.lines.now past 0 ≡ true)
+
+-- the same of a run in which worker 0 is finished
+abbrev pub TakesTurnOfOthers : Run → Run → Option Entry → Type 0
+TakesTurnOfOthers old new entry = (past : List Entry) → StandsAfter past old → is_through old.lines.now past 0 ≡ true → GoesOn past old new entry (next_turn_of old past)
+
+-- these are the run's stall lines, whatever history it stands after
+abbrev pub AreStallsOf : Run → List StallLine → Type 0
+AreStallsOf r stalls = (past : List Entry) → StandsAfter past r → stalls ≡ stalls_after r.lines.now past
 
 -- worker 0 is finished, and each worker stands as the entries so far have it
 pub record AsksOthers (past : List Entry) (r : Run) : Type 0 where
@@ -40,6 +62,11 @@ HasAsked past number rest old new entry (Some t) =
     (entry ≡ Some t.entry) × (new.world.cells ≡ t.world) × (t.entry.worker ≡ number) × AreKept old.lines.now (past ++ t.entry ∷ []) new.workers.items
     × (new.turns.items ≡ put_back old.lines.now (past ++ t.entry ∷ []) number rest)
 
+-- the worker that comes first was asked, whatever history the run stood after
+abbrev pub AsksFirst : Run → Run → Option Entry → Type 0
+AsksFirst old new entry =
+    (past : List Entry) (number : ℕ) (rest : List ℕ) → AsksOthers past old → old.turns.items ≡ number ∷ rest → HasAsked past number rest old new entry (turn old.world.providers old.lines.now old.world.cells past number)
+
 -- the run is one of the script, after these entries; at most so many steps more lead to all
 pub record Leads (s : Script) (all : List Entry) (more : ℕ) (past : List Entry) (r : Run) : Type 0 where
   pub stands : StandsAfter past r
@@ -54,3 +81,7 @@ IsRunOf s all past r = Leads s all most_steps past r
 pub record IsWhole (s : Script) (all : List Entry) (r : Run) : Type 0 where
   pub stands : StandsAfter all r
   pub lines : r.lines.now ≡ s.lines
+
+-- whatever script the run was one of, from its beginning: all entries of that are added, and the run stands after them
+abbrev pub TakesAll : Run → Run → List Entry → List Entry → Type 0
+TakesAll old new before after = (s : Script) (all : List Entry) → IsRunOf s all [] old → (after ≡ before ++ all) × IsWhole s all new

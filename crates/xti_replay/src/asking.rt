@@ -1,10 +1,10 @@
 //! A worker is asked for its next step.
 
-ghost use Rattle.std.specs.Prelude.{◌≡◌, ◌<◌, ℕ, List, None, OnOk, true};
+ghost use Rattle.std.specs.Prelude.{◌≡◌, ◌<◌, List, None, OnOk};
 ghost use Rattle.xti_base.specs.declared.limits.TheConstants.{WORKERS};
 ghost use Rattle.xti_model.specs.declared.entry.Entry.{Entry};
-ghost use Rattle.xti_model.specs.Robin.{turn};
-ghost use Rattle.xti_replay.specs.Progress.{AreKept, MayAsk, IsFound, IsReady, Makes, Asked};
+ghost use Rattle.xti_replay.specs.Asking.{FindsNext, MakesTurn, TakesTurn};
+ghost use Rattle.xti_replay.specs.Progress.{AreKept, MayAsk, IsReady};
 
 use crate::workers::Worker;
 use std::alloc::{AllocError, Global};
@@ -27,7 +27,7 @@ fn make(
 ) -> Result<(), AllocError>
     requires ready { (past : List Entry) × IsReady lines.now past number worker.old }
     requires none { made.old ≡ None }
-    ensures makes { OnOk result ((past : List Entry) → IsReady lines.now past number worker.old → Makes lines.now number past world.old world.new worker.old worker.new made.new (turn world.old.providers lines.now world.old.cells past number)) }
+    ensures makes { OnOk result (MakesTurn lines.now number world.old world.new worker.old worker.new made.new) }
     ensures providers { world.new.providers ≡ world.old.providers }
 {
     let Some(call) = worker.call() else {
@@ -59,7 +59,7 @@ pub(crate) fn find_next(
 ) -> Result<(), AllocError>
     requires kept { (past : List Entry) × AreKept lines.now past workers.old.items }
     requires number { number < WORKERS }
-    ensures { OnOk result ((past : List Entry) → AreKept lines.now past workers.old.items → MayAsk lines.now past number → IsFound lines.now past number workers.new.items) }
+    ensures { OnOk result (FindsNext lines.now number workers.old workers.new) }
 {
     let worker = &workers[number];
     if worker.next.is_some() || worker.part.is_some() {
@@ -83,7 +83,7 @@ pub(crate) fn ask(
     requires kept { (past : List Entry) × AreKept lines.now past workers.old.items × MayAsk lines.now past number }
     requires number { number < WORKERS }
     requires none { made.old ≡ None }
-    ensures asked { OnOk result ((past : List Entry) → AreKept lines.now past workers.old.items → MayAsk lines.now past number → Asked lines.now number past world.old world.new workers.new.items made.new (turn world.old.providers lines.now world.old.cells past number)) }
+    ensures asked { OnOk result (TakesTurn lines.now number world.old world.new workers.old workers.new made.new) }
     ensures providers { world.new.providers ≡ world.old.providers }
 {
     find_next(lines, workers, number)?;

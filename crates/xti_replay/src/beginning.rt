@@ -8,7 +8,7 @@ ghost use Rattle.xti_model.specs.Complete.{IsHistoryOf};
 ghost use Rattle.xti_model.specs.Robin.{is_through, last_worker, numbers, order_after};
 ghost use Rattle.xti_replay.specs.Playable.{are_playable};
 ghost use Rattle.xti_replay.specs.Progress.{AreKept, AreFresh};
-ghost use Rattle.xti_replay.specs.Turns.{AreTurns, LeavesOutFinished};
+ghost use Rattle.xti_replay.specs.Turns.{AddsTurns, AreTurnsOf};
 
 use crate::workers::{Worker, put_back};
 use std::alloc::{AllocError, Global};
@@ -77,7 +77,7 @@ fn add_turns(
 ) -> Result<(), AllocError>
     requires from { from ≤ to }
     requires to { to ≤ length workers.now }
-    ensures { OnOk result ((lines : List Line) (past : List Entry) → AreKept lines past workers.now → (more : List ℕ) × (turns.new.items ≡ turns.old.items ++ more) × LeavesOutFinished lines past (numbers from (to - from)) more) }
+    ensures { OnOk result (AddsTurns workers.now (numbers from (to - from)) turns.old.items turns.new.items) }
 {
     for number in from..to {
         put_back(turns, &workers[number], number)?;
@@ -93,7 +93,7 @@ pub(crate) fn turns_after(
 ) -> Result<VecDeque<usize>, AllocError>
     requires workers { (lines : List Line) × AreKept lines history.now workers.now }
     requires last { last_worker 0 history.now < WORKERS }
-    ensures { IfOk result (λ turns. (lines : List Line) → AreKept lines history.now workers.now → AreTurns lines history.now turns.items) }
+    ensures { IfOk result (λ turns. AreTurnsOf workers.now history.now turns.items) }
 {
     let after = last_worker(history) as usize + 1;
     let mut turns = VecDeque::with_capacity(alloc, WORKERS)?;

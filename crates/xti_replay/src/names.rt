@@ -1,9 +1,8 @@
 //! What the names of a script stand for.
 
-ghost use Rattle.std.specs.Prelude.{◌≡◌, List, ℕ, [], Some, None, OnOk, if◌then◌else◌};
-ghost use Rattle.std.specs.Str.{bytes_eq};
+ghost use Rattle.std.specs.Prelude.{◌≡◌, List, ℕ, [], Some, None, OnOk};
 ghost use Rattle.xti_model.specs.Resolve.{opened_fd, listened_number};
-ghost use Rattle.xti_replay.specs.Known.{known_in, number_before, or_known, HasLearnt};
+ghost use Rattle.xti_replay.specs.Known.{known_in, number_before, AddsName, HasLearnt};
 
 use std::alloc::{AllocError, Global};
 use std::collections::BTreeMap;
@@ -66,7 +65,7 @@ fn listened_number(outcome: &Outcome) -> u32
 
 /// The name stands for this, where it stands for nothing yet.
 fn add(alloc: Global, table: &mut Table, name: &[u8], known: Known) -> Result<(), AllocError>
-    ensures { OnOk result ((other : List ℕ) → known_in table.new other ≡ or_known (known_in table.old other) (if bytes_eq name.now other then Some known else None)) }
+    ensures { OnOk result (AddsName name.now known table.old table.new) }
 {
     if table.get(name).is_none() {
         table.insert(Vec::from_slice(alloc, name)?, known)?;

@@ -8,7 +8,7 @@ ghost use Rattle.xti_model.specs.Robin.{robin};
 ghost use Rattle.xti_model.specs.Work.{script_bytes};
 ghost use Rattle.xti_model.specs.Complete.{Follows, Each, workers, Complete};
 ghost use Rattle.xti_replay.specs.Playable.{IsPlayable};
-ghost use Rattle.xti_replay.specs.Runs.{IsRunOf, IsWhole};
+ghost use Rattle.xti_replay.specs.Runs.{IsRunOf, TakesAll};
 ghost use Rattle.xti_replay.specs.Stalls.{stalls_of, are_through};
 
 use crate::run::Run;
@@ -32,7 +32,7 @@ impl<'a> Run<'a> {
 /// Takes the entries of a run to its end.
 fn take_entries(run: &mut Run, entries: &mut Entries) -> Result<(), AllocError>
     requires { (s : Script) × (all : List Entry) × IsRunOf s all [] run.old }
-    ensures { OnOk result ((s : Script) (all : List Entry) → IsRunOf s all [] run.old → (entries.new ≡ entries.old ++ all) × IsWhole s all run.new) }
+    ensures { OnOk result (TakesAll run.old run.new entries.old entries.new) }
 {
     for _step in 0..MOST_STEPS {
         match run.next()? {

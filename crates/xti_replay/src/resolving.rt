@@ -3,7 +3,7 @@
 ghost use Rattle.std.specs.Prelude.{◌≡◌, IsTrue, IfOk, Option};
 ghost use Rattle.xti_model.specs.Resolve.{seq_or_none, with_numbers};
 ghost use Rattle.xti_replay.specs.Families.{names_endpoint, is_address_or_options, is_connection_request, is_connection_receipt, moves_data, sends_datagram, receives_datagram};
-ghost use Rattle.xti_replay.specs.Known.{known_in, number_before, or_number, meanings_in};
+ghost use Rattle.xti_replay.specs.Known.{first_number, meanings_in};
 
 use crate::names::{Names, Table, number_before};
 use std::alloc::AllocError;
@@ -24,7 +24,7 @@ pub struct Scope<'a> {
 
 /// The number of a name of a line at this place, by one table and then by another.
 fn first_number(place: usize, own: &Table, setup: &Table, name: &Name) -> Option<u32>
-    ensures { result ≡ or_number (number_before place (known_in own.now name.now)) (number_before place (known_in setup.now name.now)) }
+    ensures { result ≡ first_number place own.now setup.now name.now }
 {
     match number_before(place, own, name.as_slice()) {
         Some(number) => Some(number),

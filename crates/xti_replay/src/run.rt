@@ -1,13 +1,11 @@
 //! A run of a script in which the workers take turns.
 
-ghost use Rattle.std.specs.Prelude.{◌≡◌, ◌∷◌, [], ℕ, List, None, IfOk, OnOk, true};
+ghost use Rattle.std.specs.Prelude.{◌≡◌, List, None, IfOk, OnOk, true};
 ghost use Rattle.xti_model.specs.declared.entry.Entry.{Entry};
 ghost use Rattle.xti_model.specs.Complete.{IsHistoryOf};
 ghost use Rattle.xti_model.specs.History.{after};
-ghost use Rattle.xti_model.specs.Robin.{is_through, turn, next_turn};
 ghost use Rattle.xti_replay.specs.Playable.{are_playable};
-ghost use Rattle.xti_replay.specs.Runs.{StandsAfter, AsksOthers, HasAsked, GoesOn};
-ghost use Rattle.xti_replay.specs.Stalls.{stalls_after};
+ghost use Rattle.xti_replay.specs.Runs.{StandsAfter, StandsPastSetup, AsksOthers, AsksFirst, TakesNextTurn, TakesTurnOfOthers, AreStallsOf};
 
 use crate::asking::{ask, let_go};
 use crate::beginning::{turns_after, workers_after};
@@ -63,7 +61,7 @@ impl<'a> Run<'a> {
     fn ask_first(&mut self) -> Result<(), AllocError>
         requires asks { (past : List Entry) × AsksOthers past self.old }
         requires none { self.old.made ≡ None }
-        ensures asked { OnOk result ((past : List Entry) (number : ℕ) (rest : List ℕ) → AsksOthers past self.old → self.old.turns.items ≡ number ∷ rest → HasAsked past number rest self.old self.new self.new.made (turn self.old.world.providers self.old.lines.now self.old.world.cells past number)) }
+        ensures asked { OnOk result (AsksFirst self.old self.new self.new.made) }
         ensures providers { self.new.world.providers ≡ self.old.world.providers }
         ensures lines { self.new.lines.now ≡ self.old.lines.now }
     {
@@ -83,9 +81,9 @@ impl<'a> Run<'a> {
 
     /// The next step of the workers but 0, and the entry of it.
     fn ask_others(&mut self) -> Result<(), AllocError>
-        requires stands { (past : List Entry) × StandsAfter past self.old × (is_through self.old.lines.now past 0 ≡ true) }
+        requires stands { StandsPastSetup self.old }
         requires none { self.old.made ≡ None }
-        ensures goes_on { OnOk result ((past : List Entry) → StandsAfter past self.old → is_through self.old.lines.now past 0 ≡ true → GoesOn past self.old self.new self.new.made (next_turn self.old.world.providers self.old.lines.now self.old.world.cells past)) }
+        ensures goes_on { OnOk result (TakesTurnOfOthers self.old self.new self.new.made) }
         ensures providers { self.new.world.providers ≡ self.old.world.providers }
         ensures lines { self.new.lines.now ≡ self.old.lines.now }
     {
@@ -102,7 +100,7 @@ impl<'a> Run<'a> {
     fn make(&mut self) -> Result<(), AllocError>
         requires stands { (past : List Entry) × StandsAfter past self.old }
         requires none { self.old.made ≡ None }
-        ensures goes_on { OnOk result ((past : List Entry) → StandsAfter past self.old → GoesOn past self.old self.new self.new.made (next_turn self.old.world.providers self.old.lines.now self.old.world.cells past)) }
+        ensures goes_on { OnOk result (TakesNextTurn self.old self.new self.new.made) }
         ensures providers { self.new.world.providers ≡ self.old.world.providers }
         ensures lines { self.new.lines.now ≡ self.old.lines.now }
     {
@@ -122,7 +120,7 @@ impl<'a> Run<'a> {
     /// The next entry of the run; `None` where nobody can make a step.
     pub fn next(&mut self) -> Result<Option<Entry>, AllocError>
         requires { (past : List Entry) × StandsAfter past self.old }
-        ensures goes_on { IfOk result (λ entry. (past : List Entry) → StandsAfter past self.old → GoesOn past self.old self.new entry (next_turn self.old.world.providers self.old.lines.now self.old.world.cells past)) }
+        ensures goes_on { IfOk result (λ entry. TakesNextTurn self.old self.new entry) }
         ensures providers { self.new.world.providers ≡ self.old.world.providers }
         ensures lines { self.new.lines.now ≡ self.old.lines.now }
     {
@@ -135,7 +133,7 @@ impl<'a> Run<'a> {
     /// that isn't.
     pub fn stalls(mut self) -> Result<Stalls, AllocError>
         requires { (past : List Entry) × StandsAfter past self }
-        ensures { IfOk result (λ stalls. (past : List Entry) → StandsAfter past self.entry → stalls ≡ stalls_after self.entry.lines.now past) }
+        ensures { IfOk result (λ stalls. AreStallsOf self.entry stalls) }
     {
         stall_lines(self.alloc, self.lines, &mut self.workers)
     }

@@ -4,7 +4,7 @@ ghost use Rattle.std.specs.Prelude.{◌≡◌, ◌++◌, ◌<◌, List, IfOk, On
 ghost use Rattle.xti_base.specs.declared.limits.TheConstants.{WORKERS};
 ghost use Rattle.xti_model.specs.declared.entry.Entry.{Entry};
 ghost use Rattle.xti_replay.specs.Progress.{AreKept, MayAsk, is_finished};
-ghost use Rattle.xti_replay.specs.Stalls.{stall_at, stalls_after};
+ghost use Rattle.xti_replay.specs.Stalling.{AddsStall, AreStalls};
 
 use crate::asking::find_next;
 use crate::workers::Worker;
@@ -21,7 +21,7 @@ fn add_stall(
 ) -> Result<(), AllocError>
     requires kept { (past : List Entry) × AreKept lines.now past workers.old.items × MayAsk lines.now past number }
     requires number { number < WORKERS }
-    ensures { OnOk result ((past : List Entry) → AreKept lines.now past workers.old.items → MayAsk lines.now past number → (stalls.new ≡ stalls.old ++ stall_at lines.now past number) × AreKept lines.now past workers.new.items) }
+    ensures { OnOk result (AddsStall lines.now number workers.old workers.new stalls.old stalls.new) }
 {
     find_next(lines, workers, number)?;
     let worker = &mut workers[number];
@@ -49,7 +49,7 @@ pub(crate) fn stall_lines(
     workers: &mut Vec<Worker>,
 ) -> Result<Stalls, AllocError>
     requires kept { (past : List Entry) × AreKept lines.now past workers.old.items }
-    ensures { IfOk result (λ stalls. (past : List Entry) → AreKept lines.now past workers.old.items → stalls ≡ stalls_after lines.now past) }
+    ensures { IfOk result (λ stalls. AreStalls lines.now workers.old.items stalls) }
 {
     let mut stalls = Stalls::new(alloc);
     for number in 0..stalling(&workers[0]) {

@@ -1,12 +1,10 @@
 //! What is kept of each worker.
 
-ghost use Rattle.std.specs.Prelude.{◌≡◌, ◌+◌, ◌<◌, ◌++◌, ◌∷◌, [], List, ℕ, None, Some, option_map, slice_index, slice_get, length, IfOk, OnOk, true, if◌then◌else◌};
+ghost use Rattle.std.specs.Prelude.{◌≡◌, ◌+◌, ◌<◌, ◌++◌, ◌∷◌, [], List, ℕ, None, Some, slice_get, length, IfOk, OnOk};
 ghost use Rattle.std.specs.Option.{option_copied};
-ghost use Rattle.xti_model.specs.declared.entry.Entry.{Entry};
-ghost use Rattle.xti_model.specs.declared.script.Line.{Line};
-ghost use Rattle.xti_model.specs.History.{call_after, going_after};
-ghost use Rattle.xti_replay.specs.Known.{known_in, HasLearnt};
-ghost use Rattle.xti_replay.specs.Progress.{is_finished, Told, IsNext, MayTake, Learns, begun_by, next_act, part_call, part_going, going_of, call_of, so_far_of};
+ghost use Rattle.xti_model.specs.History.{going_after};
+ghost use Rattle.xti_replay.specs.Known.{known_in};
+ghost use Rattle.xti_replay.specs.Progress.{is_finished, turns_with, next_place, HaveHistory, IsNextCall, MayTake, KeepsAllButLines, KeepsLinesAndCalls, LearnsNextLine, LearnsEntry, begun_by, left_after, next_act, part_call, part_going, going_of, call_of, so_far_of};
 
 use crate::names::Names;
 use crate::resolving::Scope;
@@ -94,7 +92,7 @@ impl Worker {
     /// The line at this place is the worker's too.
     pub fn hand(&mut self, place: usize) -> Result<(), AllocError>
         ensures places { OnOk result (self.new.places.items ≡ self.old.places.items ++ place ∷ []) }
-        ensures others { (self.new.begun ≡ self.old.begun) × (self.new.names ≡ self.old.names) × (self.new.part ≡ self.old.part) × (self.new.next ≡ self.old.next) }
+        ensures others { KeepsAllButLines self.old self.new }
     {
         self.places.push(place)?;
         Ok(())
@@ -117,9 +115,9 @@ impl Worker {
 
     /// The call of its next line, with numbers in place of names; `None` where it has begun them all.
     pub fn next_call(&self, lines: &[Line], setup: &Worker) -> Result<Option<Call>, AllocError>
-        requires told { (past : List Entry) × (number : ℕ) × Told lines.now past number self.now × Told lines.now past 0 setup.now }
+        requires told { HaveHistory lines.now self.now setup.now }
         requires whole { self.now.part ≡ None }
-        ensures { IfOk result (λ next. (past : List Entry) (number : ℕ) → Told lines.now past number self.now → Told lines.now past 0 setup.now → IsNext lines.now past number next) }
+        ensures { IfOk result (λ next. IsNextCall lines.now self.now setup.now next) }
     {
         match self.place() {
             None => Ok(None),
@@ -188,10 +186,10 @@ impl Worker {
     #[inline(always)]
     fn begin(&mut self, alloc: Global, lines: &[Line], outcome: &Outcome) -> Result<(), AllocError>
         requires more { self.old.begun < length self.old.places.items }
-        requires within { slice_index self.old.places.items self.old.begun < length lines.now }
-        ensures others { (self.new.places ≡ self.old.places) × (self.new.part ≡ self.old.part) × (self.new.next ≡ self.old.next) }
+        requires within { next_place self.old < length lines.now }
+        ensures others { KeepsLinesAndCalls self.old self.new }
         ensures count { OnOk result (self.new.begun ≡ self.old.begun + 1) }
-        ensures names { OnOk result ((line : Line) → slice_get lines.now (slice_index self.old.places.items self.old.begun) ≡ Some line → HasLearnt (slice_index self.old.places.items self.old.begun) line.call outcome.now self.old.names self.new.names) }
+        ensures names { OnOk result (LearnsNextLine lines.now outcome.now self.old self.new) }
     {
         let place = self.places[self.begun];
         let line = &lines[place];
@@ -221,8 +219,8 @@ impl Worker {
         ensures places { self.new.places ≡ self.old.places }
         ensures next { self.new.next ≡ self.old.next }
         ensures count { OnOk result (self.new.begun ≡ self.old.begun + begun_by act.now) }
-        ensures part { OnOk result (part_going self.new.part ≡ going_after (call_after (part_call self.old.part) act.now) outcome.now) }
-        ensures names { OnOk result (Learns lines.now (slice_index self.old.places.items self.old.begun) act.now outcome.now self.old.names self.new.names) }
+        ensures part { OnOk result (part_going self.new.part ≡ left_after self.old.part act.now outcome.now) }
+        ensures names { OnOk result (LearnsEntry lines.now act.now outcome.now self.old self.new) }
     {
         match act {
             Act::Begin(call) => {
@@ -247,7 +245,7 @@ pub(crate) fn put_back(
     worker: &Worker,
     number: usize,
 ) -> Result<(), AllocError>
-    ensures { OnOk result (turns.new.items ≡ (if is_finished worker.now then turns.old.items else turns.old.items ++ number ∷ [])) }
+    ensures { OnOk result (turns.new.items ≡ turns_with worker.now number turns.old.items) }
 {
     if worker.is_finished() {
         return Ok(());

@@ -1,5 +1,5 @@
 -- Fields that are read one after the other, and the call that their values make.
-use Rattle.std.specs.Prelude.{◌≡◌, Bool, true, false, List, [], ◌∷◌, Option, Some, None, Result, Ok, Err}
+use Rattle.std.specs.Prelude.{◌≡◌, ℕ, Bool, true, false, List, [], ◌∷◌, Option, Some, None, Result, Ok, Err}
 use Rattle.xti_model.specs.declared.script.NamedCall.{NamedCall}
 use Rattle.xti_script.specs.Kinds.{Kind}
 use Rattle.xti_script.specs.Kinds.{Kind as kind}
@@ -14,7 +14,7 @@ use Rattle.xti_script.specs.declared.fields.FieldFail.TheVariants.{Wrong, OutOfM
 use Rattle.xti_script.specs.Names.{Spot, after}
 use Rattle.xti_words.specs.Values.{onto}
 use Rattle.xti_script.specs.Fields.{kind_of}
-use Rattle.xti_script.specs.Reading.{fields_of}
+use Rattle.xti_script.specs.Reading.{written_value, fields_of}
 
 abbrev pub usual_is : Usual → Value
 usual_is usual.Empty = value.Bytes []
@@ -28,6 +28,10 @@ spot_of fields = after fields.draft.now fields.worker
 -- the values that the words give the fields that are not read yet
 abbrev pub unread : Fields → Option (List Value)
 unread fields = fields_of (spot_of fields) fields.keys.now fields.words
+
+-- the next field was taken, with this key and this word: its value is the first of those that were not read
+abbrev pub TakesField : Fields → Fields → Key → Option (List ℕ) → Type 0
+TakesField old new key text = unread old ≡ onto (written_value (spot_of new) key text) (unread new)
 
 -- the next field is of this kind
 abbrev pub NextIs : Kind → List Key → Type 0

@@ -5,9 +5,8 @@ ghost use Rattle.std.specs.Option.{option_copied};
 ghost use Rattle.xti_script.specs.FieldValue.{Value as value};
 ghost use Rattle.xti_script.specs.Fields.{key_word, kind_of, usual_value};
 ghost use Rattle.xti_script.specs.Names.{Spot, after, can_name};
-ghost use Rattle.xti_words.specs.Values.{onto};
 ghost use Rattle.xti_script.specs.Reading.{behind_key, written_value, field_value, field_rest, fields_of};
-ghost use Rattle.xti_script.specs.Unread.{usual_is, spot_of, unread, NextIs, NextIsName, Reads};
+ghost use Rattle.xti_script.specs.Unread.{usual_is, spot_of, unread, TakesField, NextIs, NextIsName, Reads};
 ghost use Rattle.xti_script.specs.Kinds.{Kind as kind};
 ghost use Rattle.xti_script.specs.declared.fields.FieldFail.TheVariants.{OutOfMemory};
 
@@ -210,7 +209,7 @@ impl<'a> Fields<'a> {
         requires { 0 < length self.old.keys.now }
         ensures spot { spot_of self.new ≡ spot_of self.old }
         ensures keys { self.old.keys.now ≡ result.0 ∷ self.new.keys.now }
-        ensures value { unread self.old ≡ onto (written_value (spot_of self.new) result.0 (option_copied result.1)) (unread self.new) }
+        ensures value { TakesField self.old self.new result.0 (option_copied result.1) }
     {
         let key = self.keys[0];
         self.keys = &self.keys[1..];

@@ -1,0 +1,24 @@
+-- What a worker that is asked does, whatever the history after which it stands so.
+use Rattle.std.specs.Prelude.{ℕ, List, Vec, Option}
+use Rattle.std.specs.declared.alloc.Global.{Global}
+use Rattle.xti_model.specs.declared.entry.Entry.{Entry}
+use Rattle.xti_model.specs.declared.script.Line.{Line}
+use Rattle.xti_model.specs.Robin.{turn}
+use Rattle.xti_core.specs.Standing.{Standing}
+use Rattle.xti_replay.specs.declared.workers.Worker.{Worker}
+use Rattle.xti_replay.specs.Progress.{AreKept, MayAsk, IsFound, IsReady, Makes, Asked}
+
+-- where the worker may be asked, its next step is known now
+abbrev pub FindsNext : List Line → ℕ → Vec Worker Global → Vec Worker Global → Type 0
+FindsNext lines number old new = (past : List Entry) → AreKept lines past old.items → MayAsk lines past number → IsFound lines past number new.items
+
+-- where the worker's next step is known, it made that step in its turn, or there was none
+abbrev pub MakesTurn : List Line → ℕ → Standing → Standing → Worker → Worker → Option Entry → Type 0
+MakesTurn lines number before after old new entry =
+    (past : List Entry) → IsReady lines past number old → Makes lines number past before after old new entry (turn before.providers lines before.cells past number)
+
+-- where the worker may be asked, its next step was made in its turn, or there was none
+abbrev pub TakesTurn : List Line → ℕ → Standing → Standing → Vec Worker Global → Vec Worker Global → Option Entry → Type 0
+TakesTurn lines number before after old new entry =
+    (past : List Entry) → AreKept lines past old.items → MayAsk lines past number
+    → Asked lines number past before after new.items entry (turn before.providers lines before.cells past number)
