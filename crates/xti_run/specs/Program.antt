@@ -1,5 +1,5 @@
 -- What the program answers.
-use Rattle.std.specs.Prelude.{◌≡◌, Bool, true, false, ℕ, ◌+◌, ◌<◌, ◌≤◌, List, [], ◌∷◌, ◌++◌, length, take, codes, decimal, Option, Some, None, ◌⊎◌, if◌then◌else◌}
+use Rattle.std.specs.Prelude.{◌≡◌, ◌≢◌, Bool, true, false, ℕ, ◌+◌, ◌<◌, ◌≤◌, List, [], ◌∷◌, ◌++◌, length, take, codes, decimal, Option, Some, None, ◌⊎◌, if◌then◌else◌}
 use Rattle.std.specs.Str.{bytes_eq}
 use Rattle.xti_base.specs.declared.limits.TheConstants.{MOST_INPUT}
 use Rattle.xti_io.specs.Faults.{Rose}
@@ -124,6 +124,10 @@ pub record IsRefusedWords (status : ℕ) (text : List ℕ) : Type 0 where
   pub done : status ≡ 1
   pub printed : text ≡ refused_words
 
+-- the words are a command
+abbrev pub IsCommand : List (List ℕ) → Type 0
+IsCommand words = command_of words ≢ None
+
 -- the status and the text of a command, or where there is none
 abbrev pub IsOutputOf : Option Command → Option (List ℕ) → ℕ → List ℕ → Type 0
 IsOutputOf None left status text = IsRefusedWords status text
@@ -176,3 +180,19 @@ HasInput Frames left = HasFrames left
 -- no fault was counted
 abbrev pub NoFault : ℕ → ℕ → Type 0
 NoFault before now = Rose before now → ⊥
+
+-- memory ran out
+abbrev pub IsOutOfMemory : ℕ → Type 0
+IsOutOfMemory status = status ≡ 4
+
+-- the whole text was written, or memory ran out
+abbrev pub IsWrittenOrOutOfMemory : List (List ℕ) → Option (List ℕ) → ℕ → Option (List ℕ) → Option (List ℕ) → Type 0
+IsWrittenOrOutOfMemory words left status before now = IsOutOfMemory status ⊎ IsWritten words left status before now
+
+-- reading failed: a fault of the source was counted
+abbrev pub IsReadFault : ℕ → ℕ → ℕ → Type 0
+IsReadFault status before now = (status ≡ 5) × Rose before now
+
+-- no answer was made: memory ran out, or the words are a command and reading failed
+abbrev pub IsUnanswered : List (List ℕ) → ℕ → ℕ → ℕ → Type 0
+IsUnanswered words status before now = IsOutOfMemory status ⊎ ((status ≡ 5) × IsCommand words × Rose before now)

@@ -4,12 +4,13 @@ ghost use Rattle.std.specs.Prelude.{◌≡◌, ◌≢◌, ◌<◌, ◌≤◌, �
 ghost use Rattle.xti_io.specs.Faults.{Rose};
 ghost use Rattle.xti_io.specs.Source.{GivesUpTo};
 ghost use Rattle.xti_model.specs.declared.script.Script.{Script};
-ghost use Rattle.xti_journal.specs.Writing.{Written, Took, TookOne};
+ghost use Rattle.xti_journal.specs.Writing.{TookOne};
 ghost use Rattle.xti_model.specs.declared.entry.Entry.{Entry};
-ghost use Rattle.xti_replay.specs.Runs.{IsRunOf, IsWhole};
+ghost use Rattle.xti_replay.specs.Runs.{IsRunOf};
 ghost use Rattle.xti_script.specs.Grammar.{IsScript};
 ghost use Rattle.xti_run.specs.declared.words.Command.{Command};
-ghost use Rattle.xti_run.specs.Program.{IsReplayed, IsRefusedInput, IsListed, IsRefusedByte, IsAnswered, IsRun, IsOutput, IsRefusedWords, IsWritten, IsCutOff, HasInput, IsDone, NoFault, limit, refused_line, refused_byte, refused_words, refused_size, command_of, status_with};
+ghost use Rattle.xti_run.specs.Entries.{WritesAll};
+ghost use Rattle.xti_run.specs.Program.{IsReplayed, IsRefusedInput, IsListed, IsRefusedByte, IsAnswered, IsRun, IsOutput, IsRefusedWords, IsCommand, IsWritten, IsWrittenOrOutOfMemory, IsCutOff, HasInput, IsDone, IsOutOfMemory, IsReadFault, IsUnanswered, NoFault, limit, refused_line, refused_byte, refused_words, refused_size, command_of, status_with};
 
 use crate::gate::Gate;
 use crate::round_robin::texts_are_playable;
@@ -84,7 +85,7 @@ fn write_entry(writer: &mut JournalWriter, entry: Entry) -> Result<(), AllocErro
 /// Writes the entries of a run to its end.
 fn write_entries(run: &mut Run, writer: &mut JournalWriter) -> Result<(), AllocError>
     requires { (s : Script) × (all : List Entry) × IsRunOf s all [] run.old }
-    ensures { OnOk result ((s : Script) (all : List Entry) → IsRunOf s all [] run.old → ((first : Written) → Took first [] writer.old → Took first all writer.new) × IsWhole s all run.new) }
+    ensures { OnOk result (WritesAll run.old run.new writer.old writer.new) }
 {
     for _step in 0..MOST_STEPS {
         match run.next()? {
@@ -175,7 +176,7 @@ fn size_answer(alloc: Global) -> Result<Answer, AllocError>
 /// What the command answers to what the source has left.
 fn answer_from<R: Source>(alloc: Global, command: Command, source: &mut R) -> Result<Answer, Status>
     ensures ok { IfOk result (λ a. IsRun command (R.left source.old) a.status a.text) }
-    ensures err { IfErr result (λ s. (s.0 ≡ 4) ⊎ ((s.0 ≡ 5) × Rose (R.faults source.old) (R.faults source.new))) }
+    ensures err { IfErr result (λ s. IsOutOfMemory s.0 ⊎ IsReadFault s.0 (R.faults source.old) (R.faults source.new)) }
     ensures read { GivesUpTo (limit + 1) (R.left source.old) (R.left source.new) }
     ensures later { R.faults source.old ≤ R.faults source.new }
 {
@@ -190,8 +191,8 @@ fn answer_from<R: Source>(alloc: Global, command: Command, source: &mut R) -> Re
 /// The answer to the words and what the source has left.
 fn output<R: Source>(alloc: Global, words: &Words, source: &mut R) -> Result<Answer, Status>
     ensures ok { IfOk result (λ a. IsOutput words.now (R.left source.old) a.status a.text) }
-    ensures err { IfErr result (λ s. (s.0 ≡ 4) ⊎ ((s.0 ≡ 5) × (command_of words.now ≢ None) × Rose (R.faults source.old) (R.faults source.new))) }
-    ensures read { command_of words.now ≢ None → GivesUpTo (limit + 1) (R.left source.old) (R.left source.new) }
+    ensures err { IfErr result (λ s. IsUnanswered words.now s.0 (R.faults source.old) (R.faults source.new)) }
+    ensures read { IsCommand words.now → GivesUpTo (limit + 1) (R.left source.old) (R.left source.new) }
     ensures unread { command_of words.now ≡ None → source.new ≡ source.old }
 {
     match words.command() {
@@ -208,22 +209,29 @@ fn run_to_end<R: Source, W: Sink>(
     sink: &mut W,
 ) -> Status
     // Below 4 the whole text was written: the journal of a legal run, the lines of the frames, or why there are none.
-    ensures written { result.0 < 4 → IsWritten words.now (R.left source.old) result.0 (W.held sink.old) (W.held sink.new) }
+    ensures written { result.0 < 4
+        → IsWritten words.now (R.left source.old) result.0 (W.held sink.old) (W.held sink.new) }
     ensures unwritten { (result.0 ≡ 4) ⊎ (result.0 ≡ 5) → W.held sink.new ≡ W.held sink.old }
     ensures cut_off { result.0 ≡ 6 → IsCutOff words.now (R.left source.old) (W.held sink.old) (W.held sink.new) }
 
     // Faults are answered only where their count rose.
-    ensures read_fault { result.0 ≡ 5 → (command_of words.now ≢ None) × Rose (R.faults source.old) (R.faults source.new) }
+    ensures read_fault { result.0 ≡ 5 → IsCommand words.now × Rose (R.faults source.old) (R.faults source.new) }
     ensures write_fault { result.0 ≡ 6 → Rose (W.faults sink.old) (W.faults sink.new) }
     ensures range { result.0 < 7 }
     ensures words { result.0 ≡ 1 → command_of words.now ≡ None }
 
     // With no fault the whole text is written, or memory ran out.
-    ensures settled { NoFault (R.faults source.old) (R.faults source.new) → NoFault (W.faults sink.old) (W.faults sink.new) → (result.0 ≡ 4) ⊎ IsWritten words.now (R.left source.old) result.0 (W.held sink.old) (W.held sink.new) }
-    ensures complete { (command : Command) → command_of words.now ≡ Some command → HasInput command (R.left source.old) → NoFault (R.faults source.old) (R.faults source.new) → NoFault (W.faults sink.old) (W.faults sink.new) → IsDone command result.0 ⊎ (result.0 ≡ 4) }
+    ensures settled { NoFault (R.faults source.old) (R.faults source.new)
+        → NoFault (W.faults sink.old) (W.faults sink.new)
+        → IsWrittenOrOutOfMemory words.now (R.left source.old) result.0 (W.held sink.old) (W.held sink.new) }
+    ensures complete { (command : Command) → command_of words.now ≡ Some command
+        → HasInput command (R.left source.old)
+        → NoFault (R.faults source.old) (R.faults source.new)
+        → NoFault (W.faults sink.old) (W.faults sink.new)
+        → IsDone command result.0 ⊎ IsOutOfMemory result.0 }
 
     // What is read.
-    ensures read { command_of words.now ≢ None → GivesUpTo (limit + 1) (R.left source.old) (R.left source.new) }
+    ensures read { IsCommand words.now → GivesUpTo (limit + 1) (R.left source.old) (R.left source.new) }
     ensures unread { command_of words.now ≡ None → source.new ≡ source.old }
 {
     never_both();
@@ -252,22 +260,29 @@ pub fn program<T: Threads + Wait + Sync, R: Source, W: Sink, G: Gate>(
     _gate: &G,
 ) -> Status
     // Below 4 the whole text was written: the journal of a legal run, the lines of the frames, or why there are none.
-    ensures written { result.0 < 4 → IsWritten words.now (R.left source.old) result.0 (W.held sink.old) (W.held sink.new) }
+    ensures written { result.0 < 4
+        → IsWritten words.now (R.left source.old) result.0 (W.held sink.old) (W.held sink.new) }
     ensures unwritten { (result.0 ≡ 4) ⊎ (result.0 ≡ 5) → W.held sink.new ≡ W.held sink.old }
     ensures cut_off { result.0 ≡ 6 → IsCutOff words.now (R.left source.old) (W.held sink.old) (W.held sink.new) }
 
     // Faults are answered only where their count rose.
-    ensures read_fault { result.0 ≡ 5 → (command_of words.now ≢ None) × Rose (R.faults source.old) (R.faults source.new) }
+    ensures read_fault { result.0 ≡ 5 → IsCommand words.now × Rose (R.faults source.old) (R.faults source.new) }
     ensures write_fault { result.0 ≡ 6 → Rose (W.faults sink.old) (W.faults sink.new) }
     ensures range { result.0 < 7 }
     ensures words { result.0 ≡ 1 → command_of words.now ≡ None }
 
     // With no fault the whole text is written, or memory ran out.
-    ensures settled { NoFault (R.faults source.old) (R.faults source.new) → NoFault (W.faults sink.old) (W.faults sink.new) → (result.0 ≡ 4) ⊎ IsWritten words.now (R.left source.old) result.0 (W.held sink.old) (W.held sink.new) }
-    ensures complete { (command : Command) → command_of words.now ≡ Some command → HasInput command (R.left source.old) → NoFault (R.faults source.old) (R.faults source.new) → NoFault (W.faults sink.old) (W.faults sink.new) → IsDone command result.0 ⊎ (result.0 ≡ 4) }
+    ensures settled { NoFault (R.faults source.old) (R.faults source.new)
+        → NoFault (W.faults sink.old) (W.faults sink.new)
+        → IsWrittenOrOutOfMemory words.now (R.left source.old) result.0 (W.held sink.old) (W.held sink.new) }
+    ensures complete { (command : Command) → command_of words.now ≡ Some command
+        → HasInput command (R.left source.old)
+        → NoFault (R.faults source.old) (R.faults source.new)
+        → NoFault (W.faults sink.old) (W.faults sink.new)
+        → IsDone command result.0 ⊎ IsOutOfMemory result.0 }
 
     // What is read.
-    ensures read { command_of words.now ≢ None → GivesUpTo (limit + 1) (R.left source.old) (R.left source.new) }
+    ensures read { IsCommand words.now → GivesUpTo (limit + 1) (R.left source.old) (R.left source.new) }
     ensures unread { command_of words.now ≡ None → source.new ≡ source.old }
 {
     run_to_end(alloc, words, source, sink)
