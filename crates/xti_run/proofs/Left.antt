@@ -3,7 +3,7 @@ use Rattle.std.specs.Prelude.{◌≡◌, ◌≤◌, ◌+◌, length, List, [], �
 use Rattle.std.proofs.Common.{arith, refl, sym, inl, inr}
 use Rattle.std.proofs.lemmas.List.{append-nil, length-append}
 use Rattle.xti_io.specs.Source.{Gives, GivesAll, GivesUpTo}
-use Rattle.xti_run.specs.declared.words.Command.{Command}
+use Rattle.xti_command.specs.declared.command.Command.{Command}
 use Rattle.xti_run.specs.Program.{IsLeft, IsRun, IsAnswered, limit, refused_size}
 
 pub gives_front : (before now : Option (List ℕ)) (all : List ℕ) → GivesAll before now all → length all ≤ limit → GivesUpTo (limit + 1) before now

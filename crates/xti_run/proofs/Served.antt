@@ -7,8 +7,8 @@ use Rattle.tpi_grammar.specs.Frames.{IsFrames, IsFirstWrong}
 use Rattle.xti_model.specs.declared.script.Script.{Script}
 use Rattle.xti_script.specs.Grammar.{IsScript}
 use Rattle.xti_script.specs.Refused.{IsRefusedAt}
-use Rattle.xti_run.specs.declared.words.Command.{Command}
-use Rattle.xti_run.specs.declared.words.Command.TheVariants.{Replay, Frames}
+use Rattle.xti_command.specs.declared.command.Command.{Command}
+use Rattle.xti_command.specs.declared.command.Command.TheVariants.{Replay, Frames}
 use Rattle.xti_run.specs.Program.{IsLeft, IsRun, IsAnswer, IsOutput, IsOutputOf, IsDone, HasInput, HasScript, HasFrames, status_with, command_of}
 
 -- no text is a script and refused at a line, and no bytes are frames and wrong first at a place

@@ -17,8 +17,9 @@ use Rattle.xti_script.specs.Refused.{IsRefusedAt}
 use Rattle.xti_journal.specs.JournalText.{journal_text}
 use Rattle.tpi_grammar.specs.Frames.{IsFrames, IsFirstWrong}
 use Rattle.xti_frames.specs.FrameText.{IsShown}
-use Rattle.xti_run.specs.declared.words.Command.{Command}
-use Rattle.xti_run.specs.declared.words.Command.TheVariants.{Replay, Frames}
+use Rattle.xti_command.specs.declared.command.Command.{Command}
+use Rattle.xti_command.specs.declared.command.Command.TheVariants.{Replay, Frames}
+use Rattle.xti_command.specs.Words.{command_of}
 
 -- the most bytes of an input
 abbrev pub limit : ℕ
@@ -47,14 +48,6 @@ refused_words = codes "refused words\n"
 
 unfoldable pub refused_size : List ℕ
 refused_size = codes "refused size\n"
-
--- the command that the words are: one word that names it
-abbrev pub named : List ℕ → Option Command
-named word = if bytes_eq word (codes "replay") then Some Replay else if bytes_eq word (codes "frames") then Some Frames else None
-
-abbrev pub command_of : List (List ℕ) → Option Command
-command_of (word ∷ []) = named word
-command_of other = None
 
 -- The input is a valid script: the journal of its run, with a stall line for each worker that is not finished. The run is legal, has each worker's calls in script order, each once,
 -- and ends early only where worker 0 is blocked in its setup, or each worker that is not finished is blocked; it has no more steps than the script has calls and bytes of arguments.

@@ -4,9 +4,8 @@
 mod gate;
 mod round_robin;
 mod top;
-mod words;
 
 pub use gate::{Gate, NoGate};
 pub use round_robin::replay;
 pub use top::{Status, program};
-pub use words::Words;
+pub use xti_command::Words;

@@ -8,19 +8,20 @@ ghost use Rattle.xti_journal.specs.Writing.{TookOne};
 ghost use Rattle.xti_model.specs.declared.entry.Entry.{Entry};
 ghost use Rattle.xti_replay.specs.Runs.{IsRunOf};
 ghost use Rattle.xti_script.specs.Grammar.{IsScript};
-ghost use Rattle.xti_run.specs.declared.words.Command.{Command};
+ghost use Rattle.xti_command.specs.declared.command.Command.{Command};
+ghost use Rattle.xti_command.specs.Words.{IsPlain, command_in, command_of, found_in, is_taken};
 ghost use Rattle.xti_run.specs.Entries.{WritesAll};
-ghost use Rattle.xti_run.specs.Program.{IsReplayed, IsRefusedInput, IsListed, IsRefusedByte, IsAnswered, IsRun, IsOutput, IsRefusedWords, IsCommand, IsWritten, IsWrittenOrOutOfMemory, IsCutOff, HasInput, IsDone, IsOutOfMemory, IsReadFault, IsUnanswered, NoFault, limit, refused_line, refused_byte, refused_words, refused_size, command_of, status_with};
+ghost use Rattle.xti_run.specs.Program.{IsReplayed, IsRefusedInput, IsListed, IsRefusedByte, IsAnswered, IsRun, IsOutput, IsRefusedWords, IsCommand, IsWritten, IsWrittenOrOutOfMemory, IsCutOff, HasInput, IsDone, IsOutOfMemory, IsReadFault, IsUnanswered, NoFault, limit, refused_line, refused_byte, refused_words, refused_size, status_with};
 
 use crate::gate::Gate;
 use crate::round_robin::texts_are_playable;
-use crate::words::{Command, Words};
 use std::alloc::{AllocError, Global};
 use std::sync::Wait;
 use std::thread::Threads;
 use tpi_grammar::frames_law;
 use xti_base::Octets;
 use xti_base::limits::{MOST_INPUT, MOST_STEPS};
+use xti_command::{Command, Words, WordsFail, plain_words_are_commands};
 use xti_frames::{FramesFail, show_frames};
 use xti_io::{ReadEnd, Sink, Source, read_all, write_all};
 use xti_journal::JournalWriter;
@@ -196,8 +197,9 @@ fn output<R: Source>(alloc: Global, words: &Words, source: &mut R) -> Result<Ans
     ensures unread { command_of words.now ≡ None → source.new ≡ source.old }
 {
     match words.command() {
-        Some(command) => answer_from(alloc, command, source),
-        None => Ok(words_answer(alloc)?),
+        Ok(command) => answer_from(alloc, command, source),
+        Err(WordsFail::Refused) => Ok(words_answer(alloc)?),
+        Err(WordsFail::OutOfMemory) => Err(Status(4)),
     }
 }
 
@@ -219,6 +221,8 @@ fn run_to_end<R: Source, W: Sink>(
     ensures write_fault { result.0 ≡ 6 → Rose (W.faults sink.old) (W.faults sink.new) }
     ensures range { result.0 < 7 }
     ensures words { result.0 ≡ 1 → command_of words.now ≡ None }
+    ensures taken { is_taken words.now ≡ true → result.0 ≡ 1 → command_in (found_in words.now) ≡ None }
+    ensures plain { (command : Command) → IsPlain words.now command → result.0 ≢ 1 }
 
     // With no fault the whole text is written, or memory ran out.
     ensures settled { NoFault (R.faults source.old) (R.faults source.new)
@@ -236,6 +240,7 @@ fn run_to_end<R: Source, W: Sink>(
 {
     never_both();
     frames_law();
+    plain_words_are_commands();
     match output(alloc, words, source) {
         Err(status) => status,
         Ok(answer) => match write_all(sink, answer.text.as_slice()) {
@@ -270,6 +275,8 @@ pub fn program<T: Threads + Wait + Sync, R: Source, W: Sink, G: Gate>(
     ensures write_fault { result.0 ≡ 6 → Rose (W.faults sink.old) (W.faults sink.new) }
     ensures range { result.0 < 7 }
     ensures words { result.0 ≡ 1 → command_of words.now ≡ None }
+    ensures taken { is_taken words.now ≡ true → result.0 ≡ 1 → command_in (found_in words.now) ≡ None }
+    ensures plain { (command : Command) → IsPlain words.now command → result.0 ≢ 1 }
 
     // With no fault the whole text is written, or memory ran out.
     ensures settled { NoFault (R.faults source.old) (R.faults source.new)

@@ -1,0 +1,17 @@
+use Rattle.std.proofs.Common.{rules, ap, refl, codes, option_map, option_and_then, ◌≡◌, ◌∙◌, sym}
+use Rattle.clap.specs.Words.{first_of, found_of, rows_of}
+use Rattle.clap.proofs.WalkLemmas.{first_value-rows}
+use Rattle.xti_command.specs.Words.{named}
+use Rattle.xti_command.proofs.command.matched.Goals as goal
+
+pub returns-in_err-get_str : goal.returns-in_err-get_str
+returns-in_err-get_str c =
+    let f = found_of c.args.matches.now in
+    let word : option_map (λ s. s.now) c.get_str.result ≡ first_of (codes "command") (rows_of f) = c.get_str.ensures ∙ first_value-rows f (codes "command") in
+    rw (← word) (search rules)
+
+pub returns : goal.returns
+returns c =
+    let f = found_of c.args.matches.now in
+    let word : option_map (λ s. s.now) c.get_str.result ≡ first_of (codes "command") (rows_of f) = c.get_str.ensures ∙ first_value-rows f (codes "command") in
+    rw (← word) (search rules)
