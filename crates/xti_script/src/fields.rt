@@ -22,7 +22,7 @@ use xti_words::{
 
 /// The keys of fields. The first nine are written without a key, as one word.
 #[derive(Clone, Copy, Debug, PartialEq, Eq)]
-pub(crate) enum Key {
+pub enum Key {
     /// The name that an open defines.
     NewEndpoint,
     /// The name of an endpoint.

@@ -10,10 +10,12 @@ mod names;
 mod script_text;
 mod verbs;
 
+pub use fields::Key;
 pub use laws::{
     never_both, one_script, scripts_are_small, scripts_have_usual_providers, scripts_have_workers,
     scripts_send_bytes,
 };
 pub use script_text::{ScriptFail, read_script};
+pub use verbs::Verb;
 pub use xti_model::{Line, Lines, Name, NamedCall, Script};
 pub use xti_words::MOST_PIECES;

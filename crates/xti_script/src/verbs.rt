@@ -8,7 +8,7 @@ use crate::fields::Key;
 
 /// The calls of scripts.
 #[derive(Clone, Copy, Debug, PartialEq, Eq)]
-pub(crate) enum Verb {
+pub enum Verb {
     Open,
     Close,
     Bind,

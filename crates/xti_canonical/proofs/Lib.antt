@@ -1,0 +1,5 @@
+pub mod Numbers
+pub mod Octets
+pub mod Pieces
+pub mod ValueTexts
+pub mod Fields

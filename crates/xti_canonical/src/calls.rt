@@ -1,0 +1,207 @@
+//! Calls by their word and all their fields.
+
+ghost use Rattle.std.specs.Prelude.{◌≡◌, ◌++◌, OnOk, codes, decimal};
+ghost use Rattle.xti_canonical.specs.Canonical.{bytes_text, call_text};
+
+use crate::values::{
+    put_bytes, put_mode, put_name, put_name_or_none, put_parts, put_provider, put_sizes,
+};
+use std::alloc::AllocError;
+use xti_base::Octets;
+use xti_model::{Name, NamedCall};
+use xti_text::put_number;
+
+// The most bytes that the caller takes of address, options and data.
+fn put_most(out: &mut Vec<u8>, amax: u32, omax: u32, umax: u32) -> Result<(), AllocError>
+    ensures { OnOk result (out.new.items ≡ out.old.items ++ (codes " amax=" ++ decimal amax) ++ (codes " omax=" ++ decimal omax) ++ (codes " umax=" ++ decimal umax)) }
+{
+    put_number(out, " amax=", amax as u64)?;
+    put_number(out, " omax=", omax as u64)?;
+    put_number(out, " umax=", umax as u64)
+}
+
+// The address and the options of a call.
+fn put_address(out: &mut Vec<u8>, addr: &Octets, opt: &Octets) -> Result<(), AllocError>
+    ensures { OnOk result (out.new.items ≡ out.old.items ++ (codes " addr=" ++ bytes_text addr.now) ++ (codes " opt=" ++ bytes_text opt.now)) }
+{
+    put_bytes(out, " addr=", addr)?;
+    put_bytes(out, " opt=", opt)
+}
+
+/// Appends a call by its word and all its fields.
+#[tactic(auto, unfolding(crate::specs::Canonical::written_call, xti_script::specs::Calls::form_of, xti_script::specs::Fields::field))]
+pub(crate) fn put_call(out: &mut Vec<u8>, call: &NamedCall) -> Result<(), AllocError>
+    ensures { OnOk result (out.new.items ≡ out.old.items ++ call_text call.now) }
+{
+    match call {
+        NamedCall::TOpen {
+            name,
+            prov,
+            nonblock,
+        } => {
+            put_name(out, "open ", name)?;
+            put_provider(out, " ", *prov)?;
+            put_mode(out, " ", *nonblock)
+        }
+        NamedCall::TClose { fd } => put_name(out, "close ", fd),
+        NamedCall::TBind {
+            fd,
+            addr,
+            qlen,
+            amax,
+        } => {
+            put_name(out, "bind ", fd)?;
+            put_bytes(out, " addr=", addr)?;
+            put_number(out, " qlen=", *qlen as u64)?;
+            put_number(out, " amax=", *amax as u64)
+        }
+        NamedCall::TUnbind { fd } => put_name(out, "unbind ", fd),
+        NamedCall::TConnect {
+            fd,
+            addr,
+            opt,
+            udata,
+            amax,
+            omax,
+            umax,
+        } => {
+            put_name(out, "connect ", fd)?;
+            put_address(out, addr, opt)?;
+            put_bytes(out, " udata=", udata)?;
+            put_most(out, *amax, *omax, *umax)
+        }
+        NamedCall::TRcvConnect {
+            fd,
+            amax,
+            omax,
+            umax,
+        } => {
+            put_name(out, "rcvconnect ", fd)?;
+            put_most(out, *amax, *omax, *umax)
+        }
+        NamedCall::TListen {
+            fd,
+            name,
+            amax,
+            omax,
+            umax,
+        } => {
+            put_name(out, "listen ", fd)?;
+            put_name(out, " ", name)?;
+            put_most(out, *amax, *omax, *umax)
+        }
+        NamedCall::TAccept {
+            fd,
+            resfd,
+            seq,
+            opt,
+            udata,
+        } => {
+            put_name(out, "accept ", fd)?;
+            put_name(out, " ", resfd)?;
+            put_name(out, " ", seq)?;
+            put_bytes(out, " opt=", opt)?;
+            put_bytes(out, " udata=", udata)
+        }
+        NamedCall::TSnd { fd, bytes, flags } => {
+            put_name(out, "snd ", fd)?;
+            put_bytes(out, " data=", bytes)?;
+            put_number(out, " flags=", *flags as u64)
+        }
+        NamedCall::TSndV { fd, parts, flags } => {
+            put_name(out, "sndv ", fd)?;
+            put_parts(out, " parts=", parts.as_slice())?;
+            put_number(out, " flags=", *flags as u64)
+        }
+        NamedCall::TRcv { fd, max } => {
+            put_name(out, "rcv ", fd)?;
+            put_number(out, " max=", *max as u64)
+        }
+        NamedCall::TRcvV { fd, sizes } => {
+            put_name(out, "rcvv ", fd)?;
+            put_sizes(out, " sizes=", sizes.as_slice())
+        }
+        NamedCall::TSndDis { fd, seq, udata } => {
+            put_name(out, "snddis ", fd)?;
+            put_name_or_none(out, " ", seq)?;
+            put_bytes(out, " udata=", udata)
+        }
+        NamedCall::TRcvDis { fd, umax } => {
+            put_name(out, "rcvdis ", fd)?;
+            put_number(out, " umax=", *umax as u64)
+        }
+        NamedCall::TSndRel { fd } => put_name(out, "sndrel ", fd),
+        NamedCall::TRcvRel { fd } => put_name(out, "rcvrel ", fd),
+        NamedCall::TSndUData {
+            fd,
+            addr,
+            opt,
+            bytes,
+        } => {
+            put_name(out, "sndudata ", fd)?;
+            put_address(out, addr, opt)?;
+            put_bytes(out, " data=", bytes)
+        }
+        NamedCall::TSndVUData {
+            fd,
+            addr,
+            opt,
+            parts,
+        } => {
+            put_name(out, "sndvudata ", fd)?;
+            put_address(out, addr, opt)?;
+            put_parts(out, " parts=", parts.as_slice())
+        }
+        NamedCall::TRcvUData {
+            fd,
+            max,
+            amax,
+            omax,
+        } => {
+            put_name(out, "rcvudata ", fd)?;
+            put_number(out, " max=", *max as u64)?;
+            put_number(out, " amax=", *amax as u64)?;
+            put_number(out, " omax=", *omax as u64)
+        }
+        NamedCall::TRcvVUData {
+            fd,
+            sizes,
+            amax,
+            omax,
+        } => {
+            put_name(out, "rcvvudata ", fd)?;
+            put_sizes(out, " sizes=", sizes.as_slice())?;
+            put_number(out, " amax=", *amax as u64)?;
+            put_number(out, " omax=", *omax as u64)
+        }
+        NamedCall::TRcvUDErr { fd, amax, omax } => {
+            put_name(out, "rcvuderr ", fd)?;
+            put_number(out, " amax=", *amax as u64)?;
+            put_number(out, " omax=", *omax as u64)
+        }
+        NamedCall::TLookAt { fd } => put_name(out, "look ", fd),
+        NamedCall::TGetState { fd } => put_name(out, "getstate ", fd),
+        NamedCall::TSync { fd } => put_name(out, "sync ", fd),
+        NamedCall::TGetInfo { fd } => put_name(out, "getinfo ", fd),
+        NamedCall::TGetProtAddr { fd, amax, pmax } => {
+            put_name(out, "getprotaddr ", fd)?;
+            put_number(out, " amax=", *amax as u64)?;
+            put_number(out, " pmax=", *pmax as u64)
+        }
+        NamedCall::TOptMgmt {
+            fd,
+            action,
+            opt,
+            omax,
+        } => {
+            put_name(out, "optmgmt ", fd)?;
+            put_number(out, " ", *action as u64)?;
+            put_bytes(out, " opt=", opt)?;
+            put_number(out, " omax=", *omax as u64)
+        }
+        NamedCall::SetMode { fd, nonblock } => {
+            put_name(out, "mode ", fd)?;
+            put_mode(out, " ", *nonblock)
+        }
+    }
+}

@@ -1,0 +1,5 @@
+//! The canonical text of scripts.
+#![tactic(auto)]
+
+mod calls;
+mod values;
