@@ -2,7 +2,7 @@
 
 ghost use Rattle.std.specs.Prelude.{◌≡◌, ◌∷◌, ◌<◌, ◌&&◌, if◌then◌else◌, length, nat_le, IfOk};
 ghost use Rattle.std.specs.List.{list_all};
-ghost use Rattle.xti_words.specs.Texts.{lines_of, pieces_of, is_lower, is_digit, is_name_byte, is_name, is_text_byte, is_plain_text};
+ghost use Rattle.xti_words.specs.Texts.{lines_of, pieces_of, is_ascii, is_lower, is_digit, is_name_byte, is_name, is_text_byte, is_plain_text};
 ghost use Rattle.xti_words.specs.Texts.{views};
 
 use memchr::memchr;
@@ -42,6 +42,13 @@ pub fn pieces_of(alloc: Global, separator: u8, text: &[u8]) -> Result<Vec<&[u8]>
         pieces.push(piece)?;
     }
     Ok(pieces)
+}
+
+/// Whether each byte is one of ASCII.
+pub fn is_ascii(text: &[u8]) -> bool
+    ensures { result ≡ is_ascii text.now }
+{
+    text.iter().all(|c| *c < 128)
 }
 
 fn is_lower(c: u8) -> bool
