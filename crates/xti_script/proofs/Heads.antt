@@ -1,15 +1,14 @@
 -- Heads: where they end, and that the lines have but one.
-use Rattle.std.proofs.Common.{◌≡◌, ℕ, ◌+◌, ◌⊎◌, inl, inr, Bool, true, false, cond, List, [], ◌∷◌, ◌++◌, length, Option, Some, None, refl, sym, ap, subst, ◌∙◌, append_assoc, arith}
+use Rattle.std.proofs.Common.{◌≡◌, ℕ, ◌⊎◌, inl, inr, Bool, true, false, cond, List, [], ◌∷◌, ◌++◌, Option, Some, None, refl, sym, ap, subst, ◌∙◌, append_assoc}
 use Rattle.std.specs.Prelude.{codes}
 use Rattle.std.specs.List.{list_any}
 use Rattle.std.proofs.lemmas.Bool.{or_parts}
 use Rattle.xti_model.specs.declared.script.Line.{Line}
 use Rattle.xti_model.specs.declared.profile.Providers.{Providers}
-use Rattle.xti_model.specs.Profile.{usual}
 use Rattle.xti_head.specs.Head.{head_of}
 use Rattle.xti_words.specs.Texts.{text_of, words_of}
 use Rattle.xti_words.specs.Values.{number_in}
-use Rattle.xti_script.specs.Grammar.{IsLine, AreLines, is_mark, calls_in, HasHead, HasNoHead}
+use Rattle.xti_script.specs.Grammar.{AreLines, is_mark, calls_in, HasHead, HasNoHead}
 use Rattle.xti_script.specs.Reading.{to_mark, onto_parts, any_line_of}
 use Rattle.xti_script.proofs.CallLaws.{is_word, is_line}
 

@@ -1,16 +1,15 @@
 -- A line that is refused is the first by which no script goes on.
-use Rattle.std.proofs.Common.{◌≡◌, ℕ, suc, ◌+◌, ◌<◌, ◌≤◌, ◌⊎◌, inl, inr, Bool, true, false, List, [], ◌∷◌, ◌++◌, length, map, take, Option, Some, None, Result, Ok, Err, refl, sym, ap, subst, ◌∙◌, append_assoc, arith}
+use Rattle.std.proofs.Common.{◌≡◌, ℕ, suc, ◌+◌, ◌<◌, ◌≤◌, ◌⊎◌, inl, inr, false, List, [], ◌∷◌, ◌++◌, length, map, take, Some, None, refl, sym, ap, subst, ◌∙◌, append_assoc, arith}
 use Rattle.std.specs.Prelude.{codes}
 use Rattle.std.proofs.lemmas.List.{length-append}
 use Rattle.xti_model.specs.declared.profile.Providers.{Providers}
 use Rattle.xti_model.specs.declared.script.Line.{Line}
-use Rattle.xti_model.specs.declared.script.Script.{Script}
 use Rattle.xti_model.specs.Profile.{usual}
 use Rattle.xti_words.specs.Texts.{lines_of, words_of}
 use Rattle.xti_script.specs.declared.script_text.ScriptFail.{ScriptFail}
 use Rattle.xti_script.specs.declared.script_text.ScriptFail.TheVariants as fail
-use Rattle.xti_script.specs.Grammar.{AreLines, HasHead, HasNoHead, HasForm, IsSmall, IsScript, calls_in}
-use Rattle.xti_script.specs.Refused.{some, ended_lines, CanBegin, IsLeast, HasWrongHead, IsFirst, IsWrongAt, IsRefusedAt}
+use Rattle.xti_script.specs.Grammar.{AreLines, HasHead, HasForm, IsSmall, IsScript, calls_in}
+use Rattle.xti_script.specs.Refused.{some, ended_lines, CanBegin, HasWrongHead, IsWrongAt}
 use Rattle.xti_script.specs.Read.{IsBad}
 use Rattle.xti_script.specs.Reading.{any_line_of, has_room}
 use Rattle.xti_script.proofs.CallLaws.{line_is}

@@ -1,5 +1,5 @@
 -- Lines one after the other: where reading them ends, and what each script with such lines has.
-use Rattle.std.proofs.Common.{◌≡◌, ℕ, suc, ◌+◌, ◌<◌, ◌≤◌, ◌⊎◌, inl, inr, Bool, true, false, cond, ltb, leb, List, [], ◌∷◌, ◌++◌, length, Option, Some, None, Result, Ok, Err, refl, sym, ap, subst, ◌∙◌, append_assoc, arith}
+use Rattle.std.proofs.Common.{◌≡◌, ℕ, suc, ◌+◌, ◌⊎◌, inl, inr, Bool, true, false, cond, ltb, leb, List, [], ◌∷◌, ◌++◌, length, Option, Some, None, Result, Ok, Err, refl, sym, ap, subst, ◌∙◌, arith}
 use Rattle.std.proofs.lemmas.Bool.{ltb-true, lt-ltb, leb-true, le-leb, and_parts}
 use Rattle.std.proofs.lemmas.List.{append-nil, length-append}
 use Rattle.std.proofs.lemmas.List.Elements.{filter-append}
@@ -13,8 +13,8 @@ use Rattle.xti_script.specs.declared.draft.Taken.{Taken}
 use Rattle.xti_script.specs.declared.draft.Taken.TheVariants as taken
 use Rattle.xti_script.specs.declared.script_text.ScriptFail.{ScriptFail}
 use Rattle.xti_script.specs.declared.script_text.ScriptFail.TheVariants as fail
-use Rattle.xti_script.specs.Grammar.{IsLine, AreLines, IsSmall, is_passed, calls_in}
-use Rattle.xti_script.specs.Reading.{any_line_of, has_room, extended, longer, after_text, behind, lines_from}
+use Rattle.xti_script.specs.Grammar.{AreLines, IsSmall, is_passed, calls_in}
+use Rattle.xti_script.specs.Reading.{any_line_of, has_room, extended, longer, after_text, lines_from}
 use Rattle.xti_script.proofs.CallLaws.{line_is, is_line, one_line, regroup}
 
 -- ---- the limits

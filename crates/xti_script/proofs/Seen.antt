@@ -1,5 +1,5 @@
 -- How a text opens, as reading sees it.
-use Rattle.std.proofs.Common.{◌≡◌, ℕ, suc, ◌+◌, ◌⊎◌, inl, inr, Bool, true, false, List, [], ◌∷◌, ◌++◌, length, Option, Some, None, Result, Ok, Err, refl, sym, ap, ◌∙◌, arith}
+use Rattle.std.proofs.Common.{◌≡◌, ℕ, suc, ◌+◌, inl, inr, Bool, true, false, List, [], ◌∷◌, length, Option, Some, None, Result, Err, refl, sym, ap, ◌∙◌, arith}
 use Rattle.std.specs.Str.{bytes_eq}
 use Rattle.std.proofs.lemmas.List.{length-append}
 use Rattle.xti_model.specs.declared.profile.Providers.{Providers}
@@ -9,7 +9,7 @@ use Rattle.xti_head.specs.Head.{head_of}
 use Rattle.xti_words.specs.Texts.{lines_of, text_of}
 use Rattle.xti_script.specs.declared.script_text.ScriptFail.{ScriptFail}
 use Rattle.xti_script.specs.declared.script_text.ScriptFail.TheVariants as fail
-use Rattle.xti_script.specs.Grammar.{is_mark, HasHead}
+use Rattle.xti_script.specs.Grammar.{is_mark}
 use Rattle.xti_script.specs.Refused.{HasWrongHead}
 use Rattle.xti_script.specs.Reading.{to_mark, script_from, with_head, by_head, body_of, all_of}
 use Rattle.xti_script.proofs.CallLaws.{is_word}

@@ -1,5 +1,5 @@
-use Rattle.std.proofs.Common.{◌≡◌, ◌<◌, length, true, eqb, sym, ◌∙◌, arith}
-use Rattle.xti_script.proofs.FirstMark.{goes_on, none_left, found_here}
+use Rattle.std.proofs.Common.{arith}
+use Rattle.xti_script.proofs.FirstMark.{goes_on}
 use Rattle.xti_script.proofs.marks.split_at_mark.Goals as goal
 
 pub loop-rest-preserved : goal.loop-rest-preserved
