@@ -25,7 +25,7 @@ use Rattle.xti_words.specs.Values.{number_in, bytes_in, list_in, options_in, pro
 use Rattle.xti_script.specs.Values.{named, sequence_or_none, value_in}
 use Rattle.xti_script.specs.Fields.{field, kind_of, usual_value, AreFields}
 use Rattle.xti_script.specs.Calls.{call_with}
-use Rattle.xti_script.specs.Grammar.{IsCall, AreLines, HasText}
+use Rattle.xti_script.specs.Grammar.{IsCall, AreLines, calls_in, HasText}
 
 -- ---- values
 
@@ -150,7 +150,7 @@ lines-bytes earlier (line ∷ lines) [] h = absurd h
 lines-bytes earlier (line ∷ lines) (text ∷ texts) h = (argument-bytes (after earlier line.worker) line.call h.0.words h.0.call, lines-bytes (earlier ++ line ∷ []) lines texts h.1)
 
 pub script_has_byte_arguments : (s : Script) → HasText s → AllHaveByteArguments s.lines
-script_has_byte_arguments s h = lines-bytes [] s.lines h.1.texts h.1.lines
+script_has_byte_arguments s h = lines-bytes [] s.lines (calls_in h.1.form.rest) h.1.form.lines
 
 -- a call whose arguments are of bytes sends bytes
 named-sends : (c : NamedCall) → HasByteArguments c → NamedSendsBytes c

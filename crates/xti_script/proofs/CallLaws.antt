@@ -1,13 +1,11 @@
 -- What is read is in the grammar, and what is in the grammar is read.
-use Rattle.std.proofs.Common.{◌≡◌, ℕ, ◌+◌, ◌≤◌, Bool, true, false, cond, ltb, leb, List, [], ◌∷◌, ◌++◌, length, Option, Some, None, Result, Ok, refl, sym, ap, subst, ◌∙◌, append_assoc}
+use Rattle.std.proofs.Common.{◌≡◌, ℕ, ◌≤◌, Bool, true, false, cond, leb, List, [], ◌∷◌, ◌++◌, length, Option, Some, None, refl, sym, ap, subst, ◌∙◌, append_assoc}
 use Rattle.std.specs.Str.{bytes_eq}
-use Rattle.std.proofs.lemmas.Bool.{ltb-true, lt-ltb, leb-true, le-leb, and_parts}
-use Rattle.std.proofs.lemmas.List.{append-nil}
+use Rattle.std.proofs.lemmas.Bool.{leb-true, le-leb}
 use Rattle.std.proofs.lemmas.Option.{cond_some}
 use Rattle.std.proofs.lemmas.Slice.Eq.{bytes_eq-Decides}
 use Rattle.xti_model.specs.declared.script.NamedCall.{NamedCall}
 use Rattle.xti_model.specs.declared.script.Line.{Line}
-use Rattle.xti_model.specs.Work.{argument_bytes, script_bytes}
 use Rattle.xti_script.specs.FieldValue.{Value}
 use Rattle.xti_script.specs.declared.verbs.Verb.{Verb}
 use Rattle.xti_script.specs.declared.verbs.Verb.TheVariants.{Open, Close, Bind, Unbind, Connect, RcvConnect, Listen, Accept, Snd, SndV, Rcv, RcvV, SndDis, RcvDis, SndRel, RcvRel, SndUData, SndVUData, RcvUData, RcvVUData, RcvUDErr, Look, GetState, Sync, GetInfo, GetProtAddr, OptMgmt, SetMode}
@@ -15,9 +13,9 @@ use Rattle.xti_script.specs.Names.{Spot, after}
 use Rattle.xti_words.specs.Texts.{words_of}
 use Rattle.xti_words.specs.Values.{number_in}
 use Rattle.xti_script.specs.Calls.{form_of, verb_word, form}
-use Rattle.xti_base.specs.declared.limits.TheConstants.{MOST_LINES, MOST_ARGUMENT_BYTES, LAST_WORKER}
-use Rattle.xti_script.specs.Grammar.{IsCall, IsLine, AreLines}
-use Rattle.xti_script.specs.Reading.{fields_of, verbs_of_length, verb_among, verb_of, with_values, call_by_verb, call_of, small, worker_of, by_worker, call_by, any_line_of, has_room, within, line_of, behind, lines_from}
+use Rattle.xti_base.specs.declared.limits.TheConstants.{LAST_WORKER}
+use Rattle.xti_script.specs.Grammar.{IsCall, IsLine}
+use Rattle.xti_script.specs.Reading.{fields_of, verbs_of_length, verb_among, verb_of, with_values, call_by_verb, call_of, small, worker_of, by_worker, call_by, any_line_of}
 use Rattle.xti_script.proofs.FieldLaws.{forms_are_apart, fields_are, are_fields}
 
 pub is_word : (xs ys : List ℕ) → bytes_eq xs ys ≡ true → xs ≡ ys
@@ -99,12 +97,6 @@ is_call s c words h =
 
 -- ---- lines
 
-room_is : (earlier : List Line) (o : Option Line) (line : Line) → within earlier o ≡ Some line → (o ≡ Some line) × (has_room earlier line ≡ true)
-room_is earlier None line e = absurd cc
-room_is earlier (Some l) line e =
-    let t = cond_some (has_room earlier l) l line e in
-    (ap (λ (x : Line). Some x) t.1, subst (λ (x : Line). has_room earlier x ≡ true) t.1 t.0)
-
 record IsBy (earlier : List Line) (worker : ℕ) (words : List (List ℕ)) (line : Line) : Type 0 where
   worker_is : line.worker ≡ worker
   call : IsCall (after earlier line.worker) line.call words
@@ -122,12 +114,11 @@ small_is (Some n) worker e =
     let t = cond_some (leb n LAST_WORKER) n worker e in
     (ap (λ (x : ℕ). Some x) t.1, subst (λ (x : ℕ). x ≤ LAST_WORKER) t.1 (leb-true _ _ t.0))
 
-numbered : (earlier : List Line) (text number : List ℕ) (words : List (List ℕ)) (o : Option ℕ) (line : Line) → words_of text ≡ number ∷ words → worker_of number ≡ o → call_by earlier o words ≡ Some line → has_room earlier line ≡ true → IsLine earlier line text
-numbered earlier text number words None line split q e room = absurd cc
-numbered earlier text number words (Some worker) line split q e room =
+numbered : (earlier : List Line) (text number : List ℕ) (words : List (List ℕ)) (o : Option ℕ) (line : Line) → words_of text ≡ number ∷ words → worker_of number ≡ o → call_by earlier o words ≡ Some line → IsLine earlier line text
+numbered earlier text number words None line split q e = absurd cc
+numbered earlier text number words (Some worker) line split q e =
     let s = small_is (number_in number) worker q in
     let b = by_is earlier worker words (call_of (after earlier worker) words) line refl e in
-    let r = and_parts (ltb (length earlier) MOST_LINES) (leb (script_bytes earlier + argument_bytes line.call) MOST_ARGUMENT_BYTES) room in
     record {
       number = number;
       words = words;
@@ -135,60 +126,29 @@ numbered earlier text number words (Some worker) line split q e room =
       worker = s.0 ∙ ap (λ (x : ℕ). Some x) (sym b.worker_is);
       is_worker = subst (λ (x : ℕ). x ≤ LAST_WORKER) (sym b.worker_is) s.1;
       call = b.call;
-      few_lines = ltb-true _ _ r.0;
-      few_bytes = leb-true _ _ r.1;
     }
 
-worded : (earlier : List Line) (text : List ℕ) (ws : List (List ℕ)) (line : Line) → words_of text ≡ ws → any_line_of earlier ws ≡ Some line → has_room earlier line ≡ true → IsLine earlier line text
+worded : (earlier : List Line) (text : List ℕ) (ws : List (List ℕ)) (line : Line) → words_of text ≡ ws → any_line_of earlier ws ≡ Some line → IsLine earlier line text
 unfolding any_line_of
-worded earlier text [] line p e room = absurd cc
-worded earlier text (number ∷ words) line p e room = numbered earlier text number words (worker_of number) line p refl e room
+worded earlier text [] line p e = absurd cc
+worded earlier text (number ∷ words) line p e = numbered earlier text number words (worker_of number) line p refl e
 
-pub line_is : (earlier : List Line) (text : List ℕ) (line : Line) → line_of earlier (words_of text) ≡ Some line → IsLine earlier line text
-unfolding line_of
-line_is earlier text line e =
-    let r = room_is earlier (any_line_of earlier (words_of text)) line e in
-    worded earlier text (words_of text) line refl r.0 r.1
+pub line_is : (earlier : List Line) (text : List ℕ) (line : Line) → any_line_of earlier (words_of text) ≡ Some line → IsLine earlier line text
+line_is earlier text line e = worded earlier text (words_of text) line refl e
 
-pub is_line : (earlier : List Line) (text : List ℕ) (line : Line) → IsLine earlier line text → line_of earlier (words_of text) ≡ Some line
-unfolding line_of any_line_of
+pub is_line : (earlier : List Line) (text : List ℕ) (line : Line) → IsLine earlier line text → any_line_of earlier (words_of text) ≡ Some line
+unfolding any_line_of
 is_line earlier text line h =
-    let few : ltb (length earlier) MOST_LINES ≡ true = lt-ltb _ _ h.few_lines in
-    let bytes : leb (script_bytes earlier + argument_bytes line.call) MOST_ARGUMENT_BYTES ≡ true = le-leb _ _ h.few_bytes in
     let worker : leb line.worker LAST_WORKER ≡ true = le-leb _ _ h.is_worker in
     let number : number_in h.number ≡ Some line.worker = h.worker in
     let call : call_of (after earlier line.worker) h.words ≡ Some line.call = is_call (after earlier line.worker) line.call h.words h.call in
     let by : worker_of h.number ≡ Some line.worker = rw (number, worker) refl in
     let any : call_by earlier (Some line.worker) h.words ≡ Some line = rw call refl in
-    rw (h.split, by) (rw any (rw (few, bytes) refl))
+    rw (h.split, by) any
 
--- ---- lines after the earlier ones
-
-abbrev done : List Line → Result (List Line) ℕ
-done x = Ok x
-
-got : (number : ℕ) (o : Option Line) (others : Line → Result (List Line) ℕ) (all : List Line) → behind number o others ≡ Ok all → (line : Line) × (o ≡ Some line) × (others line ≡ Ok all)
-got number None others all e = absurd cc
-got number (Some line) others all e = (line, refl, e)
+-- two lines of one text are the same
+pub one_line : (earlier : List Line) (text : List ℕ) (line other : Line) → IsLine earlier line text → IsLine earlier other text → line ≡ other
+one_line earlier text line other h k = let e = sym (is_line earlier text line h) ∙ is_line earlier text other k in cc
 
 pub regroup : (earlier lines : List Line) (line : Line) → (earlier ++ line ∷ []) ++ lines ≡ earlier ++ (line ∷ lines)
 regroup earlier lines line = append_assoc earlier (line ∷ []) lines
-
-ok_is : (x y : List Line) → done x ≡ done y → x ≡ y
-ok_is x y e = cc
-
-pub lines_are : (number : ℕ) (earlier all : List Line) (texts : List (List ℕ)) → lines_from number earlier texts ≡ Ok all → (lines : List Line) × (all ≡ earlier ++ lines) × AreLines earlier lines texts
-unfolding lines_from
-lines_are number earlier all [] e = ([], sym (ok_is _ _ e) ∙ sym (append-nil earlier), tt)
-lines_are number earlier all (text ∷ texts) e =
-    let g = got number (line_of earlier (words_of text)) (λ line. lines_from (number + 1) (earlier ++ line ∷ []) texts) all e in
-    let later = lines_are (number + 1) (earlier ++ g.0 ∷ []) all texts g.2 in
-    (g.0 ∷ later.0, later.1 ∙ regroup earlier later.0 g.0, (line_is earlier text g.0 g.1, later.2))
-
-pub are_lines : (number : ℕ) (earlier lines : List Line) (texts : List (List ℕ)) → AreLines earlier lines texts → lines_from number earlier texts ≡ Ok (earlier ++ lines)
-unfolding lines_from
-are_lines number earlier [] [] h = ap done (sym (append-nil earlier))
-are_lines number earlier [] (text ∷ texts) h = absurd h
-are_lines number earlier (line ∷ lines) [] h = absurd h
-are_lines number earlier (line ∷ lines) (text ∷ texts) h =
-    rw (is_line earlier text line h.0) (are_lines (number + 1) (earlier ++ line ∷ []) lines texts h.1 ∙ ap done (regroup earlier lines line))

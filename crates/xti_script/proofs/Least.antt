@@ -1,247 +1,177 @@
 -- A line that is refused is the first by which no script goes on.
-use Rattle.std.proofs.Common.{◌≡◌, ℕ, suc, ◌+◌, ◌≤◌, Bool, true, false, cond, eqb, List, [], ◌∷◌, ◌++◌, length, map, take, Option, Some, None, Result, Ok, Err, refl, sym, ap, subst, ◌∙◌, append_assoc, arith}
+use Rattle.std.proofs.Common.{◌≡◌, ℕ, suc, ◌+◌, ◌<◌, ◌≤◌, ◌⊎◌, inl, inr, false, List, [], ◌∷◌, ◌++◌, length, map, take, Some, None, refl, sym, ap, subst, ◌∙◌, append_assoc, arith}
 use Rattle.std.specs.Prelude.{codes}
-use Rattle.std.specs.Str.{bytes_eq}
-use Rattle.std.specs.List.{onto_first}
-use Rattle.std.proofs.lemmas.List.{append-nil, take-append-le, map-append, length-map}
+use Rattle.std.proofs.lemmas.List.{length-append}
+use Rattle.xti_model.specs.declared.profile.Providers.{Providers}
 use Rattle.xti_model.specs.declared.script.Line.{Line}
-use Rattle.xti_model.specs.declared.script.Script.{Script}
 use Rattle.xti_model.specs.Profile.{usual}
 use Rattle.xti_words.specs.Texts.{lines_of, words_of}
-use Rattle.xti_script.specs.Grammar.{AreLines, IsScript}
-use Rattle.xti_script.specs.Refused.{some, ended_lines, CanBegin, IsRefusedAt}
-use Rattle.xti_script.specs.Reading.{behind, line_of, lines_from, all_of}
-use Rattle.xti_script.proofs.CallLaws.{is_word, regroup, line_is, is_line, lines_are, are_lines}
+use Rattle.xti_script.specs.declared.script_text.ScriptFail.{ScriptFail}
+use Rattle.xti_script.specs.declared.script_text.ScriptFail.TheVariants as fail
+use Rattle.xti_script.specs.Grammar.{AreLines, HasHead, HasForm, IsSmall, IsScript, calls_in}
+use Rattle.xti_script.specs.Refused.{some, ended_lines, CanBegin, HasWrongHead, IsWrongAt}
+use Rattle.xti_script.specs.Read.{IsBad}
+use Rattle.xti_script.specs.Reading.{any_line_of, has_room}
+use Rattle.xti_script.proofs.CallLaws.{line_is}
+use Rattle.xti_script.proofs.FirstLines.{begins, goes_on}
+use Rattle.xti_script.proofs.Heads.{mark, Opens, IsUnmarked, Before, before, one_head, opens, unmarked_too}
+use Rattle.xti_script.proofs.LineLaws.{Stop, Next, next, too_many, calls_around, lines_append}
 
--- ---- where reading stops
+abbrev pub first_line : List ℕ
+first_line = codes "xti-script 1"
 
-abbrev failed : ℕ → Result (List Line) ℕ
-failed n = Err n
+-- ---- texts whose first line is wrong
 
-record Stops (number : ℕ) (earlier : List Line) (texts : List (List ℕ)) (n : ℕ) : Type 0 where
-  front : List (List ℕ)
-  wrong : List ℕ
-  back : List (List ℕ)
-  lines : List Line
-  parts : texts ≡ front ++ wrong ∷ back
-  place : n ≡ number + length front
-  good : AreLines earlier lines front
-  bad : line_of (earlier ++ lines) (words_of wrong) ≡ None
+abbrev weaker : (text : List ℕ) (n : ℕ) → CanBegin IsScript text n → CanBegin HasForm text n
+weaker text n can = record { script = can.script; other = can.other; has_form = can.has_form.form; same = can.same }
 
-stop_or : (number : ℕ) (earlier : List Line) (text : List ℕ) (texts : List (List ℕ)) (n : ℕ) (o : Option Line)
-    → ((line : Line) → lines_from (number + 1) (earlier ++ line ∷ []) texts ≡ Err n → Stops (number + 1) (earlier ++ line ∷ []) texts n)
-    → line_of earlier (words_of text) ≡ o → behind number o (λ line. lines_from (number + 1) (earlier ++ line ∷ []) texts) ≡ Err n → Stops number earlier (text ∷ texts) n
-stop_or number earlier text texts n None later a r = record {
-  front = [];
-  wrong = text;
-  back = texts;
-  lines = [];
-  parts = refl;
-  place = let s : number ≡ n = cc in omega (arith, s);
-  good = tt;
-  bad = rw append-nil a;
-}
-stop_or number earlier text texts n (Some line) later a r =
-    let l = later line r in record {
-      front = text ∷ l.front;
-      wrong = l.wrong;
-      back = l.back;
-      lines = line ∷ l.lines;
-      parts = ap (λ (ts : List (List ℕ)). text ∷ ts) l.parts;
-      place = omega (arith, l.place);
-      good = (line_is earlier text line a, l.good);
-      bad = rw (← regroup earlier l.lines line) l.bad;
-    }
+abbrev pub IsNoStart : List ℕ → Type 0
+IsNoStart text = (texts : List (List ℕ)) → lines_of text ≡ first_line ∷ texts → ⊥
 
-stops : (number : ℕ) (earlier : List Line) (texts : List (List ℕ)) (n : ℕ) → lines_from number earlier texts ≡ Err n → Stops number earlier texts n
-unfolding lines_from
-stops number earlier [] n e = absurd cc
-stops number earlier (text ∷ texts) n e =
-    stop_or number earlier text texts n (line_of earlier (words_of text)) (λ line r. stops (number + 1) (earlier ++ line ∷ []) texts n r) refl e
-
--- where good lines and then a bad one stand, reading fails, whatever follows
-fails : (number : ℕ) (earlier lines : List Line) (front : List (List ℕ)) (wrong : List ℕ) (back : List (List ℕ)) (all : List Line) → AreLines earlier lines front → line_of (earlier ++ lines) (words_of wrong) ≡ None → lines_from number earlier (front ++ wrong ∷ back) ≡ Ok all → ⊥
-unfolding lines_from
-fails number earlier [] [] wrong back all good bad e =
-    let none : line_of earlier (words_of wrong) ≡ None = rw append-nil at bad in
-    let f : behind number None (λ line. lines_from (number + 1) (earlier ++ line ∷ []) back) ≡ Ok all = rw none at e in
-    cc
-fails number earlier [] (text ∷ front) wrong back all good bad e = absurd good
-fails number earlier (line ∷ lines) [] wrong back all good bad e = absurd good
-fails number earlier (line ∷ lines) (text ∷ front) wrong back all good bad e =
-    let read = is_line earlier text line good.0 in
-    fails (number + 1) (earlier ++ line ∷ []) lines front wrong back all good.1 (rw (regroup earlier lines line) bad) (rw read at e)
-
--- ---- a text of given lines
-
-abbrev HasNoEnd : List ℕ → Type 0
-HasNoEnd [] = Unit {0}
-HasNoEnd (c ∷ cs) = (eqb c 10 ≡ false) × HasNoEnd cs
-
-abbrev HaveNoEnds : List (List ℕ) → Type 0
-HaveNoEnds [] = Unit {0}
-HaveNoEnds (line ∷ lines) = HasNoEnd line × HaveNoEnds lines
-
-abbrev text_of : List (List ℕ) → List ℕ
-text_of [] = []
-text_of (line ∷ lines) = line ++ 10 ∷ text_of lines
-
-line_then : (line rest : List ℕ) → HasNoEnd line → lines_of (line ++ 10 ∷ rest) ≡ line ∷ lines_of rest
-line_then [] rest h = refl
-line_then (c ∷ cs) rest h = rw (h.0, line_then cs rest h.1) refl
-
-lines_of-text_of : (lines : List (List ℕ)) → HaveNoEnds lines → lines_of (text_of lines) ≡ lines
-lines_of-text_of [] h = refl
-lines_of-text_of (line ∷ lines) h = line_then line (text_of lines) h.0 ∙ ap (λ (ls : List (List ℕ)). line ∷ ls) (lines_of-text_of lines h.1)
-
-onto : (c : ℕ) (lines : List (List ℕ)) → eqb c 10 ≡ false → HaveNoEnds lines → HaveNoEnds (onto_first c lines)
-onto c [] e h = ((e, tt), tt)
-onto c (line ∷ lines) e h = ((e, h.0), h.1)
-
-end_or : (b : Bool) (c : ℕ) (lines : List (List ℕ)) → eqb c 10 ≡ b → HaveNoEnds lines → HaveNoEnds (cond b ([] ∷ lines) (onto_first c lines))
-end_or true c lines e h = (tt, h)
-end_or false c lines e h = onto c lines e h
-
-lines_end : (text : List ℕ) → HaveNoEnds (lines_of text)
-lines_end [] = tt
-lines_end (c ∷ text) = end_or (eqb c 10) c (lines_of text) refl (lines_end text)
-
-front_ends : (front back : List (List ℕ)) → HaveNoEnds (front ++ back) → HaveNoEnds front
-front_ends [] back h = tt
-front_ends (line ∷ front) back h = (h.0, front_ends front back h.1)
-
--- ---- the first lines
-
-take_front : (xs ys : List (List ℕ)) (m : ℕ) → m ≤ length xs → take m (map some (xs ++ ys) ++ None ∷ []) ≡ take m (map some xs)
-take_front xs ys m le =
-    let short : m ≤ length (map some xs) = omega (arith, length-map xs some) in
-    rw (map-append some xs ys, append_assoc (map some xs) (map some ys) (None ∷ [])) (take-append-le m (map some xs) (map some ys ++ None ∷ []) short)
-
-take_whole : (xs : List (List ℕ)) (m : ℕ) → m ≤ length xs → take m (map some xs ++ None ∷ []) ≡ take m (map some xs)
-take_whole xs m le = take-append-le m (map some xs) (None ∷ []) (omega (arith, length-map xs some))
-
-same_later : (o f : List ℕ) (others front : List (List ℕ)) (wrong : List ℕ) → o ≡ f → (back : List (List ℕ)) × (others ≡ front ++ wrong ∷ back) → (back : List (List ℕ)) × (o ∷ others ≡ (f ∷ front) ++ wrong ∷ back)
-same_later o f others front wrong h (back, e) = (back, ap (λ (x : List ℕ). x ∷ others) h ∙ ap (λ (ls : List (List ℕ)). f ∷ ls) e)
-
--- lines that begin with the same are these and others
-same_front : (others front : List (List ℕ)) (wrong : List ℕ) (tail : List (Option (List ℕ))) → take (suc (length front)) (map some others ++ None ∷ []) ≡ take (suc (length front)) (map some front ++ Some wrong ∷ tail)
-    → (back : List (List ℕ)) × (others ≡ front ++ wrong ∷ back)
-same_front [] [] wrong tail e = absurd cc
-same_front [] (f ∷ front) wrong tail e = absurd cc
-same_front (o ∷ others) [] wrong tail e = let h : o ≡ wrong = cc in (others, ap (λ (l : List ℕ). l ∷ others) h)
-same_front (o ∷ others) (f ∷ front) wrong tail e =
-    let h : o ≡ f = cc in
-    let t : take (suc (length front)) (map some others ++ None ∷ []) ≡ take (suc (length front)) (map some front ++ Some wrong ∷ tail) = cc in
-    same_later o f others front wrong h (same_front others front wrong tail t)
-
--- the lines that were good begin a script
-begins : (front back : List (List ℕ)) (lines : List Line) (text : List ℕ) (m : ℕ) → AreLines [] lines front → lines_of text ≡ (codes "xti-script 1" ∷ front) ++ back → m ≤ length front + 1 → CanBegin text m
-begins front back lines text m good parts le =
-    let head : List (List ℕ) = codes "xti-script 1" ∷ front in
-    let ends : HaveNoEnds head = front_ends head back (subst HaveNoEnds parts (lines_end text)) in
-    let same : lines_of (text_of head) ≡ head = lines_of-text_of head ends in
-    let short : m ≤ length head = omega arith in
-    let here : take m (ended_lines (text_of head)) ≡ take m (map some head) = ap (λ (ls : List (List ℕ)). take m (map some ls ++ None ∷ [])) same ∙ take_whole head m short in
-    let there : take m (ended_lines text) ≡ take m (map some head) = ap (λ (ls : List (List ℕ)). take m (map some ls ++ None ∷ [])) parts ∙ take_front head back m short in
-    record {
-      script = record { providers = usual; lines = lines };
-      other = text_of head;
-      is_script = record { providers = refl; texts = front; first = same; lines = good };
-      same = here ∙ sym there;
-    }
-
-tails : (x y : Option (List ℕ)) (xs ys : List (Option (List ℕ))) → x ∷ xs ≡ y ∷ ys → xs ≡ ys
-tails x y xs ys e = cc
-
-with_wrong : (front : List (List ℕ)) (wrong : List ℕ) (back : List (List ℕ)) → map some (front ++ wrong ∷ back) ++ None ∷ [] ≡ map some front ++ Some wrong ∷ (map some back ++ None ∷ [])
-with_wrong [] wrong back = refl
-with_wrong (f ∷ front) wrong back = ap (λ (ls : List (Option (List ℕ))). Some f ∷ ls) (with_wrong front wrong back)
-
--- and no script goes on as the text does
-refused_at : (text : List ℕ) (front : List (List ℕ)) (wrong : List ℕ) (back : List (List ℕ)) (lines : List Line) (n : ℕ) → lines_of text ≡ (codes "xti-script 1" ∷ front) ++ wrong ∷ back → n ≡ 2 + length front → AreLines [] lines front → line_of ([] ++ lines) (words_of wrong) ≡ None
-    → CanBegin text n → ⊥
-refused_at text front wrong back lines n parts place good bad can =
-    let tail : List (Option (List ℕ)) = map some back ++ None ∷ [] in
-    let shown : ended_lines text ≡ Some (codes "xti-script 1") ∷ (map some front ++ Some wrong ∷ tail) =
-    ap (λ (ls : List (List ℕ)). map some ls ++ None ∷ []) parts ∙ ap (λ (ls : List (Option (List ℕ))). Some (codes "xti-script 1") ∷ ls) (with_wrong front wrong back) in
-    let size : n ≡ suc (suc (length front)) = omega arith in
-    let ts : List (List ℕ) = can.is_script.texts in
-    let same' : take (suc (suc (length front))) (ended_lines can.other) ≡ take (suc (suc (length front))) (ended_lines text) = rw size at can.same in
-    let all : take (suc (suc (length front))) (map some (codes "xti-script 1" ∷ ts) ++ None ∷ []) ≡ take (suc (suc (length front))) (Some (codes "xti-script 1") ∷ (map some front ++ Some wrong ∷ tail)) =
-    sym (ap (λ (ls : List (List ℕ)). take (suc (suc (length front))) (map some ls ++ None ∷ [])) can.is_script.first) ∙ same' ∙ ap (take (suc (suc (length front)))) shown in
-    let l = same_front ts front wrong tail (tails _ _ _ _ all) in
-    fails 2 [] lines front wrong l.0 ([] ++ can.script.lines) good bad (rw (← l.1) (are_lines 2 [] can.script.lines ts can.is_script.lines))
-
--- a script that is read to a wrong line
-pub refused_later : (text : List ℕ) (texts : List (List ℕ)) (n : ℕ) → lines_of text ≡ codes "xti-script 1" ∷ texts → lines_from 2 [] texts ≡ Err n → IsRefusedAt text n
-refused_later text texts n e r =
-    let s = stops 2 [] texts n r in
-    let parts : lines_of text ≡ (codes "xti-script 1" ∷ s.front) ++ s.wrong ∷ s.back = e ∙ ap (λ (ls : List (List ℕ)). codes "xti-script 1" ∷ ls) s.parts in
-    record {
-      refused = refused_at text s.front s.wrong s.back s.lines n parts s.place s.good s.bad;
-      least = λ m lt. begins s.front (s.wrong ∷ s.back) s.lines text m s.good parts (omega (arith, s.place));
-    }
-
--- no script begins as the text does
-first_wrong : (text : List ℕ) → ((texts : List (List ℕ)) → lines_of text ≡ codes "xti-script 1" ∷ texts → ⊥) → CanBegin text 1 → ⊥
-first_wrong text other_start can =
-    let here : take 1 (ended_lines can.other) ≡ Some (codes "xti-script 1") ∷ [] = ap (λ (ls : List (List ℕ)). take 1 (map some ls ++ None ∷ [])) can.is_script.first in
+no_start : (text : List ℕ) → IsNoStart text → CanBegin HasForm text 1 → ⊥
+no_start text never can =
+    let here : take 1 (ended_lines can.other) ≡ Some first_line ∷ [] = ap (λ (ls : List (List ℕ)). take 1 (map some ls ++ None ∷ [])) can.has_form.first in
     by_lines (lines_of text) refl (sym here ∙ can.same)
   where
-    by_lines : (ls : List (List ℕ)) → lines_of text ≡ ls → Some (codes "xti-script 1") ∷ [] ≡ take 1 (map some ls ++ None ∷ []) → ⊥
+    by_lines : (ls : List (List ℕ)) → lines_of text ≡ ls → Some first_line ∷ [] ≡ take 1 (map some ls ++ None ∷ []) → ⊥
     by_lines [] p q = cc
-    by_lines (l ∷ ls) p q = let h : codes "xti-script 1" ≡ l = cc in other_start ls (p ∙ ap (λ (x : List ℕ). x ∷ ls) (sym h))
+    by_lines (l ∷ ls) p q = let h : first_line ≡ l = cc in never ls (p ∙ ap (λ (x : List ℕ). x ∷ ls) (sym h))
 
-refused_first : (text : List ℕ) → ((texts : List (List ℕ)) → lines_of text ≡ codes "xti-script 1" ∷ texts → ⊥) → IsRefusedAt text 1
-refused_first text other_start = record {
-  refused = first_wrong text other_start;
-  least = λ m lt. let z : m ≡ 0 = omega arith in
-      record {
-        script = record { providers = usual; lines = [] };
-        other = codes "xti-script 1";
-        is_script = record { providers = refl; texts = []; first = refl; lines = tt };
-        same = rw z refl;
+nothing_first : (text : List ℕ) (m : ℕ) → m < 1 → CanBegin IsScript text m
+nothing_first text m lt =
+    let z : m ≡ 0 = omega arith in
+    record {
+      script = record { providers = usual; lines = [] };
+      other = first_line;
+      has_form = record {
+        form = record { texts = []; rest = []; first = refl; head = inr (refl, refl); lines = tt };
+        small = record { few_lines = omega arith; few_bytes = omega arith };
       };
-}
+      same = rw z refl;
+    }
 
-first_or : (text first : List ℕ) (texts : List (List ℕ)) (b : Bool) (n : ℕ) → lines_of text ≡ first ∷ texts → bytes_eq first (codes "xti-script 1") ≡ b → cond b (lines_from 2 [] texts) (Err 1) ≡ Err n → IsRefusedAt text n
-first_or text first texts true n e t r = refused_later text texts n (e ∙ ap (λ (l : List ℕ). l ∷ texts) (is_word first (codes "xti-script 1") t)) r
-first_or text first texts false n e t r =
-    let one : 1 ≡ n = cc in
-    subst (IsRefusedAt text) one (refused_first text (λ ts p.
-    let h : first ≡ codes "xti-script 1" = let q = sym e ∙ p in cc in
-    let u : bytes_eq first (codes "xti-script 1") ≡ true = rw h refl in
-    let v : true ≡ false = sym u ∙ t in cc))
+no_head : (text : List ℕ) → IsNoStart text → HasWrongHead text → ⊥
+no_head text never h = never _ h.begins
 
--- the line that reading finds wrong is the first by which the text is no script
-pub is_refused : (text : List ℕ) (n : ℕ) → all_of (lines_of text) ≡ Err n → IsRefusedAt text n
-unfolding all_of
-is_refused text n r = by_lines (lines_of text) refl r
+-- the first line that is wrong, whatever the limits, is the first by which the text is no script
+wrong_there : (text : List ℕ) (n : ℕ) → (HasWrongHead text → ⊥) → (CanBegin HasForm text n → ⊥) → ((m : ℕ) → m < n → CanBegin IsScript text m) → IsBad text (fail.Bad n)
+wrong_there text n head never can =
+    (inr (head, record { refused = λ c. never (weaker text n c); least = can }), inr (head, record { refused = never; least = λ m lt. weaker text m (can m lt) }))
+
+pub bad_start : (text : List ℕ) → IsNoStart text → IsBad text (fail.Bad 1)
+bad_start text never = wrong_there text 1 (no_head text never) (no_start text never) (nothing_first text)
+
+pub bad_head : (text : List ℕ) → HasWrongHead text → IsBad text (fail.Bad 2)
+bad_head text h = (inl (h, refl), inl (h, refl))
+
+-- ---- texts that are refused later
+
+-- the first line, and a head or none
+pub record Opened (text : List ℕ) : Type 0 where
+  pub p : Providers
+  pub texts : List (List ℕ)
+  pub rest : List (List ℕ)
+  pub number : ℕ
+  pub first : lines_of text ≡ first_line ∷ texts
+  pub opened : Opens p texts rest
+  pub place : number + length rest ≡ 2 + length texts
+
+opened_well : (text : List ℕ) (o : Opened text) → HasWrongHead text → ⊥
+opened_well text o h =
+    let same : o.texts ≡ mark ∷ h.texts = let e : first_line ∷ o.texts ≡ first_line ∷ (mark ∷ h.texts) = sym o.first ∙ h.begins in cc in
+    by_opening o.opened same
   where
-    by_lines : (ls : List (List ℕ)) → lines_of text ≡ ls → all_of ls ≡ Err n → IsRefusedAt text n
-    by_lines [] p q =
-        let one : 1 ≡ n = cc in
-        subst (IsRefusedAt text) one (refused_first text (λ ts e. let h = sym p ∙ e in cc))
-    by_lines (l ∷ ls) p q = first_or text l ls (bytes_eq l (codes "xti-script 1")) n p refl q
+    by_opening : Opens o.p o.texts o.rest → o.texts ≡ mark ∷ h.texts → ⊥
+    by_opening (inl k) e = h.wrong o.p o.rest (subst (λ (ts : List (List ℕ)). HasHead o.p ts o.rest) e k)
+    by_opening (inr k) e = k.1 h.texts e
 
-chosen : (b : Bool) (x y : Result (List Line) ℕ) (all : List Line) → cond b x (Err 1) ≡ Ok all → (b ≡ true) × (x ≡ Ok all)
-chosen true x y all e = (refl, e)
-chosen false x y all e = absurd cc
+-- where the lines stop
+record Place (text : List ℕ) (o : Opened text) (e : ScriptFail) (s : Stop o.number [] o.rest e) : Type 0 where
+  b : Before o.p o.texts o.rest
+  front : List (List ℕ)
+  is : front ≡ first_line ∷ (b.head ++ s.front)
+  parts : lines_of text ≡ front ++ s.text ∷ s.back
+  count : o.number + length s.front ≡ suc (length front)
 
--- what is read is a script
-pub is_script : (text : List ℕ) (lines : List Line) → all_of (lines_of text) ≡ Ok lines → IsScript (record { providers = usual; lines = lines }) text
-unfolding all_of
-is_script text lines r = by_lines (lines_of text) refl r
+place_of : (text : List ℕ) (o : Opened text) (e : ScriptFail) (s : Stop o.number [] o.rest e) → Place text o e s
+place_of text o e s =
+    let b = before o.p o.texts o.rest o.opened in
+    let whole : o.texts ≡ (b.head ++ s.front) ++ s.text ∷ s.back = b.parts ∙ ap (λ (ts : List (List ℕ)). b.head ++ ts) s.parts ∙ sym (append_assoc b.head s.front (s.text ∷ s.back)) in
+    let size : length o.texts ≡ length b.head + length o.rest = ap length b.parts ∙ length-append b.head o.rest in
+    let both : length (b.head ++ s.front) ≡ length b.head + length s.front = length-append b.head s.front in
+    let at = o.place in
+    record {
+      b = b;
+      front = first_line ∷ (b.head ++ s.front);
+      is = refl;
+      parts = o.first ∙ ap (λ (ts : List (List ℕ)). first_line ∷ ts) whole;
+      count = omega arith;
+    }
+
+-- the lines that were read begin a script
+can_begin : (text : List ℕ) (o : Opened text) (e : ScriptFail) (s : Stop o.number [] o.rest e) (m : ℕ) → m < o.number + length s.front → CanBegin IsScript text m
+can_begin text o e s m lt =
+    let at = place_of text o e s in
+    let le : m ≤ length at.front = omega (arith, at.count) in
+    begins IsScript text at.front (s.text ∷ s.back) (record { providers = o.p; lines = s.lines }) m at.parts (λ other same. record {
+      form = record { texts = at.b.head ++ s.front; rest = s.front; first = same ∙ at.is; head = at.b.again s.front; lines = s.good };
+      small = s.small;
+    }) le
+
+-- a text with the same first lines has the next one too
+next_line : (text : List ℕ) (o : Opened text) (e : ScriptFail) (s : Stop o.number [] o.rest e) (can : CanBegin HasForm text (o.number + length s.front)) → Next [] s.lines can.script.lines s.text
+next_line text o e s can =
+    let at = place_of text o e s in
+    let g = goes_on text can.other at.front s.text s.back (o.number + length s.front) at.parts at.count can.same in
+    let h = can.has_form in
+    let rest : List (List ℕ) = s.front ++ s.text ∷ g.0 in
+    let all : first_line ∷ h.texts ≡ first_line ∷ ((at.b.head ++ s.front) ++ s.text ∷ g.0) = sym h.first ∙ g.1 ∙ ap (λ (ts : List (List ℕ)). ts ++ s.text ∷ g.0) at.is in
+    let texts : h.texts ≡ at.b.head ++ rest = later _ _ all ∙ append_assoc at.b.head s.front (s.text ∷ g.0) in
+    let theirs : Opens can.script.providers h.texts h.rest = opens can.script.providers can.script.lines h.texts h.rest h.head h.lines in
+    let ours : Opens o.p h.texts rest = subst (λ (ts : List (List ℕ)). Opens o.p ts rest) (sym texts) (at.b.opens_again rest (λ never. unmarked_too s.front s.text s.back g.0 (subst IsUnmarked s.parts never))) in
+    let same : h.rest ≡ rest = (one_head can.script.providers o.p h.texts h.rest rest theirs ours).1 in
+    let lines : AreLines [] can.script.lines (calls_in s.front ++ s.text ∷ calls_in g.0) = subst (λ (ts : List (List ℕ)). AreLines [] can.script.lines ts) (ap calls_in same ∙ calls_around s.front s.text g.0 s.call) h.lines in
+    next [] s.lines can.script.lines (calls_in s.front) s.text (calls_in g.0) s.good lines
   where
-    by_lines : (ls : List (List ℕ)) → lines_of text ≡ ls → all_of ls ≡ Ok lines → IsScript (record { providers = usual; lines = lines }) text
-    by_lines [] p q = absurd cc
-    by_lines (l ∷ ls) p q =
-        let t = chosen (bytes_eq l (codes "xti-script 1")) (lines_from 2 [] ls) (Err 1) lines q in
-        let w : l ≡ codes "xti-script 1" = is_word l (codes "xti-script 1") t.0 in
-        let a = lines_are 2 [] lines ls t.1 in
-        record { providers = refl; texts = ls; first = p ∙ ap (λ (x : List ℕ). x ∷ ls) w; lines = rw a.1 a.2 }
+    later : (xs ys : List (List ℕ)) → first_line ∷ xs ≡ first_line ∷ ys → xs ≡ ys
+    later xs ys q = cc
 
--- a script is read
-pub script_is : (text : List ℕ) (s : Script) → IsScript s text → all_of (lines_of text) ≡ Ok s.lines
-unfolding all_of
-script_is text s h = rw h.first (are_lines 2 [] s.lines h.texts h.lines)
+-- a text with a call more
+with_call : (text : List ℕ) (o : Opened text) (e : ScriptFail) (s : Stop o.number [] o.rest e) (line : Line) → any_line_of ([] ++ s.lines) (words_of s.text) ≡ Some line → CanBegin HasForm text (o.number + length s.front)
+with_call text o e s line is =
+    let at = place_of text o e s in
+    let front : List (List ℕ) = at.front ++ s.text ∷ [] in
+    let parts : lines_of text ≡ front ++ s.back = at.parts ∙ sym (append_assoc at.front (s.text ∷ []) s.back) in
+    let size : length front ≡ length at.front + 1 = length-append at.front (s.text ∷ []) in
+    let lines : AreLines [] (s.lines ++ line ∷ []) (calls_in (s.front ++ s.text ∷ [])) = subst (λ (ts : List (List ℕ)). AreLines [] (s.lines ++ line ∷ []) ts) (sym (calls_around s.front s.text [] s.call)) (lines_append [] s.lines (line ∷ []) (calls_in s.front) (s.text ∷ []) s.good (line_is ([] ++ s.lines) s.text line is, tt)) in
+    let le : o.number + length s.front ≤ length front = omega (arith, at.count) in
+    begins HasForm text front s.back (record { providers = o.p; lines = s.lines ++ line ∷ [] }) (o.number + length s.front) parts (λ other same. record {
+      texts = at.b.head ++ (s.front ++ s.text ∷ []);
+      rest = s.front ++ s.text ∷ [];
+      first = same ∙ ap (λ (ts : List (List ℕ)). ts ++ s.text ∷ []) at.is ∙ ap (λ (ts : List (List ℕ)). first_line ∷ ts) (append_assoc at.b.head s.front (s.text ∷ []));
+      head = at.b.again (s.front ++ s.text ∷ []);
+      lines = lines;
+    }) le
+
+-- a line for which there is no room
+full_there : (text : List ℕ) (o : Opened text) (e : ScriptFail) (s : Stop o.number [] o.rest e) (line : Line) → any_line_of ([] ++ s.lines) (words_of s.text) ≡ Some line → has_room ([] ++ s.lines) line ≡ false → IsBad text (fail.TooMany (o.number + length s.front))
+full_there text o e s line is none = (inr (opened_well text o, record { refused = full; least = can_begin text o e s }), not_wrong)
+  where
+    full : CanBegin IsScript text (o.number + length s.front) → ⊥
+    full can =
+        let n = next_line text o e s (weaker text (o.number + length s.front) can) in
+        let same : n.line ≡ line = let q = sym n.is ∙ is in cc in
+        too_many s.lines n.more line none (subst (λ (l : Line). IsSmall (s.lines ++ l ∷ n.more)) same (subst IsSmall n.same can.has_form.small))
+
+    not_wrong : IsWrongAt text (o.number + length s.front) → ⊥
+    not_wrong (inl h) = opened_well text o h.0
+    not_wrong (inr h) = h.1.refused (with_call text o e s line is)
+
+-- a script that is read up to a line
+pub stopped : (text : List ℕ) (o : Opened text) (e : ScriptFail) (s : Stop o.number [] o.rest e) → IsBad text e
+stopped text o e s = by_why s.why
+  where
+    by_why : ((e ≡ fail.Bad (o.number + length s.front)) × (any_line_of ([] ++ s.lines) (words_of s.text) ≡ None)) ⊎ ((line : Line) × (e ≡ fail.TooMany (o.number + length s.front)) × (any_line_of ([] ++ s.lines) (words_of s.text) ≡ Some line) × (has_room ([] ++ s.lines) line ≡ false))
+        → IsBad text e
+    by_why (inl w) = rw w.0 (wrong_there text (o.number + length s.front) (opened_well text o) (λ can. let q = sym (next_line text o e s can).is ∙ w.1 in cc) (can_begin text o e s))
+    by_why (inr w) = rw w.1 (full_there text o e s w.0 w.2 w.3)

@@ -1,6 +1,11 @@
 pub mod FieldLaws
 pub mod CallLaws
+pub mod LineLaws
+pub mod Heads
+pub mod FirstMark
+pub mod FirstLines
 pub mod Least
+pub mod Seen
 pub mod Scripts
 pub mod Loop
 pub mod TextSets

@@ -15,6 +15,7 @@ use Rattle.xti_base.specs.declared.limits.TheConstants.{MOST_LINES, MOST_ARGUMEN
 use Rattle.xti_script.specs.Names.{Defining, after, defines, is_defined}
 use Rattle.xti_script.specs.TextSets.{TextSet, has, has_at}
 use Rattle.xti_script.specs.Known.{is_own, TakesName, HaveNames, Knows}
+use Rattle.xti_script.specs.declared.draft.Taken.TheVariants as taken
 use Rattle.xti_script.specs.Reading.{less, room_after, extended}
 
 -- ---- one more text in the set at a place
@@ -189,7 +190,7 @@ leaves total left used n more h k e = omega arith
 
 -- the limits allow a line where there is room for it
 pub line_added : (lines now more_lines : List Line) (opened listened : List TextSet) (left more : ℕ) (line : Line) (o : Option ℕ) → Knows lines opened listened left → lines ≡ now → more_lines ≡ lines ++ line ∷ [] → o ≡ room_after (length lines) left line.call → o ≡ Some more
-    → (true, more_lines) ≡ extended now line
+    → (taken.Read, more_lines) ≡ extended now line
 unfolding extended
 line_added lines now more_lines opened listened left more line o k v m e s =
     let t = room_is (length lines) left line.call more o e s in
@@ -197,14 +198,14 @@ line_added lines now more_lines opened listened left more line o k v m e s =
     let size : leb (script_bytes lines + argument_bytes line.call) MOST_ARGUMENT_BYTES ≡ true = le-leb _ _ (fits_in MOST_ARGUMENT_BYTES left (script_bytes lines) (argument_bytes line.call) k.bytes t.fits) in
     rw (← v, m) (rw (count, size) refl)
 
-pub line_refused : (lines now more_lines : List Line) (opened listened : List TextSet) (left : ℕ) (line : Line) (o : Option ℕ) → Knows lines opened listened left → lines ≡ now → more_lines ≡ lines → o ≡ room_after (length lines) left line.call → o ≡ None → (false, more_lines) ≡ extended now line
+pub line_refused : (lines now more_lines : List Line) (opened listened : List TextSet) (left : ℕ) (line : Line) (o : Option ℕ) → Knows lines opened listened left → lines ≡ now → more_lines ≡ lines → o ≡ room_after (length lines) left line.call → o ≡ None → (taken.TooMany, more_lines) ≡ extended now line
 unfolding extended room_after
 line_refused lines now more_lines opened listened left line o k v m e s = rw (← v, m) (by_test (ltb (length lines) MOST_LINES) refl (sym e ∙ s))
   where
     nothing : Option ℕ
     nothing = None
 
-    by_test : (t : Bool) → ltb (length lines) MOST_LINES ≡ t → cond t (less left (argument_bytes line.call)) None ≡ nothing → (false, lines) ≡ extended lines line
+    by_test : (t : Bool) → ltb (length lines) MOST_LINES ≡ t → cond t (less left (argument_bytes line.call)) None ≡ nothing → (taken.TooMany, lines) ≡ extended lines line
     by_test false t r = rw t refl
     by_test true t r =
         let over : left < argument_bytes line.call = less_fails left (argument_bytes line.call) (less left (argument_bytes line.call)) refl r in

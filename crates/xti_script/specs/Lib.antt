@@ -9,6 +9,7 @@ pub mod Calls
 pub mod Grammar
 pub mod Refused
 pub mod Reading
+pub mod Marks
 pub mod TextSets
 pub mod Known
 pub mod Read

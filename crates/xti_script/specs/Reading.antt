@@ -1,16 +1,25 @@
 -- Reading lines from left to right, each after the earlier ones.
-use Rattle.std.specs.Prelude.{ℕ, ◌+◌, ◌-◌, ◌==◌, Bool, true, false, ◌&&◌, nat_eq, nat_lt, nat_le, List, [], ◌∷◌, ◌++◌, length, drop, codes, find, Option, Some, None, if◌then◌else◌, Result, Ok, Err}
+use Rattle.std.specs.Prelude.{ℕ, ◌+◌, ◌-◌, ◌==◌, Bool, ◌&&◌, nat_eq, nat_lt, nat_le, List, [], ◌∷◌, ◌++◌, length, drop, codes, find, Option, Some, None, if◌then◌else◌, Result, Ok, Err}
 use Rattle.std.specs.Str.{bytes_eq}
 use Rattle.std.specs.List.{starts_with}
 use Rattle.xti_model.specs.declared.script.NamedCall.{NamedCall}
+use Rattle.xti_model.specs.declared.profile.Providers.{Providers}
 use Rattle.xti_model.specs.declared.script.Line.{Line}
+use Rattle.xti_model.specs.declared.script.Script.{Script}
+use Rattle.xti_model.specs.Profile.{usual}
+use Rattle.xti_head.specs.Head.{head_of}
+use Rattle.xti_script.specs.declared.draft.Taken.{Taken}
+use Rattle.xti_script.specs.declared.draft.Taken.TheVariants as taken
+use Rattle.xti_script.specs.declared.script_text.ScriptFail.{ScriptFail}
+use Rattle.xti_script.specs.declared.script_text.ScriptFail.TheVariants as fail
+use Rattle.xti_script.specs.Grammar.{is_passed, is_mark}
 use Rattle.xti_model.specs.Work.{argument_bytes, script_bytes}
 use Rattle.xti_script.specs.FieldValue.{Value}
 use Rattle.xti_script.specs.declared.fields.Key.{Key}
 use Rattle.xti_script.specs.declared.verbs.Verb.{Verb}
 use Rattle.xti_script.specs.declared.verbs.Verb.TheVariants.{Open, Close, Bind, Unbind, Connect, RcvConnect, Listen, Accept, Snd, SndV, Rcv, RcvV, SndDis, RcvDis, SndRel, RcvRel, SndUData, SndVUData, RcvUData, RcvVUData, RcvUDErr, Look, GetState, Sync, GetInfo, GetProtAddr, OptMgmt, SetMode}
 use Rattle.xti_script.specs.Names.{Spot, after}
-use Rattle.xti_words.specs.Texts.{words_of}
+use Rattle.xti_words.specs.Texts.{text_of, words_of}
 use Rattle.xti_words.specs.Values.{number_in, onto}
 use Rattle.xti_script.specs.Values.{value_in}
 use Rattle.xti_script.specs.Fields.{key_word, kind_of, usual_value}
@@ -110,34 +119,62 @@ room_after count left call = if nat_lt count MOST_LINES then less left (argument
 abbrev pub has_room : List Line → Line → Bool
 has_room earlier line = nat_lt (length earlier) MOST_LINES && nat_le (script_bytes earlier + argument_bytes line.call) MOST_ARGUMENT_BYTES
 
-abbrev pub within : List Line → Option Line → Option Line
-within earlier None = None
-within earlier (Some line) = if has_room earlier line then Some line else None
+-- what becomes of this line, and the lines after it
+unfoldable pub extended : List Line → Line → Taken × List Line
+extended earlier line = if has_room earlier line then (taken.Read, earlier ++ line ∷ []) else (taken.TooMany, earlier)
 
--- the line that the words give
-unfoldable pub line_of : List Line → List (List ℕ) → Option Line
-line_of earlier words = within earlier (any_line_of earlier words)
+abbrev pub longer : List Line → Option Line → Taken × List Line
+longer earlier None = (taken.Wrong, earlier)
+longer earlier (Some line) = extended earlier line
 
--- whether there is one more line, and the lines with it
-abbrev pub longer : List Line → Option Line → Bool × List Line
-longer earlier None = (false, earlier)
-longer earlier (Some line) = (true, earlier ++ line ∷ [])
+-- what becomes of the line with this text
+unfoldable pub after_text : List Line → List ℕ → Taken × List Line
+after_text earlier text = if is_passed text then (taken.Read, earlier) else longer earlier (any_line_of earlier (words_of text))
 
--- whether the limits allow this line, and the lines with it
-unfoldable pub extended : List Line → Line → Bool × List Line
-extended earlier line = longer earlier (within earlier (Some line))
-
--- the lines after this one, where there is one; else the number of the line that is wrong
-abbrev pub behind : {A : Type 0} → ℕ → Option Line → (Line → Result A ℕ) → Result A ℕ
-behind number None others = Err number
-behind number (Some line) others = others line
+-- the lines after one that was read; else why there are none
+abbrev pub behind : ℕ → Taken × List Line → (List Line → Result (List Line) ScriptFail) → Result (List Line) ScriptFail
+behind number (taken.Read, lines) others = others lines
+behind number (taken.Wrong, lines) others = Err (fail.Bad number)
+behind number (taken.TooMany, lines) others = Err (fail.TooMany number)
 
 -- the lines from this number on, after the earlier ones
-unfoldable pub lines_from : ℕ → List Line → List (List ℕ) → Result (List Line) ℕ
+unfoldable pub lines_from : ℕ → List Line → List (List ℕ) → Result (List Line) ScriptFail
 lines_from number earlier [] = Ok earlier
-lines_from number earlier (text ∷ texts) = behind number (line_of earlier (words_of text)) (λ line. lines_from (number + 1) (earlier ++ line ∷ []) texts)
+lines_from number earlier (text ∷ texts) = behind number (after_text earlier text) (λ lines. lines_from (number + 1) lines texts)
 
--- a whole script's lines
-unfoldable pub all_of : List (List ℕ) → Result (List Line) ℕ
-all_of [] = Err 1
-all_of (first ∷ texts) = if bytes_eq first (codes "xti-script 1") then lines_from 2 [] texts else Err 1
+-- ---- scripts
+
+abbrev pub with_providers : Providers → Result (List Line) ScriptFail → Result Script ScriptFail
+with_providers p (Ok lines) = Ok (record { providers = p; lines = lines })
+with_providers p (Err e) = Err e
+
+abbrev pub script_from : ℕ → Providers → List (List ℕ) → Result Script ScriptFail
+script_from number p texts = with_providers p (lines_from number [] texts)
+
+-- the lines before the first `+++`, and those after it
+abbrev pub onto_parts : List ℕ → Option (List (List ℕ) × List (List ℕ)) → Option (List (List ℕ) × List (List ℕ))
+onto_parts text None = None
+onto_parts text (Some parts) = Some (text ∷ parts.0, parts.1)
+
+abbrev pub to_mark : List (List ℕ) → Option (List (List ℕ) × List (List ℕ))
+to_mark [] = None
+to_mark (text ∷ texts) = if is_mark text then Some ([], texts) else onto_parts text (to_mark texts)
+
+abbrev pub with_head : ℕ → List (List ℕ) → Option Providers → Result Script ScriptFail
+with_head number texts None = Err (fail.Bad 2)
+with_head number texts (Some p) = script_from number p texts
+
+-- the head ends before line 4 and as many more as it has
+abbrev pub by_head : Option (List (List ℕ) × List (List ℕ)) → Result Script ScriptFail
+by_head None = Err (fail.Bad 2)
+by_head (Some parts) = with_head (4 + length parts.0) parts.1 (head_of (text_of parts.0))
+
+-- the lines from the second on
+unfoldable pub body_of : List (List ℕ) → Result Script ScriptFail
+body_of [] = script_from 2 usual []
+body_of (text ∷ texts) = if is_mark text then by_head (to_mark texts) else script_from 2 usual (text ∷ texts)
+
+-- a whole script
+unfoldable pub all_of : List (List ℕ) → Result Script ScriptFail
+all_of [] = Err (fail.Bad 1)
+all_of (first ∷ texts) = if bytes_eq first (codes "xti-script 1") then body_of texts else Err (fail.Bad 1)

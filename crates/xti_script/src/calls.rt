@@ -2,19 +2,20 @@
 
 ghost use Rattle.std.specs.Prelude.{◌≡◌, ◌≤◌, IfSome};
 ghost use Rattle.xti_words.specs.Texts.{words_of};
-ghost use Rattle.xti_script.specs.Gives.{Adds};
+ghost use Rattle.xti_script.specs.Gives.{Takes};
+ghost use Rattle.xti_script.specs.Grammar.{is_passed};
 ghost use Rattle.xti_script.specs.Names.{after};
-ghost use Rattle.xti_script.specs.Reading.{call_of, worker_of, longer, line_of};
+ghost use Rattle.xti_script.specs.Reading.{call_of, worker_of, any_line_of, longer, after_text};
 ghost use Rattle.xti_script.specs.Unread.{IsReadCall};
 
-use crate::draft::{Added, Draft};
+use crate::draft::{Draft, Taken};
 use crate::field_calls::{ReadCall, read_fields};
 use crate::fields::{FieldFail, Fields};
 use crate::verbs::{form, verb_of};
 use std::alloc::AllocError;
 use xti_base::limits::LAST_WORKER;
 use xti_model::Line;
-use xti_words::{Words, number_in};
+use xti_words::{Words, is_ascii, number_in};
 
 /// The call of the worker that the words give after the lines so far.
 #[tactic(auto, unfolding(crate::specs::Reading::call_of))]
@@ -43,21 +44,43 @@ fn worker_of(word: &[u8]) -> Option<u32>
     }
 }
 
-/// Adds the line that the text gives after the others; false where it gives none.
-#[tactic(auto, unfolding(crate::specs::Reading::any_line_of, crate::specs::Reading::line_of, crate::specs::Reading::extended))]
-pub(crate) fn read_line(draft: &mut Draft, text: &[u8]) -> Added
-    ensures { Adds result draft.new (longer draft.old (line_of draft.old (words_of text.now))) }
+/// Whether the line is empty, or a comment.
+fn is_passed(line: &[u8]) -> bool
+    ensures { result ≡ is_passed line.now }
 {
-    let mut words = Words::of(text);
+    match line {
+        [] => true,
+        [first, ..] => *first == b'#' && is_ascii(line),
+    }
+}
+
+/// Adds the call that the line gives after the others.
+#[tactic(auto, unfolding(crate::specs::Reading::any_line_of))]
+fn read_call_line(draft: &mut Draft, line: &[u8]) -> Result<Taken, AllocError>
+    ensures { Takes result draft.new (longer draft.old (any_line_of draft.old (words_of line.now))) }
+{
+    let mut words = Words::of(line);
     let Some(word) = words.next() else {
-        return Ok(false);
+        return Ok(Taken::Wrong);
     };
     let Some(worker) = worker_of(word) else {
-        return Ok(false);
+        return Ok(Taken::Wrong);
     };
     match read_call(draft, worker, words) {
         Ok(call) => draft.add(Line { worker, call }),
-        Err(FieldFail::Wrong) => Ok(false),
+        Err(FieldFail::Wrong) => Ok(Taken::Wrong),
         Err(FieldFail::OutOfMemory) => Err(AllocError),
+    }
+}
+
+/// Takes one line more: adds its call, or passes over it.
+#[tactic(auto, unfolding(crate::specs::Reading::after_text))]
+pub(crate) fn read_line(draft: &mut Draft, line: &[u8]) -> Result<Taken, AllocError>
+    ensures { Takes result draft.new (after_text draft.old line.now) }
+{
+    if is_passed(line) {
+        Ok(Taken::Read)
+    } else {
+        read_call_line(draft, line)
     }
 }

@@ -104,8 +104,16 @@ fn room_after(count: usize, left: usize, call: &NamedCall) -> Option<usize>
     }
 }
 
-/// Whether a line was added, or out of memory.
-pub(crate) type Added = Result<bool, AllocError>;
+/// What became of a line.
+#[derive(Clone, Copy, Debug, PartialEq, Eq)]
+pub(crate) enum Taken {
+    /// It was read.
+    Read,
+    /// It is wrong.
+    Wrong,
+    /// It passes a limit.
+    TooMany,
+}
 
 /// What is left of so many bytes after the line, whose name is added; `None` where a limit is in the way.
 fn admit(
@@ -212,10 +220,10 @@ impl Draft {
         })
     }
 
-    /// Adds a line; false where a limit is in the way. The lines are as before then, and where memory runs out.
-    pub(crate) fn add(&mut self, line: Line) -> Added
+    /// Adds a line, if no limit is in the way. If one is, and where memory runs out, the lines are as before.
+    pub(crate) fn add(&mut self, line: Line) -> Result<Taken, AllocError>
         requires { line.worker ≤ LAST_WORKER }
-        ensures ok { IfOk result (λ added. (added, self.new) ≡ extended self.old line) }
+        ensures ok { IfOk result (λ taken. (taken, self.new) ≡ extended self.old line) }
         ensures err { OnErr result (self.new ≡ self.old) }
     {
         let opened = self.opened.as_mut_slice();
@@ -223,9 +231,9 @@ impl Draft {
         match add_line(&mut self.lines, opened, listened, self.left, line)? {
             Some(left) => {
                 self.left = left;
-                Ok(true)
+                Ok(Taken::Read)
             }
-            None => Ok(false),
+            None => Ok(Taken::TooMany),
         }
     }
 

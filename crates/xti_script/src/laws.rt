@@ -3,13 +3,16 @@
 ghost use Rattle.std.specs.Prelude.{◌≡◌, ◌≤◌, ◌+◌, ℕ, true, List, nat_le, length};
 ghost use Rattle.std.specs.List.{list_all};
 ghost use Rattle.xti_base.specs.declared.limits.TheConstants.{LAST_WORKER};
-ghost use Rattle.xti_model.specs.Profile.{usual};
+ghost use Rattle.xti_model.specs.Profile.{valid};
 ghost use Rattle.xti_model.specs.Robin.{most_steps};
 ghost use Rattle.xti_model.specs.SentBytes.{AllHaveByteArguments, LinesSendBytes};
 ghost use Rattle.xti_model.specs.Work.{script_bytes};
 ghost use Rattle.xti_model.specs.declared.script.Script.{Script};
 ghost use Rattle.xti_script.specs.Grammar.{IsScript, HasText};
 ghost use Rattle.xti_script.specs.Refused.{IsRefusedAt};
+
+use xti_head::heads_are_valid;
+use xti_model::usual_is_valid;
 
 /// A text is a script, or is refused at a line, and never both.
 pub fn never_both()
@@ -21,10 +24,13 @@ pub fn one_script()
     ensures { (text : List ℕ) (s t : Script) → IsScript s text → IsScript t text → s ≡ t }
 {}
 
-/// The providers of a script that has a text have their usual values.
-pub fn scripts_have_usual_providers()
-    ensures { (s : Script) → HasText s → s.providers ≡ usual }
-{}
+/// The providers of a script that has a text are valid.
+pub fn scripts_have_valid_providers()
+    ensures { (s : Script) → HasText s → valid s.providers ≡ true }
+{
+    usual_is_valid();
+    heads_are_valid();
+}
 
 /// Each worker of a script that has a text is one of 0 to 32.
 pub fn scripts_have_workers()

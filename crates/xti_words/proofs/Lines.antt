@@ -1,10 +1,10 @@
 -- The first line of a text, and the lines after it.
-use Rattle.std.proofs.Common.{◌≡◌, ℕ, zero, suc, ◌+◌, ◌<◌, ◌≤◌, Bool, true, false, cond, eqb, List, [], ◌∷◌, length, get_or, take, drop, Some, None, ltb, refl, sym, ap, arith}
+use Rattle.std.proofs.Common.{◌≡◌, ℕ, zero, suc, ◌+◌, ◌<◌, ◌≤◌, Bool, true, false, cond, eqb, List, [], ◌∷◌, ◌++◌, length, get_or, take, drop, Some, None, ltb, refl, sym, ap, arith}
 use Rattle.std.specs.List.{onto_first, position, position_or_len}
 use Rattle.std.proofs.lemmas.Grind.{common_steps}
 use Rattle.std.proofs.lemmas.List.Quantifiers.{position-Some}
 use Rattle.std.proofs.lemmas.List.Sums.{fails_before_first}
-use Rattle.std.proofs.lemmas.Bool.{ltb-false}
+use Rattle.std.proofs.lemmas.Bool.{ltb-false, eqb-true}
 use Rattle.xti_words.specs.Texts.{lines_of}
 
 pub lines_at : (text : List ℕ) (i : ℕ) → i < length text → eqb (get_or text i 0) 10 ≡ true → ((k : ℕ) → k < i → eqb (get_or text k 0) 10 ≡ false)
@@ -40,3 +40,14 @@ lines_none text lt e =
     let no = never (ltb (position_or_len (λ c. eqb c 10) text) (length text)) (position_or_len (λ c. eqb c 10) text) (sym e) in
     let le : length text ≤ position_or_len (λ c. eqb c 10) text = ltb-false _ _ no in
     lines_last text lt (λ k h. fails_before_first (λ c. eqb c 10) text k 0 (omega arith))
+
+split_at : (text : List ℕ) (i : ℕ) → i < length text → eqb (get_or text i 0) 10 ≡ true → text ≡ take i text ++ 10 ∷ drop 1 (drop i text)
+split_at [] i lt here = absurd (omega arith)
+split_at (c ∷ text) zero lt here = ap (λ (d : ℕ). d ∷ text) (eqb-true c 10 here)
+split_at (c ∷ text) (suc i) lt here = ap (λ (cs : List ℕ). c ∷ cs) (split_at text i (omega arith) here)
+
+pub line_ends : (text : List ℕ) (i n : ℕ) → length text ≤ n + (i + 1) → Some i ≡ position (λ c. eqb c 10) text → text ≡ take i text ++ 10 ∷ take n (drop (i + 1) text)
+line_ends text i n h e =
+    let p = position-Some (λ c. eqb c 10) text i 0 (sym e) in
+    let whole : take n (drop (i + 1) text) ≡ drop 1 (drop i text) = grind (arith, common_steps) in
+    rw whole (split_at text i p.0 p.1)

@@ -1,5 +1,5 @@
 -- The lines of a text, the words of a line, and what names and plain texts are made of.
-use Rattle.std.specs.Prelude.{ℕ, ◌==◌, Bool, false, ◌&&◌, ◌||◌, List, [], ◌∷◌, if◌then◌else◌, nat_le, length, map}
+use Rattle.std.specs.Prelude.{ℕ, ◌==◌, Bool, false, ◌&&◌, ◌||◌, List, [], ◌∷◌, ◌++◌, if◌then◌else◌, nat_le, nat_lt, length, map}
 use Rattle.std.specs.List.{slice_split, onto_first, list_all}
 use denote.Ref.{Bor}
 
@@ -12,6 +12,11 @@ abbrev pub lines_of : List ℕ → List (List ℕ)
 lines_of [] = []
 lines_of (c ∷ text) = if c == 10 then [] ∷ lines_of text else onto_first c (lines_of text)
 
+-- the text of these lines, each with its LF
+abbrev pub text_of : List (List ℕ) → List ℕ
+text_of [] = []
+text_of (line ∷ lines) = line ++ 10 ∷ text_of lines
+
 -- the pieces that are separated by this byte
 abbrev pub pieces_of : ℕ → List ℕ → List (List ℕ)
 pieces_of separator text = slice_split (λ c. c == separator) text
@@ -19,6 +24,10 @@ pieces_of separator text = slice_split (λ c. c == separator) text
 -- words are separated by one space
 abbrev pub words_of : List ℕ → List (List ℕ)
 words_of line = pieces_of 32 line
+
+-- each byte is one of ASCII
+abbrev pub is_ascii : List ℕ → Bool
+is_ascii text = list_all (λ c. nat_lt c 128) text
 
 abbrev pub is_lower : ℕ → Bool
 is_lower c = nat_le 97 c && nat_le c 122

@@ -9,6 +9,6 @@ mod words;
 
 pub use operands::{action_in, mode_in, provider_in};
 pub use options::options_in;
-pub use texts::{first_line, is_name};
+pub use texts::{first_line, is_ascii, is_name};
 pub use values::{MOST_PIECES, bytes_in, number_in, parts_in, sizes_in};
 pub use words::Words;

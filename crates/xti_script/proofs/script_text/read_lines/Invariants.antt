@@ -5,8 +5,8 @@ use Rattle.xti_script.proofs.script_text.read_lines.Given as goal
 
 abbrev pub invariant-loop-rest : goal.invariant-loop-rest
 invariant-loop-rest l = record {
-  number : l.number + length l.rest ≤ 2 + length l.text;
-  read : lines_from l.number l.draft (lines_of l.rest) ≡ lines_from 2 [] (lines_of l.text);
+  number : l.number + length l.rest ≤ l.first + length l.text;
+  read : lines_from l.number l.draft (lines_of l.rest) ≡ lines_from l.first [] (lines_of l.text);
 }
 
 abbrev pub decreases-loop-rest : goal.decreases-loop-rest

@@ -1,0 +1,4 @@
+pub mod Keys
+pub mod Ascii
+pub mod Valid
+pub mod Worked
