@@ -1,18 +1,15 @@
 -- The fields of a call that are all written are those of the call.
-use Rattle.std.proofs.Common.{◌≡◌, refl, sym, ap, subst, ◌∙◌, ℕ, ◌+◌, ◌≤◌, ◌<◌, ◌⊎◌, inl, inr, Bool, true, false, not, eqb, List, [], ◌∷◌, ◌++◌, Option, Some, None, All, codes, arith}
+use Rattle.std.proofs.Common.{◌≡◌, refl, ap, subst, ℕ, ◌<◌, inl, inr, true, false, not, eqb, List, [], ◌∷◌, ◌++◌, Some, arith}
 use Rattle.std.specs.List.{list_all}
 use Rattle.std.proofs.lemmas.List.Elements.{All-nil}
 use Rattle.xti_base.specs.declared.limits.TheConstants.{MOST_SEND, MOST_ADDRESS, MOST_OPTIONS, MOST_CONNECT_DATA}
-use Rattle.xti_model.specs.declared.script.NamedCall.{NamedCall}
-use Rattle.xti_script.specs.Kinds.{Kind}
 use Rattle.xti_script.specs.Kinds.{Kind as kind}
 use Rattle.xti_script.specs.FieldValue.{Value}
 use Rattle.xti_script.specs.FieldValue.Value.{Bytes, Number, Mode}
 use Rattle.xti_script.specs.declared.fields.Key.{Key}
 use Rattle.xti_script.specs.declared.fields.Key.TheVariants.{NewEndpoint, Endpoint, NewSequence, Sequence, SequenceOrNone, Provider, Mode as ModeKey, ModeOrBlock, Action, Addr, Opt, UData, Data, Parts, Sizes, Qlen, Flags, Max, Amax, Pmax, Omax, Umax}
 use Rattle.xti_script.specs.Names.{Spot}
-use Rattle.xti_script.specs.Values.{value_in}
-use Rattle.xti_script.specs.Fields.{field, key_word, kind_of, usual_value, IsWritten, IsLeftOut, AreFields}
+use Rattle.xti_script.specs.Fields.{field, key_word, kind_of, usual_value, IsWritten, AreFields}
 use Rattle.xti_canonical.specs.Canonical.{value_text, field_text, fields_text}
 use Rattle.xti_canonical.proofs.Numbers.{Lacks}
 use Rattle.xti_canonical.proofs.Pieces.{AllLack, after_each, lacks_by, lacks_both, lacks_rest}

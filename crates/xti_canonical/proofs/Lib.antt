@@ -3,3 +3,5 @@ pub mod Octets
 pub mod Pieces
 pub mod ValueTexts
 pub mod Fields
+pub mod Lines
+pub mod ScriptTexts

@@ -1,15 +1,14 @@
 -- Bytes that are written in hexadecimal digits are read as themselves, and have no byte that separates words.
-use Rattle.std.proofs.Common.{◌≡◌, refl, sym, ap, ◌∙◌, ℕ, ◌+◌, ◌-◌, ◌*◌, ◌/◌, ◌%◌, ◌≤◌, ◌<◌, Bool, true, false, cond, ◌&&◌, eqb, leb, ltb, List, [], ◌∷◌, ◌++◌, Option, Some, None, All, codes, arith, ne_eqb, le-leb, leb-false, ltb-true, ltb-false, nat_eq, drop}
+use Rattle.std.proofs.Common.{◌≡◌, refl, ℕ, ◌+◌, ◌-◌, ◌*◌, ◌/◌, ◌%◌, ◌≤◌, ◌<◌, Bool, true, false, cond, eqb, leb, ltb, List, [], ◌∷◌, Some, arith, ne_eqb, le-leb, ltb-true, ltb-false}
 use Rattle.std.specs.Prelude.{flat_map}
 use Rattle.std.proofs.lemmas.Bool.{lt-leb}
-use Rattle.std.specs.List.{starts_with}
-use Rattle.std.proofs.lemmas.List.Elements.{All-nil, All-cons, All-head, All-tail, All-append}
+use Rattle.std.proofs.lemmas.List.Elements.{All-nil, All-cons, All-head, All-tail}
 use Rattle.xti_words.proofs.WordBytes.{AreBytes}
 use Rattle.xti_words.specs.Texts.{is_digit}
-use Rattle.xti_words.specs.Values.{onto, hex_digit, hex_pair, hex_bytes, bytes_in, options_in}
+use Rattle.xti_words.specs.Values.{hex_digit, hex_bytes, bytes_in, options_in}
 use Rattle.xti_text.specs.Words.{octets_word}
 use Rattle.xti_text.specs.Words.{hex_digit as digit_text, hex_pair as pair_text}
-use Rattle.xti_canonical.proofs.Numbers.{Lacks, joined, digit}
+use Rattle.xti_canonical.proofs.Numbers.{Lacks, digit}
 
 -- ---- digits
 

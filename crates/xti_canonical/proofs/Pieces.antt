@@ -1,5 +1,5 @@
 -- Texts that are written with a byte between them are read as these texts.
-use Rattle.std.proofs.Common.{◌≡◌, refl, sym, ap, subst, ◌∙◌, ℕ, zero, suc, ◌+◌, ◌≤◌, ◌<◌, Bool, true, false, cond, ◌&&◌, not, eqb, leb, List, [], ◌∷◌, ◌++◌, append-nil, append_assoc, length, Option, Some, None, All, codes, arith, eq-eqb, le-leb, leb-true}
+use Rattle.std.proofs.Common.{◌≡◌, refl, sym, ap, ap₂, subst, ◌∙◌, ℕ, suc, ◌≤◌, ◌<◌, Bool, true, false, cond, not, eqb, leb, List, [], ◌∷◌, ◌++◌, take, take_all, append-nil, append_assoc, length, Option, Some, None, codes, arith, eq-eqb, le-leb, leb-true}
 use Rattle.std.specs.Prelude.{flat_map, map}
 use Rattle.std.specs.List.{list_all, onto_first}
 use Rattle.std.proofs.lemmas.List.Elements.{All-nil, All-cons, All-head, All-tail, All-append}
@@ -162,3 +162,10 @@ list_lacks byte text (x ∷ xs) comma h = lacks_both byte (text x) (flat_map (λ
     others [] k = All-nil (λ c. eqb c byte ≡ false)
     others (y ∷ ys) k = All-cons (λ c. eqb c byte ≡ false) 44 (text y ++ flat_map (λ y. codes "," ++ text y) ys) comma
         (lacks_both byte (text y) (flat_map (λ y. codes "," ++ text y) ys) k.0 (others ys k.1))
+
+-- a list's text, as a loop over all but the first value writes it
+pub listed_by_loop : {A : Type 0} (text : A → List ℕ) (out begun now : List ℕ) (x : A) (xs all : List A) (n : ℕ) → all ≡ x ∷ xs → length xs ≤ n → begun ≡ out ++ text x
+    → now ≡ begun ++ flat_map (λ y. codes "," ++ text y) (take n xs) → now ≡ out ++ listed text all
+listed_by_loop text out begun now x xs all n is whole first h =
+    h ∙ ap₂ (λ b ys. b ++ flat_map (λ y. codes "," ++ text y) ys) first (take_all n xs whole)
+    ∙ append_assoc out (text x) (flat_map (λ y. codes "," ++ text y) xs) ∙ ap (λ ys. out ++ listed text ys) (sym is)

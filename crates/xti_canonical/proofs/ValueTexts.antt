@@ -1,10 +1,8 @@
 -- The text of a value is read as this value.
-use Rattle.std.proofs.Common.{◌≡◌, refl, sym, ap, subst, ◌∙◌, ℕ, ◌+◌, ◌≤◌, ◌<◌, Bool, true, false, cond, ◌&&◌, not, eqb, List, [], ◌∷◌, ◌++◌, length, Option, Some, None, All, codes, decimal, option_map, arith, ne_eqb, bytes_eq}
-use Rattle.std.specs.List.{concat, list_all}
-use Rattle.std.proofs.lemmas.List.Elements.{All-nil, All-cons, All-head, All-tail}
+use Rattle.std.proofs.Common.{◌≡◌, refl, sym, ap, subst, ◌∙◌, ℕ, ◌≤◌, ◌<◌, Bool, true, false, cond, not, eqb, List, [], ◌∷◌, length, Option, Some, None, codes, decimal, option_map, arith, ne_eqb, bytes_eq}
+use Rattle.std.specs.List.{list_all}
 use Rattle.xti_base.specs.declared.kinds.Prov.{Prov}
 use Rattle.xti_base.specs.declared.kinds.Prov.TheVariants.{Ticots, Ticotsord, Ticlts, Other}
-use Rattle.xti_base.specs.Kinds.{prov_name}
 use Rattle.xti_base.specs.Negotiation.{t_negotiate, t_check, t_default, t_current}
 use Rattle.xti_model.specs.Resolve.{listens}
 use Rattle.xti_words.proofs.WordBytes.{AreBytes, word-bytes, option-bytes}
@@ -17,8 +15,8 @@ use Rattle.xti_script.specs.FieldValue.{Value}
 use Rattle.xti_script.specs.FieldValue.Value.{Bytes, Number, Parts, Sizes, Name, NameOrNone, Provider, Mode}
 use Rattle.xti_script.specs.Names.{Spot, is_defined, can_name}
 use Rattle.xti_script.specs.Values.{named, sequence_or_none, value_in}
-use Rattle.xti_canonical.specs.Canonical.{listed, bytes_text, mode_text, value_text}
-use Rattle.xti_canonical.proofs.Numbers.{Lacks, joined, number_read, number_small, number_lacks, number_begins, digit_bounds}
+use Rattle.xti_canonical.specs.Canonical.{bytes_text, value_text}
+use Rattle.xti_canonical.proofs.Numbers.{Lacks, number_read, number_small, number_lacks, number_begins, digit_bounds}
 use Rattle.xti_canonical.proofs.Octets.{bytes_read, options_read, bytes_lack}
 use Rattle.xti_canonical.proofs.Pieces.{AllRead, Each, lacks_by, list_again, list_has, list_lacks}
 

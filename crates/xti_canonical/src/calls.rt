@@ -13,7 +13,8 @@ use xti_text::put_number;
 
 // The most bytes that the caller takes of address, options and data.
 fn put_most(out: &mut Vec<u8>, amax: u32, omax: u32, umax: u32) -> Result<(), AllocError>
-    ensures { OnOk result (out.new.items ≡ out.old.items ++ (codes " amax=" ++ decimal amax) ++ (codes " omax=" ++ decimal omax) ++ (codes " umax=" ++ decimal umax)) }
+    ensures { OnOk result (out.new.items
+        ≡ out.old.items ++ (codes " amax=" ++ decimal amax) ++ (codes " omax=" ++ decimal omax) ++ (codes " umax=" ++ decimal umax)) }
 {
     put_number(out, " amax=", amax as u64)?;
     put_number(out, " omax=", omax as u64)?;
@@ -26,6 +27,37 @@ fn put_address(out: &mut Vec<u8>, addr: &Octets, opt: &Octets) -> Result<(), All
 {
     put_bytes(out, " addr=", addr)?;
     put_bytes(out, " opt=", opt)
+}
+
+// The address, the options and the data of a request.
+fn put_request(
+    out: &mut Vec<u8>,
+    addr: &Octets,
+    opt: &Octets,
+    udata: &Octets,
+) -> Result<(), AllocError>
+    ensures { OnOk result (out.new.items
+        ≡ out.old.items ++ (codes " addr=" ++ bytes_text addr.now) ++ (codes " opt=" ++ bytes_text opt.now) ++ (codes " udata=" ++ bytes_text udata.now)) }
+{
+    put_address(out, addr, opt)?;
+    put_bytes(out, " udata=", udata)
+}
+
+// Where a request is accepted, with which options and data.
+fn put_acceptance(
+    out: &mut Vec<u8>,
+    resfd: &Name,
+    seq: &Name,
+    opt: &Octets,
+    udata: &Octets,
+) -> Result<(), AllocError>
+    ensures { OnOk result (out.new.items
+        ≡ out.old.items ++ (codes " " ++ resfd.now) ++ (codes " " ++ seq.now) ++ (codes " opt=" ++ bytes_text opt.now) ++ (codes " udata=" ++ bytes_text udata.now)) }
+{
+    put_name(out, " ", resfd)?;
+    put_name(out, " ", seq)?;
+    put_bytes(out, " opt=", opt)?;
+    put_bytes(out, " udata=", udata)
 }
 
 /// Appends a call by its word and all its fields.
@@ -66,8 +98,7 @@ pub(crate) fn put_call(out: &mut Vec<u8>, call: &NamedCall) -> Result<(), AllocE
             umax,
         } => {
             put_name(out, "connect ", fd)?;
-            put_address(out, addr, opt)?;
-            put_bytes(out, " udata=", udata)?;
+            put_request(out, addr, opt, udata)?;
             put_most(out, *amax, *omax, *umax)
         }
         NamedCall::TRcvConnect {
@@ -98,10 +129,7 @@ pub(crate) fn put_call(out: &mut Vec<u8>, call: &NamedCall) -> Result<(), AllocE
             udata,
         } => {
             put_name(out, "accept ", fd)?;
-            put_name(out, " ", resfd)?;
-            put_name(out, " ", seq)?;
-            put_bytes(out, " opt=", opt)?;
-            put_bytes(out, " udata=", udata)
+            put_acceptance(out, resfd, seq, opt, udata)
         }
         NamedCall::TSnd { fd, bytes, flags } => {
             put_name(out, "snd ", fd)?;

@@ -2,4 +2,9 @@
 #![tactic(auto)]
 
 mod calls;
+mod laws;
+mod scripts;
 mod values;
+
+pub use laws::scripts_are_read_back;
+pub use scripts::write_script;

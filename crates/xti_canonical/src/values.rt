@@ -56,26 +56,30 @@ pub(crate) fn put_bytes(out: &mut Vec<u8>, key: &str, bytes: &Octets) -> Result<
 pub(crate) fn put_parts(out: &mut Vec<u8>, key: &str, parts: &[Octets]) -> Result<(), AllocError>
     ensures { OnOk result (out.new.items ≡ out.old.items ++ key.now ++ listed bytes_text parts.now) }
 {
-    put_text(out, key)?;
-    if let Some((first, others)) = parts.split_first() {
-        put_bytes(out, "", first)?;
-        for part in others {
-            put_bytes(out, ",", part)?;
+    match parts.split_first() {
+        None => put_text(out, key),
+        Some((first, others)) => {
+            put_bytes(out, key, first)?;
+            for part in others {
+                put_bytes(out, ",", part)?;
+            }
+            Ok(())
         }
     }
-    Ok(())
 }
 
 // Numbers, separated by commas.
 pub(crate) fn put_sizes(out: &mut Vec<u8>, key: &str, sizes: &[u32]) -> Result<(), AllocError>
     ensures { OnOk result (out.new.items ≡ out.old.items ++ key.now ++ listed decimal sizes.now) }
 {
-    put_text(out, key)?;
-    if let Some((first, others)) = sizes.split_first() {
-        put_number(out, "", *first as u64)?;
-        for size in others {
-            put_number(out, ",", *size as u64)?;
+    match sizes.split_first() {
+        None => put_text(out, key),
+        Some((first, others)) => {
+            put_number(out, key, *first as u64)?;
+            for size in others {
+                put_number(out, ",", *size as u64)?;
+            }
+            Ok(())
         }
     }
-    Ok(())
 }

@@ -1,5 +1,5 @@
 -- The words of the command line, over clap's own reading of them.
-use Rattle.std.specs.Prelude.{Bool, true, ℕ, List, [], ◌∷◌, Option, Some, None, if◌then◌else◌, codes, map, String, string_bytes, option_and_then}
+use Rattle.std.specs.Prelude.{Bool, true, List, [], ◌∷◌, Option, Some, None, if◌then◌else◌, codes, map, String, string_bytes, option_and_then}
 use Rattle.std.specs.declared.alloc.Global.{Global}
 use Rattle.std.specs.Str.{bytes_eq}
 use Rattle.clap.specs.Words.{App, Kinds, Row, Rule, Text, fault_of, first_of, matches_of, new_app, new_rule, takes, with_rule}

@@ -1,7 +1,6 @@
-use Rattle.std.proofs.Common.{rules, ap, refl, codes, option_map, option_and_then, ◌≡◌, ◌∙◌, sym}
+use Rattle.std.proofs.Common.{rules, codes, option_map, ◌≡◌, ◌∙◌}
 use Rattle.clap.specs.Words.{first_of, found_of, rows_of}
 use Rattle.clap.proofs.WalkLemmas.{first_value-rows}
-use Rattle.xti_command.specs.Words.{named}
 use Rattle.xti_command.proofs.command.matched.Goals as goal
 
 pub returns-in_err-get_str : goal.returns-in_err-get_str

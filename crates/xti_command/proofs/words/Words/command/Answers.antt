@@ -1,4 +1,4 @@
-use Rattle.std.proofs.Common.{rules, ap, refl, ◌≡◌, ◌∙◌, sym}
+use Rattle.std.proofs.Common.{rules}
 use Rattle.xti_command.proofs.Commands.{found, refused}
 use Rattle.xti_command.proofs.words.Words.command.Goals as goal
 

@@ -1,0 +1,17 @@
+//! Laws of canonical texts.
+
+ghost use Rattle.std.specs.Prelude.{◌≡◌};
+ghost use Rattle.xti_model.specs.declared.script.Script.{Script};
+ghost use Rattle.xti_model.specs.Profile.{usual};
+ghost use Rattle.xti_script.specs.Grammar.{HasText, IsScript};
+ghost use Rattle.xti_canonical.specs.Canonical.{script_text};
+
+use xti_script::one_script;
+
+/// What is written is read back as the same script.
+pub fn scripts_are_read_back()
+    ensures written { (s : Script) → HasText s → s.providers ≡ usual → IsScript s (script_text s) }
+    ensures same { (s other : Script) → HasText s → s.providers ≡ usual → IsScript other (script_text s) → other ≡ s }
+{
+    one_script();
+}
