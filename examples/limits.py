@@ -84,6 +84,31 @@ def lines(count):
     return script(calls)
 
 
+def commented(count):
+    """The same under a head, with a comment after each line."""
+    first, *calls = lines(count).splitlines(keepends=True)
+    head = [b"+++\n", b"[ticlts]\n", b"tsdu = 1000\n", b"+++\n"]
+    return b"".join([first, *head, *(call + b"# " + b"c" * 40 + b"\n" for call in calls)])
+
+
+def hexadecimal_between_comments(count):
+    """So many bytes more than a script may have, between comments of 1,000,000 bytes."""
+    comment = "#" + "b" * 1_000_000
+    return script([comment, *TWO_ENDPOINTS, "", comment, f"1 sndudata a data=x:{octets(MOST_BYTES - 2 + count).hex()}", comment])
+
+
+def longest_messages():
+    """A datagram and a send of the most bytes that a head may allow."""
+    return script([
+        "+++", "[ticlts]", "tsdu = 65536", "[ticots]", "sndbuf = 65536", "rcvbuf = 65536", "+++",
+        *TWO_ENDPOINTS,
+        "1 sndudata a addr=t:b data=f:65536", "1 rcvudata b",
+        "0 open l ticots nonblock", "0 bind l addr=t:l qlen=1", "0 open c ticots nonblock", "0 bind c", "0 connect c addr=t:l",
+        "0 listen l q", "0 accept l l q", "0 rcvconnect c",
+        "2 snd c data=f:65536", "2 snd c data=f:65535 flags=1", "2 snd c data=t:x", "2 snd c data=t:x", "2 rcv l", "2 rcv l", "2 rcv l",
+    ])
+
+
 def names():
     """70 names of worker 0 and 130 of worker 1, the longest among them; at most 64 endpoints are open at a time."""
     calls = []
@@ -181,6 +206,11 @@ INPUTS = {
     "a-byte-more-than-a-script-may-have": hexadecimal_over_its_limit,
     "as-many-lines-as-a-script-may-have": lambda: lines(MOST_LINES),
     "a-line-more-than-a-script-may-have": lambda: lines(MOST_LINES + 1),
+    "as-many-lines-as-a-script-may-have-and-comments": lambda: commented(MOST_LINES),
+    "a-line-more-than-a-script-may-have-and-comments": lambda: commented(MOST_LINES + 1),
+    "as-many-bytes-as-a-script-may-have-and-comments": lambda: hexadecimal_between_comments(0),
+    "a-byte-more-than-a-script-may-have-and-comments": lambda: hexadecimal_between_comments(1),
+    "messages-of-the-most-bytes-that-a-head-allows": longest_messages,
     "more-than-100-names-of-a-worker": names,
     "frames-with-the-most-user-data": data_frames,
     "a-frame-with-a-byte-too-much": data_over_its_limit,
