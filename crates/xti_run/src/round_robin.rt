@@ -12,16 +12,15 @@ ghost use Rattle.xti_script.specs.Grammar.{HasText};
 ghost use Rattle.xti_streams.specs.Laws.{PrefixLaw, WaitingLaw, ReleaseLaw};
 
 use std::alloc::{AllocError, Global};
-use xti_model::{Journal, Script, usual_is_valid};
-use xti_script::{scripts_are_small, scripts_have_usual_providers, scripts_have_workers};
+use xti_model::{Journal, Script};
+use xti_script::{scripts_are_small, scripts_have_valid_providers, scripts_have_workers};
 use xti_streams::scripts_keep_order;
 
 /// A script that has a text can be played.
 pub(crate) fn texts_are_playable()
     ensures { (s : Script) → HasText s → IsPlayable s }
 {
-    usual_is_valid();
-    scripts_have_usual_providers();
+    scripts_have_valid_providers();
     scripts_have_workers();
     scripts_are_small();
 }

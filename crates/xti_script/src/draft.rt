@@ -104,14 +104,11 @@ fn room_after(count: usize, left: usize, call: &NamedCall) -> Option<usize>
     }
 }
 
-/// What became of a line.
+/// What became of a line: it was read, is wrong, or passes a limit.
 #[derive(Clone, Copy, Debug, PartialEq, Eq)]
 pub(crate) enum Taken {
-    /// It was read.
     Read,
-    /// It is wrong.
     Wrong,
-    /// It passes a limit.
     TooMany,
 }
 

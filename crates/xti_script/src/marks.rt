@@ -15,14 +15,11 @@ pub(crate) fn is_mark(line: &[u8]) -> bool
     line == b"+++".as_slice()
 }
 
-/// A text around its first line `+++`.
+/// A text around its first line `+++`: the head before it, how many lines that has, and the rest after it.
 #[derive(Clone, Copy)]
 pub(crate) struct Parts<'a> {
-    /// What is before that line.
     pub(crate) head: &'a [u8],
-    /// How many lines are before it.
     pub(crate) lines: u64,
-    /// What is after it.
     pub(crate) rest: &'a [u8],
 }
 

@@ -81,9 +81,7 @@ fn read_calls(
 fn read_headed(alloc: Global, text: &[u8]) -> Result<Script, ScriptFail>
     ensures { Gives result (by_head (to_mark (lines_of text.now))) }
 {
-    let Some(parts) = split_at_mark(text) else {
-        return Err(ScriptFail::Bad { line: 2 });
-    };
+    let parts = split_at_mark(text).ok_or(ScriptFail::Bad { line: 2 })?;
     match read_head(alloc, parts.head) {
         Ok(providers) => read_calls(alloc, providers, parts.lines + 4, parts.rest),
         Err(HeadFail::Bad) => Err(ScriptFail::Bad { line: 2 }),

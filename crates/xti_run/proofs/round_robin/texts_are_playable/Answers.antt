@@ -3,7 +3,7 @@ use Rattle.xti_run.proofs.round_robin.texts_are_playable.Goals as goal
 
 pub returns : goal.returns
 returns c = λ s has. record {
-  providers = rw (c.scripts_have_usual_providers.ensures s has) c.usual_is_valid.ensures;
+  providers = c.scripts_have_valid_providers.ensures s has;
   lines = lines-playable s.lines (c.scripts_have_workers.ensures s has);
   bound = c.scripts_are_small.ensures s has;
 }
