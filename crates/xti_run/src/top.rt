@@ -1,6 +1,6 @@
 //! The top call.
 
-ghost use Rattle.std.specs.Prelude.{◌≡◌, ◌≢◌, ◌<◌, ◌≤◌, ◌+◌, ◌⊎◌, ℕ, List, [], Some, None, IfOk, OnOk, IfErr, OnErr, length, ◌==◌};
+ghost use Rattle.std.specs.Prelude.{◌≡◌, ◌≢◌, ◌<◌, ◌≤◌, ◌+◌, ◌⊎◌, ℕ, List, [], Some, None, IfOk, OnOk, IfErr, OnErr, length, ◌==◌, true};
 ghost use Rattle.xti_io.specs.Faults.{Rose};
 ghost use Rattle.xti_io.specs.Source.{GivesUpTo};
 ghost use Rattle.xti_model.specs.declared.script.Script.{Script};
@@ -195,6 +195,7 @@ fn output<R: Source>(alloc: Global, words: &Words, source: &mut R) -> Result<Ans
     ensures err { IfErr result (λ s. IsUnanswered words.now s.0 (R.faults source.old) (R.faults source.new)) }
     ensures read { IsCommand words.now → GivesUpTo (limit + 1) (R.left source.old) (R.left source.new) }
     ensures unread { command_of words.now ≡ None → source.new ≡ source.old }
+    ensures taken { is_taken words.now ≡ true → IfOk result (λ a. a.status ≡ 1 → command_in (found_in words.now) ≡ None) }
 {
     match words.command() {
         Ok(command) => answer_from(alloc, command, source),
