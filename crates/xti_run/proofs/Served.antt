@@ -9,7 +9,8 @@ use Rattle.xti_script.specs.Grammar.{IsScript}
 use Rattle.xti_script.specs.Refused.{IsRefusedAt}
 use Rattle.xti_command.specs.declared.command.Command.{Command}
 use Rattle.xti_command.specs.declared.command.Command.TheVariants.{Replay, Frames}
-use Rattle.xti_run.specs.Program.{IsLeft, IsRun, IsAnswer, IsOutput, IsOutputOf, IsDone, HasInput, HasScript, HasFrames, status_with, command_of}
+use Rattle.xti_run.specs.Program.{IsLeft, IsRun, IsAnswer, IsOutput, IsOutputOf, IsDone, HasInput, HasScript, HasFrames, status_with}
+use Rattle.xti_command.specs.Words.{command_of}
 
 -- no text is a script and refused at a line, and no bytes are frames and wrong first at a place
 abbrev pub NoScript : Type 0
