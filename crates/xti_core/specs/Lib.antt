@@ -1,3 +1,4 @@
-pub mod Standing
 pub mod Looks
+pub mod Standing
 pub mod Touches
+pub mod Waits

@@ -18,6 +18,7 @@ use xti_model::{Applied, Call, Go};
 use xti_switch::switch_step;
 
 /// One step of a call that touches the cell of its descriptor alone.
+#[inline(always)]
 pub(crate) fn local(lent: &mut Lent, call: &Call, fd: Fd, _go: Go) -> Result<Applied, AllocError>
     requires at { IsAt lent.old.providers (place_of lent.old.providers fd.0) call.now _go }
     requires places { AtOwnPlaces lent.old }
@@ -36,6 +37,7 @@ pub(crate) fn local(lent: &mut Lent, call: &Call, fd: Fd, _go: Go) -> Result<App
 /// One step of a call over the lent cells, which are to be those that it touches: what it answers, and the state of its endpoint
 /// afterwards. Where it is blocked all is as before; where it runs out of memory the cells are, and room for more may have been
 /// taken.
+#[inline(always)]
 pub fn apply(lent: &mut Lent, call: &Call, go: Go) -> Result<Applied, AllocError>
     requires fit { IsFit lent.old }
     requires lent { AllLent lent.old (touched lent.old.providers (cells lent.old) call.now) }

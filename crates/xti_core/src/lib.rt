@@ -4,6 +4,7 @@
 mod applying;
 mod looking;
 mod touching;
+mod waiting;
 mod world;
 
 pub use applying::apply;

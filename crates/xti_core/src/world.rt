@@ -2,12 +2,14 @@
 
 ghost use Rattle.std.specs.Prelude.{◌≡◌, true, false, None, IfOk, IsOk, OnErr};
 ghost use Rattle.xti_model.specs.Memory.{may_run_out};
+ghost use Rattle.xti_model.specs.declared.entry.Go.{Go};
 ghost use Rattle.xti_model.specs.Profile.{valid};
 ghost use Rattle.xti_model.specs.Step.{step};
 ghost use Rattle.xti_model.specs.World.{opening};
 ghost use Rattle.xti_end.specs.Taken.{taken};
 
 use crate::applying::apply;
+use crate::waiting::waits;
 use std::alloc::{AllocError, Global};
 use std::marker::Model;
 use xti_end::Endpoint;
@@ -55,6 +57,7 @@ impl World {
     /// t_getstate, t_sync, t_getinfo and the mode, and t_close of an endpoint that has no peer and takes part in no request.
     ///
     /// The cells are fit for the step, as those of every world that `worlds_stay_sound` speaks of; the world stays one of these.
+    #[inline(always)]
     pub fn step(&mut self, call: &Call, go: Go) -> Result<Applied, AllocError>
         ensures step { IfOk result (λ a. taken a self.new.cells ≡ step self.old.providers self.old.cells call.now go) }
         ensures still { IfOk result (λ a. taken a self.new.cells ≡ None → self.new ≡ self.old) }
@@ -63,5 +66,13 @@ impl World {
         ensures sure { may_run_out self.old.providers self.old.cells call.now go ≡ false → IsOk result }
     {
         apply(&mut self.lent, call, go)
+    }
+
+    /// Whether the call is seen to be blocked, for less than its step costs: only t_rcvudata is. `false` says nothing.
+    #[inline(always)]
+    pub fn waits(&self, call: &Call) -> bool
+        ensures { result ≡ true → (g : Go) → step self.now.providers self.now.cells call.now g ≡ None }
+    {
+        waits(&self.lent, call)
     }
 }

@@ -139,6 +139,9 @@ KeepsAllButLines old new = (new.begun ≡ old.begun) × (new.names ≡ old.names
 abbrev pub KeepsLinesAndCalls : Worker → Worker → Type 0
 KeepsLinesAndCalls old new = (new.places ≡ old.places) × (new.part ≡ old.part) × (new.next ≡ old.next)
 
+abbrev pub KeepsAllButPart : Worker → Worker → Type 0
+KeepsAllButPart old new = (new.places ≡ old.places) × (new.begun ≡ old.begun) × (new.names ≡ old.names) × (new.next ≡ old.next)
+
 -- the worker has a next line for an entry that begins one
 abbrev pub MayTake : List Line → Worker → Act → Type 0
 MayTake lines w (act.Begin c) = (w.begun < length w.places.items) × (next_place w < length lines)

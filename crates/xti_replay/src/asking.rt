@@ -1,6 +1,6 @@
 //! A worker is asked for its next step.
 
-ghost use Rattle.std.specs.Prelude.{◌≡◌, ◌<◌, List, None, OnOk};
+ghost use Rattle.std.specs.Prelude.{◌≡◌, ◌<◌, List, None, Some, OnOk};
 ghost use Rattle.xti_base.specs.declared.limits.TheConstants.{WORKERS};
 ghost use Rattle.xti_model.specs.declared.entry.Entry.{Entry};
 ghost use Rattle.xti_replay.specs.Asking.{FindsNext, MakesTurn, TakesTurn};
@@ -11,9 +11,17 @@ use std::alloc::{AllocError, Global};
 use xti_core::World;
 use xti_model::{Applied, Entry, Line};
 
-/// Lets an entry go that was handed out before.
+/// Keeps the entry of a step. None is kept before, so nothing is let go.
 #[inline(always)]
-pub(crate) fn let_go(_entry: Option<Entry>) {}
+fn keep(made: &mut Option<Entry>, entry: Entry)
+    requires { made.old ≡ None }
+    ensures { made.new ≡ Some entry }
+{
+    match made {
+        None => *made = Some(entry),
+        Some(_) => unreachable!(),
+    }
+}
 
 /// Makes the worker's next step, and the entry of it; none where the worker is finished or blocked.
 #[inline(always)]
@@ -33,6 +41,9 @@ fn make(
     let Some(call) = worker.call() else {
         return Ok(());
     };
+    if world.waits(call) {
+        return Ok(());
+    }
     match world.step(call, worker.so_far())? {
         Applied::Blocked => Ok(()),
         Applied::Step { outcome, after } => {
@@ -44,7 +55,7 @@ fn make(
                 outcome,
                 after,
             };
-            let_go(made.replace(entry));
+            keep(made, entry);
             Ok(())
         }
     }
@@ -65,9 +76,13 @@ pub(crate) fn find_next(
     if worker.next.is_some() || worker.part.is_some() {
         return Ok(());
     }
-    let next = worker.next_call(lines, &workers[0])?;
-    workers[number].set_next(next);
-    Ok(())
+    match worker.next_call(lines, &workers[0]) {
+        Err(error) => Err(error),
+        Ok(next) => {
+            workers[number].set_next(next);
+            Ok(())
+        }
+    }
 }
 
 /// Makes the next step of the worker with this number, and the entry of it; none where the worker is finished or blocked.

@@ -1,13 +1,14 @@
 //! A run of a script in which the workers take turns.
 
 ghost use Rattle.std.specs.Prelude.{◌≡◌, List, None, IfOk, OnOk, true};
+ghost use Rattle.std.specs.Option.{option_copied};
 ghost use Rattle.xti_model.specs.declared.entry.Entry.{Entry};
 ghost use Rattle.xti_model.specs.Complete.{IsHistoryOf};
 ghost use Rattle.xti_model.specs.History.{after};
 ghost use Rattle.xti_replay.specs.Playable.{are_playable};
 ghost use Rattle.xti_replay.specs.Runs.{StandsAfter, StandsPastSetup, AsksOthers, AsksFirst, TakesNextTurn, TakesTurnOfOthers, AreStallsOf};
 
-use crate::asking::{ask, let_go};
+use crate::asking::ask;
 use crate::beginning::{turns_after, workers_after};
 use crate::stalling::stall_lines;
 use crate::workers::{Worker, put_back};
@@ -25,7 +26,7 @@ pub struct Run<'a> {
     workers: Vec<Worker>,
     /// The workers but 0 that are not finished, in the order of their turns.
     turns: VecDeque<usize>,
-    /// The entry that was made, until it is handed out.
+    /// The entry of the last step, until it is handed out.
     made: Option<Entry>,
 }
 
@@ -117,6 +118,25 @@ impl<'a> Run<'a> {
         )
     }
 
+    /// Makes the next step of the run, and keeps the entry of it; none where nobody can make a step.
+    pub fn step(&mut self) -> Result<(), AllocError>
+        requires { (past : List Entry) × StandsAfter past self.old }
+        ensures goes_on { OnOk result (TakesNextTurn self.old self.new self.new.made) }
+        ensures providers { self.new.world.providers ≡ self.old.world.providers }
+        ensures lines { self.new.lines.now ≡ self.old.lines.now }
+    {
+        self.made = None;
+        self.make()
+    }
+
+    /// The entry that is kept of the last step.
+    #[inline(always)]
+    pub fn made(&self) -> Option<&Entry>
+        ensures { option_copied result ≡ self.now.made }
+    {
+        self.made.as_ref()
+    }
+
     /// The next entry of the run; `None` where nobody can make a step.
     pub fn next(&mut self) -> Result<Option<Entry>, AllocError>
         requires { (past : List Entry) × StandsAfter past self.old }
@@ -124,8 +144,7 @@ impl<'a> Run<'a> {
         ensures providers { self.new.world.providers ≡ self.old.world.providers }
         ensures lines { self.new.lines.now ≡ self.old.lines.now }
     {
-        let_go(self.made.take());
-        self.make()?;
+        self.step()?;
         Ok(self.made.take())
     }
 

@@ -4,7 +4,7 @@ ghost use Rattle.std.specs.Prelude.{◌≡◌, ◌+◌, ◌<◌, ◌++◌, ◌�
 ghost use Rattle.std.specs.Option.{option_copied};
 ghost use Rattle.xti_model.specs.History.{going_after};
 ghost use Rattle.xti_replay.specs.Known.{known_in};
-ghost use Rattle.xti_replay.specs.Progress.{is_finished, turns_with, next_place, HaveHistory, IsNextCall, MayTake, KeepsAllButLines, KeepsLinesAndCalls, LearnsNextLine, LearnsEntry, begun_by, left_after, next_act, part_call, part_going, going_of, call_of, so_far_of};
+ghost use Rattle.xti_replay.specs.Progress.{is_finished, turns_with, next_place, HaveHistory, IsNextCall, MayTake, KeepsAllButLines, KeepsLinesAndCalls, KeepsAllButPart, LearnsNextLine, LearnsEntry, begun_by, left_after, next_act, part_call, part_going, going_of, call_of, so_far_of};
 
 use crate::names::Names;
 use crate::resolving::Scope;
@@ -34,40 +34,6 @@ pub struct Worker {
     pub(crate) part: Option<Part>,
     /// The call of its next line, once it is found.
     pub(crate) next: Option<Call>,
-}
-
-/// What is left of a call after its first step.
-#[inline(always)]
-fn part_of(call: &Call, outcome: &Outcome) -> Result<Option<Part>, AllocError>
-    ensures { IfOk result (λ part. part_going part ≡ going_after (Some call.now) outcome.now) }
-{
-    match outcome {
-        Outcome::Done(_) => Ok(None),
-        Outcome::Part { taken } => {
-            let call = call.copy()?;
-            Ok(Some(Part {
-                call,
-                taken: *taken,
-            }))
-        }
-    }
-}
-
-/// What is left of a call after a further step.
-#[inline(always)]
-fn go_on(part: Option<Part>, outcome: &Outcome) -> Option<Part>
-    ensures { part_going result ≡ going_after (part_call part) outcome.now }
-{
-    match outcome {
-        Outcome::Done(_) => None,
-        Outcome::Part { taken } => match part {
-            None => None,
-            Some(part) => Some(Part {
-                call: part.call,
-                taken: *taken,
-            }),
-        },
-    }
 }
 
 impl Worker {
@@ -162,12 +128,16 @@ impl Worker {
         }
     }
 
-    /// Sets the call of its next line.
+    /// Sets the call of its next line, where it isn't known yet, so nothing is let go.
     #[inline(always)]
     pub fn set_next(&mut self, next: Option<Call>)
+        requires { self.old.next ≡ None }
         ensures { self.new ≡ record self.old { next = next } }
     {
-        self.next = next;
+        match &self.next {
+            None => self.next = next,
+            Some(_) => unreachable!(),
+        }
     }
 
     /// How its next step begins or goes on, in an entry.
@@ -198,12 +168,47 @@ impl Worker {
         Ok(())
     }
 
-    /// Sets its call that is part way.
+    /// No call of it is part way any more.
     #[inline(always)]
-    fn set_part(&mut self, part: Option<Part>)
-        ensures { self.new ≡ record self.old { part = part } }
+    fn end_part(&mut self)
+        ensures { self.new ≡ record self.old { part = None } }
     {
-        self.part = part;
+        if self.part.is_some() {
+            self.part = None;
+        }
+    }
+
+    /// What is left of its call after its first step.
+    #[inline(always)]
+    fn begin_part(&mut self, call: &Call, outcome: &Outcome) -> Result<(), AllocError>
+        ensures part { OnOk result (part_going self.new.part ≡ going_after (Some call.now) outcome.now) }
+        ensures others { KeepsAllButPart self.old self.new }
+    {
+        match outcome {
+            Outcome::Done(_) => self.end_part(),
+            Outcome::Part { taken } => {
+                let call = call.copy()?;
+                let taken = *taken;
+                self.part = Some(Part { call, taken });
+            }
+        }
+        Ok(())
+    }
+
+    /// What is left of its call after a further step.
+    #[inline(always)]
+    fn go_on(&mut self, outcome: &Outcome)
+        ensures part { part_going self.new.part ≡ going_after (part_call self.old.part) outcome.now }
+        ensures others { KeepsAllButPart self.old self.new }
+    {
+        match outcome {
+            Outcome::Done(_) => self.end_part(),
+            Outcome::Part { taken } => {
+                if let Some(part) = &mut self.part {
+                    part.taken = *taken;
+                }
+            }
+        }
     }
 
     /// An entry of the worker is made: its next line is begun, or its call goes on.
@@ -225,13 +230,10 @@ impl Worker {
         match act {
             Act::Begin(call) => {
                 self.begin(alloc, lines, outcome)?;
-                let part = part_of(call, outcome)?;
-                self.set_part(part);
-                Ok(())
+                self.begin_part(call, outcome)
             }
             Act::More => {
-                let part = go_on(self.part.take(), outcome);
-                self.set_part(part);
+                self.go_on(outcome);
                 Ok(())
             }
         }

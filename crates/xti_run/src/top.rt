@@ -4,7 +4,6 @@ ghost use Rattle.std.specs.Prelude.{◌≡◌, ◌≢◌, ◌<◌, ◌≤◌, �
 ghost use Rattle.xti_io.specs.Faults.{Rose};
 ghost use Rattle.xti_io.specs.Source.{GivesUpTo};
 ghost use Rattle.xti_model.specs.declared.script.Script.{Script};
-ghost use Rattle.xti_journal.specs.Writing.{TookOne};
 ghost use Rattle.xti_model.specs.declared.entry.Entry.{Entry};
 ghost use Rattle.xti_replay.specs.Runs.{IsRunOf};
 ghost use Rattle.xti_script.specs.Grammar.{IsScript};
@@ -75,23 +74,16 @@ fn journal_status(stalls: &Stalls) -> u8
     if stalls.is_empty() { 0 } else { 3 }
 }
 
-/// Writes an entry, and lets it go.
-#[inline(always)]
-fn write_entry(writer: &mut JournalWriter, entry: Entry) -> Result<(), AllocError>
-    ensures { OnOk result (TookOne writer.old entry writer.new) }
-{
-    writer.add(&entry)
-}
-
 /// Writes the entries of a run to its end.
 fn write_entries(run: &mut Run, writer: &mut JournalWriter) -> Result<(), AllocError>
     requires { (s : Script) × (all : List Entry) × IsRunOf s all [] run.old }
     ensures { OnOk result (WritesAll run.old run.new writer.old writer.new) }
 {
     for _step in 0..MOST_STEPS {
-        match run.next()? {
+        run.step()?;
+        match run.made() {
             None => return Ok(()),
-            Some(entry) => write_entry(writer, entry)?,
+            Some(entry) => writer.add(entry)?,
         }
     }
     Ok(())

@@ -141,7 +141,7 @@ pub fn put_pairs(out: &mut Vec<u8>, key: &str, bytes: &[u8]) -> Result<(), Alloc
     }
 }
 
-// Eight bytes at once while there are so many, and the others one by one. Nothing is called here but at the end.
+// Of few bytes the room is asked once, and eight at once are turned while there are so many. Nothing else is called then.
 #[inline(never)]
 fn put_hex(out: &mut Vec<u8>, bytes: &[u8]) -> Result<(), AllocError>
     ensures { OnOk result (out.new.items ≡ out.old.items ++ flat_map hex_pair bytes.now) }
@@ -149,18 +149,17 @@ fn put_hex(out: &mut Vec<u8>, bytes: &[u8]) -> Result<(), AllocError>
     if bytes.len() >= MANY {
         return put_many(out, bytes);
     }
+    out.reserve(2 * bytes.len())?;
     let mut rest = bytes;
     while let Some((eight, others)) = rest.split_first_chunk::<8>() {
-        if out.capacity() - out.len() < 16 {
-            return put_many(out, rest);
-        }
         out.extend_from_slice(&pairs_of(eight))?;
         rest = others;
     }
-    if rest.is_empty() {
-        return Ok(());
+    for b in rest {
+        out.push_reserved(hex_digit(*b / 16));
+        out.push_reserved(hex_digit(*b % 16));
     }
-    put_few(out, rest)
+    Ok(())
 }
 
 #[inline(always)]
@@ -170,16 +169,6 @@ fn pairs_of(eight: &[u8; 8]) -> [u8; 16]
     let mut pairs = [0; 16];
     fill_pairs(&mut pairs, eight);
     pairs
-}
-
-#[inline(never)]
-fn put_few(out: &mut Vec<u8>, bytes: &[u8]) -> Result<(), AllocError>
-    ensures { OnOk result (out.new.items ≡ out.old.items ++ flat_map hex_pair bytes.now) }
-{
-    for b in bytes {
-        out.extend_from_slice(&[hex_digit(*b / 16), hex_digit(*b % 16)])?;
-    }
-    Ok(())
 }
 
 // Room for all the digits at once.

@@ -13,7 +13,7 @@ advance-requires c =
 
 pub returns-in_ok-advance-in-Step-clause-makes : goal.returns-in_ok-advance-in-Step-clause-makes
 returns-in_ok-advance-in-Step-clause-makes c = λ past ready.
-    subst (λ (o : Option Entry). Makes c.args.lines.now c.args.number past c.args.world.now c.step.new.self c.args.worker.now c.advance.new.self o (turn c.args.world.now.providers c.args.lines.now c.args.world.now.cells past c.args.number)) (sym c.replace.ensures.after)
+    subst (λ (o : Option Entry). Makes c.args.lines.now c.args.number past c.args.world.now c.step.new.self c.args.worker.now c.advance.new.self o (turn c.args.world.now.providers c.args.lines.now c.args.world.now.cells past c.args.number)) (sym c.keep.ensures)
     (makes-made c.args.world.now.providers c.args.lines.now c.args.number past c.args.world.now c.step.new.self c.args.worker.now c.take_act-act.new.self c.advance.new.self c.take_act-act.result c.in-Step.outcome c.in-Step.after ready
     ((rw c.in-Step.is at c.in_ok-step.ensures.step) ∙ step-going c.args.world.now.providers c.args.world.now.cells (going_of c.args.worker.now) c.in-Some.call.now c.so_far.result c.in-Some.ensures c.so_far.ensures)
     c.take_act-act.ensures.act c.take_act-act.ensures.left c.advance.ensures.next
