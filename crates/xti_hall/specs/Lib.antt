@@ -1,0 +1,4 @@
+pub mod Seats
+pub mod Pens
+pub mod Stalls
+pub mod Words

@@ -1,0 +1,107 @@
+-- What contracts see of a seat, and what its calls tell it.
+use Rattle.std.specs.Prelude.{◌≡◌, ◌≢◌, ◌<◌, ◌≤◌, ℕ, true, false, List, [], ◌∷◌, Option, Some, None, option_map, if◌then◌else◌}
+use mathlib.Core.List.{IsPrefix}
+use Rattle.atomic_table.specs.Seated.{TableId}
+use Rattle.xti_model.specs.declared.entry.Entry.{Entry}
+use Rattle.xti_model.specs.declared.entry.Outcome.{Outcome}
+use Rattle.xti_model.specs.declared.entry.Outcome.TheVariants.{Done, Part}
+use Rattle.xti_model.specs.History.{unfinished_from}
+use Rattle.xti_model.specs.Wants.{taken_before}
+use Rattle.xti_model.specs.World.{Cell as MCell}
+use Rattle.xti_rule.specs.Histories.{Legal, own}
+use Rattle.xti_rule.specs.declared.view.View.{View}
+use Rattle.xti_rule.specs.declared.view.Mark.{Mark}
+use Rattle.xti_rule.specs.declared.view.Mark.TheVariants.{Free}
+use Rattle.xti_rule.specs.Rule.{Slot}
+use Rattle.xti_rule.specs.Steps.{at, with_held, with_pen, without_pen, Holds}
+
+-- which hall made the seat, which of the hall's seats it is, and what it knows
+pub record SeatView : Type 0 where
+  pub hall : TableId
+  pub id : ℕ
+  pub view : View
+
+-- the slots that a seat has open between two calls: the journal's, while it holds it
+abbrev pub hand : {C : Type 0} → View → List (ℕ × Slot C)
+hand v = if v.journal then (v.setting.cells, None) ∷ [] else []
+
+-- a seat between two steps on a cell
+pub record Sits (v : View) : Type 0 where
+  pub live : v.live ≡ true
+  pub numbered : v.numbered ≡ true
+  pub shut : v.opened ≡ 0
+  pub small : v.number < 33
+
+-- What is true of every seat: it has a number, below its spare ones; what it has seen is a legal history, its own entries are its own
+-- part of that, and its spare numbers and those over 32 have none.
+pub record IsStanding (v : View) : Type 0 where
+  pub numbered : v.numbered ≡ true
+  pub below : v.number < v.next
+  pub legal : Legal v.setting v.seen
+  pub mine : own v.number v.seen ≡ v.mine
+  pub spare : (k : ℕ) → v.next ≤ k → own k v.seen ≡ []
+
+-- how many bytes were taken of the call that these entries of one worker leave unfinished
+abbrev pub unfinished_bytes : List Entry → Option ℕ
+unfinished_bytes mine = option_map (λ g. taken_before g.so_far) (unfinished_from None None mine)
+
+-- how many bytes are taken of a call that goes on after this outcome
+abbrev pub taken_in : Outcome → Option ℕ
+taken_in (Done reply) = None
+taken_in (Part n) = Some n
+
+-- the seat holds no cell
+abbrev pub HoldsNone : View → Type 0
+HoldsNone v = (i : ℕ) → at v i ≡ None
+
+-- all but the cells held
+abbrev pub bare : View → View
+bare v = with_held v [] 0
+
+-- the cell i was entered, with the value m
+pub record Entered (v : View) (i : ℕ) (m : MCell) (v' : View) : Type 0 where
+  pub here : at v' i ≡ Some m
+  pub others : (j : ℕ) → j ≢ i → at v' j ≡ at v j
+  pub rest : bare v' ≡ bare v
+
+-- the cell i was left
+pub record Left (v : View) (i : ℕ) (v' : View) : Type 0 where
+  pub here : at v' i ≡ None
+  pub others : (j : ℕ) → j ≢ i → at v' j ≡ at v j
+  pub rest : bare v' ≡ bare v
+
+-- the journal was taken and given back without an entry
+abbrev pub LookedAt : View → View → Type 0
+LookedAt v v' = (history : List Entry) × (marks : List Mark) × (v' ≡ without_pen (with_pen v history marks) Free) × Holds (with_pen v history marks)
+
+-- a seat with the least spare number, that has seen as much, made no call, has no spare number and holds nothing
+pub record IsNewcomerOf (v w : View) : Type 0 where
+  pub setting : w.setting ≡ v.setting
+  pub number : w.number ≡ v.next
+  pub next : w.next ≡ 33
+  pub seen : w.seen ≡ v.seen
+  pub mine : w.mine ≡ []
+  pub held : HoldsNone w
+  pub journal : w.journal ≡ false
+  pub mark : w.mark ≡ Free
+
+-- the seat saw the whole history at some point, and made no call
+pub record Looks (v v' : View) : Type 0 where
+  pub setting : v'.setting ≡ v.setting
+  pub number : v'.number ≡ v.number
+  pub next : v'.next ≡ v.next
+  pub mine : v'.mine ≡ v.mine
+  pub held : v'.held ≡ v.held
+  pub journal : v'.journal ≡ v.journal
+  pub seen : IsPrefix v.seen v'.seen
+
+-- the first seat, which has now seen what both had seen
+pub record Meets (v w v' : View) : Type 0 where
+  pub setting : v'.setting ≡ v.setting
+  pub number : v'.number ≡ v.number
+  pub next : v'.next ≡ v.next
+  pub mine : v'.mine ≡ v.mine
+  pub held : v'.held ≡ v.held
+  pub journal : v'.journal ≡ v.journal
+  pub first : IsPrefix v.seen v'.seen
+  pub second : IsPrefix w.seen v'.seen
