@@ -1,5 +1,5 @@
 -- When no seat that is out can go on.
-use Rattle.std.specs.Prelude.{◌≡◌, ◌<◌, ◌==◌, ℕ, Bool, true, false, length, count_by}
+use Rattle.std.specs.Prelude.{◌≡◌, ◌+◌, ◌<◌, ◌==◌, ℕ, Bool, true, false, length, count_by}
 use Rattle.std.specs.List.{list_all}
 use Rattle.xti_rule.specs.declared.view.Mark.{Mark}
 use Rattle.xti_rule.specs.declared.view.Mark.TheVariants.{Absent, Free, Waiting, Resting}
@@ -28,14 +28,21 @@ abbrev pub rests : Mark → Bool
 rests Resting = true
 rests other = false
 
+-- a seat with the number is out
+abbrev pub is_out : Mark → Bool
+is_out Absent = false
+is_out other = true
+
 -- In the history of this length, which the seat has seen, each seat that is out rests, or waits on a want that is blocked there; the
--- marks are those that the seat found, its own among them, which was waiting on this want.
+-- marks are those that the seat found, its own among them, which was waiting on this want. The seats that wait and those that rest are
+-- all that are out.
 pub record IsStall (v : View) (want : Want) (s : Stall) : Type 0 where
   pub at : s.at ≡ length v.seen
-  pub own : mark_of v.marks v.number ≡ Waiting want s.at
+  pub here : mark_of v.marks v.number ≡ Waiting want s.at
   pub settled : list_all (is_settled s.at) v.marks ≡ true
   pub waiting : s.waiting ≡ count_by waits v.marks
   pub resting : s.resting ≡ count_by rests v.marks
+  pub out : s.waiting + s.resting ≡ count_by is_out v.marks
   pub blocked : (k : ℕ) (other : Want) (len : ℕ) → mark_of v.marks k ≡ Waiting other len → Blocked v.setting v.seen other
 
 -- what one look of a waiter tells

@@ -1,5 +1,6 @@
 -- What clauses say of a hall and of whose a seat is.
-use Rattle.std.specs.Prelude.{◌≡◌}
+use Rattle.std.specs.Prelude.{◌≡◌, ℕ}
+use Rattle.xti_model.specs.declared.profile.Providers.{Providers}
 use Rattle.atomic_table.specs.Seated.{TableId}
 use Rattle.atomic_table.specs.declared.shared.Seat.{Seat}
 use Rattle.xti_rule.specs.declared.setting.Setting.{Setting}
@@ -7,6 +8,10 @@ use Rattle.xti_rule.specs.declared.view.View.{View}
 use Rattle.xti_rule.specs.Rule.{Slot}
 use Rattle.xti_hall.specs.declared.hall.Hall.{Hall}
 use Rattle.xti_hall.specs.Seats.{SeatView}
+
+-- these providers, and so many cells
+abbrev pub setting : Providers → ℕ → Setting
+setting p cells = record { providers = p; cells = cells }
 
 module _ {C : Type 0} where
   -- the providers of the hall, and the number of its cells

@@ -6,3 +6,4 @@ pub mod Lookups
 pub mod Commits
 pub mod Splits
 pub mod Looks
+pub mod OutMarks

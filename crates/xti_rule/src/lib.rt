@@ -3,11 +3,13 @@
 #![tactic(auto)]
 
 mod rule;
+mod seats_out;
 mod setting;
 mod steps;
 mod view;
 
 pub use rule::{Pass, Ruled, Slot};
+pub use seats_out::marks_are_of_seats_out;
 pub use setting::{Recorded, Setting, Stands};
 pub use steps::{
     Begin, Commit, Give, Leave, Look, Note, Reopen, Return, ReturnUnseen, Ring, Settle, Take,

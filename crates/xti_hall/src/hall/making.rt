@@ -1,10 +1,10 @@
-ghost use Rattle.std.specs.Prelude.{◌≡◌, ◌+◌, ◌∷◌, [], ℕ, map, IfOk, vec_len, vec_capacity, ◌≤◌, Some};
+ghost use Rattle.std.specs.Prelude.{◌≡◌, ◌<◌, ◌^◌, ◌+◌, ◌∷◌, [], ℕ, map, IfOk, vec_len, vec_capacity, ◌≤◌, Some};
 ghost use mathlib.Core.Option.{some};
 ghost use lib.ListN.{get_elem?};
 ghost use Rattle.xti_rule.specs.Histories.{part, opening};
 ghost use Rattle.xti_rule.specs.declared.view.Held.TheVariants.{Cell};
 ghost use Rattle.xti_rule.specs.Rule.{newcomer, opening_marks};
-ghost use Rattle.xti_hall.specs.Words.{setting_of, id_of};
+ghost use Rattle.xti_hall.specs.Words.{setting, setting_of, id_of};
 
 use super::Hall;
 use crate::seat::Seat;
@@ -36,24 +36,29 @@ fn slots_of<C: Drop>(alloc: Global, cells: Vec<C>) -> Result<Vec<Option<Held<C>>
 
 impl<C: Stands> Hall<C> {
     /// A hall with an empty history, and the seat with number 0, whose spare numbers are 1 to 32. The cells stand for the opening
-    /// world of its providers, in order.
+    /// world of the providers, in order.
     pub fn new(
         alloc: Global,
-        setting: &Setting,
+        p: &Providers,
         cells: Vec<C>,
     ) -> Result<(Hall<C>, Seat<C>), AllocError>
-        requires count { vec_len cells ≡ setting.now.cells }
-        requires stand { (i : ℕ) (x : C) → get_elem? cells.items i ≡ some x → C.stands x ((i, part i (opening setting.now)) ∷ []) }
-        ensures { IfOk result (λ r. (setting_of r.0 ≡ setting.now) × (r.1.hall ≡ id_of r.0) × (r.1.view ≡ newcomer setting.now)) }
+        requires few { vec_len cells < 2 ^ 32 }
+        requires stand { (i : ℕ) (x : C) → get_elem? cells.items i ≡ some x → C.stands x ((i, part i (opening (setting p.now (vec_len cells)))) ∷ []) }
+        ensures hall { IfOk result (λ r. setting_of r.0 ≡ setting p.now (vec_len cells)) }
+        ensures seat { IfOk result (λ r. (r.1.hall ≡ id_of r.0) × (r.1.view ≡ newcomer (setting p.now (vec_len cells)))) }
     {
-        let words = Vec::from_elem(alloc, 0u64, setting.cells as usize + 3)?;
+        let setting = Setting {
+            providers: *p,
+            cells: cells.len() as u32,
+        };
+        let words = Vec::from_elem(alloc, 0u64, cells.len() + 3)?;
         let marks = first_marks(alloc)?;
         let mut slots = slots_of(alloc, cells)?;
         slots.push_reserved(Some(Held::Journal(Journal {
             entries: Vec::new(alloc),
             marks,
         })));
-        match Table::new(alloc, words.as_slice(), slots, setting) {
+        match Table::new(alloc, words.as_slice(), slots, &setting) {
             Ok((table, pass)) => Ok((
                 Hall {
                     table,
