@@ -8,11 +8,7 @@ use Rattle.xti_rule.specs.declared.view.Mark.{Mark}
 use Rattle.xti_rule.specs.declared.view.View.{View}
 use Rattle.xti_rule.specs.Steps.{Seated, without_pen, committed, Holds, Commits}
 use Rattle.xti_rule.proofs.Laws.{own-append, own-other, legal-more}
-use Rattle.xti_hall.specs.Seats.{Sits, hand, IsStanding, unfinished_bytes}
-
--- the fields of a seat fit what the table's seat knows
-abbrev pub FitsSeat : {C : Type 0} → Seated C → ℕ → ℕ → ℕ → Option ℕ → Type 0
-FitsSeat m number next steps unfinished = (m.1 ≡ hand m.0) × Sits m.0 × (number ≡ m.0.number) × (next ≡ m.0.next) × (steps ≡ length m.0.mine) × (unfinished ≡ unfinished_bytes m.0.mine) × IsStanding m.0
+use Rattle.xti_hall.specs.Seats.{FitsSeat, Sits, hand, IsStanding, unfinished_bytes}
 
 -- an entry of another worker is none of this number
 other-more : (k : ℕ) (h : List Entry) (e : Entry) → e.worker ≢ k → own k h ≡ [] → own k (h ++ e ∷ []) ≡ []

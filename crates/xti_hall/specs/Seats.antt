@@ -1,7 +1,8 @@
 -- What contracts see of a seat, and what its calls tell it.
-use Rattle.std.specs.Prelude.{◌≡◌, ◌≢◌, ◌<◌, ◌≤◌, ℕ, true, false, List, [], ◌∷◌, Option, Some, None, option_map, if◌then◌else◌}
+use Rattle.std.specs.Prelude.{◌≡◌, ◌≢◌, ◌<◌, ◌≤◌, ℕ, true, false, List, [], ◌∷◌, length, Option, Some, None, option_map, if◌then◌else◌}
 use mathlib.Core.List.{IsPrefix}
 use Rattle.atomic_table.specs.Seated.{TableId}
+use Rattle.atomic_table.specs.Table.{rest}
 use Rattle.xti_model.specs.declared.entry.Entry.{Entry}
 use Rattle.xti_model.specs.declared.entry.Outcome.{Outcome}
 use Rattle.xti_model.specs.declared.entry.Outcome.TheVariants.{Done, Part}
@@ -10,10 +11,11 @@ use Rattle.xti_model.specs.Wants.{taken_before}
 use Rattle.xti_model.specs.World.{Cell as MCell}
 use Rattle.xti_rule.specs.Histories.{Legal, own}
 use Rattle.xti_rule.specs.declared.view.View.{View}
+use Rattle.xti_rule.specs.declared.view.Journal.{Journal}
 use Rattle.xti_rule.specs.declared.view.Mark.{Mark}
 use Rattle.xti_rule.specs.declared.view.Mark.TheVariants.{Free}
 use Rattle.xti_rule.specs.Rule.{Slot}
-use Rattle.xti_rule.specs.Steps.{at, with_held, with_pen, without_pen, Holds}
+use Rattle.xti_rule.specs.Steps.{Seated, Marked, at, with_held, with_pen, without_pen, Holds}
 
 -- which hall made the seat, which of the hall's seats it is, and what it knows
 pub record SeatView : Type 0 where
@@ -44,6 +46,20 @@ pub record IsStanding (v : View) : Type 0 where
 -- how many bytes were taken of the call that these entries of one worker leave unfinished
 abbrev pub unfinished_bytes : List Entry → Option ℕ
 unfinished_bytes mine = option_map (λ g. taken_before g.so_far) (unfinished_from None None mine)
+
+-- the fields of a seat are what the table's seat knows
+abbrev pub FitsSeat : {C : Type 0} → Seated C → ℕ → ℕ → ℕ → Option ℕ → Type 0
+FitsSeat m number next steps unfinished =
+    (m.1 ≡ hand m.0) × Sits m.0 × (number ≡ m.0.number) × (next ≡ m.0.next) × (steps ≡ length m.0.mine)
+    × (unfinished ≡ unfinished_bytes m.0.mine) × IsStanding m.0
+
+-- a seat of the table has the journal, and its slot open and empty
+abbrev pub HasJournal : {C : Type 0} → ℕ → Seated C → Type 0
+HasJournal cells m = (m.0.journal ≡ true) × (m.1 ≡ (cells, None) ∷ rest m.1)
+
+-- the journal has the history that the view records, and its marks may go back
+abbrev pub MayGoBack : View → Journal → Type 0
+MayGoBack v j = (j.entries.items ≡ v.history) × Marked v j.marks.items
 
 -- how many bytes are taken of a call that goes on after this outcome
 abbrev pub taken_in : Outcome → Option ℕ

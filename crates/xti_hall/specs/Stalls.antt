@@ -1,5 +1,5 @@
 -- When no seat that is out can go on.
-use Rattle.std.specs.Prelude.{◌≡◌, ◌+◌, ◌<◌, ◌==◌, ℕ, Bool, true, false, length, count_by}
+use Rattle.std.specs.Prelude.{◌≡◌, ◌+◌, ◌<◌, ◌≤◌, take, ◌==◌, ℕ, Bool, true, false, length, count_by}
 use Rattle.std.specs.List.{list_all}
 use Rattle.xti_rule.specs.declared.view.Mark.{Mark}
 use Rattle.xti_rule.specs.declared.view.Mark.TheVariants.{Absent, Free, Waiting, Resting}
@@ -44,6 +44,10 @@ pub record IsStall (v : View) (want : Want) (s : Stall) : Type 0 where
   pub resting : s.resting ≡ count_by rests v.marks
   pub out : s.waiting + s.resting ≡ count_by is_out v.marks
   pub blocked : (k : ℕ) (other : Want) (len : ℕ) → mark_of v.marks k ≡ Waiting other len → Blocked v.setting v.seen other
+
+-- the want is blocked after the first `at` entries that the seat has seen
+abbrev pub WasBlocked : View → ℕ → Want → Type 0
+WasBlocked v at want = (at ≤ length v.seen) × Blocked v.setting (take at v.seen) want
 
 -- what one look of a waiter tells
 abbrev pub Sees : View → Want → ℕ → Sight → Type 0

@@ -15,14 +15,13 @@ pub struct Seat<C> {
 }
 
 impl<C> Model for Seat<C> {
-    ghost use Rattle.std.specs.Prelude.{◌≡◌, length};
-    ghost use Rattle.xti_hall.specs.Seats.{SeatView, hand, Sits, IsStanding, unfinished_bytes};
+    ghost use Rattle.xti_hall.specs.Seats.{SeatView, FitsSeat};
 
     ghost Value = { SeatView };
 
     ghost view = { λ s. record { hall = s.pass.table_id; id = s.pass.id; view = s.pass.me.0 } };
 
-    ghost invariant = { λ s. (s.pass.me.1 ≡ hand s.pass.me.0) × Sits s.pass.me.0 × (s.number ≡ s.pass.me.0.number) × (s.next ≡ s.pass.me.0.next) × (s.steps ≡ length s.pass.me.0.mine) × (s.unfinished ≡ unfinished_bytes s.pass.me.0.mine) × IsStanding s.pass.me.0 };
+    ghost invariant = { λ s. FitsSeat s.pass.me s.number s.next s.steps s.unfinished };
 }
 
 impl<C> Seat<C> {

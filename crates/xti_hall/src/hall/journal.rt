@@ -1,9 +1,9 @@
 ghost use Rattle.std.specs.Prelude.{◌≡◌, ◌<◌, ◌∷◌, ◌++◌, [], false, IfOk, OnErr, vec_len, vec_capacity};
 ghost use Rattle.xti_rule.specs.declared.view.Mark.TheVariants.{Free};
 ghost use Rattle.xti_rule.specs.Rule.{mark_of};
-ghost use Rattle.xti_rule.specs.Steps.{with_pen, without_pen, committed, Holds, Marked, Commits};
+ghost use Rattle.xti_rule.specs.Steps.{with_pen, without_pen, committed, Holds, Commits};
 ghost use Rattle.xti_hall.specs.Pens.{IsPenOf};
-ghost use Rattle.xti_hall.specs.Seats.{LookedAt, Looks, taken_in};
+ghost use Rattle.xti_hall.specs.Seats.{LookedAt, Looks, MayGoBack, taken_in};
 ghost use Rattle.xti_hall.specs.Words.{IsSeatOf, IsSameSeat};
 
 use super::Hall;
@@ -88,7 +88,8 @@ impl<C: Stands> Hall<C> {
     fn append(&self, seat: &mut Seat<C>, journal: Journal, entry: Entry)
         requires hall { IsSeatOf self.now seat.old }
         requires holds { Holds seat.old.view }
-        requires journal { (journal.entries.items ≡ seat.old.view.history) × Marked seat.old.view journal.marks.items × (mark_of journal.marks.items seat.old.view.number ≡ Free) }
+        requires journal { MayGoBack seat.old.view journal }
+        requires freed { mark_of journal.marks.items seat.old.view.number ≡ Free }
         requires room { vec_len journal.entries < vec_capacity journal.entries }
         requires entry { Commits seat.old.view entry }
         ensures hall { IsSameSeat seat.old seat.new }

@@ -5,8 +5,8 @@ ghost use Rattle.atomic_table.specs.Table.{rest};
 ghost use Rattle.xti_rule.specs.declared.view.Held.TheVariants.{Journal as InJournal};
 ghost use Rattle.xti_rule.specs.declared.view.Journal.{Journal as Book};
 ghost use Rattle.xti_rule.specs.Rule.{mark_of};
-ghost use Rattle.xti_rule.specs.Steps.{without_pen, without_pen_unseen, committed, Began, Marked, Commits};
-ghost use Rattle.xti_hall.specs.Seats.{Sits};
+ghost use Rattle.xti_rule.specs.Steps.{without_pen, without_pen_unseen, committed, Began, Commits};
+ghost use Rattle.xti_hall.specs.Seats.{Sits, HasJournal, MayGoBack};
 ghost use Rattle.xti_hall.specs.Words.{IsOf, IsSame, setting_of};
 
 use super::Hall;
@@ -77,8 +77,8 @@ impl<C: Stands> Hall<C> {
     pub(super) fn give_pen(&self, pass: &mut Pass<C>, journal: Journal)
         requires hall { IsOf self.now pass.old }
         requires seat { Sits pass.old.me.0 }
-        requires taken { (pass.old.me.0.journal ≡ true) × (pass.old.me.1 ≡ ((setting_of self.now).cells, None) ∷ rest pass.old.me.1) }
-        requires journal { (journal.entries.items ≡ pass.old.me.0.history) × Marked pass.old.me.0 journal.marks.items }
+        requires taken { HasJournal (setting_of self.now).cells pass.old.me }
+        requires journal { MayGoBack pass.old.me.0 journal }
         requires setting { pass.old.me.0.setting ≡ setting_of self.now }
         ensures hall { IsSame pass.old pass.new }
         ensures view { pass.new.me ≡ (without_pen pass.old.me.0 (mark_of journal.marks.items pass.old.me.0.number), rest pass.old.me.1) }
@@ -93,8 +93,8 @@ impl<C: Stands> Hall<C> {
     pub(super) fn give_pen_unseen(&self, pass: &mut Pass<C>, journal: Journal)
         requires hall { IsOf self.now pass.old }
         requires seat { Sits pass.old.me.0 }
-        requires taken { (pass.old.me.0.journal ≡ true) × (pass.old.me.1 ≡ ((setting_of self.now).cells, None) ∷ rest pass.old.me.1) }
-        requires journal { (journal.entries.items ≡ pass.old.me.0.history) × Marked pass.old.me.0 journal.marks.items }
+        requires taken { HasJournal (setting_of self.now).cells pass.old.me }
+        requires journal { MayGoBack pass.old.me.0 journal }
         requires setting { pass.old.me.0.setting ≡ setting_of self.now }
         ensures hall { IsSame pass.old pass.new }
         ensures view { pass.new.me ≡ (without_pen_unseen pass.old.me.0 (mark_of journal.marks.items pass.old.me.0.number), rest pass.old.me.1) }
@@ -109,8 +109,8 @@ impl<C: Stands> Hall<C> {
     pub(super) fn write(&self, pass: &mut Pass<C>, mut journal: Journal, entry: Entry)
         requires hall { IsOf self.now pass.old }
         requires seat { Sits pass.old.me.0 }
-        requires taken { (pass.old.me.0.journal ≡ true) × (pass.old.me.1 ≡ ((setting_of self.now).cells, None) ∷ rest pass.old.me.1) }
-        requires journal { (journal.entries.items ≡ pass.old.me.0.history) × Marked pass.old.me.0 journal.marks.items }
+        requires taken { HasJournal (setting_of self.now).cells pass.old.me }
+        requires journal { MayGoBack pass.old.me.0 journal }
         requires room { vec_len journal.entries < vec_capacity journal.entries }
         requires entry { Commits pass.old.me.0 entry }
         requires setting { pass.old.me.0.setting ≡ setting_of self.now }

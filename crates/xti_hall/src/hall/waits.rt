@@ -1,10 +1,9 @@
 ghost use Rattle.std.specs.Prelude.{◌≡◌, ◌<◌, ◌≤◌, ◌+◌, true, false, length, take};
-ghost use Rattle.xti_rule.specs.Histories.{Blocked};
 ghost use Rattle.xti_rule.specs.declared.view.Mark.TheVariants.{Resting, Waiting};
 ghost use Rattle.xti_rule.specs.Rule.{MarkFits};
 ghost use Rattle.xti_rule.specs.Steps.{with_pen, without_pen, Holds};
 ghost use Rattle.xti_hall.specs.Seats.{HoldsNone, Looks};
-ghost use Rattle.xti_hall.specs.Stalls.{Sees, WaitedFor};
+ghost use Rattle.xti_hall.specs.Stalls.{WasBlocked, Sees, WaitedFor};
 ghost use Rattle.xti_hall.specs.Words.{IsSeatOf, IsSameSeat};
 
 use super::Hall;
@@ -85,12 +84,13 @@ impl<C: Stands> Hall<C> {
     ) -> Sight
         requires hall { IsSeatOf self.now seat.old }
         requires free { seat.old.view.journal ≡ false }
-        requires want { (at ≤ length seat.old.view.seen) × Blocked seat.old.view.setting (take at seat.old.view.seen) want }
+        requires want { WasBlocked seat.old.view at want }
         requires set { set ≡ true → seat.old.view.mark ≡ Waiting want at }
         ensures hall { IsSameSeat seat.old seat.new × (seat.new.view.setting ≡ seat.old.view.setting) }
         ensures sight { Sees seat.new.view want at result }
         ensures looks { Looks seat.old.view seat.new.view }
-        ensures want { (seat.new.view.journal ≡ false) × (at ≤ length seat.new.view.seen) × Blocked seat.new.view.setting (take at seat.new.view.seen) want }
+        ensures free { seat.new.view.journal ≡ false }
+        ensures want { WasBlocked seat.new.view at want }
     {
         let journal = self.look(rt, seat);
         if journal.entries.len() as u64 > at {
@@ -119,7 +119,7 @@ impl<C: Stands> Hall<C> {
         requires hall { IsSeatOf self.now seat.old }
         requires free { seat.old.view.journal ≡ false }
         requires nothing { HoldsNone seat.old.view }
-        requires want { (at ≤ length seat.old.view.seen) × Blocked seat.old.view.setting (take at seat.old.view.seen) want }
+        requires want { WasBlocked seat.old.view at want }
         ensures hall { IsSameSeat seat.old seat.new }
         ensures waited { WaitedFor seat.new.view want at result }
         ensures looks { Looks seat.old.view seat.new.view }
