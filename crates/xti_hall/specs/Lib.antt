@@ -1,3 +1,4 @@
+pub mod Sizes
 pub mod Seats
 pub mod Pens
 pub mod Stalls

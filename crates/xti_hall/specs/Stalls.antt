@@ -33,9 +33,9 @@ abbrev pub is_out : Mark → Bool
 is_out Absent = false
 is_out other = true
 
--- In the history of this length, which the seat has seen, each seat that is out rests, or waits on a want that is blocked there; the
--- marks are those that the seat found, its own among them, which was waiting on this want. The seats that wait and those that rest are
--- all that are out.
+-- In the history of this length, which the seat has seen, each seat that is out rests, or waits on a want that is blocked
+-- there; the marks are those that the seat found, its own among them, which was waiting on this want. The seats that wait and
+-- those that rest are all that are out.
 pub record IsStall (v : View) (want : Want) (s : Stall) : Type 0 where
   pub at : s.at ≡ length v.seen
   pub here : mark_of v.marks v.number ≡ Waiting want s.at
@@ -43,7 +43,8 @@ pub record IsStall (v : View) (want : Want) (s : Stall) : Type 0 where
   pub waiting : s.waiting ≡ count_by waits v.marks
   pub resting : s.resting ≡ count_by rests v.marks
   pub out : s.waiting + s.resting ≡ count_by is_out v.marks
-  pub blocked : (k : ℕ) (other : Want) (len : ℕ) → mark_of v.marks k ≡ Waiting other len → Blocked v.setting v.seen other
+  pub blocked : (k : ℕ) (other : Want) (len : ℕ)
+      → mark_of v.marks k ≡ Waiting other len → Blocked v.setting v.seen other
 
 -- the want is blocked after the first `at` entries that the seat has seen
 abbrev pub WasBlocked : View → ℕ → Want → Type 0

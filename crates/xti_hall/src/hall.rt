@@ -1,6 +1,6 @@
 //! The hall.
 
-ghost use Rattle.std.specs.Prelude.{◌≡◌, ◌+◌};
+ghost use Rattle.xti_hall.specs.Sizes.{IsSized};
 
 use atomic_table::Table;
 use std::alloc::Global;
@@ -21,5 +21,5 @@ pub use seats::NoSeat;
 pub struct Hall<C: Stands> {
     table: Table<Option<Held<C>>, View, Setting, Ruled<C>, Global>,
     cells: u32,
-    ghost sized: { (table.shared.table_id.words ≡ cells + 3) × (table.shared.table_id.slots ≡ cells + 1) × (table.shared.key.cells ≡ cells) },
+    ghost sized: { IsSized table.shared.table_id table.shared.key cells },
 }

@@ -5,7 +5,7 @@ use std::marker::Model;
 use std::snapshot::Snapshot;
 use xti_rule::{Journal, Pass};
 
-/// The journal while a seat holds its turn, with room for one entry. It isn't let go: `commit` or `return_pen` gives it back.
+/// The journal while a seat holds its turn, with room for one entry. It can't be let go: `commit` or `return_pen` gives it back.
 pub struct Pen<C> {
     journal: Journal,
     of: Snapshot<Pass<C>>,
@@ -13,11 +13,11 @@ pub struct Pen<C> {
 
 impl<C> Model for Pen<C> {
     ghost use Rattle.std.specs.Prelude.{vec_len, vec_capacity, ◌<◌};
-    ghost use Rattle.xti_hall.specs.Pens.{PenView};
+    ghost use Rattle.xti_hall.specs.Pens.{PenView, pen_view};
 
     ghost Value = { PenView };
 
-    ghost view = { λ p. record { hall = p.of.value.table_id; number = p.of.value.me.0.number; history = p.journal.entries.items; marks = p.journal.marks.items } };
+    ghost view = { λ p. pen_view p.of.value.table_id p.of.value.me.0.number p.journal };
 
     ghost invariant = { λ p. vec_len p.journal.entries < vec_capacity p.journal.entries };
 }

@@ -4,7 +4,8 @@ ghost use Rattle.xti_hall.specs.Seats.{IsStanding, unfinished_bytes};
 use std::marker::Model;
 use xti_rule::Pass;
 
-/// One caller's token, with which it steps. What it has seen is a legal history, and its own entries are its own part of that.
+/// One caller's token, with which it steps. What it has seen is a legal history, and its own entries are its own part of
+/// that.
 #[derive(Drop)]
 pub struct Seat<C> {
     pub(crate) pass: Pass<C>,

@@ -1,6 +1,7 @@
 //! What a waiter is told.
 
-/// In the history of this length so many seats waited, each for what is blocked there, so many rested, and no other was out.
+/// In the history of this length so many seats waited, each for what is blocked there, so many rested, and no other was
+/// out.
 #[derive(Clone, Copy)]
 pub struct Stall {
     /// The length of the history.

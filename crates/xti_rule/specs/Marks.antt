@@ -12,13 +12,17 @@ use Rattle.xti_rule.specs.Rule.{Slot, HallRule, mark_of}
 
 -- a seat with the number k is out, and has this mark
 abbrev pub IsOutWith : List View → ℕ → Mark → Type 0
-IsOutWith views k mark = (j : ℕ) × (v : View) × (get_elem? views j ≡ some v) × (v.live ≡ true) × (v.numbered ≡ true) × (v.number ≡ k) × (v.mark ≢ Absent) × (v.mark ≡ mark)
+IsOutWith views k mark =
+    (j : ℕ) × (v : View) × (get_elem? views j ≡ some v) × (v.live ≡ true) × (v.numbered ≡ true) × (v.number ≡ k) × (v.mark ≢ Absent)
+    × (v.mark ≡ mark)
 
 -- a mark is absent exactly where no seat with its number is out, and any other is that of the seat
 abbrev pub MarksOfSeatsOut : List View → (ℕ → Mark) → Type 0
 MarksOfSeatsOut views marks =
-    (k : ℕ) → k < 33 → (marks k ≡ Absent → (mark : Mark) → IsOutWith views k mark → ⊥) × (marks k ≢ Absent → IsOutWith views k (marks k))
+    (k : ℕ) → k < 33
+    → (marks k ≡ Absent → (mark : Mark) → IsOutWith views k mark → ⊥) × (marks k ≢ Absent → IsOutWith views k (marks k))
 
 -- whatever the hall is
 abbrev pub MarksAreOfSeatsOut : {C : Type 0} → (C → List (ℕ × Cell) → Type 0) → Type 0
-MarksAreOfSeatsOut {C} stands = (p : Setting) (s : State (Slot C) View) (r : HallRule stands p s) → MarksOfSeatsOut s.views (mark_of r.marks)
+MarksAreOfSeatsOut {C} stands =
+    (p : Setting) (s : State (Slot C) View) (r : HallRule stands p s) → MarksOfSeatsOut s.views (mark_of r.marks)

@@ -4,12 +4,13 @@
 -- make the hall               all                      that of seat 0 (`newcomer`)
 -- take a turn                 its word, 0 to 1         the taker holds it (`entered`, `began`)
 -- put the value in or out     the slot                 which slot is open, and no more (`settled`, `reopened`)
--- give a turn back            its word, 1 to 0         the giver holds it no more (`left`); of the journal, it gets its mark, and has
---                                                      seen the history (`returned`) or as much as before (`returned_unseen`)
+-- give a turn back            its word, 1 to 0         the giver holds it no more (`left`); of the journal, it gets its mark,
+--                                                      and has seen the history (`returned`) or no more (`returned_unseen`)
 -- commit an entry             word 0, plus 1           the writer's `seen`, `mine` and recorded values (`wrote`)
 -- read the length             word 0                   the reader has seen the history (`looked`)
--- cut a seat in two           word 0                   the new one has the least spare number (`giver`, `given`), or none (`note_of`)
--- join a note                 word 0                   the seat was told what the other had seen (`told`), and the note is spent
+-- cut a seat in two           word 0                   the new one has the least spare number (`giver`, `given`), or none
+--                                                      (`note_of`)
+-- join a note                 word 0                   the seat was told what the other had seen (`told`); the note is spent
 -- ring the bell               word 2 + n, plus 1       none
 use Rattle.std.specs.Prelude.{◌≡◌, ◌≢◌, ◌<◌, ◌≤◌, ℕ, ◌+◌, true, false, suc, List, [], ◌∷◌, length, replicate, set, Option, Some, None}
 use mathlib.Core.Option.{some}
@@ -42,12 +43,16 @@ with_held v held o = record v { held = held; opened = o }
 
 -- after one legal history that begins with all that was seen, the recorded values are their parts of the world
 abbrev pub Fresh : View → Type 0
-Fresh v = (h : List Entry) × Legal v.setting h × IsPrefix v.seen h × ((i : ℕ) (m : MCell) → get_elem? v.held i ≡ some (Some m) → m ≡ part i (after v.setting h))
+Fresh v =
+    (h : List Entry) × Legal v.setting h × IsPrefix v.seen h
+    × ((i : ℕ) (m : MCell) → get_elem? v.held i ≡ some (Some m) → m ≡ part i (after v.setting h))
 
 module _ {C : Type 0} where
   -- the cell i was taken, with its value
   abbrev pub Took : (C → List (ℕ × MCell) → Type 0) → Seated C → ℕ → Seated C → Type 0
-  Took stands m i m' = (x : C) × (c : MCell) × (m' ≡ (with_held m.0 (set m.0.held i (Some c)) (suc i), (i, Some (Cell x)) ∷ m.1)) × stands x ((i, c) ∷ []) × Fresh m'.0 × (i < length m.0.held)
+  Took stands m i m' =
+      (x : C) × (c : MCell) × (m' ≡ (with_held m.0 (set m.0.held i (Some c)) (suc i), (i, Some (Cell x)) ∷ m.1))
+      × stands x ((i, c) ∷ []) × Fresh m'.0 × (i < length m.0.held)
 
   -- a try at a cell's turn: taken where the word was 0, and nothing else
   abbrev pub entered : (C → List (ℕ × MCell) → Type 0) → Step (Slot C) → Seated C → ℕ → Seated C → Type 0
@@ -78,9 +83,9 @@ without_pen v mark = given_back v v.history mark
 abbrev pub without_pen_unseen : View → Mark → View
 without_pen_unseen v mark = given_back v v.seen mark
 
--- The history that the view records is legal and begins with all that was seen. The seat's own entries in it are `mine`, and its spare
--- numbers and those over 32 have none. Of the marks that it records, its own is that of its number, and each that waits has a
--- want that was blocked. The recorded values of the cells are their parts of the world after that history.
+-- The history that the view records is legal and begins with all that was seen. The seat's own entries in it are `mine`, and
+-- its spare numbers and those over 32 have none. Of the marks that it records, its own is that of its number, and each that
+-- waits has a want that was blocked. The recorded values of the cells are their parts of the world after that history.
 pub record Holds (v : View) : Type 0 where
   pub journal : v.journal ≡ true
   pub legal : Legal v.setting v.history
@@ -100,7 +105,8 @@ pub record Marked (v : View) (marks : List Mark) : Type 0 where
 
 module _ {C : Type 0} where
   abbrev pub Began : Seated C → ℕ → Seated C → Type 0
-  Began m n m' = (b : Book) × (m' ≡ (with_pen m.0 b.entries.items b.marks.items, (n, Some (Journal b)) ∷ m.1)) × Holds m'.0
+  Began m n m' =
+      (b : Book) × (m' ≡ (with_pen m.0 b.entries.items b.marks.items, (n, Some (Journal b)) ∷ m.1)) × Holds m'.0
 
   -- a try at the journal's turn: taken where the word was 0, and nothing else
   abbrev pub began : Step (Slot C) → Seated C → ℕ → Seated C → Type 0
@@ -108,7 +114,8 @@ module _ {C : Type 0} where
 
   -- the journal goes back with the mark that it has at the seat's number, and so much is seen
   abbrev pub gave_back : (View → List Entry) → Seated C → Seated C → Type 0
-  gave_back sees m m' = (n : ℕ) (b : Book) (more : List (ℕ × Slot C)) → m.1 ≡ (n, Some (Journal b)) ∷ more → m' ≡ (given_back m.0 (sees m.0) (mark_of b.marks.items m.0.number), more)
+  gave_back sees m m' = (n : ℕ) (b : Book) (more : List (ℕ × Slot C))
+      → m.1 ≡ (n, Some (Journal b)) ∷ more → m' ≡ (given_back m.0 (sees m.0) (mark_of b.marks.items m.0.number), more)
 
   abbrev pub returned : Seated C → Seated C → Type 0
   returned m m' = gave_back (λ v. v.history) m m'
@@ -133,17 +140,19 @@ committed v h = record v { seen = h; mine = own v.number h; held = renew (after 
 pub record Commits (v : View) (e : Entry) : Type 0 where
   pub mine : e.worker ≡ v.number
   pub right : Right v.setting v.history e
-  pub covers : (i : ℕ) → Touches v.setting (after v.setting v.history) (doing v.history e) i → (m : MCell) × (at v i ≡ Some m)
+  pub covers : (i : ℕ)
+      → Touches v.setting (after v.setting v.history) (doing v.history e) i → (m : MCell) × (at v i ≡ Some m)
 
 -- the history is the one in the open slot of the journal
 abbrev pub wrote : {C : Type 0} → Seated C → Seated C → Type 0
-wrote {C} m m' = (n : ℕ) (b : Book) (more : List (ℕ × Slot C)) → m.1 ≡ (n, Some (Journal b)) ∷ more → m' ≡ (committed m.0 b.entries.items, m.1)
+wrote {C} m m' = (n : ℕ) (b : Book) (more : List (ℕ × Slot C))
+    → m.1 ≡ (n, Some (Journal b)) ∷ more → m' ≡ (committed m.0 b.entries.items, m.1)
 
 abbrev pub with_seen : View → List Entry → View
 with_seen v h = record v { seen = h }
 
--- The number found is the length of a legal history, which begins with all that was seen and heard. The seat's own entries in it are
--- `mine`, its spare numbers and those over 32 have none, and the recorded values are their parts of the world after it.
+-- The number found is the length of a legal history, which begins with all that was seen and heard. The seat's own entries in
+-- it are `mine`, its spare numbers and those over 32 have none, and the recorded values are their parts of the world after it.
 pub record Looked (v : View) (n : ℕ) (h : List Entry) : Type 0 where
   pub length_is : n ≡ length h
   pub heard : IsPrefix v.heard h
@@ -165,7 +174,8 @@ giver v = record v { next = v.next + 1 }
 
 -- the new seat with that number, which is not out yet
 abbrev pub given : View → View
-given v = record v { number = v.next; next = 33; mine = []; held = nothing v; opened = 0; journal = false; mark = Absent }
+given v =
+    record v { number = v.next; next = 33; mine = []; held = nothing v; opened = 0; journal = false; mark = Absent }
 
 -- a note of what a seat has seen
 abbrev pub note_of : View → View
@@ -176,4 +186,19 @@ abbrev pub told : View → View → View
 told v w = record v { heard = w.seen }
 
 abbrev pub spent : View
-spent = record { setting = record { providers = usual; cells = 0 }; live = false; numbered = false; number = 0; next = 0; seen = []; heard = []; mine = []; held = []; opened = 0; journal = false; history = []; marks = []; mark = Absent }
+spent = record {
+  setting = record { providers = usual; cells = 0 };
+  live = false;
+  numbered = false;
+  number = 0;
+  next = 0;
+  seen = [];
+  heard = [];
+  mine = [];
+  held = [];
+  opened = 0;
+  journal = false;
+  history = [];
+  marks = [];
+  mark = Absent;
+}

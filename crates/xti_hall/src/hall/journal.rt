@@ -1,9 +1,9 @@
 ghost use Rattle.std.specs.Prelude.{◌≡◌, ◌<◌, ◌∷◌, ◌++◌, [], false, IfOk, OnErr, vec_len, vec_capacity};
 ghost use Rattle.xti_rule.specs.declared.view.Mark.TheVariants.{Free};
 ghost use Rattle.xti_rule.specs.Rule.{mark_of};
-ghost use Rattle.xti_rule.specs.Steps.{with_pen, without_pen, committed, Holds, Commits};
+ghost use Rattle.xti_rule.specs.Steps.{with_pen, without_pen, Holds, Commits};
 ghost use Rattle.xti_hall.specs.Pens.{IsPenOf};
-ghost use Rattle.xti_hall.specs.Seats.{LookedAt, Looks, MayGoBack, taken_in};
+ghost use Rattle.xti_hall.specs.Seats.{LookedAt, Looks, MayGoBack, wrote_entry, taken_in};
 ghost use Rattle.xti_hall.specs.Words.{IsSeatOf, IsSameSeat};
 
 use super::Hall;
@@ -42,7 +42,8 @@ impl<C: Stands> Hall<C> {
         requires hall { IsSeatOf self.now seat.old }
         requires free { seat.old.view.journal ≡ false }
         ensures hall { IsSameSeat seat.old seat.new }
-        ensures ok { IfOk result (λ p. (seat.new.view ≡ with_pen seat.old.view p.history p.marks) × Holds seat.new.view × IsPenOf seat.new p) }
+        ensures ok { IfOk result (λ p. seat.new.view ≡ with_pen seat.old.view p.history p.marks) }
+        ensures pen { IfOk result (λ p. Holds seat.new.view × IsPenOf seat.new p) }
         ensures err { OnErr result (LookedAt seat.old.view seat.new.view) }
     {
         self.take_pen(rt, &mut seat.pass);
@@ -55,7 +56,8 @@ impl<C: Stands> Hall<C> {
         Ok(Pen::of(seat, journal))
     }
 
-    /// Gives the journal back without an entry. The seat has then seen the whole history. Takes no memory, and waits for nobody.
+    /// Gives the journal back without an entry. The seat has then seen the whole history. Takes no memory, and waits for
+    /// nobody.
     pub fn return_pen(&self, seat: &mut Seat<C>, pen: Pen<C>)
         requires hall { IsSeatOf self.now seat.old }
         requires holds { Holds seat.old.view }
@@ -66,16 +68,16 @@ impl<C: Stands> Hall<C> {
         self.give_marked(seat, pen.into_journal(), Mark::Free);
     }
 
-    /// Appends the entry, adds 1 to the length, gives the journal back, and rings the bell if a seat waits. The seat has then seen
-    /// the history that ends with the entry, and the recorded values of its cells are those after it. Takes no memory, and waits
-    /// for nobody.
+    /// Appends the entry, adds 1 to the length, gives the journal back, and rings the bell if a seat waits. The seat has then
+    /// seen the history that ends with the entry, and the recorded values of its cells are those after it. Takes no memory, and
+    /// waits for nobody.
     pub fn commit(&self, seat: &mut Seat<C>, pen: Pen<C>, entry: Entry)
         requires hall { IsSeatOf self.now seat.old }
         requires holds { Holds seat.old.view }
         requires pen { IsPenOf seat.old pen }
         requires entry { Commits seat.old.view entry }
         ensures hall { IsSameSeat seat.old seat.new }
-        ensures view { seat.new.view ≡ without_pen (committed seat.old.view (seat.old.view.history ++ entry ∷ [])) Free }
+        ensures view { seat.new.view ≡ without_pen (wrote_entry seat.old.view entry) Free }
     {
         let mut journal = pen.into_journal();
         journal.marks[seat.number as usize] = Mark::Free;
@@ -93,7 +95,7 @@ impl<C: Stands> Hall<C> {
         requires room { vec_len journal.entries < vec_capacity journal.entries }
         requires entry { Commits seat.old.view entry }
         ensures hall { IsSameSeat seat.old seat.new }
-        ensures view { seat.new.view ≡ without_pen (committed seat.old.view (seat.old.view.history ++ entry ∷ [])) Free }
+        ensures view { seat.new.view ≡ without_pen (wrote_entry seat.old.view entry) Free }
     {
         let unfinished = taken_in(&entry.outcome);
         let _room = journal.entries.capacity();

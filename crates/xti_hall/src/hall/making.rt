@@ -1,9 +1,8 @@
-ghost use Rattle.std.specs.Prelude.{◌≡◌, ◌<◌, ◌^◌, ◌+◌, ◌∷◌, [], ℕ, map, IfOk, vec_len, vec_capacity, ◌≤◌, Some};
-ghost use mathlib.Core.Option.{some};
-ghost use lib.ListN.{get_elem?};
-ghost use Rattle.xti_rule.specs.Histories.{part, opening};
+ghost use Rattle.std.specs.Prelude.{◌≡◌, ◌<◌, ◌^◌, ◌+◌, map, IfOk, vec_len, vec_capacity, ◌≤◌, Some};
+ghost use Rattle.xti_rule.specs.Histories.{opening};
 ghost use Rattle.xti_rule.specs.declared.view.Held.TheVariants.{Cell};
 ghost use Rattle.xti_rule.specs.Rule.{newcomer, opening_marks};
+ghost use Rattle.xti_hall.specs.Seats.{StandInOrder};
 ghost use Rattle.xti_hall.specs.Words.{setting, setting_of, id_of};
 
 use super::Hall;
@@ -35,17 +34,18 @@ fn slots_of<C: Drop>(alloc: Global, cells: Vec<C>) -> Result<Vec<Option<Held<C>>
 }
 
 impl<C: Stands> Hall<C> {
-    /// A hall with an empty history, and the seat with number 0, whose spare numbers are 1 to 32. The cells stand for the opening
-    /// world of the providers, in order.
+    /// A hall with an empty history, and the seat with number 0, whose spare numbers are 1 to 32. The cells stand for the
+    /// opening world of the providers, in order.
     pub fn new(
         alloc: Global,
         p: &Providers,
         cells: Vec<C>,
     ) -> Result<(Hall<C>, Seat<C>), AllocError>
         requires few { vec_len cells < 2 ^ 32 }
-        requires stand { (i : ℕ) (x : C) → get_elem? cells.items i ≡ some x → C.stands x ((i, part i (opening (setting p.now (vec_len cells)))) ∷ []) }
+        requires stand { StandInOrder C.stands (opening (setting p.now (vec_len cells))) cells.items }
         ensures hall { IfOk result (λ r. setting_of r.0 ≡ setting p.now (vec_len cells)) }
-        ensures seat { IfOk result (λ r. (r.1.hall ≡ id_of r.0) × (r.1.view ≡ newcomer (setting p.now (vec_len cells)))) }
+        ensures hall_of_seat { IfOk result (λ r. r.1.hall ≡ id_of r.0) }
+        ensures seat { IfOk result (λ r. r.1.view ≡ newcomer (setting p.now (vec_len cells))) }
     {
         let setting = Setting {
             providers: *p,

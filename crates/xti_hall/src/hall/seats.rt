@@ -1,7 +1,7 @@
 ghost use Rattle.std.specs.Prelude.{◌≡◌, ◌<◌, ◌≤◌, false, MatchResult, List};
 ghost use Rattle.xti_model.specs.declared.entry.Entry.{Entry};
 ghost use Rattle.xti_rule.specs.Steps.{giver, given, told, with_seen, Looked};
-ghost use Rattle.xti_hall.specs.Seats.{IsNewcomerOf, Meets, Looks};
+ghost use Rattle.xti_hall.specs.Seats.{CutsOff, HasNoneToSpare, Meets};
 ghost use Rattle.xti_hall.specs.Words.{IsSeatOf, IsSameSeat};
 
 use super::Hall;
@@ -35,13 +35,14 @@ impl<C: Stands> Hall<C> {
         }
     }
 
-    /// A seat with the least spare number of the given one, which has seen as much, made no call and has no spare number. The given
-    /// seat has that number no more. `NoSeat` exactly where it has no spare number; then it stays as it was. Takes no memory.
+    /// A seat with the least spare number of the given one, which has seen as much, made no call and has no spare number. The
+    /// given seat has that number no more. `NoSeat` exactly where it has no spare number; then it stays as it was. Takes no
+    /// memory.
     pub fn split<R: Wait>(&self, rt: &R, seat: &mut Seat<C>) -> Result<Seat<C>, NoSeat>
         requires hall { IsSeatOf self.now seat.old }
         requires free { seat.old.view.journal ≡ false }
         ensures hall { IsSameSeat seat.old seat.new }
-        ensures seats { MatchResult result (λ s. (s.hall ≡ seat.old.hall) × (seat.new.view ≡ giver seat.old.view) × IsNewcomerOf seat.old.view s.view) (λ _. (seat.new.view ≡ seat.old.view) × (33 ≤ seat.old.view.next)) }
+        ensures seats { MatchResult result (λ s. CutsOff seat.old seat.new s) (λ _. HasNoneToSpare seat.old seat.new) }
     {
         if seat.next >= 33 {
             return Err(NoSeat);

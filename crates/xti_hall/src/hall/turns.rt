@@ -1,4 +1,5 @@
-//! The steps on a cell's turn. Between two calls a seat has no slot open: a cell that is held has its slot at home, and empty.
+//! The steps on a cell's turn. Between two calls a seat has no cell's slot open: the slot of a cell that is held is at home, and
+//! empty.
 
 ghost use Rattle.std.specs.Prelude.{◌≡◌, ◌+◌, ◌<◌, ℕ, [], ◌∷◌, set, true, Some, None, MatchBool};
 ghost use mathlib.Core.Option.{some};
@@ -52,7 +53,8 @@ impl<C: Stands> Hall<C> {
         requires hall { IsOf self.now pass.old }
         requires cell { cell < (setting_of self.now).cells }
         requires live { pass.old.me.0.live ≡ true }
-        requires taken { (pass.old.me.0.opened ≡ cell + 1) × ((x : C) × (pass.old.me.1 ≡ (cell, Some (Cell x)) ∷ rest pass.old.me.1)) }
+        requires opened { pass.old.me.0.opened ≡ cell + 1 }
+        requires taken { (x : C) × (pass.old.me.1 ≡ (cell, Some (Cell x)) ∷ rest pass.old.me.1) }
         ensures hall { IsSame pass.old pass.new }
         ensures value { pass.old.me.1 ≡ (cell, Some (Cell result)) ∷ rest pass.old.me.1 }
         ensures view { pass.new.me ≡ (with_held pass.old.me.0 pass.old.me.0.held 0, rest pass.old.me.1) }

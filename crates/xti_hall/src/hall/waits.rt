@@ -20,7 +20,8 @@ impl<C: Stands> Hall<C> {
         requires hall { IsSeatOf self.now seat.old }
         requires free { seat.old.view.journal ≡ false }
         ensures hall { IsSameSeat seat.old seat.new }
-        ensures look { (seat.new.view ≡ with_pen seat.old.view result.entries.items result.marks.items) × Holds seat.new.view × (seat.new.view.numbered ≡ true) }
+        ensures look { seat.new.view ≡ with_pen seat.old.view result.entries.items result.marks.items }
+        ensures holds { Holds seat.new.view × (seat.new.view.numbered ≡ true) }
     {
         self.take_pen(rt, &mut seat.pass);
         self.take_journal(&mut seat.pass)
@@ -30,7 +31,8 @@ impl<C: Stands> Hall<C> {
     pub(super) fn give_marked(&self, seat: &mut Seat<C>, mut journal: Journal, mark: Mark)
         requires hall { IsSeatOf self.now seat.old }
         requires holds { Holds seat.old.view }
-        requires journal { (journal.entries.items ≡ seat.old.view.history) × (journal.marks.items ≡ seat.old.view.marks) }
+        requires entries { journal.entries.items ≡ seat.old.view.history }
+        requires marks { journal.marks.items ≡ seat.old.view.marks }
         requires mark { MarkFits seat.old.view.setting seat.old.view.history mark }
         ensures hall { IsSameSeat seat.old seat.new }
         ensures view { seat.new.view ≡ without_pen seat.old.view mark }
@@ -112,9 +114,9 @@ impl<C: Stands> Hall<C> {
         Sight::Parks((bell % (1 << 32)) as u32)
     }
 
-    /// Waits until the history is longer than `at`, or until no seat that is out can go on: each rests, or waits for what is blocked
-    /// in the history as it is. The mark is set first and looked at once more before the seat parks, so the last seat to wait
-    /// finds the stall itself. It holds nothing while it waits.
+    /// Waits until the history is longer than `at`, or until no seat that is out can go on: each rests, or waits for what is
+    /// blocked in the history as it is. The mark is set first, and all are looked at once more before the seat parks, so the
+    /// last seat to wait finds the stall itself. It holds nothing while it waits. Takes no memory.
     pub fn wait<R: Wait>(&self, rt: &R, seat: &mut Seat<C>, want: Want, at: u64) -> Waited
         requires hall { IsSeatOf self.now seat.old }
         requires free { seat.old.view.journal ≡ false }
