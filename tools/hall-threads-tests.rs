@@ -26,7 +26,7 @@ enum Cell {
 impl Stands for Cell {
     ghost use Rattle.std.specs.Prelude.{List, ℕ};
 
-    ghost stands = { λ x l. Unit {0} };
+    ghost stands = { λ p x l. Unit {0} };
 }
 
 /// The hall of the opening world, and its first seat.

@@ -11,7 +11,8 @@ use Rattle.xti_model.specs.declared.entry.Outcome.TheVariants.{Done, Part}
 use Rattle.xti_model.specs.History.{unfinished_from}
 use Rattle.xti_model.specs.Wants.{taken_before}
 use Rattle.xti_model.specs.World.{Cell as MCell}
-use Rattle.xti_rule.specs.Histories.{World, Legal, own, part}
+use Rattle.xti_rule.specs.Histories.{Legal, own, part, opening}
+use Rattle.xti_rule.specs.declared.setting.Setting.{Setting}
 use Rattle.xti_rule.specs.declared.view.View.{View}
 use Rattle.xti_rule.specs.declared.view.Journal.{Journal}
 use Rattle.xti_rule.specs.declared.view.Mark.{Mark}
@@ -80,9 +81,9 @@ HoldsNone v = (i : ℕ) → at v i ≡ None
 abbrev pub bare : View → View
 bare v = with_held v [] 0
 
--- the values stand for the cells of the world, in order
-abbrev pub StandInOrder : {C : Type 0} → (C → List (ℕ × MCell) → Type 0) → World → List C → Type 0
-StandInOrder {C} stands w xs = (i : ℕ) (x : C) → get_elem? xs i ≡ some x → stands x ((i, part i w) ∷ [])
+-- the values stand for the cells of the opening world, in order
+abbrev pub StandInOrder : {C : Type 0} → (Setting → C → List (ℕ × MCell) → Type 0) → Setting → List C → Type 0
+StandInOrder {C} stands p xs = (i : ℕ) (x : C) → get_elem? xs i ≡ some x → stands p x ((i, part i (opening p)) ∷ [])
 
 -- the cell i was entered, with the value m
 pub record Entered (v : View) (i : ℕ) (m : MCell) (v' : View) : Type 0 where
@@ -91,12 +92,12 @@ pub record Entered (v : View) (i : ℕ) (m : MCell) (v' : View) : Type 0 where
   pub rest : bare v' ≡ bare v
 
 -- a value that stands for the cell i was entered, and is its part of the world as the other cells that are held are
-abbrev pub Enters : {C : Type 0} → (C → List (ℕ × MCell) → Type 0) → View → ℕ → C → View → Type 0
-Enters stands v i x v' = (m : MCell) × Entered v i m v' × stands x ((i, m) ∷ []) × Fresh v'
+abbrev pub Enters : {C : Type 0} → (Setting → C → List (ℕ × MCell) → Type 0) → View → ℕ → C → View → Type 0
+Enters stands v i x v' = (m : MCell) × Entered v i m v' × stands v.setting x ((i, m) ∷ []) × Fresh v'
 
 -- the value stands for what is recorded for the cell i, which is held
-abbrev pub MayLeave : {C : Type 0} → (C → List (ℕ × MCell) → Type 0) → View → ℕ → C → Type 0
-MayLeave stands v i x = (m : MCell) × (at v i ≡ Some m) × stands x ((i, m) ∷ [])
+abbrev pub MayLeave : {C : Type 0} → (Setting → C → List (ℕ × MCell) → Type 0) → View → ℕ → C → Type 0
+MayLeave stands v i x = (m : MCell) × (at v i ≡ Some m) × stands v.setting x ((i, m) ∷ [])
 
 -- the cell i was left
 pub record Left (v : View) (i : ℕ) (v' : View) : Type 0 where

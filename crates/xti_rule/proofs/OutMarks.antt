@@ -1,13 +1,14 @@
 -- The marks are those of the seats that are out.
 use Rattle.std.proofs.Common.{◌≡◌, ◌≢◌, ⊎_elim, ℕ, ◌≤◌, List, ap, sym, ◌∙◌}
 use Rattle.xti_model.specs.World.{Cell as MCell}
+use Rattle.xti_rule.specs.declared.setting.Setting.{Setting}
 use Rattle.xti_rule.specs.declared.view.Mark.{Mark}
 use Rattle.xti_rule.specs.declared.view.Mark.TheVariants.{Absent}
 use Rattle.xti_rule.specs.declared.view.View.{View}
 use Rattle.xti_rule.specs.Rule.{mark_of}
 use Rattle.xti_rule.specs.Marks.{IsOutWith, MarksAreOfSeatsOut}
 
-pub marks-out : {C : Type 0} (stands : C → List (ℕ × MCell) → Type 0) → MarksAreOfSeatsOut stands
+pub marks-out : {C : Type 0} (stands : Setting → C → List (ℕ × MCell) → Type 0) → MarksAreOfSeatsOut stands
 marks-out {C} stands p s r k lt = (none, some_one)
   where
     none : mark_of r.marks k ≡ Absent → (mark : Mark) → IsOutWith s.views k mark → ⊥

@@ -53,24 +53,6 @@ module _ {C : Type 0} (stands : C → List (ℕ × MCell) → Type 0) (p : Setti
   fresh : (s : State (Slot C) View) (r : H s) (id : ℕ) (v : View) → SeatOk p r.log r.turns r.marks r.pen r.owner id v → Fresh v
   fresh s r id v ok = (r.log, subst (λ z. Legal z r.log) (sym ok.history.setting) r.legal, ok.history.seen, λ i m e. (ok.cells.held i m e).1 ∙ ap (λ (z : Setting). part i (after z r.log)) (sym ok.history.setting))
 
-  pub enters : (n id i : ℕ) (me : Seated C) → me.0.live ≡ true → i < p.cells → me.0.opened ≡ 0
-      → Allows H n id me (i + 1) (λ n. either (eqb n 0) 1 n) (entered stands (step n (i + 1) 0 1 none) me)
-  enters n id i me live lt shut s r wide at small = let f : ℕ = get_or s.words (i + 1) 0 in let told = entered stands (step n (i + 1) 0 1 none) me in
-      exchanged f 0 1 (Goes s (i + 1) id me told f)
-      (λ hit. let ok = r.each_cell i lt in let unheld : r.turns i ≡ free = bit_by (r.turns i) (sym ok.word ∙ hit) in let v : View = me.0 in
-      let here = subst (CellIn stands p s.homes r.log i) unheld ok.value in let x : C = here.0 in let m : MCell = part i (after p r.log) in
-      let w : View = with_held v (set v.held i (Some m)) (suc i) in
-      let r' = cell_step stands p s r id i 1 v (set s.homes i none) (opened id) (Some m) (suc i) lt at live (length-set s.homes i none) (λ k ne. set_else s.homes i k none ne) refl tt
-      (inl (ap by unheld)) (inr refl) (λ m' e. (refl, cc)) (λ _. (m, refl)) (λ _. refl) (λ k e. (omega arith, refl)) (inl shut) in
-      let ok' = r'.each_seat id w (set_here s.views id w (at_length s.views id v at)) live in (
-        w,
-        takes i (Some (Cell x)),
-        here.1,
-        r',
-        ((λ _ k is. let same : i ≡ k = omega arith in subst (λ (z : ℕ). Took stands me z (w, (i, Some (Cell x)) ∷ me.1)) same (x, m, refl, here.2, fresh _ r' id w ok', (let room : length v.held ≡ p.cells = (r.each_seat id v at live).cells.room in omega arith))), λ miss. absurd (miss hit)),
-      ))
-      (λ miss. stays s r (i + 1) id me told at ((λ hit. absurd (miss hit)), λ _. refl))
-
   -- the seat's own records at a state
   mine_at : (s : State (Slot C) View) (r : H s) (id i : ℕ) (v : View) → get_elem? s.views id ≡ some v → (lt : i < p.cells) → by (r.turns i) ≡ suc id → (m : MCell) × (get_elem? v.held i ≡ some (Some m))
   mine_at s r id i v at lt mine = let q = (r.each_cell i lt).has id mine in let is : v ≡ q.0 = some-injective v q.0 (sym at ∙ q.2) in (q.1, ap (λ (z : View). get_elem? z.held i) is ∙ q.4)
@@ -124,3 +106,22 @@ module _ {C : Type 0} (stands : C → List (ℕ × MCell) → Type 0) (p : Setti
   pub leaves : (n id i : ℕ) (me : Seated C) (x : C) (m : MCell) (more : List (ℕ × Slot C)) → me.0.live ≡ true → i < p.cells → me.0.opened ≡ suc i → get_elem? me.0.held i ≡ some (Some m) → stands x ((i, m) ∷ []) → me.1 ≡ (i, Some (Cell x)) ∷ more
       → Allows H n id me (i + 1) (λ _. 0) (λ _ m'. left (step n (i + 1) 0 0 none) me m')
   leaves n id i me x m more live lt is has good e = subst (λ (l : List (ℕ × Slot C)). Allows H n id (me.0, l) (i + 1) (λ _. 0) (λ _ m'. left (step n (i + 1) 0 0 none) (me.0, l) m')) (sym e) (leaves' n id i me.0 x m more live lt is has good)
+
+-- a try at a cell's turn: it is taken with its value, which stands for the cell in this hall
+pub enters : {C : Type 0} (S : Setting → C → List (ℕ × MCell) → Type 0) (p : Setting) (n id i : ℕ) (me : Seated C) → me.0.live ≡ true → i < p.cells → me.0.opened ≡ 0
+    → Allows (HallRule (S p) p) n id me (i + 1) (λ n. either (eqb n 0) 1 n) (entered S (step n (i + 1) 0 1 none) me)
+enters {C} S p n id i me live lt shut s r wide at small = let f : ℕ = get_or s.words (i + 1) 0 in let told = entered S (step n (i + 1) 0 1 none) me in
+    exchanged f 0 1 (Goes (S p) p s (i + 1) id me told f)
+    (λ hit. let ok = r.each_cell i lt in let unheld : r.turns i ≡ free = bit_by (r.turns i) (sym ok.word ∙ hit) in let v : View = me.0 in
+    let here = subst (CellIn (S p) p s.homes r.log i) unheld ok.value in let x : C = here.0 in let m : MCell = part i (after p r.log) in
+    let w : View = with_held v (set v.held i (Some m)) (suc i) in
+    let r' = cell_step (S p) p s r id i 1 v (set s.homes i none) (opened id) (Some m) (suc i) lt at live (length-set s.homes i none) (λ k ne. set_else s.homes i k none ne) refl tt
+    (inl (ap by unheld)) (inr refl) (λ m' e. (refl, cc)) (λ _. (m, refl)) (λ _. refl) (λ k e. (omega arith, refl)) (inl shut) in
+    let ok' = r'.each_seat id w (set_here s.views id w (at_length s.views id v at)) live in (
+      w,
+      takes i (Some (Cell x)),
+      here.1,
+      r',
+      ((λ _ k is. let same : i ≡ k = omega arith in subst (λ (z : ℕ). Took S me z (w, (i, Some (Cell x)) ∷ me.1)) same (x, m, refl, subst (λ (z : Setting). S z x ((i, m) ∷ [])) (sym (r.each_seat id v at live).history.setting) here.2, fresh (S p) p _ r' id w ok', (let room : length v.held ≡ p.cells = (r.each_seat id v at live).cells.room in omega arith))), λ miss. absurd (miss hit)),
+    ))
+    (λ miss. stays (S p) p s r (i + 1) id me told at ((λ hit. absurd (miss hit)), λ _. refl))

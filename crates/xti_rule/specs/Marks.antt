@@ -23,6 +23,6 @@ MarksOfSeatsOut views marks =
     → (marks k ≡ Absent → (mark : Mark) → IsOutWith views k mark → ⊥) × (marks k ≢ Absent → IsOutWith views k (marks k))
 
 -- whatever the hall is
-abbrev pub MarksAreOfSeatsOut : {C : Type 0} → (C → List (ℕ × Cell) → Type 0) → Type 0
+abbrev pub MarksAreOfSeatsOut : {C : Type 0} → (Setting → C → List (ℕ × Cell) → Type 0) → Type 0
 MarksAreOfSeatsOut {C} stands =
-    (p : Setting) (s : State (Slot C) View) (r : HallRule stands p s) → MarksOfSeatsOut s.views (mark_of r.marks)
+    (p : Setting) (s : State (Slot C) View) (r : HallRule (stands p) p s) → MarksOfSeatsOut s.views (mark_of r.marks)

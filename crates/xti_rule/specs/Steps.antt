@@ -22,6 +22,7 @@ use Rattle.xti_model.specs.World.{Cell as MCell}
 use Rattle.xti_model.specs.History.{doing}
 use Rattle.xti_model.specs.Profile.{usual}
 use Rattle.xti_rule.specs.Histories.{World, part, own, after, Legal, Right, Touches}
+use Rattle.xti_rule.specs.declared.setting.Setting.{Setting}
 use Rattle.xti_rule.specs.declared.view.View.{View}
 use Rattle.xti_rule.specs.declared.view.Held.TheVariants.{Cell, Journal}
 use Rattle.xti_rule.specs.declared.view.Journal.{Journal as Book}
@@ -49,13 +50,13 @@ Fresh v =
 
 module _ {C : Type 0} where
   -- the cell i was taken, with its value
-  abbrev pub Took : (C → List (ℕ × MCell) → Type 0) → Seated C → ℕ → Seated C → Type 0
+  abbrev pub Took : (Setting → C → List (ℕ × MCell) → Type 0) → Seated C → ℕ → Seated C → Type 0
   Took stands m i m' =
       (x : C) × (c : MCell) × (m' ≡ (with_held m.0 (set m.0.held i (Some c)) (suc i), (i, Some (Cell x)) ∷ m.1))
-      × stands x ((i, c) ∷ []) × Fresh m'.0 × (i < length m.0.held)
+      × stands m.0.setting x ((i, c) ∷ []) × Fresh m'.0 × (i < length m.0.held)
 
   -- a try at a cell's turn: taken where the word was 0, and nothing else
-  abbrev pub entered : (C → List (ℕ × MCell) → Type 0) → Step (Slot C) → Seated C → ℕ → Seated C → Type 0
+  abbrev pub entered : (Setting → C → List (ℕ × MCell) → Type 0) → Step (Slot C) → Seated C → ℕ → Seated C → Type 0
   entered stands st m r m' = (r ≡ 0 → (i : ℕ) → st.word ≡ i + 1 → Took stands m i m') × (r ≢ 0 → m' ≡ m)
 
   abbrev pub settled : Seated C → Seated C → Type 0

@@ -17,7 +17,7 @@ pub struct Ruled<C> {
 impl<C: Stands> TableRule<Option<Held<C>>, View, Setting> for Ruled<C> {
     ghost use Rattle.xti_rule.specs.Rule.{HallRule, newcomer};
 
-    ghost holds = { λ p s. HallRule C.stands p s };
+    ghost holds = { λ p s. HallRule (C.stands p) p s };
 
     ghost first = { newcomer };
 }

@@ -24,10 +24,11 @@ impl Model for Recorded {
     ghost view = { λ r. endpoint_cell 0 None };
 }
 
-/// A value that stands for cells of the definitions, each with its number.
+/// A value that stands for cells of the definitions, each with its number, in a hall of these providers and so many cells.
 pub trait Stands: Drop {
     ghost use Rattle.std.specs.Prelude.{List, ℕ};
     ghost use Rattle.xti_model.specs.World.{Cell};
+    ghost use Rattle.xti_rule.specs.declared.setting.Setting.{Setting};
 
-    ghost stands: { Self → List (ℕ × Cell) → Type 0 };
+    ghost stands: { Setting → Self → List (ℕ × Cell) → Type 0 };
 }

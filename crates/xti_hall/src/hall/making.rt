@@ -1,5 +1,4 @@
 ghost use Rattle.std.specs.Prelude.{◌≡◌, ◌<◌, ◌^◌, ◌+◌, map, IfOk, vec_len, vec_capacity, ◌≤◌, Some};
-ghost use Rattle.xti_rule.specs.Histories.{opening};
 ghost use Rattle.xti_rule.specs.declared.view.Held.TheVariants.{Cell};
 ghost use Rattle.xti_rule.specs.Rule.{newcomer, opening_marks};
 ghost use Rattle.xti_hall.specs.Seats.{StandInOrder};
@@ -42,7 +41,7 @@ impl<C: Stands> Hall<C> {
         cells: Vec<C>,
     ) -> Result<(Hall<C>, Seat<C>), AllocError>
         requires few { vec_len cells < 2 ^ 32 }
-        requires stand { StandInOrder C.stands (opening (setting p.now (vec_len cells))) cells.items }
+        requires stand { StandInOrder C.stands (setting p.now (vec_len cells)) cells.items }
         ensures hall { IfOk result (λ r. setting_of r.0 ≡ setting p.now (vec_len cells)) }
         ensures hall_of_seat { IfOk result (λ r. r.1.hall ≡ id_of r.0) }
         ensures seat { IfOk result (λ r. r.1.view ≡ newcomer (setting p.now (vec_len cells))) }

@@ -73,7 +73,8 @@ impl<C: Stands> Hall<C> {
         requires hall { IsOf self.now pass.old }
         requires cell { cell < (setting_of self.now).cells }
         requires seat { Sits pass.old.me.0 }
-        requires stands { (m : MCell) × (get_elem? pass.old.me.0.held cell ≡ some (Some m)) × C.stands value ((cell, m) ∷ []) }
+        requires setting { pass.old.me.0.setting ≡ setting_of self.now }
+        requires held { (m : MCell) × (get_elem? pass.old.me.0.held cell ≡ some (Some m)) × C.stands (setting_of self.now) value ((cell, m) ∷ []) }
         ensures hall { IsSame pass.old pass.new }
         ensures gone { pass.new.me ≡ (with_held pass.old.me.0 (set pass.old.me.0.held cell None) 0, pass.old.me.1) }
     {

@@ -1,4 +1,5 @@
-use Rattle.std.proofs.Common.{ap, ◌∙◌, set}
+use Rattle.std.proofs.Common.{ap, ◌∙◌, set, subst, [], ◌∷◌}
+use Rattle.xti_rule.specs.declared.setting.Setting.{Setting}
 use Rattle.std.specs.Prelude.{None}
 use Rattle.xti_rule.specs.declared.view.View.{View}
 use Rattle.xti_rule.specs.Steps.{with_held}
@@ -7,9 +8,9 @@ use Rattle.xti_rule.proofs.Lookups.{at_has}
 use Rattle.xti_hall.proofs.Lookups.{left}
 use Rattle.xti_hall.proofs.hall.Hall.leave.Goals as goal
 
-pub put_back-requires-clause-stands : goal.put_back-requires-clause-stands
-put_back-requires-clause-stands g c = let r = c.requires.stands in let is = ap (λ s. s.view) c.seat.view_is in
-    (r.0, at_has c.seat.inside.pass.me.0.held c.args.cell r.0 (ap (λ (z : View). at z c.args.cell) is ∙ r.1), r.2)
+pub put_back-requires-clause-held : goal.put_back-requires-clause-held
+put_back-requires-clause-held g c = let r = c.requires.stands in let is = ap (λ s. s.view) c.seat.view_is in
+    (r.0, at_has c.seat.inside.pass.me.0.held c.args.cell r.0 (ap (λ (z : View). at z c.args.cell) is ∙ r.1), subst (λ (z : Setting). g.C.Stands.stands z c.args.value ((c.args.cell, r.0) ∷ [])) c.requires.hall.1 r.2)
 
 pub returns-clause-gone : goal.returns-clause-gone
 returns-clause-gone g c = let is = ap (λ s. s.view) c.seat.view_is in

@@ -10,7 +10,7 @@ pub store-requires : goal.store-requires
 store-requires g c = let sized = c.args.self.now.sized in (
   c.requires.hall,
   omega arith,
-  reopens g.C.Stands.stands c.args.self.now.table.shared.key _ _ _ c.args.pass.now.me c.requires.stands.0 c.requires.seat.live c.requires.cell c.requires.seat.shut c.requires.stands.1,
+  reopens (g.C.Stands.stands c.args.self.now.table.shared.key) c.args.self.now.table.shared.key _ _ _ c.args.pass.now.me c.requires.held.0 c.requires.seat.live c.requires.cell c.requires.seat.shut c.requires.held.1,
 )
 
 pub exchange-empty-requires : goal.exchange-empty-requires
@@ -21,8 +21,8 @@ pub store-requires-2 : goal.store-requires-2
 store-requires-2 g c = let sized = c.args.self.now.sized in let e = c.store.ensures.2 c.args.cell refl in let f = c.exchange-empty.ensures.3 in (
   c.exchange-empty.ensures.0 ∙ (c.store.ensures.0 ∙ c.requires.hall),
   omega arith,
-  leaves g.C.Stands.stands c.args.self.now.table.shared.key _ _ c.args.cell c.exchange-empty.new.seat.me c.args.value c.requires.stands.0 _ (ap (λ m. m.0.live) f ∙ (ap (λ m. m.0.live) e ∙ c.requires.seat.live)) c.requires.cell (ap (λ m. m.0.opened) f ∙ ap (λ m. m.0.opened) e)
-      (ap (λ m. get_elem? m.0.held c.args.cell) f ∙ (ap (λ m. get_elem? m.0.held c.args.cell) e ∙ c.requires.stands.1)) c.requires.stands.2 (ap (λ m. m.1) f),
+  leaves (g.C.Stands.stands c.args.self.now.table.shared.key) c.args.self.now.table.shared.key _ _ c.args.cell c.exchange-empty.new.seat.me c.args.value c.requires.held.0 _ (ap (λ m. m.0.live) f ∙ (ap (λ m. m.0.live) e ∙ c.requires.seat.live)) c.requires.cell (ap (λ m. m.0.opened) f ∙ ap (λ m. m.0.opened) e)
+      (ap (λ m. get_elem? m.0.held c.args.cell) f ∙ (ap (λ m. get_elem? m.0.held c.args.cell) e ∙ c.requires.held.1)) c.requires.held.2 (ap (λ m. m.1) f),
 )
 
 pub unreachable-requires : goal.unreachable-requires

@@ -10,7 +10,7 @@ by_found n A B a b = dite (ℕ_discrete n 0) (λ e. subst (λ z. MatchBool z A B
 
 pub compare_exchange-requires : goal.compare_exchange-requires
 compare_exchange-requires g c = let sized = c.args.self.now.sized in let s = c.requires.seat in
-    (c.requires.hall, omega arith, begins_at g.C.Stands.stands c.args.self.now.table.shared.key _ _ _ c.args.pass.now.me (sym sized.2) s.live)
+    (c.requires.hall, omega arith, begins_at (g.C.Stands.stands c.args.self.now.table.shared.key) c.args.self.now.table.shared.key _ _ _ c.args.pass.now.me (sym sized.2) s.live)
 
 pub returns-clause-began : goal.returns-clause-began
 returns-clause-began g c = let sized = c.args.self.now.sized in let told = c.compare_exchange.ensures.2 in

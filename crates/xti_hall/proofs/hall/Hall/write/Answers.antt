@@ -7,7 +7,7 @@ pub fetch_add-requires : goal.fetch_add-requires
 fetch_add-requires g c = let sized = c.args.self.now.sized in let s = c.requires.seat in let j = c.requires.journal in (
   c.put_journal.ensures.hall.0 ∙ c.requires.hall,
   omega arith,
-  commits_at g.C.Stands.stands c.args.self.now.table.shared.key _ _ _ _ _ c.args.entry _ c.put_journal.ensures.view s.live s.numbered c.requires.taken.0 (c.push_reserved.ensures.items ∙ ap (λ z. z ++ c.args.entry ∷ []) j.0) (let e = c.len-length.ensures in let r = c.len-length.type_inv in search rules) c.requires.setting c.requires.entry,
+  commits_at (g.C.Stands.stands c.args.self.now.table.shared.key) c.args.self.now.table.shared.key _ _ _ _ _ c.args.entry _ c.put_journal.ensures.view s.live s.numbered c.requires.taken.0 (c.push_reserved.ensures.items ∙ ap (λ z. z ++ c.args.entry ∷ []) j.0) (let e = c.len-length.ensures in let r = c.len-length.type_inv in search rules) c.requires.setting c.requires.entry,
 )
 
 pub store-requires : goal.store-requires
@@ -15,7 +15,7 @@ store-requires g c = let sized = c.args.self.now.sized in let s = c.requires.sea
     let is = c.push_reserved.ensures.items ∙ ap (λ z. z ++ c.args.entry ∷ []) j.0 in let w = written _ _ _ _ _ _ c.put_journal.ensures.view c.fetch_add.ensures.2 _ is in (
       c.fetch_add.ensures.0 ∙ (c.put_journal.ensures.hall.0 ∙ c.requires.hall),
       omega arith,
-      returns_at g.C.Stands.stands c.args.self.now.table.shared.key (λ v. v.history) _ _ _ _ _ _ _ w (sees_all c.args.self.now.table.shared.key _) (sym sized.2) s.live s.numbered c.requires.taken.0 is (marked_more _ _ _ j.1) c.requires.setting,
+      returns_at (g.C.Stands.stands c.args.self.now.table.shared.key) c.args.self.now.table.shared.key (λ v. v.history) _ _ _ _ _ _ _ w (sees_all c.args.self.now.table.shared.key _) (sym sized.2) s.live s.numbered c.requires.taken.0 is (marked_more _ _ _ j.1) c.requires.setting,
     )
 
 pub returns-clause-view : goal.returns-clause-view
