@@ -1,0 +1,5 @@
+pub mod Sizes
+pub mod Seats
+pub mod Pens
+pub mod Stalls
+pub mod Words

@@ -1,0 +1,8 @@
+-- The size of a hall's table.
+use Rattle.std.specs.Prelude.{◌≡◌, ◌+◌, ℕ}
+use Rattle.atomic_table.specs.Seated.{TableId}
+use Rattle.xti_rule.specs.declared.setting.Setting.{Setting}
+
+-- a word for the length, one for each turn and one for the bell; a slot for each cell and one for the journal
+abbrev pub IsSized : TableId → Setting → ℕ → Type 0
+IsSized id setting cells = (id.words ≡ cells + 3) × (id.slots ≡ cells + 1) × (setting.cells ≡ cells)

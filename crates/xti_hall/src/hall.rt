@@ -1,0 +1,25 @@
+//! The hall.
+
+ghost use Rattle.xti_hall.specs.Sizes.{IsSized};
+
+use atomic_table::Table;
+use std::alloc::Global;
+use xti_rule::{Held, Ruled, Setting, Stands, View};
+
+mod cells;
+mod journal;
+mod making;
+mod pens;
+mod seats;
+mod turns;
+mod waits;
+
+pub use seats::NoSeat;
+
+/// Cells and a journal, each with a turn. Threads share it by a reference, and each steps with a seat of its own.
+#[derive(Drop)]
+pub struct Hall<C: Stands> {
+    table: Table<Option<Held<C>>, View, Setting, Ruled<C>, Global>,
+    cells: u32,
+    ghost sized: { IsSized table.shared.table_id table.shared.key cells },
+}

@@ -1,0 +1,77 @@
+ghost use Rattle.std.specs.Prelude.{◌≡◌, ◌<◌, ◌^◌, ◌+◌, map, IfOk, vec_len, vec_capacity, ◌≤◌, Some};
+ghost use Rattle.xti_rule.specs.declared.view.Held.TheVariants.{Cell};
+ghost use Rattle.xti_rule.specs.Rule.{newcomer, opening_marks};
+ghost use Rattle.xti_hall.specs.Seats.{StandInOrder};
+ghost use Rattle.xti_hall.specs.Words.{setting, setting_of, id_of};
+
+use super::Hall;
+use crate::seat::Seat;
+use atomic_table::{Refused, Table};
+use std::alloc::{AllocError, Global};
+use xti_model::Providers;
+use xti_rule::{Held, Journal, Mark, Setting, Stands};
+
+/// The marks before any seat is cut in two.
+fn first_marks(alloc: Global) -> Result<Vec<Mark>, AllocError>
+    ensures { IfOk result (λ marks. marks.items ≡ opening_marks) }
+{
+    let mut marks = Vec::from_elem(alloc, Mark::Absent, 33)?;
+    marks[0] = Mark::Free;
+    Ok(marks)
+}
+
+/// The cells in their slots, and room for the journal's.
+fn slots_of<C: Drop>(alloc: Global, cells: Vec<C>) -> Result<Vec<Option<Held<C>>>, AllocError>
+    ensures { IfOk result (λ v. (v.items ≡ map (λ x. Some (Cell x)) cells.items) × (vec_len v + 1 ≤ vec_capacity v)) }
+{
+    let mut slots = Vec::with_capacity(alloc, cells.len())?;
+    for cell in cells {
+        slots.push(Some(Held::Cell(cell)))?;
+    }
+    slots.reserve(1)?;
+    Ok(slots)
+}
+
+impl<C: Stands> Hall<C> {
+    /// A hall with an empty history, and the seat with number 0, whose spare numbers are 1 to 32. The cells stand for the
+    /// opening world of the providers, in order.
+    pub fn new(
+        alloc: Global,
+        p: &Providers,
+        cells: Vec<C>,
+    ) -> Result<(Hall<C>, Seat<C>), AllocError>
+        requires few { vec_len cells < 2 ^ 32 }
+        requires stand { StandInOrder C.stands (setting p.now (vec_len cells)) cells.items }
+        ensures hall { IfOk result (λ r. setting_of r.0 ≡ setting p.now (vec_len cells)) }
+        ensures hall_of_seat { IfOk result (λ r. r.1.hall ≡ id_of r.0) }
+        ensures seat { IfOk result (λ r. r.1.view ≡ newcomer (setting p.now (vec_len cells))) }
+    {
+        let setting = Setting {
+            providers: *p,
+            cells: cells.len() as u32,
+        };
+        let words = Vec::from_elem(alloc, 0u64, cells.len() + 3)?;
+        let marks = first_marks(alloc)?;
+        let mut slots = slots_of(alloc, cells)?;
+        slots.push_reserved(Some(Held::Journal(Journal {
+            entries: Vec::new(alloc),
+            marks,
+        })));
+        match Table::new(alloc, words.as_slice(), slots, &setting) {
+            Ok((table, pass)) => Ok((
+                Hall {
+                    table,
+                    cells: setting.cells,
+                },
+                Seat {
+                    pass,
+                    number: 0,
+                    next: 1,
+                    steps: 0,
+                    unfinished: None,
+                },
+            )),
+            Err(Refused { slots: _ }) => Err(AllocError),
+        }
+    }
+}

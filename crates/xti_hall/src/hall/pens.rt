@@ -1,0 +1,128 @@
+//! The steps on the journal's turn.
+
+ghost use Rattle.std.specs.Prelude.{◌≡◌, ◌<◌, ◌++◌, ◌∷◌, [], true, MatchBool, Some, None, vec_len, vec_capacity};
+ghost use Rattle.atomic_table.specs.Table.{rest};
+ghost use Rattle.xti_rule.specs.declared.view.Held.TheVariants.{Journal as InJournal};
+ghost use Rattle.xti_rule.specs.declared.view.Journal.{Journal as Book};
+ghost use Rattle.xti_rule.specs.Rule.{mark_of};
+ghost use Rattle.xti_rule.specs.Steps.{without_pen, without_pen_unseen, committed, Began, Commits};
+ghost use Rattle.xti_hall.specs.Seats.{Sits, HasJournal, MayGoBack};
+ghost use Rattle.xti_hall.specs.Words.{IsOf, IsSame, setting_of};
+
+use super::Hall;
+use std::sync::Wait;
+use std::thread;
+use xti_model::Entry;
+use xti_rule::{Begin, Commit, Held, Journal, Pass, Return, ReturnUnseen, Stands};
+
+impl<C: Stands> Hall<C> {
+    /// One try at the journal's turn.
+    fn try_pen(&self, pass: &mut Pass<C>) -> bool
+        requires hall { IsOf self.now pass.old }
+        requires seat { Sits pass.old.me.0 }
+        ensures hall { IsSame pass.old pass.new }
+        ensures began { MatchBool result (Began pass.old.me (setting_of self.now).cells pass.new.me) (pass.new.me ≡ pass.old.me) }
+    {
+        self.table
+            .shared
+            .compare_exchange::<Begin>(pass, self.cells as usize + 1, 0, 1)
+            == 0
+    }
+
+    /// Waits for the journal's turn, and takes it.
+    pub(super) fn take_pen<R: Wait>(&self, rt: &R, pass: &mut Pass<C>)
+        requires hall { IsOf self.now pass.old }
+        requires seat { Sits pass.old.me.0 }
+        ensures hall { IsSame pass.old pass.new }
+        ensures began { Began pass.old.me (setting_of self.now).cells pass.new.me }
+    {
+        for _ in rt.forever() {
+            if self.try_pen(pass) {
+                return;
+            }
+            thread::yield_now();
+        }
+        unreachable!()
+    }
+
+    /// Takes the journal out of its slot.
+    pub(super) fn take_journal(&self, pass: &mut Pass<C>) -> Journal
+        requires hall { IsOf self.now pass.old }
+        requires taken { (b : Book) × (pass.old.me.1 ≡ ((setting_of self.now).cells, Some (InJournal b)) ∷ rest pass.old.me.1) }
+        ensures hall { IsSame pass.old pass.new }
+        ensures journal { pass.old.me.1 ≡ ((setting_of self.now).cells, Some (InJournal result)) ∷ rest pass.old.me.1 }
+        ensures view { pass.new.me ≡ (pass.old.me.0, ((setting_of self.now).cells, None) ∷ rest pass.old.me.1) }
+    {
+        match self.table.shared.exchange(pass, self.cells as usize, None) {
+            Some(Held::Journal(journal)) => journal,
+            _ => unreachable!(),
+        }
+    }
+
+    /// Puts the journal into its slot.
+    fn put_journal(&self, pass: &mut Pass<C>, journal: Journal)
+        requires hall { IsOf self.now pass.old }
+        requires taken { pass.old.me.1 ≡ ((setting_of self.now).cells, None) ∷ rest pass.old.me.1 }
+        ensures hall { IsSame pass.old pass.new }
+        ensures view { pass.new.me ≡ (pass.old.me.0, ((setting_of self.now).cells, Some (InJournal journal)) ∷ rest pass.old.me.1) }
+    {
+        let empty = self
+            .table
+            .shared
+            .exchange(pass, self.cells as usize, Some(Held::Journal(journal)));
+        let None = empty else { unreachable!() };
+    }
+
+    /// Gives the journal back. The seat has then seen the history.
+    pub(super) fn give_pen(&self, pass: &mut Pass<C>, journal: Journal)
+        requires hall { IsOf self.now pass.old }
+        requires seat { Sits pass.old.me.0 }
+        requires taken { HasJournal (setting_of self.now).cells pass.old.me }
+        requires journal { MayGoBack pass.old.me.0 journal }
+        requires setting { pass.old.me.0.setting ≡ setting_of self.now }
+        ensures hall { IsSame pass.old pass.new }
+        ensures view { pass.new.me ≡ (without_pen pass.old.me.0 (mark_of journal.marks.items pass.old.me.0.number), rest pass.old.me.1) }
+    {
+        self.put_journal(pass, journal);
+        self.table
+            .shared
+            .store::<Return>(pass, self.cells as usize + 1, 0);
+    }
+
+    /// Gives the journal back. The seat has seen as much as before.
+    pub(super) fn give_pen_unseen(&self, pass: &mut Pass<C>, journal: Journal)
+        requires hall { IsOf self.now pass.old }
+        requires seat { Sits pass.old.me.0 }
+        requires taken { HasJournal (setting_of self.now).cells pass.old.me }
+        requires journal { MayGoBack pass.old.me.0 journal }
+        requires setting { pass.old.me.0.setting ≡ setting_of self.now }
+        ensures hall { IsSame pass.old pass.new }
+        ensures view { pass.new.me ≡ (without_pen_unseen pass.old.me.0 (mark_of journal.marks.items pass.old.me.0.number), rest pass.old.me.1) }
+    {
+        self.put_journal(pass, journal);
+        self.table
+            .shared
+            .store::<ReturnUnseen>(pass, self.cells as usize + 1, 0);
+    }
+
+    /// Adds the entry to the history and 1 to the length, and gives the journal back.
+    pub(super) fn write(&self, pass: &mut Pass<C>, mut journal: Journal, entry: Entry)
+        requires hall { IsOf self.now pass.old }
+        requires seat { Sits pass.old.me.0 }
+        requires taken { HasJournal (setting_of self.now).cells pass.old.me }
+        requires journal { MayGoBack pass.old.me.0 journal }
+        requires room { vec_len journal.entries < vec_capacity journal.entries }
+        requires entry { Commits pass.old.me.0 entry }
+        requires setting { pass.old.me.0.setting ≡ setting_of self.now }
+        ensures hall { IsSame pass.old pass.new }
+        ensures view { pass.new.me ≡ (without_pen (committed pass.old.me.0 (journal.entries.items ++ entry ∷ [])) (mark_of journal.marks.items pass.old.me.0.number), rest pass.old.me.1) }
+    {
+        journal.entries.push_reserved(entry);
+        let _length = journal.entries.len();
+        self.put_journal(pass, journal);
+        self.table.shared.fetch_add::<Commit>(pass, 0, 1);
+        self.table
+            .shared
+            .store::<Return>(pass, self.cells as usize + 1, 0);
+    }
+}

@@ -1,0 +1,89 @@
+ghost use Rattle.std.specs.Prelude.{◌≡◌, ◌<◌, ◌≤◌, false, MatchResult, List};
+ghost use Rattle.xti_model.specs.declared.entry.Entry.{Entry};
+ghost use Rattle.xti_rule.specs.Steps.{giver, given, told, with_seen, Looked};
+ghost use Rattle.xti_hall.specs.Seats.{CutsOff, HasNoneToSpare, Meets};
+ghost use Rattle.xti_hall.specs.Words.{IsSeatOf, IsSameSeat};
+
+use super::Hall;
+use crate::seat::Seat;
+use std::sync::Wait;
+use xti_rule::{Give, Look, Mark, Note, Stands};
+
+/// The given seat has no spare number.
+#[derive(Drop)]
+pub struct NoSeat;
+
+impl<C: Stands> Hall<C> {
+    /// Cuts a seat in two. The new one isn't out yet.
+    fn cut(&self, seat: &mut Seat<C>) -> Seat<C>
+        requires hall { IsSeatOf self.now seat.old }
+        requires some { seat.old.view.next < 33 }
+        requires free { seat.old.view.journal ≡ false }
+        ensures hall { IsSameSeat seat.old seat.new × (result.hall ≡ seat.old.hall) }
+        ensures giver { seat.new.view ≡ giver seat.old.view }
+        ensures given { result.view ≡ given seat.old.view }
+    {
+        let number = seat.next;
+        let pass = self.table.shared.split_seat::<Give>(&mut seat.pass);
+        seat.next = number + 1;
+        Seat {
+            pass,
+            number,
+            next: 33,
+            steps: 0,
+            unfinished: None,
+        }
+    }
+
+    /// A seat with the least spare number of the given one, which has seen as much, made no call and has no spare number. The
+    /// given seat has that number no more. `NoSeat` exactly where it has no spare number; then it stays as it was. Takes no
+    /// memory.
+    pub fn split<R: Wait>(&self, rt: &R, seat: &mut Seat<C>) -> Result<Seat<C>, NoSeat>
+        requires hall { IsSeatOf self.now seat.old }
+        requires free { seat.old.view.journal ≡ false }
+        ensures hall { IsSameSeat seat.old seat.new }
+        ensures seats { MatchResult result (λ s. CutsOff seat.old seat.new s) (λ _. HasNoneToSpare seat.old seat.new) }
+    {
+        if seat.next >= 33 {
+            return Err(NoSeat);
+        }
+        let mut fresh = self.cut(seat);
+        self.take_pen(rt, &mut fresh.pass);
+        let mut journal = self.take_journal(&mut fresh.pass);
+        journal.marks[fresh.number as usize] = Mark::Free;
+        self.give_pen_unseen(&mut fresh.pass, journal);
+        Ok(fresh)
+    }
+
+    /// The first seat, which has then seen what both had seen. Takes no memory, and waits for nobody.
+    pub fn meet(&self, seat: Seat<C>, other: &mut Seat<C>) -> Seat<C>
+        requires hall { IsSeatOf self.now seat × IsSeatOf self.now other.old }
+        ensures hall { (result.hall ≡ seat.hall) × (result.id ≡ seat.id) × (other.new ≡ other.old) }
+        ensures met { Meets seat.view other.old.view result.view }
+    {
+        let mut first = self.tell(seat, other);
+        let _length = self.length(&mut first);
+        first
+    }
+
+    /// The first seat is told what the second has seen.
+    fn tell(&self, seat: Seat<C>, other: &mut Seat<C>) -> Seat<C>
+        requires hall { IsSeatOf self.now seat × IsSeatOf self.now other.old }
+        ensures hall { (result.hall ≡ seat.hall) × (result.id ≡ seat.id) × (other.new ≡ other.old) }
+        ensures told { result.view ≡ told seat.view other.old.view }
+    {
+        let mut first = seat;
+        let note = self.table.shared.split_seat::<Note>(&mut other.pass);
+        self.table.shared.join_seat::<Note>(&mut first.pass, note);
+        first
+    }
+
+    /// The length of the history, all of which the seat has then seen. Takes no memory, and waits for nobody.
+    pub fn length(&self, seat: &mut Seat<C>) -> u64
+        requires hall { IsSeatOf self.now seat.old }
+        ensures hall { IsSameSeat seat.old seat.new }
+        ensures seen { (h : List Entry) × (seat.new.view ≡ with_seen seat.old.view h) × Looked seat.old.view result h }
+    {
+        self.table.shared.load::<Look>(&mut seat.pass, 0)
+    }
+}

@@ -1,0 +1,13 @@
+//! The hall, where threads meet: cells with turns, one history in a journal, and seats that take turns.
+#![tactic(auto)]
+
+mod hall;
+mod marks;
+mod pen;
+mod seat;
+mod stall;
+
+pub use hall::{Hall, NoSeat};
+pub use pen::Pen;
+pub use seat::Seat;
+pub use stall::{Stall, Waited};

@@ -1,0 +1,33 @@
+//! What a waiter is told.
+
+/// In the history of this length so many seats waited, each for what is blocked there, so many rested, and no other was
+/// out.
+#[derive(Clone, Copy)]
+pub struct Stall {
+    /// The length of the history.
+    pub at: u64,
+    /// How many seats waited, the one that is told among them.
+    pub waiting: u32,
+    /// How many seats rested.
+    pub resting: u32,
+}
+
+/// How a wait ended.
+#[derive(Clone, Copy)]
+pub enum Waited {
+    /// The history went on.
+    Again,
+    /// No seat that is out can go on.
+    Stalled(Stall),
+}
+
+/// One look of a waiter.
+#[derive(Clone, Copy)]
+pub(crate) enum Sight {
+    /// The history went on.
+    Again,
+    /// It may park while the bell has this number.
+    Parks(u32),
+    /// No seat that is out can go on.
+    Stalls(Stall),
+}

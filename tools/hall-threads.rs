@@ -1,0 +1,5 @@
+//! Threads over one hall: `tools/hall-threads` makes a crate of this text, and runs its tests. Nothing here is proved.
+#![tactic(auto)]
+
+#[cfg(test)]
+mod tests;
