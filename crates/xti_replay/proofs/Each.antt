@@ -36,6 +36,3 @@ nothing (Some x) e = absurd cc
 
 pub part-same : (ws : List Worker) (number : ℕ) (w v : Worker) → number < length ws → w ≡ get_or ws number w → v ≡ get_or ws number v → v.part ≡ None → w.part ≡ None
 part-same ws number w v lt at other none = ap (λ (x : Worker). x.part) (at ∙ get_or_any ws number w v lt ∙ sym other) ∙ none
-
-pub next-same : (ws : List Worker) (number : ℕ) (w v : Worker) → number < length ws → w ≡ get_or ws number w → v ≡ get_or ws number v → v.next ≡ None → w.next ≡ None
-next-same ws number w v lt at other none = ap (λ (x : Worker). x.next) (at ∙ get_or_any ws number w v lt ∙ sym other) ∙ none

@@ -128,16 +128,12 @@ impl Worker {
         }
     }
 
-    /// Sets the call of its next line, where it isn't known yet, so nothing is let go.
+    /// Sets the call of its next line.
     #[inline(always)]
     pub fn set_next(&mut self, next: Option<Call>)
-        requires { self.old.next ≡ None }
         ensures { self.new ≡ record self.old { next = next } }
     {
-        match &self.next {
-            None => self.next = next,
-            Some(_) => unreachable!(),
-        }
+        self.next = next;
     }
 
     /// How its next step begins or goes on, in an entry.

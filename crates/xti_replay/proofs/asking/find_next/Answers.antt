@@ -2,15 +2,9 @@ use Rattle.std.proofs.Common.{◌<◌, length, arith, ap, sym, ◌∙◌}
 use Rattle.xti_replay.specs.declared.workers.Worker.{Worker}
 use Rattle.std.specs.Prelude.{slice_set}
 use Rattle.xti_replay.specs.Progress.{IsKept}
-use Rattle.xti_replay.proofs.Each.{at-worker, part-same, next-same, nothing}
+use Rattle.xti_replay.proofs.Each.{at-worker, part-same, nothing}
 use Rattle.xti_replay.proofs.Steps.{found-next}
 use Rattle.xti_replay.proofs.asking.find_next.Goals as goal
-
-pub set_next-requires : goal.set_next-requires
-set_next-requires c =
-    let kept = c.requires.kept.1 in
-    let lt : c.args.number < length c.args.workers.now.items = omega (arith, kept.many, c.requires.number) in
-    next-same c.args.workers.now.items c.args.number c.index_mut.result.now c.index-worker.result.now lt c.index_mut.ensures.value c.index-worker.ensures (nothing c.index-worker.result.now.next (sym c.is_some.ensures ∙ c.if-is_some.false))
 
 pub returns-in-Ok : goal.returns-in-Ok
 returns-in-Ok c = λ past kept may.
