@@ -121,7 +121,11 @@ fn replay_answer(alloc: Global, input: Octets) -> Result<Answer, AllocError>
 {
     match read_script(alloc, input.as_slice()) {
         Ok(script) => journal_answer(alloc, &script, input),
-        Err(ScriptFail::Bad { line } | ScriptFail::TooMany { line }) => {
+        Err(ScriptFail::Bad { line }) => {
+            let text = line_text(alloc, line)?;
+            Ok(Answer { status: 2, text })
+        }
+        Err(ScriptFail::TooMany { line }) => {
             let text = line_text(alloc, line)?;
             Ok(Answer { status: 2, text })
         }
