@@ -1,10 +1,9 @@
 -- The lines after the head are read exactly where they are written so.
-use Rattle.std.proofs.Common.{◌≡◌, ℕ, zero, suc, ◌+◌, ◌<◌, ◌≤◌, ◌^◌, Bool, true, false, cond, not, ◌&&◌, eqb, ltb, List, [], ◌∷◌, ◌++◌, length, get_or, Option, Some, None, refl, sym, ap, subst, ◌∙◌, append_assoc, arith}
+use Rattle.std.proofs.Common.{◌≡◌, ℕ, ◌+◌, ◌<◌, ◌^◌, Bool, true, false, cond, List, [], ◌∷◌, ◌++◌, length, Option, Some, None, refl, sym, ap, ◌∙◌, arith}
 use Rattle.std.specs.Prelude.{codes, decimal, All}
 use Rattle.std.specs.Str.{bytes_eq}
 use Rattle.std.specs.List.{join_with_byte, list_all}
-use Rattle.std.proofs.lemmas.Bool.{and_parts, ltb-true, lt-ltb, false_from_ne_true}
-use Rattle.std.proofs.lemmas.List.{append-nil}
+use Rattle.std.proofs.lemmas.Bool.{false_from_ne_true}
 use Rattle.std.proofs.lemmas.List.Elements.{All-nil, All-cons}
 use Rattle.xti_model.specs.declared.entry.Entry.{Entry}
 use Rattle.xti_model.specs.declared.script.StallLine.{StallLine}
@@ -17,7 +16,7 @@ use Rattle.xti_journal_reader.proofs.NumberLaws.{Above, digits_are, decimal_abov
 use Rattle.xti_journal_reader.proofs.Splits.{above_less}
 use Rattle.xti_journal_reader.proofs.ValueLaws.{is_word, some_is, none_is, known}
 use Rattle.xti_journal_reader.proofs.LineLaws.{is_same, entry_words, entry_full, entry_exact, entry_above, entry_text_is, stall_words, stall_full, stall_exact, stall_above, stall_text_is, end_text_is}
-use Rattle.xti_journal_reader.proofs.TextLines.{one_cut, words_line, words_are, joined_again}
+use Rattle.xti_journal_reader.proofs.TextLines.{words_line, words_are, joined_again}
 
 abbrev pub with_lf : List ℕ → List ℕ
 with_lf line = line ++ 10 ∷ []
@@ -53,9 +52,6 @@ pub record ReadStall (entries : List Entry) (stalls : List StallLine) (line : Li
   pub written : with_lf line ≡ stall_text s
 
 module _ (entries : List Entry) (stalls : List StallLine) where
-
-
-
   entered_is : (o : Option EntryRead) (e : Entry) → entered o ≡ Some (Entered (entry_read e)) → o ≡ Some (entry_read e)
   entered_is None e h = none_is (Entered (entry_read e)) h
   entered_is (Some r) e h = let p = some_is (Entered r) (Entered (entry_read e)) h in let q : r ≡ entry_read e = cc in ap (λ (x : EntryRead). Some x) q

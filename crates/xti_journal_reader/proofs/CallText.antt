@@ -1,21 +1,17 @@
 -- The words of a call and of an answer, joined by spaces, are what is written of them.
-use Rattle.std.proofs.Common.{◌≡◌, ℕ, ◌<◌, Bool, true, false, cond, ltb, List, [], ◌∷◌, ◌++◌, length, map, Option, Some, None, refl, sym, ap, subst, ◌∙◌, append_assoc, arith}
+use Rattle.std.proofs.Common.{◌≡◌, ℕ, true, ltb, List, [], ◌∷◌, ◌++◌, map, Some, None, refl, ap, ◌∙◌, append_assoc}
 use Rattle.std.specs.Prelude.{codes, decimal, All}
 use Rattle.std.specs.List.{join_with_byte, flat_map, list_all}
 use Rattle.std.proofs.lemmas.List.{append-nil}
 use Rattle.std.proofs.lemmas.List.Elements.{All-nil, All-cons}
-use Rattle.xti_base.specs.declared.errno.Errno.{Errno}
 use Rattle.xti_base.specs.Kinds.{service_number}
-use Rattle.xti_text.specs.Words.{hex_pair, octets_word, number_word}
+use Rattle.xti_text.specs.Words.{octets_word, number_word}
 use Rattle.xti_model.specs.declared.call.Call.{Call}
 use Rattle.xti_model.specs.declared.call.Call.TheVariants as call
-use Rattle.xti_model.specs.declared.entry.Act.{Act}
-use Rattle.xti_model.specs.declared.entry.Act.TheVariants.{Begin, More}
 use Rattle.xti_model.specs.declared.entry.Outcome.{Outcome}
 use Rattle.xti_model.specs.declared.entry.Outcome.TheVariants.{Done, Part}
 use Rattle.xti_model.specs.declared.entry.Reply.TheVariants as reply
-use Rattle.xti_journal.specs.JournalText.{call_text, act_text, outcome_text, parts_word, sizes_word, limit_word, most_words}
-use Rattle.xti_journal_reader.specs.FieldValue.{Value}
+use Rattle.xti_journal.specs.JournalText.{call_text, outcome_text, parts_word, sizes_word, limit_word, most_words}
 use Rattle.xti_journal_reader.specs.declared.verbs.Verb.{Verb}
 use Rattle.xti_journal_reader.specs.declared.verbs.Verb.TheVariants.{Open, Close, Bind, Unbind, Connect, RcvConnect, Listen, Accept, Snd, SndV, Rcv, RcvV, SndDis, RcvDis, SndRel, RcvRel, SndUData, SndVUData, RcvUData, RcvVUData, RcvUDErr, Look, GetState, Sync, GetInfo, GetProtAddr, OptMgmt, SetMode}
 use Rattle.xti_journal_reader.specs.declared.verbs.Answer.{Answer}
@@ -23,8 +19,8 @@ use Rattle.xti_journal_reader.specs.declared.verbs.Answer.TheVariants as answer
 use Rattle.xti_journal_reader.specs.Fields.{field}
 use Rattle.xti_journal_reader.specs.Calls.{form_of, verb_word, form, verb_of, call_values, answer_form, answer_to, answer_values}
 use Rattle.xti_journal_reader.proofs.NumberLaws.{Above}
-use Rattle.xti_journal_reader.proofs.ValueLaws.{known, octets_text, members_text, value_text}
-use Rattle.xti_journal_reader.proofs.FieldLaws.{texts, texts_above}
+use Rattle.xti_journal_reader.proofs.ValueLaws.{known, octets_text, members_text}
+use Rattle.xti_journal_reader.proofs.FieldLaws.{texts}
 
 abbrev pub call_words : Call → List (List ℕ)
 call_words c = verb_word (verb_of c) ∷ texts (form (verb_of c)) (call_values c)

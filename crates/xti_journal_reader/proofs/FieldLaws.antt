@@ -1,6 +1,6 @@
 -- Words are read as fields exactly where they are these fields.
-use Rattle.std.proofs.Common.{◌≡◌, ℕ, ◌<◌, Bool, true, false, cond, ltb, List, [], ◌∷◌, ◌++◌, length, drop, Option, Some, None, refl, sym, ap, subst, ◌∙◌, arith}
-use Rattle.std.specs.Prelude.{nat_eq, All, codes}
+use Rattle.std.proofs.Common.{◌≡◌, ℕ, ◌<◌, Bool, true, false, cond, ltb, List, [], ◌∷◌, ◌++◌, length, drop, Option, Some, None, refl, ap, subst, ◌∙◌}
+use Rattle.std.specs.Prelude.{nat_eq, All}
 use Rattle.std.specs.List.{starts_with, list_all}
 use Rattle.std.proofs.lemmas.Bool.Decides.{Decides-eqb}
 use Rattle.std.proofs.lemmas.List.Elements.{All-nil, All-cons, All-append}
@@ -10,7 +10,7 @@ use Rattle.xti_journal_reader.specs.Kinds.{Kind}
 use Rattle.xti_journal_reader.specs.FieldValue.{Value}
 use Rattle.xti_journal_reader.specs.declared.fields.Key.{Key}
 use Rattle.xti_journal_reader.specs.declared.fields.Key.TheVariants as key
-use Rattle.xti_journal_reader.specs.Fields.{field, key_word, kind_of, AreFields, IsOfKind}
+use Rattle.xti_journal_reader.specs.Fields.{field, key_word, kind_of, AreFields}
 use Rattle.xti_journal_reader.specs.Values.{value_in}
 use Rattle.xti_journal_reader.specs.Reading.{Found, behind_key, text_value, before, fields_of}
 use Rattle.xti_journal_reader.proofs.NumberLaws.{Above}

@@ -1,25 +1,23 @@
 -- The head is read exactly where it is written so.
-use Rattle.std.proofs.Common.{◌≡◌, ℕ, ◌+◌, ◌<◌, ◌≤◌, ◌^◌, Bool, true, false, cond, not, ◌&&◌, ◌||◌, eqb, leb, ltb, List, [], ◌∷◌, ◌++◌, length, Option, Some, None, Result, Ok, Err, refl, sym, ap, subst, ◌∙◌, append_assoc, arith}
-use Rattle.std.specs.Prelude.{codes, decimal, All, ◌==◌}
+use Rattle.std.proofs.Common.{◌≡◌, ℕ, ◌<◌, ◌≤◌, Bool, true, false, cond, not, ◌&&◌, ◌||◌, eqb, leb, List, [], ◌∷◌, ◌++◌, length, Some, None, Err, refl, sym, ap, subst, ◌∙◌, append_assoc, arith}
+use Rattle.std.specs.Prelude.{codes, All, ◌==◌}
 use Rattle.std.specs.Str.{bytes_eq}
 use Rattle.std.specs.List.{join_with_byte}
-use Rattle.std.specs.Fmt.{signed_decimal}
 use Rattle.std.proofs.lemmas.Bool.{and_parts, leb-true, eqb-true}
 use Rattle.std.proofs.lemmas.List.{append-nil}
 use Rattle.std.proofs.lemmas.List.Elements.{All-cons}
 use Rattle.xti_base.specs.declared.limit.Limit.{Limit}
 use Rattle.xti_base.specs.declared.limit.Limit.TheVariants as limit
 use Rattle.xti_base.specs.declared.limits.TheConstants.{MOST_SIZE}
-use Rattle.xti_base.specs.Limit.{limit_number}
 use Rattle.xti_model.specs.declared.profile.Profile.{Profile}
 use Rattle.xti_model.specs.declared.profile.Providers.{Providers}
-use Rattle.xti_model.specs.Profile.{usual, is_size, has_limit, has_messages, is_stream_limit, has_buffers, valid_connections, valid_orderly, valid_datagrams, valid}
+use Rattle.xti_model.specs.Profile.{is_size, has_limit, has_messages, is_stream_limit, has_buffers, valid_connections, valid_orderly, valid_datagrams, valid}
 use Rattle.xti_journal.specs.JournalText.{limit_word, bit_word, profile_text, provider_text, first_line, head_text}
 use Rattle.xti_words.specs.Texts.{words_of}
 use Rattle.xti_journal_reader.specs.Kinds.{Kind as kind}
 use Rattle.xti_journal_reader.specs.FieldValue.{Value}
 use Rattle.xti_journal_reader.specs.FieldValue.{Value as value}
-use Rattle.xti_journal_reader.specs.Fields.{field, IsNumber, IsOfKind, AreFields}
+use Rattle.xti_journal_reader.specs.Fields.{field, IsOfKind}
 use Rattle.xti_journal_reader.specs.Line.{IsLine}
 use Rattle.xti_journal_reader.specs.declared.fields.FieldFail.{FieldFail}
 use Rattle.xti_journal_reader.specs.declared.fields.FieldFail.TheVariants.{Wrong, OutOfMemory}
@@ -27,15 +25,15 @@ use Rattle.xti_journal_reader.specs.Unread.{IsRead}
 use Rattle.xti_journal_reader.specs.Head.{FitsProfile, ReadsProfile, ReadsProvider}
 use Rattle.xti_journal_reader.specs.Reading.{Found, fields_of, profile_keys, profile_values, alone, profile_in}
 use Rattle.xti_journal_reader.proofs.NumberLaws.{Above}
-use Rattle.xti_journal_reader.proofs.ValueLaws.{is_word, some_is, none_is, known, value_text}
+use Rattle.xti_journal_reader.proofs.ValueLaws.{is_word, some_is, none_is, known}
 use Rattle.xti_journal_reader.proofs.FieldLaws.{texts, fields_full, fields_exact, texts_above}
 use Rattle.xti_text.specs.Words.{number_word}
 use Rattle.xti_journal_reader.proofs.CallText.{n4, n5}
 use Rattle.xti_journal_reader.proofs.LineLaws.{is_same}
-use Rattle.xti_journal_reader.proofs.TextLines.{ended, one_cut, words_line, words_are, joined_again, first_left, first_is}
+use Rattle.xti_journal_reader.proofs.TextLines.{ended, one_cut, words_line, words_are, joined_again}
 use Rattle.xti_journal_reader.proofs.BodyLaws.{with_lf, Line}
 use Rattle.xti_journal_reader.proofs.OneEntry.{one_profile}
-use Rattle.xti_journal_reader.proofs.Ruled.{Ruled, ruled_one, ruled_append, Same, same_line, words_later}
+use Rattle.xti_journal_reader.proofs.Ruled.{Ruled, ruled_one, ruled_append, same_line}
 
 abbrev pub provider_words : List ℕ → Profile → List (List ℕ)
 provider_words name p = codes "provider" ∷ name ∷ texts profile_keys (profile_values p)
@@ -241,8 +239,8 @@ two_heads p q a b v w t =
     let z = two_profiles (codes "ticlts") p.ticlts q.ticlts a b ticlts_name (datagrams_fit p.ticlts v.ticlts) (datagrams_fit q.ticlts w.ticlts) y.rest in
     record {
       one = ap (λ (u : Profile). record { ticots = u; ticotsord = p.ticotsord; ticlts = p.ticlts }) x.one
-    ∙ ap (λ (u : Profile). record { ticots = q.ticots; ticotsord = u; ticlts = p.ticlts }) y.one
-    ∙ ap (λ (u : Profile). record { ticots = q.ticots; ticotsord = q.ticotsord; ticlts = u }) z.one;
+          ∙ ap (λ (u : Profile). record { ticots = q.ticots; ticotsord = u; ticlts = p.ticlts }) y.one
+          ∙ ap (λ (u : Profile). record { ticots = q.ticots; ticotsord = q.ticotsord; ticlts = u }) z.one;
       rest = z.rest;
     }
 

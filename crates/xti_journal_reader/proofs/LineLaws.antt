@@ -1,5 +1,5 @@
 -- Lines are read exactly where they are written so: acts, answers, entries and stall lines.
-use Rattle.std.proofs.Common.{◌≡◌, ℕ, ◌+◌, ◌<◌, ◌≤◌, ◌^◌, Bool, true, false, cond, ltb, leb, List, [], ◌∷◌, ◌++◌, length, Option, Some, None, Result, Ok, Err, refl, sym, ap, subst, ◌∙◌, append_assoc, arith}
+use Rattle.std.proofs.Common.{◌≡◌, ℕ, ◌≤◌, Bool, true, false, cond, leb, List, [], ◌∷◌, ◌++◌, length, Option, Some, None, Err, refl, sym, ap, subst, ◌∙◌, append_assoc, arith}
 use Rattle.std.specs.Prelude.{codes, decimal, All, ◌==◌}
 use Rattle.std.specs.Str.{bytes_eq}
 use Rattle.std.specs.List.{join_with_byte}
@@ -14,7 +14,6 @@ use Rattle.xti_base.specs.declared.errno.Errno.TheVariants as errno
 use Rattle.xti_base.specs.declared.limits.TheConstants.{LAST_WORKER}
 use Rattle.xti_base.specs.Errno.{errno_name}
 use Rattle.xti_base.specs.Kinds.{state_name}
-use Rattle.xti_model.specs.declared.call.Call.{Call}
 use Rattle.xti_model.specs.declared.entry.Act.{Act}
 use Rattle.xti_model.specs.declared.entry.Act.TheVariants.{Begin, More}
 use Rattle.xti_model.specs.declared.entry.Outcome.{Outcome}
@@ -22,11 +21,10 @@ use Rattle.xti_model.specs.declared.entry.Outcome.TheVariants.{Done, Part}
 use Rattle.xti_model.specs.declared.entry.Reply.TheVariants as reply
 use Rattle.xti_model.specs.declared.entry.Entry.{Entry}
 use Rattle.xti_model.specs.declared.script.StallLine.{StallLine}
-use Rattle.xti_journal.specs.JournalText.{call_text, act_text, outcome_text, entry_text, stall_text, end_text}
+use Rattle.xti_journal.specs.JournalText.{act_text, outcome_text, entry_text, stall_text, end_text}
 use Rattle.xti_words.specs.Values.{number_in}
 use Rattle.xti_journal_reader.specs.FieldValue.{Value}
 use Rattle.xti_journal_reader.specs.FieldValue.{Value as value}
-use Rattle.xti_journal_reader.specs.declared.fields.Key.{Key}
 use Rattle.xti_journal_reader.specs.declared.fields.Key.TheVariants as key
 use Rattle.xti_journal_reader.specs.declared.verbs.Verb.{Verb}
 use Rattle.xti_journal_reader.specs.declared.verbs.Verb.TheVariants.{Open, Close, Bind, Unbind, Connect, RcvConnect, Listen, Accept, Snd, SndV, Rcv, RcvV, SndDis, RcvDis, SndRel, RcvRel, SndUData, SndVUData, RcvUData, RcvVUData, RcvUDErr, Look, GetState, Sync, GetInfo, GetProtAddr, OptMgmt, SetMode}
@@ -42,7 +40,7 @@ use Rattle.xti_journal_reader.specs.Unread.{IsRead}
 use Rattle.xti_journal_reader.specs.Reading.{behind_read, Found, fields_of, verbs_of_length, verb_among, verb_in, ActRead, Begins, Goes, act_read, begun, call_in, act_in, verb_after_read, AnswerRead, outcome_read, error_in, answer_in, answered, with_answer, outcome_in, small, worker_in, StepRead, worker_does, by_worker, step_in, EntryRead, entry_read, last_state, state_at_end, with_state, with_outcome, behind_arrow, whole_entry, with_step, entry_in, stall_read, is_whole, stall_verb, with_stall, stall_in}
 use Rattle.xti_journal_reader.proofs.NumberLaws.{Above, number_sound, number_complete, decimal_above}
 use Rattle.xti_journal_reader.proofs.Splits.{join-append, above_less}
-use Rattle.xti_journal_reader.proofs.ValueLaws.{is_word, some_is, none_is, known, value_text, state_above}
+use Rattle.xti_journal_reader.proofs.ValueLaws.{is_word, some_is, none_is, known, state_above}
 use Rattle.xti_journal_reader.proofs.FieldLaws.{texts, fields_full, fields_exact, texts_above}
 use Rattle.xti_journal_reader.proofs.CallText.{call_words, answer_words, outcome_words, call_is, outcome_is, verb_word_above, answer_above}
 

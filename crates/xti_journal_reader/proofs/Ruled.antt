@@ -1,8 +1,8 @@
 -- Journals line by line: which lines they have, and that they begin in one way.
-use Rattle.std.proofs.Common.{◌≡◌, ℕ, zero, suc, ◌+◌, ◌<◌, ◌≤◌, ◌^◌, Bool, true, false, ◌&&◌, ltb, List, [], ◌∷◌, ◌++◌, length, Option, Some, None, refl, sym, ap, subst, ◌∙◌, append_assoc, arith}
-use Rattle.std.specs.Prelude.{codes, decimal, All}
+use Rattle.std.proofs.Common.{◌≡◌, ℕ, ◌+◌, ◌<◌, ◌^◌, true, false, ltb, List, [], ◌∷◌, ◌++◌, length, Some, None, refl, sym, ap, subst, ◌∙◌, append_assoc, arith}
+use Rattle.std.specs.Prelude.{codes, decimal}
 use Rattle.std.specs.List.{flat_map, list_all}
-use Rattle.std.proofs.lemmas.Bool.{lt-ltb, ltb-true, and_parts}
+use Rattle.std.proofs.lemmas.Bool.{lt-ltb, and_parts}
 use Rattle.std.proofs.lemmas.Fmt.{decimal_nonempty}
 use Rattle.std.proofs.lemmas.List.{append-nil, length-append}
 use Rattle.xti_model.specs.declared.entry.Entry.{Entry}
@@ -11,7 +11,7 @@ use Rattle.xti_journal.specs.JournalText.{entry_text, entries_text, stall_text, 
 use Rattle.xti_words.specs.Texts.{words_of, is_digit}
 use Rattle.xti_journal_reader.specs.Grammar.{last_verb, IsEntry, AreEntries, IsStall, AreStallsAfter, AreStalls}
 use Rattle.xti_journal_reader.specs.Line.{IsLine}
-use Rattle.xti_journal_reader.specs.Reading.{EntryRead, StepRead, entry_read, entry_in, stall_read, stall_in, last_worker, may_follow, LineRead, Entered, Stalled, Ended, line_in}
+use Rattle.xti_journal_reader.specs.Reading.{entry_read, entry_in, stall_read, stall_in, last_worker, may_follow, Entered, Stalled, Ended, line_in}
 use Rattle.xti_journal_reader.proofs.NumberLaws.{digits_are}
 use Rattle.xti_journal_reader.proofs.ValueLaws.{some_is, none_is}
 use Rattle.xti_journal_reader.proofs.LineLaws.{entry_words, entry_full, stall_words, stall_full}

@@ -1,9 +1,9 @@
 -- Texts line by line.
-use Rattle.std.proofs.Common.{◌≡◌, ℕ, zero, suc, ◌+◌, ◌<◌, ◌≤◌, Bool, true, false, cond, eqb, List, [], ◌∷◌, ◌++◌, length, map, get_or, drop, take, Option, Some, None, refl, sym, ap, subst, ◌∙◌, append_assoc, arith}
+use Rattle.std.proofs.Common.{◌≡◌, ℕ, zero, suc, ◌+◌, ◌<◌, ◌≤◌, Bool, true, false, cond, eqb, List, [], ◌∷◌, ◌++◌, length, map, get_or, drop, take, Option, Some, None, refl, sym, ap, ◌∙◌, append_assoc, arith}
 use Rattle.std.specs.Prelude.{All}
 use Rattle.std.specs.List.{onto_first, concat, join_with_byte}
 use Rattle.std.proofs.lemmas.Bool.{eqb-true, eq-eqb}
-use Rattle.std.proofs.lemmas.List.{append-nil, take-append-le, map-append, length-map}
+use Rattle.std.proofs.lemmas.List.{take-append-le, map-append, length-map}
 use Rattle.std.proofs.lemmas.List.Elements.{All-head, All-tail, All-weaker}
 use Rattle.std.proofs.lemmas.List.Splits.{join_with_byte-slice_split}
 use Rattle.std.proofs.lemmas.Grind.{common_steps}
@@ -12,7 +12,7 @@ use Rattle.xti_words.specs.Texts.{words_of}
 use Rattle.xti_journal_reader.specs.Line.{IsLine}
 use Rattle.xti_journal_reader.specs.Refused.{lines_of, some, ended_lines}
 use Rattle.xti_journal_reader.proofs.NumberLaws.{Above}
-use Rattle.xti_journal_reader.proofs.Splits.{pieces-join, join-above, without, above_less}
+use Rattle.xti_journal_reader.proofs.Splits.{pieces-join, join-above, above_less}
 
 abbrev pub AreLines : List (List ℕ) → Type 0
 AreLines [] = Unit {0}

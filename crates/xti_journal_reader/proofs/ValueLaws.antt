@@ -1,13 +1,12 @@
 -- What words stand for is what is written, kind by kind.
-use Rattle.std.proofs.Common.{◌≡◌, ℕ, zero, suc, ◌+◌, ◌-◌, ◌*◌, ◌/◌, ◌%◌, ◌^◌, ◌<◌, ◌≤◌, Bool, true, false, cond, not, ◌&&◌, eqb, ltb, leb, List, [], ◌∷◌, ◌++◌, length, get_or, drop, map, Option, Some, None, refl, sym, ap, subst, ◌∙◌, arith}
+use Rattle.std.proofs.Common.{◌≡◌, ℕ, ◌+◌, ◌-◌, ◌*◌, ◌/◌, ◌%◌, ◌^◌, ◌<◌, ◌≤◌, Bool, true, false, cond, ◌&&◌, eqb, ltb, leb, List, [], ◌∷◌, ◌++◌, length, drop, map, Option, Some, None, refl, sym, ap, subst, ◌∙◌, arith}
 use Rattle.std.specs.Prelude.{All, decimal, codes, nat_eq, find, option_map}
 use Rattle.std.specs.Str.{bytes_eq}
 use Rattle.std.specs.Fmt.{signed_decimal}
 use Rattle.std.specs.List.{flat_map, starts_with, join_with_byte, list_all}
 use Rattle.std.proofs.lemmas.Bool.{and_parts, leb-true, le-leb, false_from_ne_true, ltb-true, ltb-false, lt-ltb, le-ltb}
 use Rattle.std.proofs.lemmas.Bool.Decides.{Decides-eqb}
-use Rattle.std.proofs.lemmas.List.{append-nil}
-use Rattle.std.proofs.lemmas.List.Elements.{All-nil, All-cons, All-head, All-tail, All-append}
+use Rattle.std.proofs.lemmas.List.Elements.{All-nil, All-cons, All-head, All-tail}
 use Rattle.std.proofs.lemmas.List.Splits.{join_with_byte-slice_split, length-slice_split}
 use Rattle.std.proofs.lemmas.Slice.Eq.{bytes_eq-Decides, starts_is}
 use Rattle.std.proofs.lemmas.Fmt.{decimal_digit}
@@ -27,7 +26,7 @@ use Rattle.xti_base.specs.Errno.{errno_name}
 use Rattle.xti_base.specs.Kinds.{state_name, event_name, prov_name, service_number}
 use Rattle.xti_base.specs.Limit.{limit_number}
 use Rattle.xti_text.specs.Words.{hex_pair, hex_digit as digit_of}
-use Rattle.xti_words.specs.Texts.{pieces_of, is_digit}
+use Rattle.xti_words.specs.Texts.{pieces_of}
 use Rattle.xti_words.specs.Values.{number_in, hex_digit, hex_bytes, hex_pair as pair_in, onto, each_in, provider_in, mode_in}
 use Rattle.xti_journal_reader.specs.Kinds.{Kind}
 use Rattle.xti_journal_reader.specs.Kinds.{Kind as kind}
@@ -35,7 +34,7 @@ use Rattle.xti_journal_reader.specs.FieldValue.{Value}
 use Rattle.xti_journal_reader.specs.FieldValue.{Value as value}
 use Rattle.xti_journal_reader.specs.Fields.{IsNumber, AreBytes, IsOfKind}
 use Rattle.xti_journal_reader.specs.Values.{octets_in, members_in, truth_in, limit_in, service_in, states, events, errnos, state_in, event_in, event_or_none_in, errno_in, some_event, value_in}
-use Rattle.xti_journal_reader.proofs.NumberLaws.{Above, number_sound, number_complete, decimal_above, digits_are}
+use Rattle.xti_journal_reader.proofs.NumberLaws.{Above, number_sound, number_complete, decimal_above}
 use Rattle.xti_journal_reader.proofs.Splits.{pieces-join, join-above, above_less}
 
 pub is_word : (xs ys : List ℕ) → bytes_eq xs ys ≡ true → xs ≡ ys

@@ -1,5 +1,5 @@
 -- Whole journals: what is read is one, and a line that is refused is the first by which never_so journal goes on.
-use Rattle.std.proofs.Common.{◌≡◌, ℕ, zero, suc, ◌+◌, ◌<◌, ◌≤◌, ◌^◌, Bool, true, false, ◌&&◌, cond, eqb, ltb, List, [], ◌∷◌, ◌++◌, length, take, Option, Some, None, inl, inr, Result, Ok, Err, refl, sym, ap, subst, ◌∙◌, append_assoc, arith}
+use Rattle.std.proofs.Common.{◌≡◌, ℕ, suc, ◌+◌, ◌<◌, ◌≤◌, ◌^◌, Bool, true, false, cond, eqb, ltb, List, [], ◌∷◌, ◌++◌, length, take, Some, None, inl, inr, Result, Ok, Err, refl, sym, ap, subst, ◌∙◌, append_assoc, arith}
 use Rattle.std.specs.Prelude.{codes, decimal, ◌==◌}
 use Rattle.std.specs.List.{flat_map, onto_first, join_with_byte}
 use Rattle.std.proofs.lemmas.Bool.{and_parts, ltb-true, eqb-true}
@@ -20,14 +20,14 @@ use Rattle.xti_journal_reader.specs.declared.journal_text.JournalFail.TheVariant
 use Rattle.xti_journal_reader.specs.Head.{fail_at, ReadsFirst, ReadsProvider, ReadsHead}
 use Rattle.xti_journal_reader.specs.Read.{ReadsText, IsReadAs, ReadsNext}
 use Rattle.xti_journal_reader.specs.Line.{IsLine}
-use Rattle.xti_journal_reader.specs.Refused.{lines_of, ended_lines, CanBegin, IsRefusedAt}
+use Rattle.xti_journal_reader.specs.Refused.{lines_of, ended_lines, IsRefusedAt}
 use Rattle.xti_base.specs.declared.limits.TheConstants.{LAST_WORKER}
 use Rattle.xti_journal_reader.specs.Reading.{last_worker, may_follow, line_in, entry_read, stall_read, Entered, Stalled, Ended}
-use Rattle.xti_journal_reader.proofs.TextLines.{ended, text_of, same_first, first_of, first_left, Goes, goes_on, cut, first_is, first_unended}
+use Rattle.xti_journal_reader.proofs.TextLines.{ended, text_of, same_first, first_of, first_left, goes_on, cut, first_is}
 use Rattle.xti_journal_reader.proofs.LineLaws.{entry_words, entry_text_is}
 use Rattle.xti_journal_reader.proofs.BodyLaws.{with_lf, Line, end_is_line, entry_line, stall_line, end_line}
-use Rattle.xti_journal_reader.proofs.Ruled.{Ruled, ruled_append, entries_ruled, stalls_ruled, begin_same, MoreEntries, Each, each, stalls_same, MoreStalls, NextOf, AnEntry, AStall, TheEnd, next_of, end_no_entry, ruled_one, ruled_none, none_next, none_unended, tail_no_entry, end_no_stall}
-use Rattle.xti_journal_reader.proofs.HeadLaws.{Valid, valid_is, is_valid, head_ruled, two_heads, two_profiles, head_parts, first_ruled, first_is_line, ticots_ruled, ticotsord_ruled, ticots_name, ticotsord_name, ticlts_name, connections_fit, orderly_fit, datagrams_fit, provider_is_line}
+use Rattle.xti_journal_reader.proofs.Ruled.{Ruled, ruled_append, entries_ruled, stalls_ruled, begin_same, Each, each, stalls_same, NextOf, AnEntry, AStall, TheEnd, next_of, end_no_entry, ruled_one, ruled_none, none_next, none_unended, tail_no_entry, end_no_stall}
+use Rattle.xti_journal_reader.proofs.HeadLaws.{valid_is, is_valid, head_ruled, two_heads, two_profiles, head_parts, first_ruled, first_is_line, ticots_ruled, ticotsord_ruled, ticots_name, ticotsord_name, ticlts_name, connections_fit, orderly_fit, datagrams_fit, provider_is_line}
 
 -- ---- what is read so far
 
@@ -137,17 +137,17 @@ refused_by p es ss text rest n v s small place never =
     let count : n ≡ suc (length r.lines) = omega (arith, r.many) in
     record {
       refused = λ can.
-        (let e : take (suc (length r.lines)) (ended_lines can.other) ≡ take (suc (length r.lines)) (ended_lines (text_of r.lines ++ rest)) =
-    ap (λ (m : ℕ). take m (ended_lines can.other)) (sym count) ∙ can.same ∙ ap (λ (m : ℕ). take m (ended_lines (head_text p ++ text))) count ∙ ap (λ (l : List ℕ). take (suc (length r.lines)) (ended_lines l)) whole in
-    let g = goes_on can.other r.lines rest r.are e in
-    never g.rest g.first (later_of p es ss text rest can.other can.journal r g.rest v s small can.is_journal g.whole));
+          (let e : take (suc (length r.lines)) (ended_lines can.other) ≡ take (suc (length r.lines)) (ended_lines (text_of r.lines ++ rest)) =
+          ap (λ (m : ℕ). take m (ended_lines can.other)) (sym count) ∙ can.same ∙ ap (λ (m : ℕ). take m (ended_lines (head_text p ++ text))) count ∙ ap (λ (l : List ℕ). take (suc (length r.lines)) (ended_lines l)) whole in
+          let g = goes_on can.other r.lines rest r.are e in
+          never g.rest g.first (later_of p es ss text rest can.other can.journal r g.rest v s small can.is_journal g.whole));
       least = λ m lt. record {
         journal = journal_of p es ss;
         other = journal_text (journal_of p es ss);
         is_journal = record { has_text = has_text p es ss text rest v s; written = refl };
         same =
-        (let w : journal_text (journal_of p es ss) ≡ text_of r.lines ++ end_text (length es) = journal_parts (journal_of p es ss) ∙ front_then p es ss (end_text (length es)) ∙ ap (λ (l : List ℕ). l ++ end_text (length es)) r.whole in
-    ap (λ (l : List ℕ). take m (ended_lines l)) w ∙ same_first r.lines (end_text (length es)) rest m r.are (omega (arith, count)) ∙ ap (λ (l : List ℕ). take m (ended_lines l)) (sym whole));
+            (let w : journal_text (journal_of p es ss) ≡ text_of r.lines ++ end_text (length es) = journal_parts (journal_of p es ss) ∙ front_then p es ss (end_text (length es)) ∙ ap (λ (l : List ℕ). l ++ end_text (length es)) r.whole in
+            ap (λ (l : List ℕ). take m (ended_lines l)) w ∙ same_first r.lines (end_text (length es)) rest m r.are (omega (arith, count)) ∙ ap (λ (l : List ℕ). take m (ended_lines l)) (sym whole));
       };
     }
 
@@ -192,21 +192,21 @@ body_extra p es ss text rest behind line n v s small place cut more w =
     let count : n + 1 ≡ suc (length q.lines) = omega (arith, q.many) in
     record {
       refused = λ can.
-        (let e : take (suc (length q.lines)) (ended_lines can.other) ≡ take (suc (length q.lines)) (ended_lines (text_of q.lines ++ behind)) =
-    ap (λ (m : ℕ). take m (ended_lines can.other)) (sym count) ∙ can.same ∙ ap (λ (m : ℕ). take m (ended_lines (head_text p ++ text))) count ∙ ap (λ (l : List ℕ). take (suc (length q.lines)) (ended_lines l)) whole in
-    let g = goes_on can.other q.lines behind q.are e in
-    let o : can.other ≡ text_of r.lines ++ (end_text (length es) ++ g.rest) =
-    g.whole ∙ ap (λ (l : List ℕ). l ++ g.rest) (sym q.whole) ∙ append_assoc (front_text p es ss) (end_text (length es)) g.rest ∙ ap (λ (l : List ℕ). l ++ (end_text (length es) ++ g.rest)) r.whole in
-    let next = later_of p es ss text rest can.other can.journal r (end_text (length es) ++ g.rest) v s small can.is_journal o in
-    let none : g.rest ≡ [] = nothing_more (end_text (length es)) g.rest (end_only es ss (length es) g.rest small next) in
-    no_first behind more (sym g.first ∙ ap first_left none));
+          (let e : take (suc (length q.lines)) (ended_lines can.other) ≡ take (suc (length q.lines)) (ended_lines (text_of q.lines ++ behind)) =
+          ap (λ (m : ℕ). take m (ended_lines can.other)) (sym count) ∙ can.same ∙ ap (λ (m : ℕ). take m (ended_lines (head_text p ++ text))) count ∙ ap (λ (l : List ℕ). take (suc (length q.lines)) (ended_lines l)) whole in
+          let g = goes_on can.other q.lines behind q.are e in
+          let o : can.other ≡ text_of r.lines ++ (end_text (length es) ++ g.rest) =
+          g.whole ∙ ap (λ (l : List ℕ). l ++ g.rest) (sym q.whole) ∙ append_assoc (front_text p es ss) (end_text (length es)) g.rest ∙ ap (λ (l : List ℕ). l ++ (end_text (length es) ++ g.rest)) r.whole in
+          let next = later_of p es ss text rest can.other can.journal r (end_text (length es) ++ g.rest) v s small can.is_journal o in
+          let none : g.rest ≡ [] = nothing_more (end_text (length es)) g.rest (end_only es ss (length es) g.rest small next) in
+          no_first behind more (sym g.first ∙ ap first_left none));
       least = λ m lt. record {
         journal = journal_of p es ss;
         other = journal_text (journal_of p es ss);
         is_journal = record { has_text = has_text p es ss text rest v s; written = refl };
         same =
-        (let j : journal_text (journal_of p es ss) ≡ text_of q.lines ++ [] = journal_parts (journal_of p es ss) ∙ front_then p es ss (end_text (length es)) ∙ q.whole ∙ sym (append-nil (text_of q.lines)) in
-    ap (λ (l : List ℕ). take m (ended_lines l)) j ∙ same_first q.lines [] behind m q.are (omega (arith, count)) ∙ ap (λ (l : List ℕ). take m (ended_lines l)) (sym whole));
+            (let j : journal_text (journal_of p es ss) ≡ text_of q.lines ++ [] = journal_parts (journal_of p es ss) ∙ front_then p es ss (end_text (length es)) ∙ q.whole ∙ sym (append-nil (text_of q.lines)) in
+            ap (λ (l : List ℕ). take m (ended_lines l)) j ∙ same_first q.lines [] behind m q.are (omega (arith, count)) ∙ ap (λ (l : List ℕ). take m (ended_lines l)) (sym whole));
       };
     }
   where
@@ -262,17 +262,17 @@ head_refused front rest text k n p back r w place v b never =
     let count : n ≡ suc (length r.lines) = omega (arith, r.many) in
     record {
       refused = λ can.
-        (let e : take (suc (length r.lines)) (ended_lines can.other) ≡ take (suc (length r.lines)) (ended_lines (text_of r.lines ++ rest)) =
-    ap (λ (m : ℕ). take m (ended_lines can.other)) (sym count) ∙ can.same ∙ ap (λ (m : ℕ). take m (ended_lines text)) count ∙ ap (λ (l : List ℕ). take (suc (length r.lines)) (ended_lines l)) whole in
-    let g = goes_on can.other r.lines rest r.are e in
-    never g.rest g.first can.journal can.is_journal.has_text (sym can.is_journal.written ∙ g.whole ∙ ap (λ (l : List ℕ). l ++ g.rest) (sym r.whole)));
+          (let e : take (suc (length r.lines)) (ended_lines can.other) ≡ take (suc (length r.lines)) (ended_lines (text_of r.lines ++ rest)) =
+          ap (λ (m : ℕ). take m (ended_lines can.other)) (sym count) ∙ can.same ∙ ap (λ (m : ℕ). take m (ended_lines text)) count ∙ ap (λ (l : List ℕ). take (suc (length r.lines)) (ended_lines l)) whole in
+          let g = goes_on can.other r.lines rest r.are e in
+          never g.rest g.first can.journal can.is_journal.has_text (sym can.is_journal.written ∙ g.whole ∙ ap (λ (l : List ℕ). l ++ g.rest) (sym r.whole)));
       least = λ m lt. record {
         journal = journal_of p [] [];
         other = empty_text p;
         is_journal = empty_is p v;
         same =
-        (let j : empty_text p ≡ text_of r.lines ++ back = b ∙ ap (λ (l : List ℕ). l ++ back) r.whole in
-    ap (λ (l : List ℕ). take m (ended_lines l)) j ∙ same_first r.lines back rest m r.are (omega (arith, count)) ∙ ap (λ (l : List ℕ). take m (ended_lines l)) (sym whole));
+            (let j : empty_text p ≡ text_of r.lines ++ back = b ∙ ap (λ (l : List ℕ). l ++ back) r.whole in
+            ap (λ (l : List ℕ). take m (ended_lines l)) j ∙ same_first r.lines back rest m r.are (omega (arith, count)) ∙ ap (λ (l : List ℕ). take m (ended_lines l)) (sym whole));
       };
     }
 

@@ -1,7 +1,6 @@
 -- The form of journals, as a relation between a journal and its text. An entry is judged after the earlier entries.
 use Rattle.std.specs.Prelude.{◌≡◌, ℕ, ◌≤◌, ◌<◌, ◌==◌, true, List, [], ◌∷◌, ◌++◌, Option, Some, None, if◌then◌else◌}
 use Rattle.xti_base.specs.declared.limits.TheConstants.{LAST_WORKER}
-use Rattle.xti_model.specs.declared.call.Call.{Call}
 use Rattle.xti_model.specs.declared.entry.Act.{Act}
 use Rattle.xti_model.specs.declared.entry.Act.TheVariants.{Begin, More}
 use Rattle.xti_model.specs.declared.entry.Outcome.{Outcome}

@@ -233,7 +233,6 @@ entry_in n verbs word words = if bytes_eq word (decimal n) then with_step verbs 
 abbrev pub stall_read : StallLine → StepRead
 stall_read s = record { worker = s.worker; act = act_read s.act }
 
-
 -- there is a call, and no word is left
 abbrev pub is_whole : Option Verb → List (List ℕ) → Bool
 is_whole None words = false

@@ -10,7 +10,9 @@ ghost use Rattle.xti_journal_reader.specs.Unread.{unread, TakesField, NextIs, Re
 ghost use Rattle.xti_journal_reader.specs.declared.fields.FieldFail.TheVariants.{OutOfMemory};
 ghost use Rattle.xti_words.specs.Texts.{words_of};
 
-use crate::names::{errno_in, event_in, event_or_none_in, limit_in, service_in, state_in, truth_in};
+use crate::names::{
+    errno_in, event_in, event_or_none_in, limit_in, service_in, state_in, truth_in,
+};
 use crate::values::{octets_in, parts_in, sizes_in};
 use std::alloc::{AllocError, Global};
 use xti_base::{Errno, Event, Limit, Octets, Parts, Prov, ServType, Sizes, State};

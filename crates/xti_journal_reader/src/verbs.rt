@@ -178,9 +178,24 @@ pub(crate) fn form(verb: Verb) -> &'static [Key]
 {
     match verb {
         Verb::Open => &[Key::Provider, Key::Mode],
-        Verb::Close | Verb::Unbind | Verb::SndRel | Verb::RcvRel | Verb::Look | Verb::GetState | Verb::Sync | Verb::GetInfo => &[Key::Number],
+        Verb::Close
+        | Verb::Unbind
+        | Verb::SndRel
+        | Verb::RcvRel
+        | Verb::Look
+        | Verb::GetState
+        | Verb::Sync
+        | Verb::GetInfo => &[Key::Number],
         Verb::Bind => &[Key::Number, Key::Addr, Key::Qlen, Key::Amax],
-        Verb::Connect => &[Key::Number, Key::Addr, Key::Opt, Key::UData, Key::Amax, Key::Omax, Key::Umax],
+        Verb::Connect => &[
+            Key::Number,
+            Key::Addr,
+            Key::Opt,
+            Key::UData,
+            Key::Amax,
+            Key::Omax,
+            Key::Umax,
+        ],
         Verb::RcvConnect | Verb::Listen => &[Key::Number, Key::Amax, Key::Omax, Key::Umax],
         Verb::Accept => &[Key::Number, Key::Number, Key::Number, Key::Opt, Key::UData],
         Verb::Snd => &[Key::Number, Key::Data, Key::Flags],
@@ -207,7 +222,15 @@ pub(crate) fn answer_of(verb: Verb) -> Answer
 {
     match verb {
         Verb::Open => Answer::Opened,
-        Verb::Close | Verb::Unbind | Verb::Accept | Verb::SndDis | Verb::SndRel | Verb::RcvRel | Verb::SndUData | Verb::SndVUData | Verb::SetMode => Answer::Plain,
+        Verb::Close
+        | Verb::Unbind
+        | Verb::Accept
+        | Verb::SndDis
+        | Verb::SndRel
+        | Verb::RcvRel
+        | Verb::SndUData
+        | Verb::SndVUData
+        | Verb::SetMode => Answer::Plain,
         Verb::Bind => Answer::Bound,
         Verb::Connect | Verb::RcvConnect => Answer::Connected,
         Verb::Listen => Answer::Listened,
@@ -240,7 +263,16 @@ pub(crate) fn answer_form(answer: Answer) -> &'static [Key]
         Answer::UDErr => &[Key::Bytes, Key::Bytes, Key::Number],
         Answer::Seen => &[Key::EventOrNone],
         Answer::Stands => &[Key::State],
-        Answer::Limits => &[Key::Limit, Key::Limit, Key::Limit, Key::Limit, Key::Limit, Key::Limit, Key::Service, Key::Number],
+        Answer::Limits => &[
+            Key::Limit,
+            Key::Limit,
+            Key::Limit,
+            Key::Limit,
+            Key::Limit,
+            Key::Limit,
+            Key::Service,
+            Key::Number,
+        ],
         Answer::Addresses => &[Key::Bytes, Key::Bytes],
         Answer::Options => &[Key::Number, Key::Bytes],
         Answer::Refused => &[Key::Errno],

@@ -1,4 +1,4 @@
-use Rattle.xti_journal_reader.proofs.Kept.{knows_entry, entry_known}
+use Rattle.xti_journal_reader.proofs.Kept.{entry_known}
 use Rattle.xti_journal_reader.proofs.draft.Draft.add_entry.Goals as goal
 
 pub invariant_of-self-2 : goal.invariant_of-self-2

@@ -1,4 +1,3 @@
-use Rattle.std.proofs.Common.{sym}
 use Rattle.xti_journal_reader.proofs.Kept.{stall_known}
 use Rattle.xti_journal_reader.proofs.draft.Draft.add_stall.Goals as goal
 
