@@ -131,3 +131,14 @@ pub fn write_entry(alloc: Global, n: u64, e: &Entry) -> Result<Octets, AllocErro
     put_entry(&mut out, n, e)?;
     Ok(Octets::from_vec(out))
 }
+
+/// The text of what a call answered and of the state of its endpoint; `Err` is out of memory.
+pub fn write_answer(alloc: Global, outcome: &Outcome, after: State) -> Result<Octets, AllocError>
+    ensures { IfOk result (λ text. text ≡ answer_text outcome.now after) }
+{
+    let mut out = Vec::new(alloc);
+    put_answer(&mut out, outcome, after)?;
+    // Without the arrow before it and the LF after it.
+    let end = out.len() - 1;
+    Octets::copy_of(alloc, &out[4..end])
+}

@@ -7,6 +7,6 @@ mod replies;
 mod words;
 mod writer;
 
-pub use journal::{write_entry, write_journal};
+pub use journal::{write_answer, write_entry, write_journal};
 pub use writer::JournalWriter;
 pub use xti_model::{Entries, Entry, Journal, StallLine, Stalls};

@@ -1,0 +1,7 @@
+-- What a line is.
+use Rattle.std.specs.Prelude.{◌≡◌, ℕ, ◌==◌, false, List, [], ◌∷◌}
+
+-- no byte is LF
+abbrev pub IsLine : List ℕ → Type 0
+IsLine [] = Unit {0}
+IsLine (c ∷ cs) = ((c == 10) ≡ false) × IsLine cs

@@ -1,0 +1,102 @@
+//! Reading the lines after the head.
+
+ghost use Rattle.std.specs.Prelude.{◌≡◌};
+ghost use Rattle.xti_words.specs.Texts.{words_of};
+ghost use Rattle.xti_journal_reader.specs.Reading.{ended, may_follow, line_read, line_in, profile_values, profile_in};
+ghost use Rattle.xti_journal_reader.specs.Unread.{IsRead};
+
+use crate::draft::Draft;
+use crate::fields::{FieldFail, Fields, Key};
+use crate::lines::{is_number, read_entry, read_stall};
+use std::alloc::Global;
+use xti_model::{Entry, Profile, StallLine};
+
+/// A line after the head.
+#[derive(Drop)]
+pub(crate) enum Line {
+    Entry(Entry),
+    Stall(StallLine),
+    /// The last line.
+    End,
+}
+
+fn may_follow(before: Option<u32>, worker: u32) -> bool
+    ensures { result ≡ may_follow before worker }
+{
+    match before {
+        None => true,
+        Some(before) => 0 < before && before < worker,
+    }
+}
+
+/// The line that the words are after those that were read.
+#[tactic(auto, unfolding(crate::specs::Reading::line_in))]
+fn read_words(draft: &Draft, fields: &mut Fields) -> Result<Line, FieldFail>
+    ensures { IsRead line_read (line_in draft.now.entries draft.now.stalls fields.old.words) result }
+{
+    match fields.word().ok_or(FieldFail::Wrong)? {
+        b"end" => read_end(draft.count(), fields),
+        b"stall" => {
+            let stall = read_stall(draft, fields)?;
+            if may_follow(draft.last_worker(), stall.worker) {
+                Ok(Line::Stall(stall))
+            } else {
+                Err(FieldFail::Wrong)
+            }
+        }
+        word if draft.last_worker().is_none() => Ok(Line::Entry(read_entry(
+            draft.count() as u64 + 1,
+            draft,
+            word,
+            fields,
+        )?)),
+        _ => Err(FieldFail::Wrong),
+    }
+}
+
+/// The last line, whose first word was taken.
+fn read_end(count: usize, fields: &mut Fields) -> Result<Line, FieldFail>
+    ensures { IsRead line_read (ended count fields.old.words) result }
+{
+    match fields.word() {
+        Some(word) if is_number(word, count as u64) && fields.are_read() => Ok(Line::End),
+        _ => Err(FieldFail::Wrong),
+    }
+}
+
+/// The line that the text is after those that were read.
+pub(crate) fn read_line(alloc: Global, draft: &Draft, text: &[u8]) -> Result<Line, FieldFail>
+    ensures { IsRead line_read (line_in draft.now.entries draft.now.stalls (words_of text.now)) result }
+{
+    read_words(draft, &mut Fields::of(alloc, text))
+}
+
+/// The values of the provider with this name.
+#[tactic(auto, unfolding(crate::specs::Reading::profile_in, crate::specs::Fields::field))]
+pub(crate) fn read_profile(alloc: Global, name: &str, text: &[u8]) -> Result<Profile, FieldFail>
+    ensures { IsRead profile_values (profile_in name.now (words_of text.now)) result }
+{
+    let mut fields = Fields::of(alloc, text);
+    if fields.word() != Some(b"provider".as_slice()) || fields.word() != Some(name.as_bytes()) {
+        return Err(FieldFail::Wrong);
+    }
+    fields.expect(&[
+        Key::Tsdu,
+        Key::SendZero,
+        Key::SameAddr,
+        Key::SndBuf,
+        Key::RcvBuf,
+    ]);
+    let profile = Profile {
+        tsdu: fields.limit()?,
+        sendzero: fields.truth()?,
+        same_addr: fields.truth()?,
+        sndbuf: fields.number()?,
+        rcvbuf: fields.number()?,
+    };
+    if fields.are_read() {
+        Ok(profile)
+    } else {
+        Err(FieldFail::Wrong)
+    }
+}

@@ -1,0 +1,185 @@
+//! Reading the words of an entry and of a stall line.
+
+ghost use Rattle.std.specs.Prelude.{◌≡◌, ◌≤◌, Some, IfSome, IfOk, decimal};
+ghost use Rattle.std.specs.Str.{bytes_eq};
+ghost use Rattle.xti_base.specs.declared.limits.TheConstants.{LAST_WORKER};
+ghost use Rattle.xti_journal_reader.specs.Grammar.{last_verb};
+ghost use Rattle.xti_journal_reader.specs.Reading.{same, worker_in, act_read, act_in, error_in, answer_in, outcome_read, outcome_in, step_read, step_in, state_at_end, behind_read, behind_arrow, entry_read, entry_in, stall_read, is_whole, stall_in};
+ghost use Rattle.xti_journal_reader.specs.Unread.{Gives, IsRead};
+
+use crate::answers::read_answer;
+use crate::calls::read_call;
+use crate::draft::Draft;
+use crate::fields::{FieldFail, Fields, Key};
+use crate::verbs::{Answer, Verb, answer_form, answer_of, form, verb_after, verb_in};
+use itoa::Buffer;
+use xti_base::State;
+use xti_base::limits::LAST_WORKER;
+use xti_model::{Act, Entry, Outcome, StallLine};
+use xti_words::number_in;
+
+fn worker_in(word: &[u8]) -> Option<u32>
+    ensures value { result ≡ worker_in word.now }
+    ensures worker { IfSome result (λ worker. worker ≤ LAST_WORKER) }
+{
+    match number_in(word) {
+        Some(number) if number <= LAST_WORKER => Some(number),
+        _ => None,
+    }
+}
+
+/// The call that the next words are, or `more`.
+#[tactic(auto, unfolding(crate::specs::Reading::act_in))]
+fn read_act(fields: &mut Fields) -> Result<Act, FieldFail>
+    ensures { Gives act_read (act_in fields.old.words) fields.new.words result }
+{
+    let word = fields.word().ok_or(FieldFail::Wrong)?;
+    if word == b"more".as_slice() {
+        return Ok(Act::More);
+    }
+    let verb = verb_in(word).ok_or(FieldFail::Wrong)?;
+    fields.expect(form(verb));
+    Ok(Act::Begin(read_call(verb, fields)?))
+}
+
+/// Which error stands next; its word is left where the error stands alone.
+fn read_error(fields: &mut Fields) -> Answer
+    ensures { error_in fields.old.words ≡ Some (result, fields.new.words) }
+{
+    if fields.accept(b"TLOOK") {
+        Answer::Look
+    } else if fields.accept(b"TBUFOVFLW") {
+        Answer::Overflow
+    } else {
+        Answer::Refused
+    }
+}
+
+/// Which answer of the call stands next.
+#[tactic(auto, unfolding(crate::specs::Reading::answer_in))]
+fn read_answer_word(verb: Verb, fields: &mut Fields) -> Result<Answer, FieldFail>
+    ensures { Gives same (answer_in verb fields.old.words) fields.new.words result }
+{
+    match fields.word().ok_or(FieldFail::Wrong)? {
+        b"ok" => Ok(answer_of(verb)),
+        b"err" => Ok(read_error(fields)),
+        b"part" => Ok(Answer::Part),
+        _ => Err(FieldFail::Wrong),
+    }
+}
+
+/// What the call answered.
+#[tactic(auto, unfolding(crate::specs::Reading::outcome_in))]
+fn read_outcome(verb: Verb, fields: &mut Fields) -> Result<Outcome, FieldFail>
+    ensures { Gives outcome_read (outcome_in verb fields.old.words) fields.new.words result }
+{
+    let answer = read_answer_word(verb, fields)?;
+    fields.expect(answer_form(answer));
+    read_answer(answer, fields)
+}
+
+/// A worker and what it does: the words that entries and stall lines have in common.
+#[derive(Drop)]
+pub(crate) struct Step {
+    pub(crate) worker: u32,
+    pub(crate) act: Act,
+}
+
+/// The worker, and what it does.
+#[tactic(auto, unfolding(crate::specs::Reading::step_in))]
+fn read_step(fields: &mut Fields) -> Result<Step, FieldFail>
+    ensures value { Gives step_read (step_in fields.old.words) fields.new.words result }
+    ensures worker { IfOk result (λ step. step.worker ≤ LAST_WORKER) }
+{
+    let word = fields.word().ok_or(FieldFail::Wrong)?;
+    let worker = worker_in(word).ok_or(FieldFail::Wrong)?;
+    Ok(Step {
+        worker,
+        act: read_act(fields)?,
+    })
+}
+
+/// The state that the last word is.
+#[tactic(auto, unfolding(crate::specs::Fields::field))]
+fn read_state(fields: &mut Fields) -> Result<State, FieldFail>
+    ensures { IsRead same (state_at_end fields.old.words) result }
+{
+    fields.expect(&[Key::State]);
+    let state = fields.state()?;
+    if fields.are_read() {
+        Ok(state)
+    } else {
+        Err(FieldFail::Wrong)
+    }
+}
+
+/// What stands behind the arrow of an entry: what the call answered, and the state of its endpoint.
+fn read_behind_arrow(verb: Option<Verb>, fields: &mut Fields) -> Result<(Outcome, State), FieldFail>
+    ensures { IsRead behind_read (behind_arrow verb fields.old.words) result }
+{
+    let verb = verb.ok_or(FieldFail::Wrong)?;
+    match fields.word() {
+        Some(b"=>") => {
+            let outcome = read_outcome(verb, fields)?;
+            Ok((outcome, read_state(fields)?))
+        }
+        _ => Err(FieldFail::Wrong),
+    }
+}
+
+/// Whether the word is this number.
+pub(crate) fn is_number(word: &[u8], n: u64) -> bool
+    ensures { result ≡ bytes_eq word.now (decimal n) }
+{
+    word == Buffer::new().format(n).as_bytes()
+}
+
+/// The entry with this number, of whose line this word was taken.
+#[tactic(auto, unfolding(crate::specs::Reading::entry_in))]
+pub(crate) fn read_entry(
+    n: u64,
+    draft: &Draft,
+    word: &[u8],
+    fields: &mut Fields,
+) -> Result<Entry, FieldFail>
+    ensures { IsRead entry_read (entry_in n (last_verb draft.now.entries) word.now fields.old.words) result }
+{
+    if !is_number(word, n) {
+        return Err(FieldFail::Wrong);
+    }
+    let step = read_step(fields)?;
+    let verb = verb_after(draft.verb(step.worker), &step.act);
+    match read_behind_arrow(verb, fields) {
+        Ok((outcome, after)) => Ok(Entry {
+            worker: step.worker,
+            act: step.act,
+            outcome,
+            after,
+        }),
+        Err(fail) => Err(fail),
+    }
+}
+
+/// Whether there is a call, and no word is left.
+fn is_whole(verb: Option<Verb>, fields: &Fields) -> bool
+    ensures { result ≡ is_whole verb fields.now.words }
+{
+    verb.is_some() && fields.are_read()
+}
+
+/// The stall line, whose first word was taken.
+#[tactic(auto, unfolding(crate::specs::Reading::stall_in))]
+pub(crate) fn read_stall(draft: &Draft, fields: &mut Fields) -> Result<StallLine, FieldFail>
+    ensures { IsRead stall_read (stall_in (last_verb draft.now.entries) fields.old.words) result }
+{
+    let step = read_step(fields)?;
+    let verb = verb_after(draft.verb(step.worker), &step.act);
+    if is_whole(verb, fields) {
+        Ok(StallLine {
+            worker: step.worker,
+            act: step.act,
+        })
+    } else {
+        Err(FieldFail::Wrong)
+    }
+}
