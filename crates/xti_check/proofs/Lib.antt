@@ -1,0 +1,3 @@
+pub mod Judged
+pub mod Standing
+pub mod Lines

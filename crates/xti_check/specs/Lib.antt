@@ -1,0 +1,5 @@
+pub mod Verdicts
+pub mod Parts
+pub mod Judging
+pub mod Answers
+pub mod Judgements
