@@ -100,8 +100,7 @@ words_are_text [] values = refl
 words_are_text (key ∷ keys) [] = refl
 words_are_text (key ∷ keys) (value ∷ values) = ap (λ text. 32 ∷ (field_text key value ++ text)) (words_are_text keys values)
 
--- each value's text is read as it there
-abbrev pub AllReads : Spot → List Key → List Value → Type 0
+abbrev AllReads : Spot → List Key → List Value → Type 0
 AllReads s [] [] = Unit {0}
 AllReads s [] (value ∷ values) = ⊥
 AllReads s (key ∷ keys) [] = ⊥
@@ -112,7 +111,7 @@ written_reads s key value word space line w =
     value_reads s (kind_of key) w.text value w.stands_for (lacks_rest 32 (key_word key) w.text (subst (Lacks 32) w.spelled space))
     (lacks_rest 10 (key_word key) w.text (subst (Lacks 10) w.spelled line))
 
-pub all_reads : (s : Spot) (keys : List Key) (values : List Value) (words : List (List ℕ)) → AllLack 32 words → AllLack 10 words → AreFields s keys values words → AllReads s keys values
+all_reads : (s : Spot) (keys : List Key) (values : List Value) (words : List (List ℕ)) → AllLack 32 words → AllLack 10 words → AreFields s keys values words → AllReads s keys values
 all_reads s [] [] [] space line h = tt
 all_reads s [] [] (word ∷ words) space line h = absurd h
 all_reads s [] (value ∷ values) words space line h = absurd h
@@ -146,5 +145,7 @@ pub record WrittenAgain (s : Spot) (keys : List Key) (values : List Value) : Typ
   pub spaceless : AllLack 32 (field_words keys values)
   pub endless : AllLack 10 (field_words keys values)
 
-pub fields_written : (s : Spot) (keys : List Key) (values : List Value) → AllReads s keys values → WrittenAgain s keys values
-fields_written s keys values reads = record { are_fields = written_again s keys values reads; spaceless = spaceless s keys values reads; endless = endless s keys values reads }
+pub fields_again : (s : Spot) (keys : List Key) (values : List Value) (words : List (List ℕ)) → AllLack 32 words → AllLack 10 words → AreFields s keys values words → WrittenAgain s keys values
+fields_again s keys values words space line h =
+    let reads = all_reads s keys values words space line h in
+    record { are_fields = written_again s keys values reads; spaceless = spaceless s keys values reads; endless = endless s keys values reads }

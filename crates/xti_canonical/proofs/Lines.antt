@@ -94,32 +94,27 @@ written_is OptMgmt (Name v1 ∷ Number v2 ∷ Bytes v3 ∷ Number v4 ∷ []) d e
 written_is SetMode (Name v1 ∷ Mode v2 ∷ []) d e = ap written_call (sym (some-is (call.SetMode v1 v2) d e))
 written_is verb values d e = absurd (none-is d e)
 
--- a call of values that are read from their texts, written whole: words without a space or an end of a line, which are the call
-pub record CallWritten (s : Spot) (call : NamedCall) : Type 0 where
-  pub first : List ℕ
-  pub others : List (List ℕ)
-  pub text_is : call_text call ≡ first ++ after_each 32 others
-  pub is_call : IsCall s call (first ∷ others)
-  pub spaceless : AllLack 32 (first ∷ others)
-  pub endless : AllLack 10 (first ∷ others)
+-- a call whose words were read, written whole: its text is words without a space or an end of a line, and they are the call
+record CallAgain (s : Spot) (call : NamedCall) : Type 0 where
+  first : List ℕ
+  others : List (List ℕ)
+  text_is : call_text call ≡ first ++ after_each 32 others
+  is_call : IsCall s call (first ∷ others)
+  spaceless : AllLack 32 (first ∷ others)
+  endless : AllLack 10 (first ∷ others)
 
-pub call_written : (s : Spot) (verb : Verb) (values : List Value) (call : NamedCall) → call_with verb values ≡ Some call → AllReads s (form verb) values → CallWritten s call
-call_written s verb values call made reads =
-    let f = fields_written s (form verb) values reads in
-    let text : call_text call ≡ text_of (written verb values) = ap text_of (written_is verb values call made) in
-    record {
-      first = verb_word verb;
-      others = field_words (form verb) values;
-      text_is = text ∙ ap (λ t. verb_word verb ++ t) (words_are_text (form verb) values);
-      is_call = record { verb = verb; fields = field_words (form verb) values; values = values; spelled = refl; are_fields = f.are_fields; made = made };
-      spaceless = ((word_fits verb).spaceless, f.spaceless);
-      endless = ((word_fits verb).endless, f.endless);
-    }
-
-call_again : (s : Spot) (call : NamedCall) (words : List (List ℕ)) → AllLack 32 words → AllLack 10 words → IsCall s call words → CallWritten s call
+call_again : (s : Spot) (call : NamedCall) (words : List (List ℕ)) → AllLack 32 words → AllLack 10 words → IsCall s call words → CallAgain s call
 call_again s call words space line h =
-    call_written s h.verb h.values call h.made
-    (all_reads s (form h.verb) h.values h.fields (subst (AllLack 32) h.spelled space).1 (subst (AllLack 10) h.spelled line).1 h.are_fields)
+    let f = fields_again s (form h.verb) h.values h.fields (subst (AllLack 32) h.spelled space).1 (subst (AllLack 10) h.spelled line).1 h.are_fields in
+    let text : call_text call ≡ text_of (written h.verb h.values) = ap text_of (written_is h.verb h.values call h.made) in
+    record {
+      first = verb_word h.verb;
+      others = field_words (form h.verb) h.values;
+      text_is = text ∙ ap (λ t. verb_word h.verb ++ t) (words_are_text (form h.verb) h.values);
+      is_call = record { verb = h.verb; fields = field_words (form h.verb) h.values; values = h.values; spelled = refl; are_fields = f.are_fields; made = h.made };
+      spaceless = ((word_fits h.verb).spaceless, f.spaceless);
+      endless = ((word_fits h.verb).endless, f.endless);
+    }
 
 -- ---- lines
 
@@ -134,26 +129,22 @@ joined_lacks : (byte : ℕ) (texts : List (List ℕ)) → eqb 32 byte ≡ false 
 joined_lacks byte [] e h = All-nil (λ c. eqb c byte ≡ false)
 joined_lacks byte (text ∷ texts) e h = All-cons (λ c. eqb c byte ≡ false) 32 (text ++ after_each 32 texts) e (lacks_both byte text (after_each 32 texts) h.0 (joined_lacks byte texts e h.1))
 
--- a line, written whole, is the line
-pub record LineWritten (earlier : List Line) (line : Line) : Type 0 where
+-- a line that was read, written whole, is the same line
+pub record LineAgain (earlier : List Line) (line : Line) : Type 0 where
   pub is_line : IsLine earlier line (bare_line line)
   pub endless : Lacks 10 (bare_line line)
 
-pub line_written : (earlier : List Line) (line : Line) → line.worker ≤ LAST_WORKER → CallWritten (after earlier line.worker) line.call → LineWritten earlier line
-line_written earlier line few c =
-    let small : line.worker < 4294967296 = omega (arith, few) in
+pub line_again : (earlier : List Line) (line : Line) (text : List ℕ) → Lacks 10 text → IsLine earlier line text → LineAgain earlier line
+line_again earlier line text endless h =
+    let space : AllLack 32 (h.number ∷ h.words) = subst (AllLack 32) h.split (pieces_lack_separator 32 text) in
+    let end : AllLack 10 (h.number ∷ h.words) = subst (AllLack 10) h.split (pieces_lack 32 10 text endless) in
+    let c = call_again (after earlier line.worker) line.call h.words space.1 end.1 h.call in
+    let small : line.worker < 4294967296 = let most = h.is_worker in omega arith in
     let bare : bare_line line ≡ decimal line.worker ++ after_each 32 (c.first ∷ c.others) =
     append_assoc (decimal line.worker) (codes " ") (call_text line.call) ∙ ap (λ t. decimal line.worker ++ 32 ∷ t) c.text_is in
     let cut : words_of (bare_line line) ≡ decimal line.worker ∷ c.first ∷ c.others =
     ap words_of bare ∙ cut_again 32 (decimal line.worker) (c.first ∷ c.others) (number_lacks 32 line.worker (omega arith) small) c.spaceless in
     record {
-      is_line = record { number = decimal line.worker; words = c.first ∷ c.others; split = cut; worker = number_read line.worker small; is_worker = few; call = c.is_call };
+      is_line = record { number = decimal line.worker; words = c.first ∷ c.others; split = cut; worker = number_read line.worker small; is_worker = h.is_worker; call = c.is_call };
       endless = subst (Lacks 10) (sym bare) (lacks_both 10 (decimal line.worker) (after_each 32 (c.first ∷ c.others)) (number_lacks 10 line.worker (omega arith) small) (joined_lacks 10 (c.first ∷ c.others) refl c.endless));
     }
-
--- a line that was read, written whole, is the same line
-pub line_again : (earlier : List Line) (line : Line) (text : List ℕ) → Lacks 10 text → IsLine earlier line text → LineWritten earlier line
-line_again earlier line text endless h =
-    let space : AllLack 32 (h.number ∷ h.words) = subst (AllLack 32) h.split (pieces_lack_separator 32 text) in
-    let end : AllLack 10 (h.number ∷ h.words) = subst (AllLack 10) h.split (pieces_lack 32 10 text endless) in
-    line_written earlier line h.is_worker (call_again (after earlier line.worker) line.call h.words space.1 end.1 h.call)

@@ -8,11 +8,11 @@ use Rattle.xti_model.specs.declared.script.Line.{Line}
 use Rattle.xti_model.specs.declared.script.Script.{Script}
 use Rattle.xti_model.specs.Profile.{usual}
 use Rattle.xti_words.specs.Texts.{lines_of, is_digit}
-use Rattle.xti_script.specs.Grammar.{AreLines, HasHead, HasNoHead, IsSmall, IsScript, HasText, is_passed, calls_in}
+use Rattle.xti_script.specs.Grammar.{AreLines, HasHead, HasNoHead, IsScript, HasText, is_passed, calls_in}
 use Rattle.xti_canonical.specs.Canonical.{call_text, line_text, script_text}
 use Rattle.xti_canonical.proofs.Numbers.{number_begins, digit_bounds}
 use Rattle.xti_canonical.proofs.Pieces.{AllLack, lacks_by, line_first}
-use Rattle.xti_canonical.proofs.Lines.{bare_line, line_is, LineWritten, line_again}
+use Rattle.xti_canonical.proofs.Lines.{bare_line, line_is, line_again}
 
 -- ---- what was read
 
@@ -53,24 +53,14 @@ abbrev bare_lines : List Line → List (List ℕ)
 bare_lines [] = []
 bare_lines (line ∷ lines) = bare_line line ∷ bare_lines lines
 
--- each line is written after the earlier ones
-abbrev pub AllWritten : List Line → List Line → Type 0
-AllWritten earlier [] = Unit {0}
-AllWritten earlier (line ∷ lines) = LineWritten earlier line × AllWritten (earlier ++ line ∷ []) lines
-
 -- lines that were read, written whole, are the same lines
-lines_again : (earlier lines : List Line) (texts : List (List ℕ)) → AllLack 10 texts → AreLines earlier lines texts → AllWritten earlier lines
-lines_again earlier [] texts end h = tt
+lines_again : (earlier lines : List Line) (texts : List (List ℕ)) → AllLack 10 texts → AreLines earlier lines texts → AreLines earlier lines (bare_lines lines) × AllLack 10 (bare_lines lines)
+lines_again earlier [] texts end h = (tt, tt)
 lines_again earlier (line ∷ lines) [] end h = absurd h
-lines_again earlier (line ∷ lines) (text ∷ texts) end h = (line_again earlier line text end.0 h.0, lines_again (earlier ++ line ∷ []) lines texts end.1 h.1)
-
-are_lines : (earlier lines : List Line) → AllWritten earlier lines → AreLines earlier lines (bare_lines lines)
-are_lines earlier [] h = tt
-are_lines earlier (line ∷ lines) h = (h.0.is_line, are_lines (earlier ++ line ∷ []) lines h.1)
-
-all_endless : (earlier lines : List Line) → AllWritten earlier lines → AllLack 10 (bare_lines lines)
-all_endless earlier [] h = tt
-all_endless earlier (line ∷ lines) h = (h.0.endless, all_endless (earlier ++ line ∷ []) lines h.1)
+lines_again earlier (line ∷ lines) (text ∷ texts) end h =
+    let one = line_again earlier line text end.0 h.0 in
+    let others = lines_again (earlier ++ line ∷ []) lines texts end.1 h.1 in
+    ((one.is_line, others.0), (one.endless, others.1))
 
 text_lines : (lines : List Line) → AllLack 10 (bare_lines lines) → lines_of (flat_map line_text lines) ≡ bare_lines lines
 text_lines [] h = refl
@@ -90,32 +80,29 @@ line_kept line h =
     let b = number_begins line.worker (omega (arith, h)) in
     kept_digit b.0 (b.1 ++ codes " " ++ call_text line.call) (bare_line line) (ap (λ ds. ds ++ codes " " ++ call_text line.call) b.2) b.3
 
-lines_kept : (earlier lines : List Line) → AllWritten earlier lines → calls_in (bare_lines lines) ≡ bare_lines lines
-lines_kept earlier [] h = refl
-lines_kept earlier (line ∷ lines) h =
-    let kept : is_passed (bare_line line) ≡ false = line_kept line h.0.is_line.is_worker in
-    rw kept (ap (λ ls. bare_line line ∷ ls) (lines_kept (earlier ++ line ∷ []) lines h.1))
+lines_kept : (earlier lines : List Line) (texts : List (List ℕ)) → AreLines earlier lines texts → calls_in (bare_lines lines) ≡ bare_lines lines
+lines_kept earlier [] texts h = refl
+lines_kept earlier (line ∷ lines) [] h = absurd h
+lines_kept earlier (line ∷ lines) (text ∷ texts) h =
+    let kept : is_passed (bare_line line) ≡ false = line_kept line h.0.is_worker in
+    rw kept (ap (λ ls. bare_line line ∷ ls) (lines_kept (earlier ++ line ∷ []) lines texts h.1))
 
--- a script of lines that are written, within the limits, has its canonical text
-pub script_written : (s : Script) → s.providers ≡ usual → AllWritten [] s.lines → IsSmall s.lines → IsScript s (script_text s)
+pub script_again : (s : Script) → HasText s → s.providers ≡ usual → IsScript s (script_text s)
 unfolding script_text
-script_written s u w small =
+script_again s (text, h) u =
+    let f = h.form in
+    let end : AllLack 10 f.texts = (subst (AllLack 10) f.first (lines_lack text)).1 in
+    let again = lines_again [] s.lines (calls_in f.rest) (lack_chosen 10 (λ t. not (is_passed t)) f.rest (rest_lacks s f.texts f.rest end f.head)) f.lines in
     let first : lines_of (script_text s) ≡ codes "xti-script 1" ∷ bare_lines s.lines =
     line_first (codes "xti-script 1") (flat_map line_text s.lines) (lacks_by 10 (codes "xti-script 1") refl)
-    ∙ ap (λ ls. codes "xti-script 1" ∷ ls) (text_lines s.lines (all_endless [] s.lines w)) in
+    ∙ ap (λ ls. codes "xti-script 1" ∷ ls) (text_lines s.lines again.1) in
     record {
       form = record {
         texts = bare_lines s.lines;
         rest = bare_lines s.lines;
         first = first;
         head = inr (u, refl);
-        lines = subst (AreLines [] s.lines) (sym (lines_kept [] s.lines w)) (are_lines [] s.lines w);
+        lines = subst (AreLines [] s.lines) (sym (lines_kept [] s.lines (calls_in f.rest) f.lines)) again.0;
       };
-      small = small;
+      small = h.small;
     }
-
-pub script_again : (s : Script) → HasText s → s.providers ≡ usual → IsScript s (script_text s)
-script_again s (text, h) u =
-    let f = h.form in
-    let end : AllLack 10 f.texts = (subst (AllLack 10) f.first (lines_lack text)).1 in
-    script_written s u (lines_again [] s.lines (calls_in f.rest) (lack_chosen 10 (λ t. not (is_passed t)) f.rest (rest_lacks s f.texts f.rest end f.head)) f.lines) h.small
