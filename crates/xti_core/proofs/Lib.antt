@@ -1,11 +1,11 @@
-mod Listing
-mod OpeningPlace
-mod SomeCells
-mod Settling
-mod Fitting
-mod OneCell
-mod Stepping
-mod AllLent
-mod Standing
-mod OpeningWorld
-mod Shown
+pub mod Listing
+pub mod OpeningPlace
+pub mod SomeCells
+pub mod Settling
+pub mod Fitting
+pub mod OneCell
+pub mod Stepping
+pub mod AllLent
+pub mod Standing
+pub mod OpeningWorld
+pub mod Shown

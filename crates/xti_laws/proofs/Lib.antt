@@ -1,10 +1,10 @@
-mod Places
+pub mod Places
 pub mod Only
 pub mod Local
 pub mod Others
 pub mod Touched
 mod ChangeKinds
-mod KeptCells
+pub mod KeptCells
 pub mod ChangedEndpoints
 mod SteadyUpdates
 pub mod Effects
@@ -16,11 +16,11 @@ mod StatesOfConnections
 mod LeavingPlans
 mod OtherStates
 pub mod TableWalk
-mod Initialised
+pub mod Initialised
 pub mod TouchedAgain
 pub mod TouchedCells
-mod KnownPlaces
-mod BlockingRows
-mod WaitingForWants
-mod GoodArguments
+pub mod KnownPlaces
+pub mod BlockingRows
+pub mod WaitingForWants
+pub mod GoodArguments
 mod histories
