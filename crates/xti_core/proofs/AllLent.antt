@@ -31,38 +31,38 @@ IsCell p n = n < places p + 1
 abbrev AreCells : Providers → List ℕ → Type 0
 AreCells p ns = AllByRecursion (IsCell p) ns
 
-both-cells : (p : Providers) (ns ms : List ℕ) → AreCells p ns → AreCells p ms → AreCells p (ns ++ ms)
+pub both-cells : (p : Providers) (ns ms : List ℕ) → AreCells p ns → AreCells p ms → AreCells p (ns ++ ms)
 both-cells p [] ms a b = b
 both-cells p (n ∷ ns) ms a b = (a.0, both-cells p ns ms a.1 b)
 
-fd-cells : (p : Providers) (o : Option ℕ) → AreCells p (cell_of p o)
+pub fd-cells : (p : Providers) (o : Option ℕ) → AreCells p (cell_of p o)
 fd-cells p None = tt
 fd-cells p (Some fd) = (fd-cell p fd, tt)
 
-of-cells : (p : Providers) (o : Option Endpoint) (f : Endpoint → List ℕ) → ((e : Endpoint) → AreCells p (f e)) → AreCells p (of_some o f)
+pub of-cells : (p : Providers) (o : Option Endpoint) (f : Endpoint → List ℕ) → ((e : Endpoint) → AreCells p (f e)) → AreCells p (of_some o f)
 of-cells p None f h = tt
 of-cells p (Some e) f h = h e
 
-callers-cells : (p : Providers) (is : List Indication) → AreCells p (map (λ i. place_of p i.caller) is)
+pub callers-cells : (p : Providers) (is : List Indication) → AreCells p (map (λ i. place_of p i.caller) is)
 callers-cells p [] = tt
 callers-cells p (i ∷ is) = (fd-cell p i.caller, callers-cells p is)
 
-known-cells : (p : Providers) (e : Endpoint) → AreCells p (peer_cell p e ++ target_cell p e ++ caller_cells p e)
+pub known-cells : (p : Providers) (e : Endpoint) → AreCells p (peer_cell p e ++ target_cell p e ++ caller_cells p e)
 known-cells p e =
     both-cells p (peer_cell p e ++ target_cell p e) (caller_cells p e) (both-cells p (peer_cell p e) (target_cell p e) (fd-cells p e.peer) (fd-cells p (option_map (λ t. t.listener) e.target))) (callers-cells p (e.pending ++ e.outstanding))
 
-asked-cells : (p : Providers) (e : Endpoint) (n : ℕ) → AreCells p (peer_cell p e ++ target_cell p e ++ caller_cell p n e)
+pub asked-cells : (p : Providers) (e : Endpoint) (n : ℕ) → AreCells p (peer_cell p e ++ target_cell p e ++ caller_cell p n e)
 asked-cells p e n =
     both-cells p (peer_cell p e ++ target_cell p e) (caller_cell p n e) (both-cells p (peer_cell p e) (target_cell p e) (fd-cells p e.peer) (fd-cells p (option_map (λ t. t.listener) e.target))) (fd-cells p (option_map (λ i. i.caller) (find_number n e.outstanding)))
 
-looked-cells : (p : Providers) (w : World) (e : Endpoint) → AreCells p (peer_cell p e ++ marked_cells p w e)
+pub looked-cells : (p : Providers) (w : World) (e : Endpoint) → AreCells p (peer_cell p e ++ marked_cells p w e)
 looked-cells p w e = both-cells p (peer_cell p e) (marked_cells p w e) (fd-cells p e.peer) (go e.flow_datagram)
   where
     go : (o : Option (List ℕ)) → AreCells p (cells_to p w e o)
     go None = tt
     go (Some a) = (switch-cell p, fd-cells p (bound (the_switch p w) e.prov a))
 
-opening-cells : (p : Providers) (s : Switch) (prov : Prov) → length s.places ≤ places p → AreCells p (option_to_list (opening_place p s prov))
+pub opening-cells : (p : Providers) (s : Switch) (prov : Prov) → length s.places ≤ places p → AreCells p (option_to_list (opening_place p s prov))
 opening-cells p s prov k = go (is_provider prov) (free_place p s) refl
   where
     go : (b : Bool) (o : Option ℕ) → free_place p s ≡ o → AreCells p (option_to_list (if_provider b o))
@@ -70,7 +70,7 @@ opening-cells p s prov k = go (is_provider prov) (free_place p s) refl
     go true (Some n) e = let l = (position-Some (is_free p) s.places n closed_place e).0 in (place-cell p n (omega (arith, l, k)), tt)
     go false o e = tt
 
-others-cells : (p : Providers) (w : World) (c : Call) → KnowsNoMore p w → AreCells p (others p w c)
+pub others-cells : (p : Providers) (w : World) (c : Call) → KnowsNoMore p w → AreCells p (others p w c)
 others-cells p w (call.TOpen prov nonblock) k = (switch-cell p, opening-cells p (the_switch p w) prov k)
 others-cells p w (call.TClose fd) k = (switch-cell p, of-cells p (endpoint p w fd.0) _ (known-cells p))
 others-cells p w (call.TBind fd addr qlen amax) k = (switch-cell p, tt)
@@ -87,7 +87,7 @@ others-cells p w (call.TLookAt fd) k = of-cells p (endpoint p w fd.0) _ (looked-
 others-cells p w other k = tt
 
 -- what a call touches are cells
-touched-cells : (p : Providers) (w : World) (c : Call) → KnowsNoMore p w → AreCells p (touched p w c)
+pub touched-cells : (p : Providers) (w : World) (c : Call) → KnowsNoMore p w → AreCells p (touched p w c)
 touched-cells p w c k = all-listed (IsCell p) (named p w c) (both-cells p (cell_of p (fd_of c)) (others p w c) (fd-cells p (fd_of c)) (others-cells p w c k))
 
 -- each cell of a sound world is there

@@ -25,7 +25,7 @@ pub held-sound : (l : Lending) (n : ℕ) (h : Held) → AllByRecursion IsSound l
 held-sound l n h a e = held-all IsSound l.numbers l.held n h e a
 
 -- and what holds of each that is found holds of all
-held-among : (ms : List ℕ) (hs : List Held) (n : ℕ) (x : Held) → held_in ms hs n ≡ Some x → is_among ms n ≡ true
+pub held-among : (ms : List ℕ) (hs : List Held) (n : ℕ) (x : Held) → held_in ms hs n ≡ Some x → is_among ms n ≡ true
 held-among [] hs n x e = cc
 held-among (m ∷ ms) [] n x e = cc
 held-among (m ∷ ms) (h ∷ hs) n x e = go (eqb m n) e (held-among ms hs n x)
@@ -34,15 +34,15 @@ held-among (m ∷ ms) (h ∷ hs) n x e = go (eqb m n) e (held-among ms hs n x)
     go true i j = refl
     go false i j = j i
 
-abbrev head_or : ℕ → List ℕ → ℕ
+abbrev pub head_or : ℕ → List ℕ → ℕ
 head_or d [] = d
 head_or d (n ∷ ns) = n
 
-abbrev tail_of : List ℕ → List ℕ
+abbrev pub tail_of : List ℕ → List ℕ
 tail_of [] = []
 tail_of (n ∷ ns) = ns
 
-each-held : (P : Held → Type 0) (ms : List ℕ) (hs : List Held) → Distinct ms → map place_of_held hs ≡ ms → ((h : Held) → held_in ms hs h.place ≡ Some h → P h) → AllByRecursion P hs
+pub each-held : (P : Held → Type 0) (ms : List ℕ) (hs : List Held) → Distinct ms → map place_of_held hs ≡ ms → ((h : Held) → held_in ms hs h.place ≡ Some h → P h) → AllByRecursion P hs
 each-held P ms [] d e f = tt
 each-held P [] (h ∷ hs) d e f = cc
 each-held P (m ∷ ms) (h ∷ hs) d e f = (f h (rw (eq-eqb m h.place (sym (ap (head_or 0) e))) refl), each-held P ms hs d.1 (ap tail_of e) (λ x i. f x (tail x i (eqb m x.place) refl)))
@@ -56,11 +56,11 @@ each-held P (m ∷ ms) (h ∷ hs) d e f = (f h (rw (eq-eqb m h.place (sym (ap (h
     tail x i false j = rw j i
 
 -- a lent endpoint has a place
-place-of : (l : Lending) (h : Held) → IsLoan l → held_at l h.place ≡ Some h → h.place < places l.providers
+pub place-of : (l : Lending) (h : Held) → IsLoan l → held_at l h.place ≡ Some h → h.place < places l.providers
 place-of l h loan e = all-among (IsPlace l.providers) l.numbers h.place loan.kept.places (held-among l.numbers l.held h.place h e)
 
 -- a lent endpoint is in the cell of its place
-lent-at : (at : ℕ → Option Cell) (l : Lending) (h : Held) → Sub (cell_lent l) at → IsLoan l → held_at l h.place ≡ Some h → cell_at (cells_by l.providers at) h.place ≡ Some (at_number h.place (cell h))
+pub lent-at : (at : ℕ → Option Cell) (l : Lending) (h : Held) → Sub (cell_lent l) at → IsLoan l → held_at l h.place ≡ Some h → cell_at (cells_by l.providers at) h.place ≡ Some (at_number h.place (cell h))
 lent-at at l h u loan e =
     let lt = place-of l h loan e in
     let i : cell_lent l h.place ≡ Some (cell h) = cell-is l h.place h lt e in
@@ -68,13 +68,13 @@ lent-at at l h u loan e =
     cell_at-is l.providers at h.place (place-cell l.providers h.place lt) ∙ ap (option_map (at_number h.place)) j
 
 -- a lent endpoint of a sound world
-held-fits : (at : ℕ → Option Cell) (l : Lending) (h : Held) → SoundWorld l.providers (cells_by l.providers at) → Sub (cell_lent l) at → IsLoan l → held_at l h.place ≡ Some h → SoundWhenLent l.providers (the_switch l.providers (cells_by l.providers at)) h.place (cell h)
+pub held-fits : (at : ℕ → Option Cell) (l : Lending) (h : Held) → SoundWorld l.providers (cells_by l.providers at) → Sub (cell_lent l) at → IsLoan l → held_at l h.place ≡ Some h → SoundWhenLent l.providers (the_switch l.providers (cells_by l.providers at)) h.place (cell h)
 held-fits at l h s u loan e = lent-cell l.providers (cells_by l.providers at) h.place (at_number h.place (cell h)) s (place-of l h loan e) (lent-at at l h u loan e)
 
 pub sounds : (at : ℕ → Option Cell) (l : Lending) → SoundWorld l.providers (cells_by l.providers at) → Sub (cell_lent l) at → IsLoan l → AllByRecursion IsSound l.held
 sounds at l s u loan = each-held IsSound l.numbers l.held loan.kept.distinct loan.own (λ h e. (held-fits at l h s u loan e).is_sound_alone)
 
-table-there : (l : Lending) (k : Known) → l.registry ≡ Some k → is_some (cell_lent l (switch_number l.providers)) ≡ true
+pub table-there : (l : Lending) (k : Known) → l.registry ≡ Some k → is_some (cell_lent l (switch_number l.providers)) ≡ true
 table-there l k i = ap is_some (lent-switch l ∙ ap (option_map (λ (k : Known). switch_cell k.switch)) i)
 
 -- lent cells of a sound world are fit

@@ -31,29 +31,29 @@ use Rattle.xti_lent.proofs.Open.{own-place}
 use Rattle.xti_core.proofs.Settling.{kept_by, only-is, settled}
 
 -- what a call of one cell names, and whose state it tells
-record Reads (p : Providers) (w : World) (n : ℕ) (c : Call) (g : Go) : Type 0 where
+pub record Reads (p : Providers) (w : World) (n : ℕ) (c : Call) (g : Go) : Type 0 where
   pub named : Within (n ∷ []) (named p w c)
   pub told : is_among (n ∷ []) (place_of p (plan p w c g).fd) ≡ true
 
-own : (n m : ℕ) → m ≡ n → is_among (n ∷ []) m ≡ true
+pub own : (n m : ℕ) → m ≡ n → is_among (n ∷ []) m ≡ true
 own n m e = rw (eq-eqb n m (sym e)) refl
 
 -- once it has asked, t_connect goes on as t_rcvconnect
-abbrev goes_on_as : Call → Go → Call
+abbrev pub goes_on_as : Call → Go → Call
 goes_on_as (call.TConnect fd addr opt udata amax omax umax) (go.More n) = call.TRcvConnect fd amax omax umax
 goes_on_as c g = c
 
-plan-alike : (p : Providers) (w : World) (c : Call) (g : Go) → plan p w c g ≡ plan p w (goes_on_as c g) g
+pub plan-alike : (p : Providers) (w : World) (c : Call) (g : Go) → plan p w c g ≡ plan p w (goes_on_as c g) g
 unfolding plan
 plan-alike p w (call.TConnect fd addr opt udata amax omax umax) (go.More n) = refl
 plan-alike p w (call.TConnect fd addr opt udata amax omax umax) go.Begin = refl
 plan-alike p w other g = refl
 
-step-alike : (p : Providers) (w : World) (c : Call) (g : Go) → step p w c g ≡ step p w (goes_on_as c g) g
+pub step-alike : (p : Providers) (w : World) (c : Call) (g : Go) → step p w c g ≡ step p w (goes_on_as c g) g
 unfolding step
 step-alike p w c g = ap (step_of p w) (plan-alike p w c g)
 
-reads : (p : Providers) (w : World) (n : ℕ) (c : Call) (g : Go) → IsAt p n c g → Reads p w n (goes_on_as c g) g
+pub reads : (p : Providers) (w : World) (n : ℕ) (c : Call) (g : Go) → IsAt p n c g → Reads p w n (goes_on_as c g) g
 reads p w n (call.TConnect fd addr opt udata amax omax umax) (go.More m) h = record { named = (own n (place_of p fd.0) h, tt); told = own n _ (ap (place_of p) (told-fd p w (call.TRcvConnect fd amax omax umax) (go.More m)) ∙ h) }
 reads p w n (call.TRcvUData fd max amax omax) g h = record { named = (own n (place_of p fd.0) h, tt); told = own n _ (ap (place_of p) (told-fd p w (call.TRcvUData fd max amax omax) g) ∙ h) }
 reads p w n (call.TRcvVUData fd sizes amax omax) g h = record { named = (own n (place_of p fd.0) h, tt); told = own n _ (ap (place_of p) (told-fd p w (call.TRcvVUData fd sizes amax omax) g) ∙ h) }
@@ -73,11 +73,11 @@ reads p w n (call.TOptMgmt fd action opt omax) g h = record { named = (own n (pl
 reads p w n other g h = absurd h
 
 -- one cell of those by number
-none-from : (at : ℕ → Option Cell) (from k : ℕ) → ((m : ℕ) → from ≤ m → at m ≡ None) → from_number at from k ≡ []
+pub none-from : (at : ℕ → Option Cell) (from k : ℕ) → ((m : ℕ) → from ≤ m → at m ≡ None) → from_number at from k ≡ []
 none-from at from zero h = refl
 none-from at from (suc k) h = rw (h from (omega arith), none-from at (from + 1) k (λ m le. h m (omega arith))) refl
 
-one-from : (at : ℕ → Option Cell) (from k n : ℕ) (c : Cell) → from ≤ n → n < from + k → at n ≡ Some c → ((m : ℕ) → eqb n m ≡ false → at m ≡ None) → from_number at from k ≡ record { number = n; cell = c } ∷ []
+pub one-from : (at : ℕ → Option Cell) (from k n : ℕ) (c : Cell) → from ≤ n → n < from + k → at n ≡ Some c → ((m : ℕ) → eqb n m ≡ false → at m ≡ None) → from_number at from k ≡ record { number = n; cell = c } ∷ []
 one-from at from zero n c le lt e h = absurd (omega arith)
 one-from at from (suc k) n c le lt e h = go (eqb n from) refl (λ ne. one-from at (from + 1) k n c ne (omega arith) e h)
   where
@@ -91,7 +91,7 @@ one-from at from (suc k) n c le lt e h = go (eqb n from) refl (λ ne. one-from a
         let ne : from + 1 ≤ n = grind (arith, nat_tests) in
         rw (h from i) (later ne)
 
-one-kept : (p : Providers) (at : ℕ → Option Cell) (n : ℕ) (c : Cell) → n < places p + 1 → at n ≡ Some c → only (n ∷ []) (cells_by p at) ≡ record { number = n; cell = c } ∷ []
+pub one-kept : (p : Providers) (at : ℕ → Option Cell) (n : ℕ) (c : Cell) → n < places p + 1 → at n ≡ Some c → only (n ∷ []) (cells_by p at) ≡ record { number = n; cell = c } ∷ []
 unfolding cells_by
 one-kept p at n c lt e = only-is p (n ∷ []) at ∙ one-from (kept_by (n ∷ []) at) 0 (places p + 1) n c (omega arith) (omega arith) (rw (own n n refl) e) (λ m i. rw i refl)
 
@@ -101,11 +101,11 @@ alone-is l n h lt own e = one-kept l.providers (cell_lent l) n (cell h) (place-c
 pub same-cells : (l : Lending) (n : ℕ) (h new : Held) → held_at l n ≡ Some h → SameRoom h new → SameCells l (with_held l n new)
 same-cells l n h new e r = written-same l n h new e r.place
 
-not-own : (n m : ℕ) → is_among (n ∷ []) m ≡ false → eqb m n ≡ false
+pub not-own : (n m : ℕ) → is_among (n ∷ []) m ≡ false → eqb m n ≡ false
 not-own n m e = grind (arith, nat_tests)
 
 -- a step of one cell, of a call that names no other
-lifted-as : (l : Lending) (n : ℕ) (h new : Held) (c : Call) (g : Go) (a : Applied) → n < places l.providers → Reads l.providers (cells l) n c g → AtOwnPlaces l → held_at l n ≡ Some h → SameRoom h new
+pub lifted-as : (l : Lending) (n : ℕ) (h new : Held) (c : Call) (g : Go) (a : Applied) → n < places l.providers → Reads l.providers (cells l) n c g → AtOwnPlaces l → held_at l n ≡ Some h → SameRoom h new
     → taken a (alone new) ≡ step l.providers (alone h) c g → taken a (cells (with_held l n new)) ≡ step l.providers (cells l) c g
 lifted-as l n h new c g a lt q own e r s =
     let p = l.providers in
@@ -123,7 +123,7 @@ lifted l n h new c g a lt i own e r s =
     let p = l.providers in
     lifted-as l n h new (goes_on_as c g) g a lt (reads p (cells l) n c g i) own e r (s ∙ step-alike p (alone h) c g) ∙ sym (step-alike p (cells l) c g)
 
-takes-alike : (p : Providers) (v w : World) (n : ℕ) (c : Call) (g : Go) → IsAt p n c g → takes_memory p v c ≡ takes_memory p w c
+pub takes-alike : (p : Providers) (v w : World) (n : ℕ) (c : Call) (g : Go) → IsAt p n c g → takes_memory p v c ≡ takes_memory p w c
 takes-alike p v w n (call.TConnect fd addr opt udata amax omax umax) g i = refl
 takes-alike p v w n (call.TRcvUData fd max amax omax) g i = refl
 takes-alike p v w n (call.TRcvVUData fd sizes amax omax) g i = refl

@@ -24,23 +24,23 @@ kept_by t at n = cond (is_among t n) (at n) None
 abbrev pub left_from : List ℕ → (ℕ → Option Cell) → ℕ → Option Cell
 left_from t at n = cond (is_among t n) None (at n)
 
-only-step : (t : List ℕ) (b : Bool) (n : ℕ) (o : Option Cell) (rest other : World) → is_among t n ≡ b → only t rest ≡ other → only t (numbered_cell n o ++ rest) ≡ numbered_cell n (cond b o None) ++ other
+pub only-step : (t : List ℕ) (b : Bool) (n : ℕ) (o : Option Cell) (rest other : World) → is_among t n ≡ b → only t rest ≡ other → only t (numbered_cell n o ++ rest) ≡ numbered_cell n (cond b o None) ++ other
 only-step t true n None rest other i e = e
 only-step t false n None rest other i e = e
 only-step t true n (Some c) rest other i e = rw (i, e) refl
 only-step t false n (Some c) rest other i e = rw (i, e) refl
 
-only-from : (t : List ℕ) (at : ℕ → Option Cell) (from n : ℕ) → only t (from_number at from n) ≡ from_number (kept_by t at) from n
+pub only-from : (t : List ℕ) (at : ℕ → Option Cell) (from n : ℕ) → only t (from_number at from n) ≡ from_number (kept_by t at) from n
 only-from t at from zero = refl
 only-from t at from (suc n) = only-step t (is_among t from) from (at from) (from_number at (from + 1) n) (from_number (kept_by t at) (from + 1) n) refl (only-from t at (from + 1) n)
 
-without-step : (t : List ℕ) (b : Bool) (n : ℕ) (o : Option Cell) (rest other : World) → is_among t n ≡ b → without t rest ≡ other → without t (numbered_cell n o ++ rest) ≡ numbered_cell n (cond b None o) ++ other
+pub without-step : (t : List ℕ) (b : Bool) (n : ℕ) (o : Option Cell) (rest other : World) → is_among t n ≡ b → without t rest ≡ other → without t (numbered_cell n o ++ rest) ≡ numbered_cell n (cond b None o) ++ other
 without-step t true n None rest other i e = e
 without-step t false n None rest other i e = e
 without-step t true n (Some c) rest other i e = rw (i, e) refl
 without-step t false n (Some c) rest other i e = rw (i, e) refl
 
-without-from : (t : List ℕ) (at : ℕ → Option Cell) (from n : ℕ) → without t (from_number at from n) ≡ from_number (left_from t at) from n
+pub without-from : (t : List ℕ) (at : ℕ → Option Cell) (from n : ℕ) → without t (from_number at from n) ≡ from_number (left_from t at) from n
 without-from t at from zero = refl
 without-from t at from (suc n) = without-step t (is_among t from) from (at from) (from_number at (from + 1) n) (from_number (left_from t at) (from + 1) n) refl (without-from t at (from + 1) n)
 
@@ -52,11 +52,11 @@ pub without-is : (p : Providers) (t : List ℕ) (at : ℕ → Option Cell) → w
 unfolding cells_by
 without-is p t at = without-from t at 0 (places p + 1)
 
-abbrev cell_in : Cell → Option Numbered → Cell
+abbrev pub cell_in : Cell → Option Numbered → Cell
 cell_in x None = x
 cell_in x (Some c) = c.cell
 
-numbered-one : (n : ℕ) (o q : Option Cell) → option_map (at_number n) o ≡ option_map (at_number n) q → o ≡ q
+pub numbered-one : (n : ℕ) (o q : Option Cell) → option_map (at_number n) o ≡ option_map (at_number n) q → o ≡ q
 numbered-one n None None e = refl
 numbered-one n None (Some c) e = cc
 numbered-one n (Some c) None e = cc
@@ -72,12 +72,12 @@ pub record Stepped (p : Providers) (at : ℕ → Option Cell) (w : World) : Type
   pub is : w ≡ cells_by p next
   pub there : (n : ℕ) → is_some (next n) ≡ is_some (at n)
 
-mapped-there : (b : Bool) (f : Cell → Cell) (o : Option Cell) → is_some (cond b (option_map f o) o) ≡ is_some o
+pub mapped-there : (b : Bool) (f : Cell → Cell) (o : Option Cell) → is_some (cond b (option_map f o) o) ≡ is_some o
 mapped-there true f None = refl
 mapped-there true f (Some c) = refl
 mapped-there false f o = refl
 
-changed-stepped : (p : Providers) (cs : List Change) (at : ℕ → Option Cell) → Stepped p at (changed p (cells_by p at) cs)
+pub changed-stepped : (p : Providers) (cs : List Change) (at : ℕ → Option Cell) → Stepped p at (changed p (cells_by p at) cs)
 changed-stepped p [] at = record { next = at; is = refl; there = λ n. refl }
 changed-stepped p (c ∷ cs) at =
     let r = changed-stepped p cs (changed_at at (cell_number p c) (new_cell p c)) in
@@ -110,15 +110,15 @@ glued p t at bt nt i j k = same-is p bt nt (λ n lt. go n lt (is_among t n) refl
     go n lt true e = rw e at (same-at p (kept_by t bt) (kept_by t nt) n lt h)
     go n lt false e = k n lt e ∙ sym (rw e at (same-at p (left_from t nt) (left_from t at) n lt l))
 
-abbrev outcome_in : Outcome → Option Step → Outcome
+abbrev pub outcome_in : Outcome → Option Step → Outcome
 outcome_in o None = o
 outcome_in o (Some s) = s.outcome
 
-abbrev after_in : State → Option Step → State
+abbrev pub after_in : State → Option Step → State
 after_in a None = a
 after_in a (Some s) = s.after
 
-abbrev world_in : World → Option Step → World
+abbrev pub world_in : World → Option Step → World
 world_in w None = w
 world_in w (Some s) = s.world
 

@@ -18,7 +18,7 @@ use Rattle.xti_core.proofs.Settling.{kept_by, only-is}
 abbrev pub Sub : (ℕ → Option Cell) → (ℕ → Option Cell) → Type 0
 Sub lt at = (n : ℕ) → is_some (lt n) ≡ true → lt n ≡ at n
 
-cell-sub : (p : Providers) (lt at : ℕ → Option Cell) (n : ℕ) → n < places p + 1 → Sub lt at → is_some (lt n) ≡ true → cell_at (cells_by p lt) n ≡ cell_at (cells_by p at) n
+pub cell-sub : (p : Providers) (lt at : ℕ → Option Cell) (n : ℕ) → n < places p + 1 → Sub lt at → is_some (lt n) ≡ true → cell_at (cells_by p lt) n ≡ cell_at (cells_by p at) n
 cell-sub p lt at n b h i = cell_at-is p lt n b ∙ (ap (option_map (at_number n)) (h n i) ∙ sym (cell_at-is p at n b))
 
 pub switch-sub : (p : Providers) (lt at : ℕ → Option Cell) → Sub lt at → is_some (lt (switch_number p)) ≡ true → the_switch p (cells_by p lt) ≡ the_switch p (cells_by p at)
@@ -28,7 +28,7 @@ switch-sub p lt at h i = ap switch_or_empty (cell-sub p lt at (switch_number p) 
 abbrev pub there_and : Providers → (ℕ → Option Cell) → List ℕ → List ℕ
 there_and p lt ns = filter (λ n. is_some (lt n)) (numbers 0 (places p + 1)) ++ ns
 
-above-none : (q : ℕ → Bool) (from k n : ℕ) → n < from → is_among (filter q (numbers from k)) n ≡ false
+pub above-none : (q : ℕ → Bool) (from k n : ℕ) → n < from → is_among (filter q (numbers from k)) n ≡ false
 above-none q from zero n lt = refl
 above-none q from (suc k) n lt = go (q from) (above-none q (from + 1) k n (omega arith))
   where
@@ -36,7 +36,7 @@ above-none q from (suc k) n lt = go (q from) (above-none q (from + 1) k n (omega
     go true i = rw (ne_eqb from n (λ e. omega arith), i) refl
     go false i = i
 
-among-filter : (q : ℕ → Bool) (from k n : ℕ) → from ≤ n → n < from + k → is_among (filter q (numbers from k)) n ≡ q n
+pub among-filter : (q : ℕ → Bool) (from k n : ℕ) → from ≤ n → n < from + k → is_among (filter q (numbers from k)) n ≡ q n
 among-filter q from zero n le lt = absurd (omega arith)
 among-filter q from (suc k) n le lt = go (eqb from n) refl (q from) refl (λ i. among-filter q (from + 1) k n i (omega arith))
   where
@@ -48,7 +48,7 @@ among-filter q from (suc k) n le lt = go (eqb from n) refl (q from) refl (λ i. 
     go false e true i later = rw e (later (grind (arith, nat_tests)))
     go false e false i later = later (grind (arith, nat_tests))
 
-among-both : (ns ms : List ℕ) (n : ℕ) → is_among (ns ++ ms) n ≡ (is_among ns n || is_among ms n)
+pub among-both : (ns ms : List ℕ) (n : ℕ) → is_among (ns ++ ms) n ≡ (is_among ns n || is_among ms n)
 among-both [] ms n = refl
 among-both (m ∷ ns) ms n = go (eqb m n) (is_among ns n) (is_among (ns ++ ms) n) (is_among ms n) (among-both ns ms n)
   where
@@ -60,7 +60,7 @@ among-both (m ∷ ns) ms n = go (eqb m n) (is_among ns n) (is_among (ns ++ ms) n
 abbrev pub AllThere : (ℕ → Option Cell) → List ℕ → Type 0
 AllThere lt ns = AllByRecursion (λ n. is_some (lt n) ≡ true) ns
 
-either-there : (b c : Bool) → (c ≡ true → b ≡ true) → (b || c) ≡ b
+pub either-there : (b c : Bool) → (c ≡ true → b ≡ true) → (b || c) ≡ b
 either-there true c h = refl
 either-there false true h = sym (h refl)
 either-there false false h = refl
@@ -70,7 +70,7 @@ there-among p lt ns n a l =
     among-both (filter (λ n. is_some (lt n)) (numbers 0 (places p + 1))) ns n ∙
     (ap (λ b. b || is_among ns n) (among-filter (λ n. is_some (lt n)) 0 (places p + 1) n (omega arith) (omega arith)) ∙ either-there (is_some (lt n)) (is_among ns n) (λ i. all-among (λ m. is_some (lt m) ≡ true) ns n a i))
 
-within-of : (t ns : List ℕ) → ((n : ℕ) → is_among ns n ≡ true → is_among t n ≡ true) → Within t ns
+pub within-of : (t ns : List ℕ) → ((n : ℕ) → is_among ns n ≡ true → is_among t n ≡ true) → Within t ns
 within-of t [] h = tt
 within-of t (n ∷ ns) h = (h n (rw (eq-eqb n n refl) refl), within-of t ns (λ m i. h m (later-among m n ns i)))
 

@@ -23,14 +23,14 @@ use Rattle.xti_lent.specs.Lending.{cells_by}
 use Rattle.xti_core.proofs.SomeCells.{Sub, AllThere, there_and, there-among, there-only, those-within}
 use Rattle.xti_core.proofs.Settling.{same-at, stepped, settled}
 
-no-open : (p : Providers) (w : World) → SoundWorld p w → endpoint p w no_fd ≡ None
+pub no-open : (p : Providers) (w : World) → SoundWorld p w → endpoint p w no_fd ≡ None
 no-open p w s = go (endpoint p w no_fd) refl
   where
     go : (o : Option Endpoint) → endpoint p w no_fd ≡ o → o ≡ None
     go None i = refl
     go (Some e) i = let f = open-fits p w no_fd e s i in absurd (omega (arith, f))
 
-tells : (p : Providers) (w : World) (c : Call) → endpoint p w no_fd ≡ None → TellsNone p w c
+pub tells : (p : Providers) (w : World) (c : Call) → endpoint p w no_fd ≡ None → TellsNone p w c
 tells p w (call.TOpen prov nonblock) h = λ i. h
 tells p w other h = tt
 
@@ -53,7 +53,7 @@ lent-sub lt k n i = go (lt n) i
     go None i = cc
     go (Some c) i = refl
 
-none-lent : (o : Option Cell) (kept : Option Cell) → is_some o ≡ false → lent_or_kept o kept ≡ kept
+pub none-lent : (o : Option Cell) (kept : Option Cell) → is_some o ≡ false → lent_or_kept o kept ≡ kept
 none-lent None kept e = refl
 none-lent (Some c) kept e = cc
 

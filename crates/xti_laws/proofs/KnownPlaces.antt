@@ -19,18 +19,18 @@ abbrev Few : ℕ → Cell → Type 0
 Few most cell = nat_le (length (switch_in cell).places) most ≡ true
 
 -- an update of the switch keeps how many places it knows
-switch-few : (f : Switch → Switch) → SwitchUpdate f → (s : Switch) → length (f s).places ≡ length s.places
+pub switch-few : (f : Switch → Switch) → SwitchUpdate f → (s : Switch) → length (f s).places ≡ length s.places
 switch-few _ (gives_address prov address fd listening) s = refl
 switch-few _ (gives_up_address fd) s = refl
 switch-few _ (marks_open place) s = length-set s.places place _
 switch-few _ (forgets p fd) s = length-set s.places (place_of p fd) _
 
-endpoint-few : (most g : ℕ) (f : Endpoint → Endpoint) (x : Cell) → Few most x → Few most (change_endpoint g f x)
+pub endpoint-few : (most g : ℕ) (f : Endpoint → Endpoint) (x : Cell) → Few most x → Few most (change_endpoint g f x)
 endpoint-few most g f (switch_cell s) h = h
 endpoint-few most g f (endpoint_cell m None) h = h
 endpoint-few most g f (endpoint_cell m (Some e)) h = h
 
-kind-few : (most : ℕ) (p : Providers) → Keeps p (Few most)
+pub kind-few : (most : ℕ) (p : Providers) → Keeps p (Few most)
 kind-few most p c (updates fd f u) x h = endpoint-few most (generation_of p fd) f x h
 kind-few most p c (updates_peer fd peer f u) x h = endpoint-few most (generation_of p peer) _ x h
 kind-few most p c (switches f u) (endpoint_cell g body) h = h
@@ -46,11 +46,11 @@ kind-few most p c (closes fd) (endpoint_cell g (Some e)) h = go (eqb g (generati
     go true = h
     go false = h
 
-closed-few : (most from n : ℕ) (w : World) → AllCells (Few most) w → AllCells (Few most) (closed_places from n ++ w)
+pub closed-few : (most from n : ℕ) (w : World) → AllCells (Few most) w → AllCells (Few most) (closed_places from n ++ w)
 closed-few most from zero w h = h
 closed-few most from (suc n) w h = (leb-zero most, closed-few most (from + 1) n w h)
 
-switch-known : (most n : ℕ) (w : World) → AllCells (Few most) w → nat_le (length (switch_or_empty (cell_at w n)).places) most ≡ true
+pub switch-known : (most n : ℕ) (w : World) → AllCells (Few most) w → nat_le (length (switch_or_empty (cell_at w n)).places) most ≡ true
 switch-known most n [] h = leb-zero most
 switch-known most n (c ∷ w) h = go (eqb c.number n) (switch-known most n w h.1)
   where
@@ -58,7 +58,7 @@ switch-known most n (c ∷ w) h = go (eqb c.number n) (switch-known most n w h.1
     go true k = h.0
     go false k = k
 
-opening-few : (n : ℕ) → Few n (switch_cell (opening_switch n))
+pub opening-few : (n : ℕ) → Few n (switch_cell (opening_switch n))
 opening-few n = le-leb (length (replicate n closed_place)) n (subst (λ k. k ≤ n) (sym (length-replicate n closed_place)) (le_refl n))
 
 pub known-places : (p : Providers) (entries : List Entry) → KnowsNoMore p (after p entries)

@@ -6,17 +6,17 @@ use Rattle.std.proofs.lemmas.Nat.{div-mul-add, mod-mul-add}
 use Rattle.xti_model.specs.declared.profile.Providers.{Providers}
 use Rattle.xti_model.specs.World.{places, place_of, generation_of, descriptor, switch_number}
 
-some-places : (p : Providers) → 0 < places p
+pub some-places : (p : Providers) → 0 < places p
 some-places p = omega arith
 
-apart : (m n : ℕ) → n < m → eqb n m ≡ false
+pub apart : (m n : ℕ) → n < m → eqb n m ≡ false
 apart m n h = ne_eqb n m (λ e. omega (arith, e, h))
 
 -- no descriptor has the switch's number for its place
 pub not-switch : (p : Providers) (fd : ℕ) → eqb (place_of p fd) (switch_number p) ≡ false
 not-switch p fd = apart (places p) (place_of p fd) (mod-lt fd (some-places p))
 
-row : (p : Providers) (g n : ℕ) → descriptor p g n ≡ g * places p + n
+pub row : (p : Providers) (g n : ℕ) → descriptor p g n ≡ g * places p + n
 row p g n = ap (λ z. z + n) (mul_comm (places p) g)
 
 -- the place and the generation of a descriptor

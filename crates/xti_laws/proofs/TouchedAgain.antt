@@ -15,22 +15,22 @@ use Rattle.xti_laws.proofs.Touched.{touched-within, within-named}
 use Rattle.xti_laws.proofs.Others.{within-right}
 
 -- what is named through a switch, where the switch is the same
-bound-same : (p : Providers) (o : Option Endpoint) (f g : Endpoint → List ℕ) → ((e : Endpoint) → f e ≡ g e) → of_some o f ≡ of_some o g
+pub bound-same : (p : Providers) (o : Option Endpoint) (f g : Endpoint → List ℕ) → ((e : Endpoint) → f e ≡ g e) → of_some o f ≡ of_some o g
 bound-same p None f g h = refl
 bound-same p (Some e) f g h = h e
 
-datagram-only : (p : Providers) (t : List ℕ) (w : World) (fd : ℕ) (address : List ℕ) → is_among t (place_of p fd) ≡ true → is_among t (switch_number p) ≡ true
+pub datagram-only : (p : Providers) (t : List ℕ) (w : World) (fd : ℕ) (address : List ℕ) → is_among t (place_of p fd) ≡ true → is_among t (switch_number p) ≡ true
     → (switch_number p ∷ of_some (endpoint p (only t w) fd) (bound_cell p (only t w) address)) ≡ (switch_number p ∷ of_some (endpoint p w fd) (bound_cell p w address))
 datagram-only p t w fd address h k =
     ap (λ o. switch_number p ∷ of_some o (bound_cell p (only t w) address)) (endpoint-only p t fd h w) ∙
     ap (λ cs. switch_number p ∷ cs) (bound-same p (endpoint p w fd) (bound_cell p (only t w) address) (bound_cell p w address) (λ e. ap (λ s. cell_of p (bound s e.prov address)) (the_switch-only p t k w)))
 
 -- the switch is named where there is a mark
-mark-only : (p : Providers) (t : List ℕ) (w v : World) (e : Endpoint) (o : Option (List ℕ)) → Within t (cells_to p v e o) → cells_to p (only t w) e o ≡ cells_to p w e o
+pub mark-only : (p : Providers) (t : List ℕ) (w v : World) (e : Endpoint) (o : Option (List ℕ)) → Within t (cells_to p v e o) → cells_to p (only t w) e o ≡ cells_to p w e o
 mark-only p t w v e None h = refl
 mark-only p t w v e (Some address) h = ap (λ s. switch_number p ∷ cell_of p (bound s e.prov address)) (the_switch-only p t h.0 w)
 
-look-only : (p : Providers) (t : List ℕ) (w v : World) (fd : ℕ) → is_among t (place_of p fd) ≡ true → endpoint p v fd ≡ endpoint p w fd → Within t (of_some (endpoint p v fd) (λ e. peer_cell p e ++ marked_cells p v e))
+pub look-only : (p : Providers) (t : List ℕ) (w v : World) (fd : ℕ) → is_among t (place_of p fd) ≡ true → endpoint p v fd ≡ endpoint p w fd → Within t (of_some (endpoint p v fd) (λ e. peer_cell p e ++ marked_cells p v e))
     → of_some (endpoint p (only t w) fd) (λ e. peer_cell p e ++ marked_cells p (only t w) e) ≡ of_some (endpoint p w fd) (λ e. peer_cell p e ++ marked_cells p w e)
 look-only p t w v fd k i h = ap (λ o. of_some o (λ e. peer_cell p e ++ marked_cells p (only t w) e)) (endpoint-only p t fd k w) ∙ go (endpoint p w fd) (subst (λ o. Within t (of_some o (λ e. peer_cell p e ++ marked_cells p v e))) i h)
   where
@@ -42,7 +42,7 @@ look-only p t w v fd k i h = ap (λ o. of_some o (λ e. peer_cell p e ++ marked_
 abbrev SameThere : Providers → List ℕ → World → World → Type 0
 SameThere p t w v = (fd : ℕ) → is_among t (place_of p fd) ≡ true → endpoint p v fd ≡ endpoint p w fd
 
-others-only : (p : Providers) (t : List ℕ) (w v : World) (c : Call) → SameThere p t w v → Within t (named p v c) → others p (only t w) c ≡ others p w c
+pub others-only : (p : Providers) (t : List ℕ) (w v : World) (c : Call) → SameThere p t w v → Within t (named p v c) → others p (only t w) c ≡ others p w c
 others-only p t w v (call.TOpen prov nonblock) i h = ap (λ s. switch_number p ∷ option_to_list (opening_place p s prov)) (the_switch-only p t h.0 w)
 others-only p t w v (call.TClose fd) i h = ap (λ o. switch_number p ∷ of_some o (λ e. peer_cell p e ++ target_cell p e ++ caller_cells p e)) (endpoint-only p t fd.0 h.0 w)
 others-only p t w v (call.TBind fd addr qlen amax) i h = refl

@@ -26,13 +26,13 @@ use Rattle.xti_laws.proofs.TouchedAgain.{named-some}
 use Rattle.xti_laws.proofs.TableWalk.{told-fd, ToldIs}
 use Rattle.xti_laws.proofs.Places.{place-is}
 
-none-some : (n : ℕ) → None ≡ Some n → ⊥
+pub none-some : (n : ℕ) → None ≡ Some n → ⊥
 none-some n k = false≢true (ap is_none (sym k))
 
-within : (n k m : ℕ) → n < k → k ≤ m → n < m
+pub within : (n k m : ℕ) → n < k → k ≤ m → n < m
 within n k m i j = omega (arith, i, j)
 
-opening-small : (p : Providers) (s : Switch) (prov : Prov) (n : ℕ) → length s.places ≤ places p → opening_place p s prov ≡ Some n → n < places p
+pub opening-small : (p : Providers) (s : Switch) (prov : Prov) (n : ℕ) → length s.places ≤ places p → opening_place p s prov ≡ Some n → n < places p
 opening-small p s prov n k = go (is_provider prov)
   where
     go : (b : Bool) → if_provider b (free_place p s) ≡ Some n → n < places p
@@ -40,15 +40,15 @@ opening-small p s prov n k = go (is_provider prov)
     go false h = absurd (none-some n h)
 
 -- The endpoint whose state is told is among them, but for an open that no place can take.
-head-within : (p : Providers) (t : List ℕ) (ns : List ℕ) (o : Option ℕ) (fd : ℕ) → o ≡ Some fd → Within t (cell_of p o ++ ns) → is_among t (place_of p fd) ≡ true
+pub head-within : (p : Providers) (t : List ℕ) (ns : List ℕ) (o : Option ℕ) (fd : ℕ) → o ≡ Some fd → Within t (cell_of p o ++ ns) → is_among t (place_of p fd) ≡ true
 head-within p t ns None fd i h = absurd (none-some fd i)
 head-within p t ns (Some x) fd i h = (subst (λ z. Within t (cell_of p z ++ ns)) i h).0
 
-told-at : (p : Providers) (t : List ℕ) (w : World) (c : Call) (g : Go) (o : Option ℕ) → fd_of c ≡ o → is_none o ≡ false → ToldIs p w c g o → Within t (named p w c) → is_among t (place_of p (plan p w c g).fd) ≡ true
+pub told-at : (p : Providers) (t : List ℕ) (w : World) (c : Call) (g : Go) (o : Option ℕ) → fd_of c ≡ o → is_none o ≡ false → ToldIs p w c g o → Within t (named p w c) → is_among t (place_of p (plan p w c g).fd) ≡ true
 told-at p t w c g None i n e h = absurd (false≢true (sym n))
 told-at p t w c g (Some fd) i n e h = ap (λ z. is_among t (place_of p z)) e ∙ head-within p t (others p w c) (fd_of c) fd i h
 
-cell_at-gone : (t : List ℕ) (n : ℕ) → is_among t n ≡ false → (w : World) → cell_at (only t w) n ≡ None
+pub cell_at-gone : (t : List ℕ) (n : ℕ) → is_among t n ≡ false → (w : World) → cell_at (only t w) n ≡ None
 cell_at-gone t n k [] = refl
 cell_at-gone t n k (c ∷ w) = go (is_among t c.number) refl (eqb c.number n) refl (cell_at-gone t n k w)
   where
@@ -57,17 +57,17 @@ cell_at-gone t n k (c ∷ w) = go (is_among t c.number) refl (eqb c.number n) re
     go true h false g ih = simp (h, g) ih
     go false h d g ih = simp h ih
 
-none-only : (p : Providers) (t : List ℕ) (w : World) (fd : ℕ) → endpoint p w fd ≡ None → endpoint p (only t w) fd ≡ None
+pub none-only : (p : Providers) (t : List ℕ) (w : World) (fd : ℕ) → endpoint p w fd ≡ None → endpoint p (only t w) fd ≡ None
 none-only p t w fd h = go (is_among t (place_of p fd)) refl
   where
     go : (b : Bool) → is_among t (place_of p fd) ≡ b → endpoint p (only t w) fd ≡ None
     go true k = endpoint-only p t fd k w ∙ h
     go false k = ap (option_and_then (λ c. endpoint_in (generation_of p fd) c.cell)) (cell_at-gone t (place_of p fd) k w)
 
-none-made : (p : Providers) (t : List ℕ) (w : World) (fd : ℕ) (outcome : Outcome) → endpoint p w fd ≡ None → made p fd outcome (only t w) ≡ restrict t (made p fd outcome w)
+pub none-made : (p : Providers) (t : List ℕ) (w : World) (fd : ℕ) (outcome : Outcome) → endpoint p w fd ≡ None → made p fd outcome (only t w) ≡ restrict t (made p fd outcome w)
 none-made p t w fd outcome h = ap (λ e. record { outcome = outcome; after = state_of e; world = only t w }) (none-only p t w fd h ∙ sym h)
 
-refused-only : (p : Providers) (t : List ℕ) (w : World) (s : Switch) (prov : Prov) (nonblock : Bool) → endpoint p w Open.no_fd ≡ None → (r : Option Refusal)
+pub refused-only : (p : Providers) (t : List ℕ) (w : World) (s : Switch) (prov : Prov) (nonblock : Bool) → endpoint p w Open.no_fd ≡ None → (r : Option Refusal)
     → step_by p (only t w) (Open.refused_plan p s prov nonblock) r ≡ option_map (restrict t) (step_by p w (Open.refused_plan p s prov nonblock) r)
 refused-only p t w s prov nonblock h None = ap Some (none-made p t w Open.no_fd _ h)
 refused-only p t w s prov nonblock h (Some (answers reply)) = ap Some (none-made p t w Open.no_fd _ h)
@@ -78,7 +78,7 @@ refused-only p t w s prov nonblock h (Some (waits reply)) = go nonblock
     go false = refl
 refused-only p t w s prov nonblock h (Some loses) = ap Some (none-made p t w Open.no_fd _ h)
 
-open-reads : (p : Providers) (t : List ℕ) (w : World) (prov : Prov) (nonblock : Bool) (g : Go) → KnowsNoMore p w → TellsNone p w (call.TOpen prov nonblock) → Within t (named p w (call.TOpen prov nonblock))
+pub open-reads : (p : Providers) (t : List ℕ) (w : World) (prov : Prov) (nonblock : Bool) (g : Go) → KnowsNoMore p w → TellsNone p w (call.TOpen prov nonblock) → Within t (named p w (call.TOpen prov nonblock))
     → step p (only t w) (call.TOpen prov nonblock) g ≡ option_map (restrict t) (step p w (call.TOpen prov nonblock) g)
 unfolding step plan
 open-reads p t w prov nonblock g k n within = go (opening_place p (the_switch p w) prov) refl
@@ -109,7 +109,7 @@ pub touched-changes : (p : Providers) (w : World) (c : Call) (g : Go) → withou
 touched-changes p w c g = step-others p (touched p w c) w c g (touched-within p w c)
 
 -- some cells of a world have all that the call touches on them alone: so they have all that it names in the world
-some-within : (p : Providers) (t : List ℕ) (w : World) (c : Call) → Within t (touched p (only t w) c) → Within t (named p w c)
+pub some-within : (p : Providers) (t : List ℕ) (w : World) (c : Call) → Within t (touched p (only t w) c) → Within t (named p w c)
 some-within p t w c h =
     let i : Within t (named p (only t w) c) = within-named p t (only t w) c h in
     subst (Within t) (named-some p t w c i) i
