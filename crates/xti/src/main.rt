@@ -15,17 +15,20 @@ const VERSION: &str = "xti 0.1.0\n";
 
 const USAGE: &str = "\
 usage: xti replay
+       xti check
        xti frames
        xti --help | -h | --version
 
 replay  reads a script of XTI calls from standard input, makes the calls of
         its workers by turns, and prints their journal on standard output
+check   reads a journal from standard input, and prints the number of its
+        steps where each is what XTI gives there, else the first wrong line
 frames  reads TPI frames one after the other from standard input, and prints a
         line for each on standard output
 
 status: 0 done, 1 the words are no command, 2 the input is refused,
         3 a worker is blocked at the end, 4 out of memory,
-        5 reading failed, 6 writing failed
+        5 reading failed, 6 writing failed, 7 the journal is not legal
 ";
 
 /// The text that the words ask for where they are no command: the usage or the version.

@@ -3,7 +3,7 @@ use Rattle.std.proofs.Common.{◌≡◌, ◌≢◌, refl, ap, sym, ◌∙◌, Li
 use Rattle.clap.specs.Words.{Kinds, Row, Text}
 use Rattle.clap.proofs.OnLiterals.{clap_on_literals}
 use Rattle.xti_command.specs.declared.command.Command.{Command}
-use Rattle.xti_command.specs.Words.{IsPlain, replay, frames, command_in, command_of, faults_in, found_in, is_taken, unless_wrong}
+use Rattle.xti_command.specs.Words.{IsPlain, replay, check, frames, command_in, command_of, faults_in, found_in, is_taken, unless_wrong}
 
 with_none : (faults : Kinds) (command : Option Command) → faults ≡ [] → unless_wrong faults command ≡ command
 with_none [] command none = refl
@@ -26,9 +26,11 @@ refused words some = with_some _ _ some
 pub plain_command : (words : List Text) (command : Command) → IsPlain words command → command_of words ≡ Some command
 unfolding command_of faults_in found_in clap_on_literals
 plain_command words command replay = refl
+plain_command words command check = refl
 plain_command words command frames = refl
 
 pub plain_taken : (words : List Text) (command : Command) → IsPlain words command → is_taken words ≡ true
 unfolding is_taken clap_on_literals
 plain_taken words command replay = refl
+plain_taken words command check = refl
 plain_taken words command frames = refl

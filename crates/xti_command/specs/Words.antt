@@ -4,7 +4,7 @@ use Rattle.std.specs.declared.alloc.Global.{Global}
 use Rattle.std.specs.Str.{bytes_eq}
 use Rattle.clap.specs.Words.{App, Kinds, Row, Rule, Text, fault_of, first_of, matches_of, new_app, new_rule, takes, with_rule}
 use Rattle.xti_command.specs.declared.command.Command.{Command}
-use Rattle.xti_command.specs.declared.command.Command.TheVariants.{Replay, Frames}
+use Rattle.xti_command.specs.declared.command.Command.TheVariants.{Replay, Check, Frames}
 
 -- the texts of strings
 abbrev pub texts : List (String Global) → List Text
@@ -36,7 +36,7 @@ is_taken words = takes command_form words
 
 -- the command of this name
 abbrev pub named : Text → Option Command
-named word = if bytes_eq word (codes "replay") then Some Replay else if bytes_eq word (codes "frames") then Some Frames else None
+named word = if bytes_eq word (codes "replay") then Some Replay else if bytes_eq word (codes "check") then Some Check else if bytes_eq word (codes "frames") then Some Frames else None
 
 -- the command that stands in what clap found
 abbrev pub command_in : List Row → Option Command
@@ -53,4 +53,5 @@ command_of words = unless_wrong (faults_in words) (command_in (found_in words))
 -- the words that are a command's own name
 pub data IsPlain : List Text → Command → Type 0 where
   replay : IsPlain (codes "replay" ∷ []) Replay
+  check : IsPlain (codes "check" ∷ []) Check
   frames : IsPlain (codes "frames" ∷ []) Frames

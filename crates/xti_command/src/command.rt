@@ -13,6 +13,8 @@ use std::alloc::{AllocError, Global};
 pub enum Command {
     /// Reads a script, makes its calls, and writes the journal.
     Replay,
+    /// Reads a journal, and says whether it is legal.
+    Check,
     /// Reads frames one after the other, and writes a line for each.
     Frames,
 }
@@ -43,6 +45,7 @@ fn command_named(word: &str) -> Option<Command>
 {
     match word {
         "replay" => Some(Command::Replay),
+        "check" => Some(Command::Check),
         "frames" => Some(Command::Frames),
         _ => None,
     }

@@ -7,14 +7,20 @@ use Rattle.tpi_grammar.specs.Frames.{IsFrames, IsFirstWrong}
 use Rattle.xti_model.specs.declared.script.Script.{Script}
 use Rattle.xti_script.specs.Grammar.{IsScript}
 use Rattle.xti_script.specs.Refused.{IsRefusedAt}
+use Rattle.xti_model.specs.declared.script.Journal.{Journal}
+use Rattle.xti_journal_reader.specs.Grammar.{IsJournal}
+use Rattle.xti_journal_reader.specs.Refused.{IsRefusedAt as IsNoJournalAt}
 use Rattle.xti_command.specs.declared.command.Command.{Command}
-use Rattle.xti_command.specs.declared.command.Command.TheVariants.{Replay, Frames}
-use Rattle.xti_run.specs.Program.{IsLeft, IsRun, IsAnswer, IsOutput, IsOutputOf, IsDone, HasInput, HasScript, HasFrames, status_with}
+use Rattle.xti_command.specs.declared.command.Command.TheVariants.{Replay, Check, Frames}
+use Rattle.xti_run.specs.Program.{IsLeft, IsRun, IsAnswer, IsOutput, IsOutputOf, IsDone, HasInput, HasScript, HasJournal, HasFrames, status_with}
 use Rattle.xti_command.specs.Words.{command_of}
 
--- no text is a script and refused at a line, and no bytes are frames and wrong first at a place
+-- no text is a script and refused at a line, nor a journal, and no bytes are frames and wrong first at a place
 abbrev pub NoScript : Type 0
 NoScript = (text : List ℕ) (s : Script) (line : ℕ) → IsScript s text → IsRefusedAt text line → ⊥
+
+abbrev pub NoJournal : Type 0
+NoJournal = (text : List ℕ) (j : Journal) (line : ℕ) → IsJournal j text → IsNoJournalAt text line → ⊥
 
 abbrev pub NoFrames : Type 0
 NoFrames = (bs : List ℕ) (at : ℕ) → IsFirstWrong bs at → IsFrames bs → ⊥
@@ -32,14 +38,21 @@ script_served never left input status text l h (inl (within, inl done)) = either
 script_served never left input status text l h (inl (within, inr refused)) = absurd (never input h.script refused.line (subst (λ bs. IsScript h.script bs) (the_left left input h.input l h.told) h.is_script) refused.refused)
 script_served never left input status text l h (inr long) = let same : length h.input ≡ length input = ap length (the_left left input h.input l h.told) in absurd (omega (arith, long.long, h.within, same))
 
+journal_served : NoJournal → (left : Option (List ℕ)) (input : List ℕ) (status : ℕ) (text : List ℕ) → IsLeft left input → HasJournal left → IsAnswer Check input status text → IsDone Check status
+journal_served never left input status text l h (inl (within, inl legal)) = inl legal.done
+journal_served never left input status text l h (inl (within, inr (inl wrong))) = inr wrong.done
+journal_served never left input status text l h (inl (within, inr (inr refused))) = absurd (never input h.journal refused.line (subst (λ bs. IsJournal h.journal bs) (the_left left input h.input l h.told) h.is_journal) refused.refused)
+journal_served never left input status text l h (inr long) = let same : length h.input ≡ length input = ap length (the_left left input h.input l h.told) in absurd (omega (arith, long.long, h.within, same))
+
 frames_served : NoFrames → (left : Option (List ℕ)) (input : List ℕ) (status : ℕ) (text : List ℕ) → IsLeft left input → HasFrames left → IsAnswer Frames input status text → status ≡ 0
 frames_served never left input status text l h (inl (within, inl done)) = done.done
 frames_served never left input status text l h (inl (within, inr refused)) = absurd (never input refused.at refused.wrong (subst IsFrames (the_left left input h.input l h.told) h.are_frames))
 frames_served never left input status text l h (inr long) = let same : length h.input ≡ length input = ap length (the_left left input h.input l h.told) in absurd (omega (arith, long.long, h.within, same))
 
-run_served : NoScript → NoFrames → (command : Command) (left : Option (List ℕ)) (status : ℕ) (text : List ℕ) → HasInput command left → IsRun command left status text → IsDone command status
-run_served scripts frames Replay left status text h run = script_served scripts left run.input status text run.is_left h run.answer
-run_served scripts frames Frames left status text h run = frames_served frames left run.input status text run.is_left h run.answer
+run_served : NoScript → NoJournal → NoFrames → (command : Command) (left : Option (List ℕ)) (status : ℕ) (text : List ℕ) → HasInput command left → IsRun command left status text → IsDone command status
+run_served scripts journals frames Replay left status text h run = script_served scripts left run.input status text run.is_left h run.answer
+run_served scripts journals frames Check left status text h run = journal_served journals left run.input status text run.is_left h run.answer
+run_served scripts journals frames Frames left status text h run = frames_served frames left run.input status text run.is_left h run.answer
 
-pub served : NoScript → NoFrames → (words : List (List ℕ)) (command : Command) (left : Option (List ℕ)) (status : ℕ) (text : List ℕ) → command_of words ≡ Some command → HasInput command left → IsOutput words left status text → IsDone command status
-served scripts frames words command left status text e h out = run_served scripts frames command left status text h (subst (λ o. IsOutputOf o left status text) e out)
+pub served : NoScript → NoJournal → NoFrames → (words : List (List ℕ)) (command : Command) (left : Option (List ℕ)) (status : ℕ) (text : List ℕ) → command_of words ≡ Some command → HasInput command left → IsOutput words left status text → IsDone command status
+served scripts journals frames words command left status text e h out = run_served scripts journals frames command left status text h (subst (λ o. IsOutputOf o left status text) e out)

@@ -15,10 +15,14 @@ use Rattle.xti_streams.specs.Laws.{PrefixLaw, WaitingLaw, ReleaseLaw}
 use Rattle.xti_script.specs.Grammar.{IsScript}
 use Rattle.xti_script.specs.Refused.{IsRefusedAt}
 use Rattle.xti_journal.specs.JournalText.{journal_text}
+use Rattle.xti_journal_reader.specs.Grammar.{IsJournal}
+use Rattle.xti_journal_reader.specs.Refused.{IsRefusedAt as IsNoJournalAt}
+use Rattle.xti_check.specs.Verdicts.{IsLegal}
+use Rattle.xti_check.specs.Judgements.{TellsWrong, legal_text}
 use Rattle.tpi_grammar.specs.Frames.{IsFrames, IsFirstWrong}
 use Rattle.xti_frames.specs.FrameText.{IsShown}
 use Rattle.xti_command.specs.declared.command.Command.{Command}
-use Rattle.xti_command.specs.declared.command.Command.TheVariants.{Replay, Frames}
+use Rattle.xti_command.specs.declared.command.Command.TheVariants.{Replay, Check, Frames}
 use Rattle.xti_command.specs.Words.{command_of}
 
 -- the most bytes of an input
@@ -74,6 +78,28 @@ pub record IsRefusedInput (input : List ℕ) (status : ℕ) (text : List ℕ) : 
   pub done : status ≡ 2
   pub printed : text ≡ refused_line line
 
+-- the input is a legal journal: status 0, and the number of its entries
+pub record IsLegalJournal (input : List ℕ) (status : ℕ) (text : List ℕ) : Type 0 where
+  pub journal : Journal
+  pub is_journal : IsJournal journal input
+  pub legal : IsLegal journal
+  pub done : status ≡ 0
+  pub printed : text ≡ legal_text (length journal.entries)
+
+-- the input is a journal that isn't legal: status 7, and its first wrong line, with what should stand there and what stands there
+pub record IsWrongJournal (input : List ℕ) (status : ℕ) (text : List ℕ) : Type 0 where
+  pub journal : Journal
+  pub is_journal : IsJournal journal input
+  pub done : status ≡ 7
+  pub wrong : TellsWrong journal text
+
+-- the input is no journal: status 2, and the first line by which it is not
+pub record IsRefusedJournal (input : List ℕ) (status : ℕ) (text : List ℕ) : Type 0 where
+  pub line : ℕ
+  pub refused : IsNoJournalAt input line
+  pub done : status ≡ 2
+  pub printed : text ≡ refused_line line
+
 -- the input is frames one after the other: status 0 and a line for each
 pub record IsListed (input : List ℕ) (status : ℕ) (text : List ℕ) : Type 0 where
   pub done : status ≡ 0
@@ -95,6 +121,7 @@ pub record IsTooLong (input : List ℕ) (status : ℕ) (text : List ℕ) : Type 
 -- the status and the text for an input within the limit
 abbrev pub IsAnswered : Command → List ℕ → ℕ → List ℕ → Type 0
 IsAnswered Replay input status text = IsReplayed input status text ⊎ IsRefusedInput input status text
+IsAnswered Check input status text = IsLegalJournal input status text ⊎ (IsWrongJournal input status text ⊎ IsRefusedJournal input status text)
 IsAnswered Frames input status text = IsListed input status text ⊎ IsRefusedByte input status text
 
 -- the status and the text for an input
@@ -160,15 +187,29 @@ pub record HasFrames (left : Option (List ℕ)) : Type 0 where
   pub within : length input ≤ limit
   pub are_frames : IsFrames input
 
+-- what a source that tells its bytes had left is a journal, within the limit
+pub record HasJournal (left : Option (List ℕ)) : Type 0 where
+  pub journal : Journal
+  pub input : List ℕ
+  pub told : left ≡ Some input
+  pub within : length input ≤ limit
+  pub is_journal : IsJournal journal input
+
 -- how the command ends with what it takes, where memory is found
 abbrev pub IsDone : Command → ℕ → Type 0
 IsDone Replay status = (status ≡ 0) ⊎ (status ≡ 3)
+IsDone Check status = (status ≡ 0) ⊎ (status ≡ 7)
 IsDone Frames status = status ≡ 0
 
 -- what the command takes
 abbrev pub HasInput : Command → Option (List ℕ) → Type 0
 HasInput Replay left = HasScript left
+HasInput Check left = HasJournal left
 HasInput Frames left = HasFrames left
+
+-- with this status the whole text was written
+abbrev pub IsWhole : ℕ → Type 0
+IsWhole status = (status < 4) ⊎ (status ≡ 7)
 
 -- no fault was counted
 abbrev pub NoFault : ℕ → ℕ → Type 0

@@ -10,7 +10,7 @@ ghost use Rattle.xti_script.specs.Grammar.{IsScript};
 ghost use Rattle.xti_command.specs.declared.command.Command.{Command};
 ghost use Rattle.xti_command.specs.Words.{IsPlain, command_in, command_of, found_in, is_taken};
 ghost use Rattle.xti_run.specs.Entries.{WritesAll};
-ghost use Rattle.xti_run.specs.Program.{IsReplayed, IsRefusedInput, IsListed, IsRefusedByte, IsAnswered, IsRun, IsOutput, IsRefusedWords, IsCommand, IsWritten, IsWrittenOrOutOfMemory, IsCutOff, HasInput, IsDone, IsOutOfMemory, IsReadFault, IsUnanswered, NoFault, limit, refused_line, refused_byte, refused_words, refused_size, status_with};
+ghost use Rattle.xti_run.specs.Program.{IsReplayed, IsRefusedInput, IsLegalJournal, IsWrongJournal, IsRefusedJournal, IsWhole, IsListed, IsRefusedByte, IsAnswered, IsRun, IsOutput, IsRefusedWords, IsCommand, IsWritten, IsWrittenOrOutOfMemory, IsCutOff, HasInput, IsDone, IsOutOfMemory, IsReadFault, IsUnanswered, NoFault, limit, refused_line, refused_byte, refused_words, refused_size, status_with};
 
 use crate::gate::Gate;
 use crate::round_robin::texts_are_playable;
@@ -20,6 +20,7 @@ use std::thread::Threads;
 use tpi_grammar::frames_law;
 use xti_base::Octets;
 use xti_base::limits::{MOST_INPUT, MOST_STEPS};
+use xti_check::{Judgement, judge};
 use xti_command::{Command, Words, WordsFail, plain_words_are_commands};
 use xti_frames::{FramesFail, show_frames};
 use xti_io::{ReadEnd, Sink, Source, read_all, write_all};
@@ -32,7 +33,7 @@ use xti_streams::scripts_keep_order;
 /// How a run of the program ends.
 ///
 /// 0: done whole. 1: the words are no command. 2: the input is too long, or isn't in its form. 3: a worker of the
-/// script is blocked at the end. 4: out of memory. 5: reading failed. 6: writing failed.
+/// script is blocked at the end. 4: out of memory. 5: reading failed. 6: writing failed. 7: the journal isn't legal.
 #[derive(Clone, Copy, Debug, PartialEq, Eq)]
 pub struct Status(pub u8);
 
@@ -126,6 +127,21 @@ fn replay_answer(alloc: Global, input: Octets) -> Result<Answer, AllocError>
     }
 }
 
+/// What `check` answers to an input within the limit.
+fn check_answer(alloc: Global, input: &[u8]) -> Result<Answer, AllocError>
+    ensures { IfOk result (λ a. IsLegalJournal input.now a.status a.text
+        ⊎ (IsWrongJournal input.now a.status a.text ⊎ IsRefusedJournal input.now a.status a.text)) }
+{
+    match judge(alloc, input)? {
+        Judgement::Legal { text } => Ok(Answer { status: 0, text }),
+        Judgement::Wrong { text } => Ok(Answer { status: 7, text }),
+        Judgement::Refused { line } => {
+            let text = line_text(alloc, line)?;
+            Ok(Answer { status: 2, text })
+        }
+    }
+}
+
 /// What `frames` answers to an input within the limit.
 fn frames_answer(alloc: Global, input: &[u8]) -> Result<Answer, AllocError>
     ensures { IfOk result (λ a. IsListed input.now a.status a.text ⊎ IsRefusedByte input.now a.status a.text) }
@@ -146,6 +162,7 @@ fn answer_to(alloc: Global, command: Command, input: Octets) -> Result<Answer, A
 {
     match command {
         Command::Replay => replay_answer(alloc, input),
+        Command::Check => check_answer(alloc, input.as_slice()),
         Command::Frames => frames_answer(alloc, input.as_slice()),
     }
 }
@@ -207,8 +224,9 @@ fn run_to_end<R: Source, W: Sink>(
     source: &mut R,
     sink: &mut W,
 ) -> Status
-    // Below 4 the whole text was written: the journal of a legal run, the lines of the frames, or why there are none.
-    ensures written { result.0 < 4
+    // Below 4 and with 7 the whole text was written: the journal of a legal run, the verdict on a journal, the lines of the
+    // frames, or why there are none.
+    ensures written { IsWhole result.0
         → IsWritten words.now (R.left source.old) result.0 (W.held sink.old) (W.held sink.new) }
     ensures unwritten { (result.0 ≡ 4) ⊎ (result.0 ≡ 5) → W.held sink.new ≡ W.held sink.old }
     ensures cut_off { result.0 ≡ 6 → IsCutOff words.now (R.left source.old) (W.held sink.old) (W.held sink.new) }
@@ -216,7 +234,7 @@ fn run_to_end<R: Source, W: Sink>(
     // Faults are answered only where their count rose.
     ensures read_fault { result.0 ≡ 5 → IsCommand words.now × Rose (R.faults source.old) (R.faults source.new) }
     ensures write_fault { result.0 ≡ 6 → Rose (W.faults sink.old) (W.faults sink.new) }
-    ensures range { result.0 < 7 }
+    ensures range { result.0 < 8 }
     ensures words { result.0 ≡ 1 → command_of words.now ≡ None }
     ensures taken { is_taken words.now ≡ true → result.0 ≡ 1 → command_in (found_in words.now) ≡ None }
     ensures plain { (command : Command) → IsPlain words.now command → result.0 ≢ 1 }
@@ -236,6 +254,7 @@ fn run_to_end<R: Source, W: Sink>(
     ensures unread { command_of words.now ≡ None → source.new ≡ source.old }
 {
     never_both();
+    xti_journal_reader::never_both();
     frames_law();
     plain_words_are_commands();
     match output(alloc, words, source) {
@@ -249,10 +268,11 @@ fn run_to_end<R: Source, W: Sink>(
 
 /// Runs the command of the words over a source and a sink, and answers how it ended.
 ///
-/// The commands are `replay` and `frames`, one word each. `replay` reads a script, makes the calls of its workers by turns, and
-/// writes the journal; `frames` reads TPI frames one after the other, and writes a line for each.
+/// The commands are `replay`, `check` and `frames`, one word each. `replay` reads a script, makes the calls of its workers by
+/// turns, and writes the journal; `check` reads a journal, and writes `legal N` or its first wrong line; `frames` reads TPI
+/// frames one after the other, and writes a line for each.
 /// The words are looked at first, then the source is read, and the whole text is made before the first write.
-/// Neither command waits for anybody, so the runtime and the gate are left alone.
+/// No command waits for anybody, so the runtime and the gate are left alone.
 pub fn program<T: Threads + Wait + Sync, R: Source, W: Sink, G: Gate>(
     _rt: &T,
     alloc: Global,
@@ -261,8 +281,9 @@ pub fn program<T: Threads + Wait + Sync, R: Source, W: Sink, G: Gate>(
     sink: &mut W,
     _gate: &G,
 ) -> Status
-    // Below 4 the whole text was written: the journal of a legal run, the lines of the frames, or why there are none.
-    ensures written { result.0 < 4
+    // Below 4 and with 7 the whole text was written: the journal of a legal run, the verdict on a journal, the lines of the
+    // frames, or why there are none.
+    ensures written { IsWhole result.0
         → IsWritten words.now (R.left source.old) result.0 (W.held sink.old) (W.held sink.new) }
     ensures unwritten { (result.0 ≡ 4) ⊎ (result.0 ≡ 5) → W.held sink.new ≡ W.held sink.old }
     ensures cut_off { result.0 ≡ 6 → IsCutOff words.now (R.left source.old) (W.held sink.old) (W.held sink.new) }
@@ -270,7 +291,7 @@ pub fn program<T: Threads + Wait + Sync, R: Source, W: Sink, G: Gate>(
     // Faults are answered only where their count rose.
     ensures read_fault { result.0 ≡ 5 → IsCommand words.now × Rose (R.faults source.old) (R.faults source.new) }
     ensures write_fault { result.0 ≡ 6 → Rose (W.faults sink.old) (W.faults sink.new) }
-    ensures range { result.0 < 7 }
+    ensures range { result.0 < 8 }
     ensures words { result.0 ≡ 1 → command_of words.now ≡ None }
     ensures taken { is_taken words.now ≡ true → result.0 ≡ 1 → command_in (found_in words.now) ≡ None }
     ensures plain { (command : Command) → IsPlain words.now command → result.0 ≢ 1 }
