@@ -1,22 +1,31 @@
 //! The command that words are.
 
-ghost use Rattle.std.specs.Prelude.{◌≡◌, ◌≢◌, [], IfOk, IfErr, IsErrOf, true};
+ghost use Rattle.std.specs.Prelude.{◌≡◌, ◌≢◌, [], IfOk, IfErr, IsErrOf, true, option_map};
 ghost use Rattle.clap.specs.Words.{app_of, found_of, rows_of};
-ghost use Rattle.xti_command.specs.Words.{command_form, command_in, faults_in, found_in, is_taken, named, texts};
+ghost use Rattle.xti_command.specs.Words.{alone, command_form, command_in, faults_in, found_in, generating, is_taken, is_true, named, seed_of, texts, without_seed};
 
 use clap::error::ErrorKind;
-use clap::{Arg, ArgMatches};
+use clap::{Arg, ArgAction, ArgMatches};
 use std::alloc::{AllocError, Global};
+
+/// What is done with an input.
+#[derive(Clone, Copy, Debug, PartialEq, Eq)]
+pub enum Reading {
+    /// The calls of a script are made, and the journal is written, or its summary.
+    Replay { summary: bool },
+    /// A journal is judged, and the verdict written.
+    Check,
+    /// A line is written for each of some frames.
+    Frames,
+}
 
 /// What the program is asked to do.
 #[derive(Clone, Copy, Debug, PartialEq, Eq)]
 pub enum Command {
-    /// Reads a script, makes its calls, and writes the journal.
-    Replay,
-    /// Reads a journal, and says whether it is legal.
-    Check,
-    /// Reads frames one after the other, and writes a line for each.
-    Frames,
+    /// Reads an input.
+    Read(Reading),
+    /// Reads nothing: the script that is generated from the seed is written, or its calls are made and the summary is written.
+    Gen { seed: u64, summary: bool },
 }
 
 /// Why words give no command.
@@ -27,26 +36,79 @@ pub enum WordsFail {
     OutOfMemory,
 }
 
-/// What `clap` is told: one word that must stand, and no help of its own.
+/// What `clap` is told: one word that must stand, the flag `--summary`, the option `--seed`, and no help of its own.
 fn command_line<'a>(alloc: Global) -> Result<clap::Command<'a>, AllocError>
     ensures { IfOk result (λ c. app_of c ≡ command_form) }
 {
     let word = Arg::new(alloc, "command").required(true);
+    let summary = Arg::new(alloc, "summary")
+        .long("summary")
+        .action(ArgAction::SetTrue);
+    let seed = Arg::new(alloc, "seed").long("seed");
     clap::Command::new(alloc, "xti")
         .no_binary_name(true)
         .disable_help_flag(true)
         .disable_version_flag(true)
-        .arg(word)
+        .arg(word)?
+        .arg(summary)?
+        .arg(seed)
 }
 
-/// The command of this name.
-fn command_named(word: &str) -> Option<Command>
-    ensures { result ≡ named word.now }
+/// Whether the flag of which `clap` keeps this text stands.
+fn is_true(text: Option<&str>) -> bool
+    ensures { result ≡ is_true (option_map (λ s. s.now) text.entry) }
+{
+    match text {
+        Some(text) => text == "true",
+        None => false,
+    }
+}
+
+/// The number of 64 bits that a seed's text writes.
+fn seed_of(text: &str) -> Option<u64>
+    ensures { result ≡ seed_of text.now }
+{
+    text.parse().ok()
+}
+
+/// A reading beside which no seed may stand.
+fn without_seed(reading: Reading, seed: Option<&str>) -> Option<Command>
+    ensures { result ≡ without_seed reading (option_map (λ s. s.now) seed.entry) }
+{
+    match seed {
+        Some(_) => None,
+        None => Some(Command::Read(reading)),
+    }
+}
+
+/// A reading beside which nothing may stand.
+fn alone(reading: Reading, summary: bool, seed: Option<&str>) -> Option<Command>
+    ensures { result ≡ alone reading summary (option_map (λ s. s.now) seed.entry) }
+{
+    if summary {
+        None
+    } else {
+        without_seed(reading, seed)
+    }
+}
+
+/// The command that generates, whose seed must stand.
+fn generating(summary: bool, seed: Option<&str>) -> Option<Command>
+    ensures { result ≡ generating summary (option_map (λ s. s.now) seed.entry) }
+{
+    let seed = seed_of(seed?)?;
+    Some(Command::Gen { seed, summary })
+}
+
+/// The command of this name, with what stands beside it.
+fn command_named(word: &str, summary: bool, seed: Option<&str>) -> Option<Command>
+    ensures { result ≡ named word.now summary (option_map (λ s. s.now) seed.entry) }
 {
     match word {
-        "replay" => Some(Command::Replay),
-        "check" => Some(Command::Check),
-        "frames" => Some(Command::Frames),
+        "replay" => without_seed(Reading::Replay { summary }, seed),
+        "check" => alone(Reading::Check, summary, seed),
+        "frames" => alone(Reading::Frames, summary, seed),
+        "gen" => generating(summary, seed),
         _ => None,
     }
 }
@@ -55,7 +117,9 @@ fn command_named(word: &str) -> Option<Command>
 pub(crate) fn matched(matches: &ArgMatches) -> Option<Command>
     ensures { result ≡ command_in (rows_of (found_of matches.now)) }
 {
-    command_named(matches.get_str("command")?)
+    let word = matches.get_str("command")?;
+    let summary = is_true(matches.get_str("summary"));
+    command_named(word, summary, matches.get_str("seed"))
 }
 
 /// Out of memory, or refused for another cause.

@@ -5,6 +5,6 @@ mod command;
 mod laws;
 mod words;
 
-pub use command::{Command, WordsFail};
+pub use command::{Command, Reading, WordsFail};
 pub use laws::plain_words_are_commands;
 pub use words::Words;
