@@ -1,20 +1,19 @@
 -- What is answered to a script.
-use Rattle.std.proofs.Common.{◌≡◌, ℕ, Bool, true, false, List, [], ◌∷◌, length, refl, sym, ap, ◌∙◌, eqb, arith}
+use Rattle.std.proofs.Common.{◌≡◌, ℕ, Bool, true, false, List, [], ◌∷◌, ◌++◌, length, refl, sym, ap, ◌∙◌, eqb, arith}
 use Rattle.std.proofs.lemmas.List.{append-nil}
 use Rattle.std.proofs.lemmas.Bool.{ne_eqb}
 use Rattle.std.specs.Prelude.{◌↔◌, ◌==◌, ◌+◌, ◌≤◌}
 use Rattle.xti_model.specs.declared.script.Script.{Script}
 use Rattle.xti_model.specs.declared.script.StallLine.{StallLine}
 use Rattle.xti_model.specs.History.{Legal}
-use Rattle.xti_model.specs.Robin.{robin}
+use Rattle.xti_model.specs.declared.entry.Entry.{Entry}
+use Rattle.xti_model.specs.Robin.{robin, last_worker}
 use Rattle.xti_model.specs.Complete.{Follows, Each, workers, Complete}
 use Rattle.xti_model.specs.Work.{script_bytes}
 use Rattle.xti_replay.specs.Stalls.{stalls_of, are_through}
-use Rattle.xti_script.specs.Grammar.{IsScript}
 use Rattle.xti_streams.specs.Laws.{PrefixLaw, WaitingLaw, ReleaseLaw}
-use Rattle.xti_journal.specs.JournalText.{journal_text}
 use Rattle.xti_journal.specs.Writing.{Written, Took}
-use Rattle.xti_run.specs.Program.{IsReplayed, status_with}
+use Rattle.xti_run.specs.Program.{IsPlayed, printed_of, status_with}
 
 status-is : (b : Bool) (stalls : List StallLine) → ((stalls ≡ []) ↔ (b ≡ true)) → status_with (length stalls == 0) ≡ status_with b
 status-is true [] h = refl
@@ -38,12 +37,11 @@ pub record IsRunOf (s : Script) (told : List StallLine) : Type 0 where
 pub begun : (w : Written) (head : List ℕ) → w ≡ (head, 0) → Took (head, 0) [] w
 begun w head e = (ap (λ (v : Written). v.0) e ∙ sym (append-nil head), ap (λ (v : Written). v.1) e)
 
-pub replayed-is : (s : Script) (input text : List ℕ) (told : List StallLine) (status : ℕ) → IsScript s input → IsRunOf s told → status ≡ status_with (length told == 0) → text ≡ journal_text (record { providers = s.providers; entries = robin s; stalls = told }) → IsReplayed input status text
-replayed-is s input text told status is r n t = record {
-  script = s;
-  is_script = is;
+pub played-is : (summary : Bool) (s : Script) (text : List ℕ) (told : List StallLine) (status : ℕ) → IsRunOf s told → status ≡ status_with (length told == 0)
+    → text ≡ printed_of summary (record { providers = s.providers; entries = robin s; stalls = told }) → IsPlayed summary s status text
+played-is summary s text told status r n t = record {
   done = n ∙ status-is (are_through s.lines (robin s)) told r.through;
-  printed = t ∙ ap (λ (stalls : List StallLine). journal_text (record { providers = s.providers; entries = robin s; stalls = stalls })) r.stalls;
+  printed = t ∙ ap (λ (stalls : List StallLine). printed_of summary (record { providers = s.providers; entries = robin s; stalls = stalls })) r.stalls;
   legal = r.legal;
   follows = r.follows;
   complete = r.complete;
@@ -52,3 +50,8 @@ replayed-is s input text told status is r n t = record {
   waiting = r.waiting;
   release = r.release;
 }
+
+-- the worker of the entry that comes last
+pub last-added : (w : ℕ) (past : List Entry) (e : Entry) → last_worker w (past ++ e ∷ []) ≡ e.worker
+last-added w [] e = refl
+last-added w (x ∷ past) e = last-added x.worker past e

@@ -11,8 +11,11 @@ use Rattle.xti_model.specs.declared.script.Journal.{Journal}
 use Rattle.xti_journal_reader.specs.Grammar.{IsJournal}
 use Rattle.xti_journal_reader.specs.Refused.{IsRefusedAt as IsNoJournalAt}
 use Rattle.xti_command.specs.declared.command.Command.{Command}
-use Rattle.xti_command.specs.declared.command.Command.TheVariants.{Replay, Check, Frames}
-use Rattle.xti_run.specs.Program.{IsLeft, IsRun, IsAnswer, IsOutput, IsOutputOf, IsDone, HasInput, HasScript, HasJournal, HasFrames, status_with}
+use Rattle.xti_command.specs.declared.command.Command.TheVariants.{Read, Gen}
+use Rattle.xti_command.specs.declared.command.Reading.{Reading}
+use Rattle.xti_command.specs.declared.command.Reading.TheVariants.{Replay, Check, Frames}
+use Rattle.xti_generate.specs.Generated.{generated}
+use Rattle.xti_run.specs.Program.{IsLeft, IsRun, IsAnswer, IsOutput, IsOutputOf, IsDone, HasInput, HasScript, HasJournal, HasFrames, IsFinished, IsGenerated, status_with}
 use Rattle.xti_command.specs.Words.{command_of}
 
 -- no text is a script and refused at a line, nor a journal, and no bytes are frames and wrong first at a place
@@ -29,16 +32,16 @@ the_left : (left : Option (List ℕ)) (input told : List ℕ) → IsLeft left in
 the_left (Some bytes) input told h e = cc
 the_left None input told h e = cc
 
-either-status : (b : Bool) (status : ℕ) → status ≡ status_with b → (status ≡ 0) ⊎ (status ≡ 3)
+either-status : (b : Bool) (status : ℕ) → status ≡ status_with b → IsFinished status
 either-status true status e = inl e
 either-status false status e = inr e
 
-script_served : NoScript → (left : Option (List ℕ)) (input : List ℕ) (status : ℕ) (text : List ℕ) → IsLeft left input → HasScript left → IsAnswer Replay input status text → IsDone Replay status
-script_served never left input status text l h (inl (within, inl done)) = either-status (are_through done.script.lines (robin done.script)) status done.done
-script_served never left input status text l h (inl (within, inr refused)) = absurd (never input h.script refused.line (subst (λ bs. IsScript h.script bs) (the_left left input h.input l h.told) h.is_script) refused.refused)
-script_served never left input status text l h (inr long) = let same : length h.input ≡ length input = ap length (the_left left input h.input l h.told) in absurd (omega (arith, long.long, h.within, same))
+script_served : NoScript → (summary : Bool) (left : Option (List ℕ)) (input : List ℕ) (status : ℕ) (text : List ℕ) → IsLeft left input → HasScript left → IsAnswer (Replay summary) input status text → IsFinished status
+script_served never summary left input status text l h (inl (within, inl done)) = either-status (are_through done.script.lines (robin done.script)) status done.played.done
+script_served never summary left input status text l h (inl (within, inr refused)) = absurd (never input h.script refused.line (subst (λ bs. IsScript h.script bs) (the_left left input h.input l h.told) h.is_script) refused.refused)
+script_served never summary left input status text l h (inr long) = let same : length h.input ≡ length input = ap length (the_left left input h.input l h.told) in absurd (omega (arith, long.long, h.within, same))
 
-journal_served : NoJournal → (left : Option (List ℕ)) (input : List ℕ) (status : ℕ) (text : List ℕ) → IsLeft left input → HasJournal left → IsAnswer Check input status text → IsDone Check status
+journal_served : NoJournal → (left : Option (List ℕ)) (input : List ℕ) (status : ℕ) (text : List ℕ) → IsLeft left input → HasJournal left → IsAnswer Check input status text → IsDone (Read Check) status
 journal_served never left input status text l h (inl (within, inl legal)) = inl legal.done
 journal_served never left input status text l h (inl (within, inr (inl wrong))) = inr wrong.done
 journal_served never left input status text l h (inl (within, inr (inr refused))) = absurd (never input h.journal refused.line (subst (λ bs. IsJournal h.journal bs) (the_left left input h.input l h.told) h.is_journal) refused.refused)
@@ -49,10 +52,18 @@ frames_served never left input status text l h (inl (within, inl done)) = done.d
 frames_served never left input status text l h (inl (within, inr refused)) = absurd (never input refused.at refused.wrong (subst IsFrames (the_left left input h.input l h.told) h.are_frames))
 frames_served never left input status text l h (inr long) = let same : length h.input ≡ length input = ap length (the_left left input h.input l h.told) in absurd (omega (arith, long.long, h.within, same))
 
-run_served : NoScript → NoJournal → NoFrames → (command : Command) (left : Option (List ℕ)) (status : ℕ) (text : List ℕ) → HasInput command left → IsRun command left status text → IsDone command status
-run_served scripts journals frames Replay left status text h run = script_served scripts left run.input status text run.is_left h run.answer
+run_served : NoScript → NoJournal → NoFrames → (reading : Reading) (left : Option (List ℕ)) (status : ℕ) (text : List ℕ) → HasInput (Read reading) left → IsRun reading left status text → IsDone (Read reading) status
+run_served scripts journals frames (Replay summary) left status text h run = script_served scripts summary left run.input status text run.is_left h run.answer
 run_served scripts journals frames Check left status text h run = journal_served journals left run.input status text run.is_left h run.answer
 run_served scripts journals frames Frames left status text h run = frames_served frames left run.input status text run.is_left h run.answer
 
+gen_served : (seed : ℕ) (summary : Bool) (status : ℕ) (text : List ℕ) → IsGenerated seed summary status text → IsFinished status
+gen_served seed false status text written = inl written.0
+gen_served seed true status text played = either-status (are_through (generated seed).lines (robin (generated seed))) status played.done
+
+output_served : NoScript → NoJournal → NoFrames → (command : Command) (left : Option (List ℕ)) (status : ℕ) (text : List ℕ) → HasInput command left → IsOutputOf (Some command) left status text → IsDone command status
+output_served scripts journals frames (Read reading) left status text h out = run_served scripts journals frames reading left status text h out
+output_served scripts journals frames (Gen seed summary) left status text h out = gen_served seed summary status text out
+
 pub served : NoScript → NoJournal → NoFrames → (words : List (List ℕ)) (command : Command) (left : Option (List ℕ)) (status : ℕ) (text : List ℕ) → command_of words ≡ Some command → HasInput command left → IsOutput words left status text → IsDone command status
-served scripts journals frames words command left status text e h out = run_served scripts journals frames command left status text h (subst (λ o. IsOutputOf o left status text) e out)
+served scripts journals frames words command left status text e h out = output_served scripts journals frames command left status text h (subst (λ o. IsOutputOf o left status text) e out)

@@ -1,11 +1,35 @@
--- The entries of a run, written as they come.
-use Rattle.std.specs.Prelude.{List, []}
-use Rattle.xti_journal.specs.Writing.{Written, Took}
+-- What is reported of a run, while its entries come.
+use Rattle.std.specs.Prelude.{◌≡◌, ℕ, Bool, true, false, List, [], ◌∷◌, ◌++◌}
+use Rattle.xti_journal.specs.JournalText.{head_text}
+use Rattle.xti_journal.specs.Writing.{Took}
 use Rattle.xti_model.specs.declared.entry.Entry.{Entry}
+use Rattle.xti_model.specs.declared.profile.Providers.{Providers}
+use Rattle.xti_model.specs.declared.script.Journal.{Journal}
 use Rattle.xti_model.specs.declared.script.Script.{Script}
+use Rattle.xti_model.specs.declared.script.StallLine.{StallLine}
+use Rattle.xti_summary.specs.Counting.{Counts}
 use Rattle.xti_replay.specs.declared.run.Run.{Run}
 use Rattle.xti_replay.specs.Runs.{IsRunOf, IsWhole}
+use Rattle.xti_run.specs.declared.report.Report.{Report}
+use Rattle.xti_run.specs.declared.report.Report.TheVariants as report
+use Rattle.xti_run.specs.Program.{printed_of}
 
--- whatever script the run was one of, from its beginning: all entries of that are written, and the run stands after them
-abbrev pub WritesAll : Run → Run → Written → Written → Type 0
-WritesAll old new before now = (s : Script) (all : List Entry) → IsRunOf s all [] old → ((first : Written) → Took first [] before → Took first all now) × IsWhole s all new
+-- these entries were reported, as a journal with these providers or as a summary
+abbrev pub Reports : Bool → Providers → List Entry → Report → Type 0
+Reports false p past (report.Journal writer) = Took (head_text p, 0) past writer
+Reports true p past (report.Summary summary) = Counts past summary
+Reports summary p past other = ⊥
+
+-- whatever entries were reported before, this one is after theirs
+abbrev pub ReportsOneMore : Report → Entry → Report → Type 0
+ReportsOneMore old e new = (summary : Bool) (p : Providers) (past : List Entry) → Reports summary p past old → Reports summary p (past ++ e ∷ []) new
+
+-- the text is what is printed of the journal whose entries were reported, with these stall lines
+abbrev pub IsReport : Report → List StallLine → List ℕ → Type 0
+IsReport r stalls text = (summary : Bool) (j : Journal) → Reports summary j.providers j.entries r → stalls ≡ j.stalls → text ≡ printed_of summary j
+
+-- whatever script the run was one of, from its beginning: all entries of that are reported, and the run stands after them
+abbrev pub ReportsAll : Run → Run → Report → Report → Type 0
+ReportsAll old new before now =
+    (s : Script) (all : List Entry) → IsRunOf s all [] old
+    → ((summary : Bool) (p : Providers) → Reports summary p [] before → Reports summary p all now) × IsWhole s all new

@@ -1,5 +1,5 @@
 -- What the program answers.
-use Rattle.std.specs.Prelude.{◌≡◌, ◌≢◌, Bool, true, false, ℕ, ◌+◌, ◌<◌, ◌≤◌, List, [], ◌∷◌, ◌++◌, length, take, codes, decimal, Option, Some, None, ◌⊎◌, if◌then◌else◌}
+use Rattle.std.specs.Prelude.{◌≡◌, Bool, true, false, ℕ, ◌+◌, ◌<◌, ◌≤◌, List, [], ◌∷◌, ◌++◌, length, take, codes, decimal, Option, Some, None, ◌⊎◌, if◌then◌else◌}
 use Rattle.std.specs.Str.{bytes_eq}
 use Rattle.xti_base.specs.declared.limits.TheConstants.{MOST_INPUT}
 use Rattle.xti_io.specs.Faults.{Rose}
@@ -21,8 +21,13 @@ use Rattle.xti_check.specs.Verdicts.{IsLegal}
 use Rattle.xti_check.specs.Judgements.{TellsWrong, legal_text}
 use Rattle.tpi_grammar.specs.Frames.{IsFrames, IsFirstWrong}
 use Rattle.xti_frames.specs.FrameText.{IsShown}
+use Rattle.xti_summary.specs.Summaries.{summary_text}
+use Rattle.xti_generate.specs.Generated.{generated}
+use Rattle.xti_canonical.specs.Canonical.{script_text}
 use Rattle.xti_command.specs.declared.command.Command.{Command}
-use Rattle.xti_command.specs.declared.command.Command.TheVariants.{Replay, Check, Frames}
+use Rattle.xti_command.specs.declared.command.Command.TheVariants.{Read, Gen}
+use Rattle.xti_command.specs.declared.command.Reading.{Reading}
+use Rattle.xti_command.specs.declared.command.Reading.TheVariants.{Replay, Check, Frames}
 use Rattle.xti_command.specs.Words.{command_of}
 
 -- the most bytes of an input
@@ -53,16 +58,19 @@ refused_words = codes "refused words\n"
 unfoldable pub refused_size : List ℕ
 refused_size = codes "refused size\n"
 
--- The input is a valid script: the journal of its run, with a stall line for each worker that is not finished. The run is legal, has each worker's calls in script order, each once,
+-- what is printed of a journal: its text, or its summary
+abbrev pub printed_of : Bool → Journal → List ℕ
+printed_of false j = journal_text j
+printed_of true j = summary_text j
+
+-- The script was run: its journal with a stall line for each worker that is not finished, or the summary of that. The run is legal, has each worker's calls in script order, each once,
 -- and ends early only where worker 0 is blocked in its setup, or each worker that is not finished is blocked; it has no more steps than the script has calls and bytes of arguments.
 -- On each connection of the run, and of normal and of expedited data each by itself, what an end received is a prefix of what the other end sent; while its life lasts and the connection is not broken there, what waits
 -- is the rest; and an end that received the orderly release received all.
 -- Status 0 where every worker is finished, else 3.
-pub record IsReplayed (input : List ℕ) (status : ℕ) (text : List ℕ) : Type 0 where
-  pub script : Script
-  pub is_script : IsScript script input
+pub record IsPlayed (summary : Bool) (script : Script) (status : ℕ) (text : List ℕ) : Type 0 where
   pub done : status ≡ run_status script
-  pub printed : text ≡ journal_text (replayed script)
+  pub printed : text ≡ printed_of summary (replayed script)
   pub legal : Legal script.providers (robin script)
   pub follows : Each (Follows (robin script) script.lines) workers
   pub complete : Complete script.providers (robin script) script.lines
@@ -70,6 +78,12 @@ pub record IsReplayed (input : List ℕ) (status : ℕ) (text : List ℕ) : Type
   pub prefix : PrefixLaw script.providers (robin script)
   pub waiting : WaitingLaw script.providers (robin script)
   pub release : ReleaseLaw script.providers (robin script)
+
+-- the input is a valid script, which was run
+pub record IsReplayed (summary : Bool) (input : List ℕ) (status : ℕ) (text : List ℕ) : Type 0 where
+  pub script : Script
+  pub is_script : IsScript script input
+  pub played : IsPlayed summary script status text
 
 -- the input is no valid script: status 2, and the first line by which it is not
 pub record IsRefusedInput (input : List ℕ) (status : ℕ) (text : List ℕ) : Type 0 where
@@ -118,15 +132,20 @@ pub record IsTooLong (input : List ℕ) (status : ℕ) (text : List ℕ) : Type 
   pub done : status ≡ 2
   pub printed : text ≡ refused_size
 
+-- the generated script is written in its canonical text, which is one of it: status 0; or it was run, and its summary is written
+abbrev pub IsGenerated : ℕ → Bool → ℕ → List ℕ → Type 0
+IsGenerated seed false status text = (status ≡ 0) × (text ≡ script_text (generated seed)) × IsScript (generated seed) text
+IsGenerated seed true status text = IsPlayed true (generated seed) status text
+
 -- the status and the text for an input within the limit
-abbrev pub IsAnswered : Command → List ℕ → ℕ → List ℕ → Type 0
-IsAnswered Replay input status text = IsReplayed input status text ⊎ IsRefusedInput input status text
+abbrev pub IsAnswered : Reading → List ℕ → ℕ → List ℕ → Type 0
+IsAnswered (Replay summary) input status text = IsReplayed summary input status text ⊎ IsRefusedInput input status text
 IsAnswered Check input status text = IsLegalJournal input status text ⊎ (IsWrongJournal input status text ⊎ IsRefusedJournal input status text)
 IsAnswered Frames input status text = IsListed input status text ⊎ IsRefusedByte input status text
 
 -- the status and the text for an input
-abbrev pub IsAnswer : Command → List ℕ → ℕ → List ℕ → Type 0
-IsAnswer command input status text = ((length input ≤ limit) × IsAnswered command input status text) ⊎ IsTooLong input status text
+abbrev pub IsAnswer : Reading → List ℕ → ℕ → List ℕ → Type 0
+IsAnswer reading input status text = ((length input ≤ limit) × IsAnswered reading input status text) ⊎ IsTooLong input status text
 
 -- these are the bytes that a source had left, as far as it tells them
 abbrev pub IsLeft : Option (List ℕ) → List ℕ → Type 0
@@ -134,24 +153,25 @@ IsLeft None input = Unit {0}
 IsLeft (Some bytes) input = bytes ≡ input
 
 -- the status and the text for what a source had left
-pub record IsRun (command : Command) (left : Option (List ℕ)) (status : ℕ) (text : List ℕ) : Type 0 where
+pub record IsRun (reading : Reading) (left : Option (List ℕ)) (status : ℕ) (text : List ℕ) : Type 0 where
   pub input : List ℕ
   pub is_left : IsLeft left input
-  pub answer : IsAnswer command input status text
+  pub answer : IsAnswer reading input status text
 
 -- the words are no command: status 1
 pub record IsRefusedWords (status : ℕ) (text : List ℕ) : Type 0 where
   pub done : status ≡ 1
   pub printed : text ≡ refused_words
 
--- the words are a command
-abbrev pub IsCommand : List (List ℕ) → Type 0
-IsCommand words = command_of words ≢ None
+-- the words are a command that reads an input
+abbrev pub IsReader : List (List ℕ) → Type 0
+IsReader words = (reading : Reading) × (command_of words ≡ Some (Read reading))
 
 -- the status and the text of a command, or where there is none
 abbrev pub IsOutputOf : Option Command → Option (List ℕ) → ℕ → List ℕ → Type 0
 IsOutputOf None left status text = IsRefusedWords status text
-IsOutputOf (Some command) left status text = IsRun command left status text
+IsOutputOf (Some (Read reading)) left status text = IsRun reading left status text
+IsOutputOf (Some (Gen seed summary)) left status text = IsGenerated seed summary status text
 
 -- the status and the text for these words and what the source had left
 abbrev pub IsOutput : List (List ℕ) → Option (List ℕ) → ℕ → List ℕ → Type 0
@@ -195,17 +215,23 @@ pub record HasJournal (left : Option (List ℕ)) : Type 0 where
   pub within : length input ≤ limit
   pub is_journal : IsJournal journal input
 
--- how the command ends with what it takes, where memory is found
-abbrev pub IsDone : Command → ℕ → Type 0
-IsDone Replay status = (status ≡ 0) ⊎ (status ≡ 3)
-IsDone Check status = (status ≡ 0) ⊎ (status ≡ 7)
-IsDone Frames status = status ≡ 0
+-- every worker is finished, or one is blocked
+abbrev pub IsFinished : ℕ → Type 0
+IsFinished status = (status ≡ 0) ⊎ (status ≡ 3)
 
--- what the command takes
+-- how a command ends with what it takes, where memory is found
+abbrev pub IsDone : Command → ℕ → Type 0
+IsDone (Read (Replay summary)) status = IsFinished status
+IsDone (Read Check) status = (status ≡ 0) ⊎ (status ≡ 7)
+IsDone (Read Frames) status = status ≡ 0
+IsDone (Gen seed summary) status = IsFinished status
+
+-- what a command takes; one that generates takes nothing
 abbrev pub HasInput : Command → Option (List ℕ) → Type 0
-HasInput Replay left = HasScript left
-HasInput Check left = HasJournal left
-HasInput Frames left = HasFrames left
+HasInput (Read (Replay summary)) left = HasScript left
+HasInput (Read Check) left = HasJournal left
+HasInput (Read Frames) left = HasFrames left
+HasInput (Gen seed summary) left = Unit {0}
 
 -- with this status the whole text was written
 abbrev pub IsWhole : ℕ → Type 0
@@ -227,6 +253,6 @@ IsWrittenOrOutOfMemory words left status before now = IsOutOfMemory status ⊎ I
 abbrev pub IsReadFault : ℕ → ℕ → ℕ → Type 0
 IsReadFault status before now = (status ≡ 5) × Rose before now
 
--- no answer was made: memory ran out, or the words are a command and reading failed
+-- no answer was made: memory ran out, or the words are a command that reads, and reading failed
 abbrev pub IsUnanswered : List (List ℕ) → ℕ → ℕ → ℕ → Type 0
-IsUnanswered words status before now = IsOutOfMemory status ⊎ ((status ≡ 5) × IsCommand words × Rose before now)
+IsUnanswered words status before now = IsOutOfMemory status ⊎ ((status ≡ 5) × IsReader words × Rose before now)

@@ -2,6 +2,7 @@
 #![tactic(auto)]
 
 mod gate;
+mod report;
 mod round_robin;
 mod top;
 

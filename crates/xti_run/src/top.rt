@@ -6,13 +6,14 @@ ghost use Rattle.xti_io.specs.Source.{GivesUpTo};
 ghost use Rattle.xti_model.specs.declared.script.Script.{Script};
 ghost use Rattle.xti_model.specs.declared.entry.Entry.{Entry};
 ghost use Rattle.xti_replay.specs.Runs.{IsRunOf};
-ghost use Rattle.xti_script.specs.Grammar.{IsScript};
+ghost use Rattle.xti_script.specs.Grammar.{HasText};
 ghost use Rattle.xti_command.specs.declared.command.Command.{Command};
 ghost use Rattle.xti_command.specs.Words.{IsPlain, command_in, command_of, found_in, is_taken};
-ghost use Rattle.xti_run.specs.Entries.{WritesAll};
-ghost use Rattle.xti_run.specs.Program.{IsReplayed, IsRefusedInput, IsLegalJournal, IsWrongJournal, IsRefusedJournal, IsWhole, IsListed, IsRefusedByte, IsAnswered, IsRun, IsOutput, IsRefusedWords, IsCommand, IsWritten, IsWrittenOrOutOfMemory, IsCutOff, HasInput, IsDone, IsOutOfMemory, IsReadFault, IsUnanswered, NoFault, limit, refused_line, refused_byte, refused_words, refused_size, status_with};
+ghost use Rattle.xti_run.specs.Entries.{ReportsAll};
+ghost use Rattle.xti_run.specs.Program.{IsReplayed, IsRefusedInput, IsLegalJournal, IsWrongJournal, IsRefusedJournal, IsWhole, IsListed, IsRefusedByte, IsAnswered, IsRun, IsOutput, IsRefusedWords, IsReader, IsPlayed, IsGenerated, IsWritten, IsWrittenOrOutOfMemory, IsCutOff, HasInput, IsDone, IsOutOfMemory, IsReadFault, IsUnanswered, NoFault, limit, refused_line, refused_byte, refused_words, refused_size, status_with};
 
 use crate::gate::Gate;
+use crate::report::Report;
 use crate::round_robin::texts_are_playable;
 use std::alloc::{AllocError, Global};
 use std::sync::Wait;
@@ -20,11 +21,12 @@ use std::thread::Threads;
 use tpi_grammar::frames_law;
 use xti_base::Octets;
 use xti_base::limits::{MOST_INPUT, MOST_STEPS};
+use xti_canonical::write_script;
 use xti_check::{Judgement, judge};
-use xti_command::{Command, Words, WordsFail, plain_words_are_commands};
+use xti_command::{Command, Reading, Words, WordsFail, plain_words_are_commands};
 use xti_frames::{FramesFail, show_frames};
+use xti_generate::{generate, generated_scripts_have_texts};
 use xti_io::{ReadEnd, Sink, Source, read_all, write_all};
-use xti_journal::JournalWriter;
 use xti_model::{Entry, Script, Stalls, robin_follows, robin_is_complete, robin_is_legal};
 use xti_replay::Run;
 use xti_script::{ScriptFail, never_both, read_script};
@@ -75,46 +77,47 @@ fn journal_status(stalls: &Stalls) -> u8
     if stalls.is_empty() { 0 } else { 3 }
 }
 
-/// Writes the entries of a run to its end.
-fn write_entries(run: &mut Run, writer: &mut JournalWriter) -> Result<(), AllocError>
+/// Reports the entries of a run to its end.
+fn report_entries(run: &mut Run, report: &mut Report) -> Result<(), AllocError>
     requires { (s : Script) × (all : List Entry) × IsRunOf s all [] run.old }
-    ensures { OnOk result (WritesAll run.old run.new writer.old writer.new) }
+    ensures { OnOk result (ReportsAll run.old run.new report.old report.new) }
 {
     for _step in 0..MOST_STEPS {
         run.step()?;
         match run.made() {
             None => return Ok(()),
-            Some(entry) => writer.add(entry)?,
+            Some(entry) => report.add(entry)?,
         }
     }
     Ok(())
 }
 
-/// What `replay` answers to the text of a script: its journal, written while it runs, in the room of the input.
-fn journal_answer(alloc: Global, script: &Script, input: Octets) -> Result<Answer, AllocError>
-    requires { IsScript script.now input }
-    ensures { IfOk result (λ a. IsReplayed input a.status a.text) }
+/// What is answered to a script that has a text: its journal or its summary, made while it runs. The journal is written in the
+/// room of bytes that are done with.
+fn played(alloc: Global, summary: bool, script: &Script, room: Octets) -> Result<Answer, AllocError>
+    requires { HasText script.now }
+    ensures { IfOk result (λ a. IsPlayed summary script.now a.status a.text) }
 {
     texts_are_playable();
     robin_is_legal();
     robin_follows();
     robin_is_complete();
     scripts_keep_order();
-    let mut writer = JournalWriter::begin(input.into_vec()?, &script.providers)?;
+    let mut report = Report::begin(summary, room, &script.providers)?;
     let mut run = Run::of(alloc, script)?;
-    write_entries(&mut run, &mut writer)?;
+    report_entries(&mut run, &mut report)?;
     let stalls = run.stalls()?;
     let status = journal_status(&stalls);
-    let text = writer.end(&stalls)?;
+    let text = report.end(alloc, &stalls)?;
     Ok(Answer { status, text })
 }
 
 /// What `replay` answers to an input within the limit.
-fn replay_answer(alloc: Global, input: Octets) -> Result<Answer, AllocError>
-    ensures { IfOk result (λ a. IsReplayed input a.status a.text ⊎ IsRefusedInput input a.status a.text) }
+fn replay_answer(alloc: Global, summary: bool, input: Octets) -> Result<Answer, AllocError>
+    ensures { IfOk result (λ a. IsReplayed summary input a.status a.text ⊎ IsRefusedInput input a.status a.text) }
 {
     match read_script(alloc, input.as_slice()) {
-        Ok(script) => journal_answer(alloc, &script, input),
+        Ok(script) => played(alloc, summary, &script, input),
         Err(ScriptFail::Bad { line }) => {
             let text = line_text(alloc, line)?;
             Ok(Answer { status: 2, text })
@@ -125,6 +128,19 @@ fn replay_answer(alloc: Global, input: Octets) -> Result<Answer, AllocError>
         }
         Err(ScriptFail::OutOfMemory) => Err(AllocError),
     }
+}
+
+/// What `gen` answers: the generated script, or the summary of its run.
+fn generated_answer(alloc: Global, seed: u64, summary: bool) -> Result<Answer, AllocError>
+    ensures { IfOk result (λ a. IsGenerated seed summary a.status a.text) }
+{
+    generated_scripts_have_texts();
+    let script = generate(alloc, seed)?;
+    if summary {
+        return played(alloc, summary, &script, Octets::new(alloc));
+    }
+    let text = write_script(alloc, &script)?;
+    Ok(Answer { status: 0, text })
 }
 
 /// What `check` answers to an input within the limit.
@@ -156,14 +172,14 @@ fn frames_answer(alloc: Global, input: &[u8]) -> Result<Answer, AllocError>
     }
 }
 
-/// What the command answers to an input within the limit.
-fn answer_to(alloc: Global, command: Command, input: Octets) -> Result<Answer, AllocError>
-    ensures { IfOk result (λ a. IsAnswered command input a.status a.text) }
+/// What is answered to an input within the limit.
+fn answer_to(alloc: Global, reading: Reading, input: Octets) -> Result<Answer, AllocError>
+    ensures { IfOk result (λ a. IsAnswered reading input a.status a.text) }
 {
-    match command {
-        Command::Replay => replay_answer(alloc, input),
-        Command::Check => check_answer(alloc, input.as_slice()),
-        Command::Frames => frames_answer(alloc, input.as_slice()),
+    match reading {
+        Reading::Replay { summary } => replay_answer(alloc, summary, input),
+        Reading::Check => check_answer(alloc, input.as_slice()),
+        Reading::Frames => frames_answer(alloc, input.as_slice()),
     }
 }
 
@@ -187,15 +203,15 @@ fn size_answer(alloc: Global) -> Result<Answer, AllocError>
     })
 }
 
-/// What the command answers to what the source has left.
-fn answer_from<R: Source>(alloc: Global, command: Command, source: &mut R) -> Result<Answer, Status>
-    ensures ok { IfOk result (λ a. IsRun command (R.left source.old) a.status a.text) }
+/// What is answered to what the source has left.
+fn answer_from<R: Source>(alloc: Global, reading: Reading, source: &mut R) -> Result<Answer, Status>
+    ensures ok { IfOk result (λ a. IsRun reading (R.left source.old) a.status a.text) }
     ensures err { IfErr result (λ s. IsOutOfMemory s.0 ⊎ IsReadFault s.0 (R.faults source.old) (R.faults source.new)) }
     ensures read { GivesUpTo (limit + 1) (R.left source.old) (R.left source.new) }
     ensures later { R.faults source.old ≤ R.faults source.new }
 {
     match read_all(alloc, source, MOST_INPUT) {
-        Ok(input) => Ok(answer_to(alloc, command, input)?),
+        Ok(input) => Ok(answer_to(alloc, reading, input)?),
         Err(ReadEnd::TooLong) => Ok(size_answer(alloc)?),
         Err(ReadEnd::Fault) => Err(Status(5)),
         Err(ReadEnd::OutOfMemory) => Err(Status(4)),
@@ -206,12 +222,13 @@ fn answer_from<R: Source>(alloc: Global, command: Command, source: &mut R) -> Re
 fn output<R: Source>(alloc: Global, words: &Words, source: &mut R) -> Result<Answer, Status>
     ensures ok { IfOk result (λ a. IsOutput words.now (R.left source.old) a.status a.text) }
     ensures err { IfErr result (λ s. IsUnanswered words.now s.0 (R.faults source.old) (R.faults source.new)) }
-    ensures read { IsCommand words.now → GivesUpTo (limit + 1) (R.left source.old) (R.left source.new) }
-    ensures unread { command_of words.now ≡ None → source.new ≡ source.old }
+    ensures read { IsReader words.now → GivesUpTo (limit + 1) (R.left source.old) (R.left source.new) }
+    ensures unread { (IsReader words.now → ⊥) → source.new ≡ source.old }
     ensures taken { is_taken words.now ≡ true → IfOk result (λ a. a.status ≡ 1 → command_in (found_in words.now) ≡ None) }
 {
     match words.command() {
-        Ok(command) => answer_from(alloc, command, source),
+        Ok(Command::Read(reading)) => answer_from(alloc, reading, source),
+        Ok(Command::Gen { seed, summary }) => Ok(generated_answer(alloc, seed, summary)?),
         Err(WordsFail::Refused) => Ok(words_answer(alloc)?),
         Err(WordsFail::OutOfMemory) => Err(Status(4)),
     }
@@ -224,15 +241,15 @@ fn run_to_end<R: Source, W: Sink>(
     source: &mut R,
     sink: &mut W,
 ) -> Status
-    // Below 4 and with 7 the whole text was written: the journal of a legal run, the verdict on a journal, the lines of the
-    // frames, or why there are none.
+    // Below 4 and with 7 the whole text was written: the journal of a legal run or its summary, the verdict on a
+    // journal, the lines of the frames, the generated script, or why there are none.
     ensures written { IsWhole result.0
         → IsWritten words.now (R.left source.old) result.0 (W.held sink.old) (W.held sink.new) }
     ensures unwritten { (result.0 ≡ 4) ⊎ (result.0 ≡ 5) → W.held sink.new ≡ W.held sink.old }
     ensures cut_off { result.0 ≡ 6 → IsCutOff words.now (R.left source.old) (W.held sink.old) (W.held sink.new) }
 
     // Faults are answered only where their count rose.
-    ensures read_fault { result.0 ≡ 5 → IsCommand words.now × Rose (R.faults source.old) (R.faults source.new) }
+    ensures read_fault { result.0 ≡ 5 → IsReader words.now × Rose (R.faults source.old) (R.faults source.new) }
     ensures write_fault { result.0 ≡ 6 → Rose (W.faults sink.old) (W.faults sink.new) }
     ensures range { result.0 < 8 }
     ensures words { result.0 ≡ 1 → command_of words.now ≡ None }
@@ -250,8 +267,8 @@ fn run_to_end<R: Source, W: Sink>(
         → IsDone command result.0 ⊎ IsOutOfMemory result.0 }
 
     // What is read.
-    ensures read { IsCommand words.now → GivesUpTo (limit + 1) (R.left source.old) (R.left source.new) }
-    ensures unread { command_of words.now ≡ None → source.new ≡ source.old }
+    ensures read { IsReader words.now → GivesUpTo (limit + 1) (R.left source.old) (R.left source.new) }
+    ensures unread { (IsReader words.now → ⊥) → source.new ≡ source.old }
 {
     never_both();
     xti_journal_reader::never_both();
@@ -268,9 +285,10 @@ fn run_to_end<R: Source, W: Sink>(
 
 /// Runs the command of the words over a source and a sink, and answers how it ended.
 ///
-/// The commands are `replay`, `check` and `frames`, one word each. `replay` reads a script, makes the calls of its workers by
-/// turns, and writes the journal; `check` reads a journal, and writes `legal N` or its first wrong line; `frames` reads TPI
-/// frames one after the other, and writes a line for each.
+/// `replay` reads a script, makes the calls of its workers by turns, and writes the journal, or with `--summary` one line of
+/// numbers; `check` reads a journal, and writes `legal N` or its first wrong line; `frames` reads TPI frames one after the
+/// other, and writes a line for each; `gen --seed N` reads nothing and writes the script that is generated from the number, or
+/// with `--summary` makes its calls and writes the line of numbers.
 /// The words are looked at first, then the source is read, and the whole text is made before the first write.
 /// No command waits for anybody, so the runtime and the gate are left alone.
 pub fn program<T: Threads + Wait + Sync, R: Source, W: Sink, G: Gate>(
@@ -281,15 +299,15 @@ pub fn program<T: Threads + Wait + Sync, R: Source, W: Sink, G: Gate>(
     sink: &mut W,
     _gate: &G,
 ) -> Status
-    // Below 4 and with 7 the whole text was written: the journal of a legal run, the verdict on a journal, the lines of the
-    // frames, or why there are none.
+    // Below 4 and with 7 the whole text was written: the journal of a legal run or its summary, the verdict on a
+    // journal, the lines of the frames, the generated script, or why there are none.
     ensures written { IsWhole result.0
         → IsWritten words.now (R.left source.old) result.0 (W.held sink.old) (W.held sink.new) }
     ensures unwritten { (result.0 ≡ 4) ⊎ (result.0 ≡ 5) → W.held sink.new ≡ W.held sink.old }
     ensures cut_off { result.0 ≡ 6 → IsCutOff words.now (R.left source.old) (W.held sink.old) (W.held sink.new) }
 
     // Faults are answered only where their count rose.
-    ensures read_fault { result.0 ≡ 5 → IsCommand words.now × Rose (R.faults source.old) (R.faults source.new) }
+    ensures read_fault { result.0 ≡ 5 → IsReader words.now × Rose (R.faults source.old) (R.faults source.new) }
     ensures write_fault { result.0 ≡ 6 → Rose (W.faults sink.old) (W.faults sink.new) }
     ensures range { result.0 < 8 }
     ensures words { result.0 ≡ 1 → command_of words.now ≡ None }
@@ -307,8 +325,8 @@ pub fn program<T: Threads + Wait + Sync, R: Source, W: Sink, G: Gate>(
         → IsDone command result.0 ⊎ IsOutOfMemory result.0 }
 
     // What is read.
-    ensures read { IsCommand words.now → GivesUpTo (limit + 1) (R.left source.old) (R.left source.new) }
-    ensures unread { command_of words.now ≡ None → source.new ≡ source.old }
+    ensures read { IsReader words.now → GivesUpTo (limit + 1) (R.left source.old) (R.left source.new) }
+    ensures unread { (IsReader words.now → ⊥) → source.new ≡ source.old }
 {
     run_to_end(alloc, words, source, sink)
 }

@@ -1,0 +1,13 @@
+use Rattle.std.proofs.Common.{◌-◌, Bool, List, []}
+use Rattle.xti_model.specs.declared.entry.Entry.{Entry}
+use Rattle.xti_model.specs.declared.profile.Providers.{Providers}
+use Rattle.xti_model.specs.declared.script.Script.{Script}
+use Rattle.xti_model.specs.Robin.{most_steps}
+use Rattle.xti_replay.specs.Runs.{IsRunOf, Leads}
+use Rattle.xti_run.specs.Entries.{Reports}
+use Rattle.xti_run.proofs.top.report_entries.Given as goal
+
+abbrev pub invariant-loop-step : goal.invariant-loop-step
+invariant-loop-step l =
+    (s : Script) (all : List Entry) → IsRunOf s all [] l.fn.run
+    → (past : List Entry) × ((summary : Bool) (p : Providers) → Reports summary p [] l.fn.report → Reports summary p past l.report) × Leads s all (most_steps - l._step) past l.run
