@@ -12,8 +12,8 @@ use xti_base::limits::WORKERS;
 use xti_model::{Entry, Stalls};
 use xti_text::{put_number, put_text};
 
-/// What a run did so far, in numbers. It takes no memory.
-#[derive(Clone, Copy)]
+/// What the entries of a run did so far, in numbers. It takes no memory, however many entries there are.
+#[derive(Drop)]
 pub struct Summary {
     totals: Totals,
     /// The last call of each worker.
@@ -21,7 +21,7 @@ pub struct Summary {
 }
 
 impl Summary {
-    /// The summary of no entries.
+    /// The summary of no entries. Takes no memory.
     pub fn new() -> Summary
         ensures { Counts [] result }
     {
@@ -31,16 +31,13 @@ impl Summary {
         }
     }
 
-    /// Counts the next entry.
+    /// Counts the next entry, of a worker from 0 to `LAST_WORKER`. Takes no memory.
     pub fn add(&mut self, entry: &Entry)
         requires { entry.now.worker ≤ LAST_WORKER }
         ensures { CountsOneMore self.old entry.now self.new }
     {
-        let place = entry.worker as usize;
-        let worker = self.workers[place];
-        let sent = worker.sent(&entry.act, &entry.outcome);
+        let sent = self.workers[entry.worker as usize].step(&entry.act, &entry.outcome);
         self.totals.add(&entry.outcome, sent);
-        self.workers[place] = worker.after(&entry.act, &entry.outcome);
     }
 
     /// The line of the entries so far and of these stall lines, with its LF; `Err` is out of memory, or a number that

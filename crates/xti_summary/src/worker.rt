@@ -26,29 +26,26 @@ impl Worker {
         }
     }
 
-    /// How many bytes its next step sends; an entry that doesn't go with its last call is no step.
-    pub(crate) fn sent(self, act: &Act, outcome: &Outcome) -> u64
-        ensures { Sends self act.now outcome.now result }
+    /// Makes the worker's next step, and answers how many bytes that sends. An entry that doesn't go with the worker's
+    /// last call is no step of any, and sends nothing.
+    pub(crate) fn step(&mut self, act: &Act, outcome: &Outcome) -> u64
+        ensures sent { Sends self.old act.now outcome.now result }
+        ensures stands { Steps self.old act.now outcome.now self.new }
     {
-        match (act, self.payload, self.taken) {
-            (Act::Begin(call), _, None) => Payload::of(call).sent(0, outcome),
-            (Act::More, Some(payload), Some(taken)) => payload.sent(taken, outcome),
-            _ => 0,
-        }
-    }
-
-    /// The worker after its next step.
-    pub(crate) fn after(self, act: &Act, outcome: &Outcome) -> Worker
-        ensures { Steps self act.now outcome.now result }
-    {
-        let payload = match act {
-            Act::Begin(call) => Some(Payload::of(call)),
-            Act::More => self.payload,
+        let (payload, before) = match (act, self.taken) {
+            (Act::Begin(call), None) => (Some(Payload::of(call)), Some(0)),
+            (Act::Begin(call), Some(_)) => (Some(Payload::of(call)), None),
+            (Act::More, taken) => (self.payload, taken),
         };
-        let taken = match (payload, outcome) {
+        let sent = match (payload, before) {
+            (Some(payload), Some(before)) => payload.sent(before, outcome),
+            _ => 0,
+        };
+        self.payload = payload;
+        self.taken = match (payload, outcome) {
             (Some(_), Outcome::Part { taken }) => Some(*taken),
             _ => None,
         };
-        Worker { payload, taken }
+        sent
     }
 }
