@@ -3,7 +3,7 @@
 
 usage: examples/limits.py [NAME]
 
-Prints the input of this name, or the names. `limits.txt` has a line for each: its name, the command's word, the exit
+Prints the input of this name, or the names. `limits.txt` has a line for each: its name, the command's words, the exit
 status, and how many bytes are printed and their SHA-256. These came from a program that was written apart from the
 command.
 """
@@ -197,6 +197,18 @@ def connections():
     return script(f"0 {call}" for call in calls)
 
 
+def generated(seed):
+    """The script that `gen` writes of a seed, with the fields that have their usual values left out."""
+    size = lambda worker, turn: 1 + (seed + worker + turn) % 64
+    calls = [call for w in range(1, 9) for call in (f"0 open n{w} ticlts", f"0 bind n{w} addr=t:n{w}")]
+    calls += ["0 open l ticotsord", "0 bind l addr=t:srv qlen=1", "0 open c ticotsord", "0 bind c", "0 open r ticotsord"]
+    for w in range(1, 9):
+        for turn in range(1024):
+            calls += [f"{w} sndudata n{w} addr=t:n{w % 8 + 1} data=f:{size(w, turn)}", f"{w} rcvudata n{w} max=64"]
+    calls += ["9 listen l q", "9 accept l r q"] + ["9 rcv r max=64"] * 1024 + ["9 rcvrel r"]
+    return script([*calls, "10 connect c addr=t:srv", *(f"10 snd c data=f:{size(10, turn)}" for turn in range(1024)), "10 sndrel c"])
+
+
 INPUTS = {
     "a-datagram-of-the-most-bytes": datagram_in_one,
     "a-datagram-of-the-most-bytes-in-parts": datagram_in_parts,
@@ -212,6 +224,9 @@ INPUTS = {
     "a-byte-more-than-a-script-may-have-and-comments": lambda: hexadecimal_between_comments(1),
     "messages-of-the-most-bytes-that-a-head-allows": longest_messages,
     "more-than-100-names-of-a-worker": names,
+    "a-generated-script": lambda: generated(7),
+    "generated-script-of-7": bytes,
+    "generated-script-of-18446744073709551615": bytes,
     "frames-with-the-most-user-data": data_frames,
     "a-frame-with-a-byte-too-much": data_over_its_limit,
     "frames-with-the-longest-control-part": control_frames,
@@ -223,9 +238,9 @@ INPUTS = {
 
 
 def table():
-    """Of each name the command's word, the status, the count of the printed bytes and their digest."""
+    """Of each name the command's words, the status, the count of the printed bytes and their digest."""
     rows = (line.split() for line in (HERE / "limits.txt").read_text().splitlines())
-    return {name: (word, int(status), int(count), digest) for name, word, status, count, digest in rows}
+    return {name: (words.split(","), int(status), int(count), digest) for name, words, status, count, digest in rows}
 
 
 def main():

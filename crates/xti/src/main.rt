@@ -14,9 +14,10 @@ use xti_run::{NoGate, Words, program};
 const VERSION: &str = "xti 0.1.0\n";
 
 const USAGE: &str = "\
-usage: xti replay
+usage: xti replay [--summary]
        xti check
        xti frames
+       xti gen --seed N [--summary]
        xti --help | -h | --version
 
 replay  reads a script of XTI calls from standard input, makes the calls of
@@ -25,6 +26,12 @@ check   reads a journal from standard input, and prints the number of its
         steps where each is what XTI gives there, else the first wrong line
 frames  reads TPI frames one after the other from standard input, and prints a
         line for each on standard output
+gen     reads nothing, and prints the script that is generated from a number
+
+--summary  prints one line in place of the journal: how many steps were made,
+           how they ended, and how many bytes were sent and received; with gen
+           the generated script is replayed
+--seed N   the number, from 0 to 18446744073709551615
 
 status: 0 done, 1 the words are no command, 2 the input is refused,
         3 a worker is blocked at the end, 4 out of memory,
