@@ -76,7 +76,8 @@ payload_of other = Nothing
 -- a step of each call with this payload, before which so many bytes were taken, sent so many
 abbrev pub SendsAtStep : Payload → ℕ → Outcome → ℕ → Type 0
 SendsAtStep payload before outcome sent =
-    (c : Call) (so_far : Go) → payload ≡ payload_of c → before ≡ taken_before so_far → sent ≡ capped (sent_by c so_far outcome)
+    (c : Call) (so_far : Go) → payload ≡ payload_of c → before ≡ taken_before so_far
+    → sent ≡ capped (sent_by c so_far outcome)
 
 -- how many bytes of a call are taken
 abbrev pub taken_of : Going → ℕ
@@ -101,7 +102,8 @@ Sends w a outcome sent =
 -- whatever call the worker began last, it stands where the step leaves it
 abbrev pub Steps : Worker → Act → Outcome → Worker → Type 0
 Steps old a outcome new =
-    (c : Option Call) (going : Option Going) → Keeps c going old → Keeps (call_after c a) (going_after (call_after c a) outcome) new
+    (c : Option Call) (going : Option Going) → Keeps c going old
+    → Keeps (call_after c a) (going_after (call_after c a) outcome) new
 
 -- the call that comes last, where it was this one before
 abbrev pub call_from : Option Call → List Entry → Option Call
