@@ -1,5 +1,5 @@
 -- A summary that is counted while the entries come.
-use Rattle.std.specs.Prelude.{◌≡◌, ℕ, ◌+◌, ◌-◌, ◌^◌, ◌<◌, ◌≤◌, min, List, [], ◌∷◌, ◌++◌, length, slice_index_or, cond, All, Option, Some, None, IfSome, option_map, codes}
+use Rattle.std.specs.Prelude.{◌≡◌, ℕ, ◌+◌, ◌-◌, ◌^◌, ◌<◌, ◌≤◌, ◌==◌, ◌||◌, Bool, min, List, [], ◌∷◌, ◌++◌, length, slice_index_or, cond, All, Option, Some, None, IfSome, option_map, codes}
 use Rattle.std.specs.List.{concat}
 use Rattle.xti_text.specs.Words.{number_word}
 use Rattle.xti_base.specs.declared.limits.TheConstants.{WORKERS, LAST_WORKER}
@@ -56,6 +56,10 @@ pub record AreExact (past : List Entry) (t : Totals) : Type 0 where
 -- a count that isn't full has the numbers themselves, whatever entries were counted
 abbrev pub IsExact : Totals → Type 0
 IsExact t = (past : List Entry) → AreTotals past t → AreExact past t
+
+-- a number has come to the greatest that 64 bits hold; there are at least as many entries as of each ending
+abbrev pub is_full : Totals → Bool
+is_full t = t.entries == 2 ^ 64 - 1 || t.sent == 2 ^ 64 - 1 || t.got == 2 ^ 64 - 1
 
 -- the line up to its stalls
 abbrev pub totals_text : Totals → List ℕ
