@@ -1,6 +1,6 @@
 -- One entry more in a history, and in what is kept of it.
 use Rattle.std.proofs.Common.{◌≡◌, ℕ, ◌+◌, ◌<◌, ◌≤◌, Bool, true, false, eqb, List, [], ◌∷◌, ◌++◌, length, get_or, set, Option, Some, None, refl, sym, ap, subst, ◌∙◌, append_assoc, arith}
-use Rattle.std.specs.Prelude.{◌-◌, ◌^◌, min, cond, replicate, option_map, sum_by, codes}
+use Rattle.std.specs.Prelude.{◌-◌, ◌^◌, cond, replicate, option_map, sum_by, codes}
 use Rattle.std.proofs.lemmas.Bool.{eqb-true, eq-eqb}
 use Rattle.std.proofs.lemmas.Grind.{get_or-set_at}
 use Rattle.std.proofs.lemmas.List.{append-nil, get_or-set_other, length-set, length_push}
@@ -12,7 +12,7 @@ use Rattle.xti_model.specs.declared.entry.Entry.{Entry}
 use Rattle.xti_model.specs.declared.entry.Outcome.{Outcome}
 use Rattle.xti_model.specs.declared.script.Journal.{Journal}
 use Rattle.xti_model.specs.declared.script.StallLine.{StallLine}
-use Rattle.xti_model.specs.History.{Going, own, unfinished, unfinished_from, call_after, going_after, made_by, doing}
+use Rattle.xti_model.specs.History.{Going, own, unfinished, unfinished_from, call_after, going_after, doing}
 use Rattle.xti_model.specs.Streams.{Made, made_of, add, made_from}
 use Rattle.xti_model.proofs.Working.{own-more}
 use Rattle.xti_text.specs.Words.{number_word}
@@ -21,7 +21,7 @@ use Rattle.xti_summary.specs.declared.totals.Totals.{Totals}
 use Rattle.xti_summary.specs.declared.worker.Worker.{Worker}
 use Rattle.xti_summary.specs.declared.counting.Summary.{Summary}
 use Rattle.xti_summary.specs.Summaries.{is_ok, is_err, is_part, sent_by_step, got_by, sent_in, got_in, how_many, summary_text}
-use Rattle.xti_summary.specs.Counting.{capped, CountsEntry, AreTotals, AreExact, IsExact, totals_text, Keeps, sent_going, Sends, Steps, call_from, last_call, Counts}
+use Rattle.xti_summary.specs.Counting.{capped, CountsEntry, AreTotals, IsExact, totals_text, Keeps, sent_going, Sends, Steps, call_from, last_call, Counts}
 
 -- ---- the last call of a worker
 
@@ -105,13 +105,13 @@ workers_more past e workers new many small each k worker w h = at (eqb e.worker 
         let same : e.worker ≡ worker = eqb-true e.worker worker s in
         let here : get_or (set workers e.worker new) worker w ≡ new = get_or-set_at workers e.worker worker new w (sym same) (omega (arith, many)) in
         let now : Keeps (call_after (last_call past worker) e.act) (going_after (call_after (last_call past worker) e.act) e.outcome) new =
-            subst (λ (n : ℕ). Keeps (call_after (last_call past n) e.act) (going_after (call_after (last_call past n) e.act) e.outcome) new) same k in
+        subst (λ (n : ℕ). Keeps (call_after (last_call past n) e.act) (going_after (call_after (last_call past n) e.act) e.outcome) new) same k in
         let after : Keeps (call_from None (own past worker ++ e ∷ [])) (unfinished_from None None (own past worker ++ e ∷ [])) new =
-            rw (call_from-snoc None (own past worker) e, left-snoc None None (own past worker) e) now in
+        rw (call_from-snoc None (own past worker) e, left-snoc None None (own past worker) e) now in
         kept (own past worker ++ e ∷ []) new after (own-same past e worker s) here
     at false s =
         kept (own past worker) (get_or workers worker w) (each worker w h) (own-other past e worker s)
-            (get_or-set_other workers e.worker worker new w (other_worker e.worker worker s))
+        (get_or-set_other workers e.worker worker new w (other_worker e.worker worker s))
 
 pub counts_more : (past : List Entry) (e : Entry) (old new : Summary) (d before after : Worker) (bytes : ℕ) → Counts past old → e.worker ≤ LAST_WORKER → before ≡ get_or old.workers e.worker d
     → Sends before e.act e.outcome bytes → Steps before e.act e.outcome after → CountsEntry e.outcome bytes old.totals new.totals → new.workers ≡ set old.workers e.worker after → Counts (past ++ e ∷ []) new

@@ -1,13 +1,13 @@
 -- A summary that is counted while the entries come.
-use Rattle.std.specs.Prelude.{◌≡◌, ℕ, ◌+◌, ◌-◌, ◌^◌, ◌<◌, ◌≤◌, min, List, [], ◌∷◌, ◌++◌, length, slice_index_or, cond, All, Option, Some, None, IfSome, option_map, codes}
+use Rattle.std.specs.Prelude.{◌≡◌, ℕ, ◌+◌, ◌-◌, ◌^◌, ◌<◌, ◌≤◌, ◌==◌, ◌||◌, Bool, min, List, [], ◌∷◌, ◌++◌, length, slice_index_or, cond, All, Option, Some, None, IfSome, option_map, codes}
 use Rattle.std.specs.List.{concat}
 use Rattle.xti_text.specs.Words.{number_word}
 use Rattle.xti_base.specs.declared.limits.TheConstants.{WORKERS, LAST_WORKER}
 use Rattle.xti_model.specs.declared.call.Call.{Call}
 use Rattle.xti_model.specs.declared.call.Call.TheVariants.{TSnd, TSndV, TSndUData, TSndVUData}
 use Rattle.xti_model.specs.declared.entry.Act.{Act}
-use Rattle.xti_model.specs.declared.entry.Act.TheVariants as act
 use Rattle.xti_model.specs.declared.entry.Entry.{Entry}
+use Rattle.xti_model.specs.declared.entry.Go.{Go}
 use Rattle.xti_model.specs.declared.entry.Outcome.{Outcome}
 use Rattle.xti_model.specs.declared.script.Journal.{Journal}
 use Rattle.xti_model.specs.declared.script.StallLine.{StallLine}
@@ -57,6 +57,10 @@ pub record AreExact (past : List Entry) (t : Totals) : Type 0 where
 abbrev pub IsExact : Totals → Type 0
 IsExact t = (past : List Entry) → AreTotals past t → AreExact past t
 
+-- a number has come to the greatest that 64 bits hold; there are at least as many entries as of each ending
+abbrev pub is_full : Totals → Bool
+is_full t = t.entries == 2 ^ 64 - 1 || t.sent == 2 ^ 64 - 1 || t.got == 2 ^ 64 - 1
+
 -- the line up to its stalls
 abbrev pub totals_text : Totals → List ℕ
 totals_text t =
@@ -72,6 +76,12 @@ payload_of (TSndV fd parts flags) = Stream
 payload_of (TSndUData fd addr opt bytes) = Datagram (capped (length bytes))
 payload_of (TSndVUData fd addr opt parts) = Datagram (capped (length (concat parts)))
 payload_of other = Nothing
+
+-- a step of each call with this payload, before which so many bytes were taken, sent so many
+abbrev pub SendsAtStep : Payload → ℕ → Outcome → ℕ → Type 0
+SendsAtStep payload before outcome sent =
+    (c : Call) (so_far : Go) → payload ≡ payload_of c → before ≡ taken_before so_far
+    → sent ≡ capped (sent_by c so_far outcome)
 
 -- how many bytes of a call are taken
 abbrev pub taken_of : Going → ℕ
@@ -90,11 +100,14 @@ sent_going (Some g) outcome = sent_by g.call g.so_far outcome
 
 -- whatever call the worker began last, these are the bytes that its step sent
 abbrev pub Sends : Worker → Act → Outcome → ℕ → Type 0
-Sends w a outcome sent = (c : Option Call) (going : Option Going) → Keeps c going w → sent ≡ capped (sent_going (made_by going a) outcome)
+Sends w a outcome sent =
+    (c : Option Call) (going : Option Going) → Keeps c going w → sent ≡ capped (sent_going (made_by going a) outcome)
 
 -- whatever call the worker began last, it stands where the step leaves it
 abbrev pub Steps : Worker → Act → Outcome → Worker → Type 0
-Steps old a outcome new = (c : Option Call) (going : Option Going) → Keeps c going old → Keeps (call_after c a) (going_after (call_after c a) outcome) new
+Steps old a outcome new =
+    (c : Option Call) (going : Option Going) → Keeps c going old
+    → Keeps (call_after c a) (going_after (call_after c a) outcome) new
 
 -- the call that comes last, where it was this one before
 abbrev pub call_from : Option Call → List Entry → Option Call
@@ -105,13 +118,17 @@ call_from c (e ∷ es) = call_from (call_after c e.act) es
 abbrev pub last_call : List Entry → ℕ → Option Call
 last_call past worker = call_from None (own past worker)
 
+-- the worker stands after these entries
+abbrev pub IsKept : List Entry → ℕ → Worker → Type 0
+IsKept past worker w = Keeps (last_call past worker) (unfinished past worker) w
+
 -- summaries
 
 -- the summary stands after these entries: with their numbers, and with the last call of each worker
 pub record Counts (past : List Entry) (s : Summary) : Type 0 where
   pub totals : AreTotals past s.totals
   pub many : length s.workers ≡ WORKERS
-  pub each : (worker : ℕ) (w : Worker) → worker < WORKERS → Keeps (last_call past worker) (unfinished past worker) (slice_index_or s.workers worker w)
+  pub each : (worker : ℕ) (w : Worker) → worker < WORKERS → IsKept past worker (slice_index_or s.workers worker w)
 
 -- whatever entries the summary stands after, it stands after this one too
 abbrev pub CountsOneMore : Summary → Entry → Summary → Type 0

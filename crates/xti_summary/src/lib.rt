@@ -4,6 +4,8 @@
 mod counting;
 mod line;
 mod payload;
+#[cfg(test)]
+mod tests;
 mod totals;
 mod worker;
 

@@ -2,12 +2,10 @@
 
 ghost use Rattle.std.specs.Prelude.{◌≡◌, length};
 ghost use Rattle.std.specs.List.{concat};
-ghost use Rattle.xti_model.specs.declared.call.Call.{Call};
-ghost use Rattle.xti_model.specs.declared.entry.Go.{Go};
-ghost use Rattle.xti_model.specs.Streams.{taken_before, taken_after};
+ghost use Rattle.xti_model.specs.Streams.{taken_after};
 ghost use Rattle.xti_model.specs.Families.{is_error};
-ghost use Rattle.xti_summary.specs.Summaries.{is_ok, grown, sent_by};
-ghost use Rattle.xti_summary.specs.Counting.{capped, payload_of};
+ghost use Rattle.xti_summary.specs.Summaries.{is_ok, grown};
+ghost use Rattle.xti_summary.specs.Counting.{capped, payload_of, SendsAtStep};
 
 use xti_base::Octets;
 use xti_model::{Call, Outcome, Reply};
@@ -87,18 +85,12 @@ impl Payload {
 
     /// How many bytes a step sent, before which so many were taken.
     pub(crate) fn sent(self, before: u32, outcome: &Outcome) -> u64
-        ensures { (call : Call) (so_far : Go) → self ≡ payload_of call → before ≡ taken_before so_far → result ≡ capped (sent_by call so_far outcome.now) }
+        ensures { SendsAtStep self before outcome.now result }
     {
         match self {
             Payload::Nothing => 0,
             Payload::Stream => grown(before, outcome) as u64,
-            Payload::Datagram { bytes } => {
-                if is_ok(outcome) {
-                    bytes
-                } else {
-                    0
-                }
-            }
+            Payload::Datagram { bytes } => { if is_ok(outcome) { bytes } else { 0 } }
         }
     }
 }

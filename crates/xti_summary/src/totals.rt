@@ -2,7 +2,7 @@
 
 ghost use Rattle.std.specs.Prelude.{◌≡◌, ◌++◌, false, [], OnOk};
 ghost use Rattle.xti_summary.specs.Summaries.{is_err, is_part, got_by};
-ghost use Rattle.xti_summary.specs.Counting.{CountsEntry, AreTotals, IsExact, totals_text};
+ghost use Rattle.xti_summary.specs.Counting.{CountsEntry, AreTotals, IsExact, is_full, totals_text};
 
 use crate::payload::{is_error, is_ok};
 use std::alloc::AllocError;
@@ -83,7 +83,8 @@ impl Totals {
 
     /// Whether a number has come to the greatest one that 64 bits hold.
     pub(crate) fn is_full(&self) -> bool
-        ensures { result ≡ false → IsExact self.now }
+        ensures full { result ≡ is_full self.now }
+        ensures exact { result ≡ false → IsExact self.now }
     {
         self.entries == u64::MAX || self.sent == u64::MAX || self.got == u64::MAX
     }

@@ -8,4 +8,4 @@ use Rattle.xti_summary.proofs.counting.Summary.text.Goals as goal
 pub returns : goal.returns
 returns c =
     let line : c.from_vec.result ≡ totals_text c.args.self.now.totals ++ number_word (codes " stalled ") (length c.args.stalls.now) ++ codes "\n" = search rules in
-    λ j counted same. line_is j c.args.self.now c.args.stalls.now c.from_vec.result counted (c.is_full.ensures c.if-is_full.false) same line
+    λ j counted same. line_is j c.args.self.now c.args.stalls.now c.from_vec.result counted (c.is_full.ensures.exact c.if-is_full.false) same line
