@@ -12,8 +12,8 @@ loop-step-init c = λ s all k. ([], λ summary p reported. reported, k)
 pub step-requires : goal.step-requires
 step-requires c = let i = c.loop-step.invariant c.requires.0 c.requires.1 c.requires.2 in (i.0, i.2.stands)
 
-pub add-requires-in-Some : goal.add-requires-in-Some
-add-requires-in-Some c =
+pub add-requires : goal.add-requires
+add-requires c =
     let i = c.loop-step.invariant c.requires.0 c.requires.1 c.requires.2 in
     let pos : 0 < most_steps - c.loop-step._step = omega arith in
     let l = leads-step c.requires.0 c.requires.1 (most_steps - c.loop-step._step) _ i.0 c.loop-step.run c.step.new.self c.step.new.self.made c.in-Some.entry.now i.2 pos refl (c.in_ok-step.ensures.goes_on i.0 i.2.stands) c.step.ensures.providers c.step.ensures.lines (sym c.in-Some.ensures) in
