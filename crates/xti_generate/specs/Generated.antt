@@ -82,15 +82,15 @@ receive_round = line ACCEPTING (receiving (codes "r"))
 
 -- ---- workers
 
--- the setups of workers 1 to the last one
+-- the setups of so many workers of the ring
 unfoldable pub setups : ℕ → List Line
 setups workers = flat_map ring_setup (range_with_len 1 workers)
 
--- the first rounds of a worker of the ring
+-- so many rounds of a worker of the ring
 unfoldable pub datagram_rounds : ℕ → ℕ → ℕ → List Line
 datagram_rounds shift worker rounds = flat_map (datagram_round shift worker) (range_with_len 0 rounds)
 
--- the rounds of workers 1 to the last one, one worker after the other
+-- the rounds of so many workers, one worker after the other
 unfoldable pub ring : ℕ → ℕ → List Line
 ring shift workers = flat_map (λ worker. datagram_rounds shift worker ROUNDS) (range_with_len 1 workers)
 
