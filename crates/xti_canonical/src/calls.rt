@@ -30,11 +30,7 @@ fn put_most(out: &mut Vec<u8>, amax: u32, omax: u32, umax: u32) -> Result<(), Al
 }
 
 // The address and the options of a call.
-fn put_address_and_options(
-    out: &mut Vec<u8>,
-    addr: &Octets,
-    opt: &Octets,
-) -> Result<(), AllocError>
+fn put_address_and_options(out: &mut Vec<u8>, addr: &Octets, opt: &Octets) -> Result<(), AllocError>
     ensures { OnOk result (out.new.items ≡ out.old.items ++ (codes " addr=" ++ bytes_text addr.now) ++ (codes " opt=" ++ bytes_text opt.now)) }
 {
     put_bytes(out, " addr=", addr)?;
