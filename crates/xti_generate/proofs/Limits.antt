@@ -9,7 +9,7 @@ use Rattle.xti_model.specs.declared.script.NamedCall.TheVariants as call
 use Rattle.xti_model.specs.declared.script.Line.{Line}
 use Rattle.xti_model.specs.Work.{argument_bytes, script_bytes}
 use Rattle.xti_script.specs.Grammar.{IsSmall}
-use Rattle.xti_generate.specs.declared.sizes.TheConstants.{RING, SIZES, ACCEPTING, CONNECTING, ROUNDS}
+use Rattle.xti_generate.specs.declared.sizes.TheConstants.{RING, MOST_SENT, ACCEPTING, CONNECTING, ROUNDS}
 use Rattle.xti_generate.specs.Generated.{line, listening, accepting, connecting, ring_name, next, round_bytes, connection_setup, datagram_round, send_round, receive_round, setups, datagram_rounds, ring, receive_rounds, send_rounds, accepting_side, connecting_side, generated_lines}
 
 -- at most so many lines, with at most so many bytes of arguments
@@ -32,9 +32,9 @@ one line lines m b c h i = record {
   few_bytes = let i' = i.few_bytes in omega (arith, sum_by-cons (λ line. argument_bytes line.call) line lines);
 }
 
-round_length : (shift worker round : ℕ) → length (round_bytes shift worker round) ≤ SIZES
+round_length : (shift worker round : ℕ) → length (round_bytes shift worker round) ≤ MOST_SENT
 round_length shift worker round =
-    let size : ℕ = 1 + (shift + worker + round) % SIZES in
+    let size : ℕ = 1 + (shift + worker + round) % MOST_SENT in
     omega (arith, length-map-range_with_len (λ i. i % 256) 0 size)
 
 datagrams_few : (shift worker : ℕ) (rounds : List ℕ) → length (ring_name (next worker)) ≤ 2 → AreFew (flat_map (datagram_round shift worker) rounds) (2 * length rounds) (66 * length rounds)

@@ -24,7 +24,7 @@ use Rattle.xti_canonical.proofs.Pieces.{lacks_by}
 use Rattle.xti_canonical.proofs.ValueTexts.{Reads, bytes_reads, options_reads, number_reads, provider_reads, mode_reads, name_reads}
 use Rattle.xti_canonical.proofs.Lines.{LineReads}
 use Rattle.xti_canonical.proofs.ScriptTexts.{LinesRead, both_read}
-use Rattle.xti_generate.specs.declared.sizes.TheConstants.{RING, SIZES, ACCEPTING, CONNECTING, ROUNDS}
+use Rattle.xti_generate.specs.declared.sizes.TheConstants.{RING, MOST_SENT, ACCEPTING, CONNECTING, ROUNDS}
 use Rattle.xti_generate.specs.Generated.{opening, binding, listening, accepting, connecting, sending, sending_to, receiving, receiving_datagram, line, ring_name, next, round_bytes, ring_setup, connection_setup, datagram_round, send_round, receive_round, setups, datagram_rounds, ring, receive_rounds, send_rounds, accepting_side, connecting_side, generated_lines}
 use Rattle.xti_generate.proofs.KnownNames.{still_known, just_known, AreSilent, silent_both, not_known}
 
@@ -140,14 +140,14 @@ module _ (earlier : List Line) (worker : ℕ) (small : worker ≤ LAST_WORKER) w
   unfolding written_call form_of field
   receiving_reads name h w = record {
     is_worker = small;
-    call = (known_reads (after earlier worker) name h w, (number_reads (after earlier worker) SIZES (omega arith), tt));
+    call = (known_reads (after earlier worker) name h w, (number_reads (after earlier worker) MOST_SENT (omega arith), tt));
   }
 
   receiving_datagram_reads : (name : List ℕ) → is_defined opens (after earlier worker) name ≡ true → IsWord name → LineReads earlier (line worker (receiving_datagram name))
   unfolding written_call form_of field
   receiving_datagram_reads name h w = record {
     is_worker = small;
-    call = (known_reads (after earlier worker) name h w, (number_reads (after earlier worker) SIZES (omega arith), (number_reads (after earlier worker) MOST_ADDRESS (omega arith), (number_reads (after earlier worker) MOST_OPTIONS (omega arith), tt))));
+    call = (known_reads (after earlier worker) name h w, (number_reads (after earlier worker) MOST_SENT (omega arith), (number_reads (after earlier worker) MOST_ADDRESS (omega arith), (number_reads (after earlier worker) MOST_OPTIONS (omega arith), tt))));
   }
 
   releasing_reads : (name : List ℕ) → is_defined opens (after earlier worker) name ≡ true → IsWord name → LineReads earlier (line worker (call.TSndRel name))
@@ -176,7 +176,7 @@ datagrams_read shift worker (round ∷ rounds) earlier w known =
     let received : Line = line worker (receiving_datagram name) in
     let known_then = still_known opens earlier (sent ∷ []) worker name known in
     let known_after = still_known opens then (received ∷ []) worker name known_then in (
-      sending_to_reads earlier worker w.small name (ring_name (next worker)) (round_bytes shift worker round) known w.word w.address (counted_bytes (1 + (shift + worker + round) % SIZES)),
+      sending_to_reads earlier worker w.small name (ring_name (next worker)) (round_bytes shift worker round) known w.word w.address (counted_bytes (1 + (shift + worker + round) % MOST_SENT)),
       (
         receiving_datagram_reads then worker w.small name known_then w.word,
         datagrams_read shift worker rounds (then ++ received ∷ []) w known_after,
@@ -186,7 +186,7 @@ datagrams_read shift worker (round ∷ rounds) earlier w known =
 sends_read : (shift : ℕ) (rounds : List ℕ) (earlier : List Line) → is_defined opens (after earlier CONNECTING) (codes "c") ≡ true → LinesRead earlier (map (send_round shift) rounds)
 sends_read shift [] earlier known = tt
 sends_read shift (round ∷ rounds) earlier known = (
-  sending_reads earlier CONNECTING (omega arith) (codes "c") (round_bytes shift CONNECTING round) known (word_by (codes "c") refl refl) (counted_bytes (1 + (shift + CONNECTING + round) % SIZES)),
+  sending_reads earlier CONNECTING (omega arith) (codes "c") (round_bytes shift CONNECTING round) known (word_by (codes "c") refl refl) (counted_bytes (1 + (shift + CONNECTING + round) % MOST_SENT)),
   sends_read shift rounds (earlier ++ send_round shift round ∷ []) (still_known opens earlier (send_round shift round ∷ []) CONNECTING (codes "c") known),
 )
 
