@@ -100,32 +100,19 @@ words_are_text [] values = refl
 words_are_text (key ∷ keys) [] = refl
 words_are_text (key ∷ keys) (value ∷ values) = ap (λ text. 32 ∷ (field_text key value ++ text)) (words_are_text keys values)
 
-abbrev AllReads : Spot → List Key → List Value → Type 0
+-- each value's text is read as it there
+abbrev pub AllReads : Spot → List Key → List Value → Type 0
 AllReads s [] [] = Unit {0}
 AllReads s [] (value ∷ values) = ⊥
 AllReads s (key ∷ keys) [] = ⊥
 AllReads s (key ∷ keys) (value ∷ values) = Reads s (kind_of key) value × AllReads s keys values
 
-written_reads : (s : Spot) (key : Key) (value : Value) (word : List ℕ) → Lacks 32 word → Lacks 10 word → IsWritten s key value word → Reads s (kind_of key) value
-written_reads s key value word space line w =
-    value_reads s (kind_of key) w.text value w.stands_for (lacks_rest 32 (key_word key) w.text (subst (Lacks 32) w.spelled space))
-    (lacks_rest 10 (key_word key) w.text (subst (Lacks 10) w.spelled line))
-
-all_reads : (s : Spot) (keys : List Key) (values : List Value) (words : List (List ℕ)) → AllLack 32 words → AllLack 10 words → AreFields s keys values words → AllReads s keys values
-all_reads s [] [] [] space line h = tt
-all_reads s [] [] (word ∷ words) space line h = absurd h
-all_reads s [] (value ∷ values) words space line h = absurd h
-all_reads s (key ∷ keys) [] words space line h = absurd h
-all_reads s (key ∷ keys) (value ∷ values) [] space line h = (usual_reads s key value h.0, all_reads s keys values [] tt tt h.1)
-all_reads s (key ∷ keys) (value ∷ values) (word ∷ words) space line (inl h) = (written_reads s key value word space.0 line.0 h.0, all_reads s keys values words space.1 line.1 h.1)
-all_reads s (key ∷ keys) (value ∷ values) (word ∷ words) space line (inr h) = (usual_reads s key value h.0, all_reads s keys values (word ∷ words) space line h.1)
-
-written_again : (s : Spot) (keys : List Key) (values : List Value) → AllReads s keys values → AreFields s keys values (field_words keys values)
-written_again s [] [] h = tt
-written_again s [] (value ∷ values) h = absurd h
-written_again s (key ∷ keys) [] h = absurd h
-written_again s (key ∷ keys) (value ∷ values) h =
-    inl (record { text = value_text value; spelled = refl; stands_for = h.0.read }, written_again s keys values h.1)
+written_fields : (s : Spot) (keys : List Key) (values : List Value) → AllReads s keys values → AreFields s keys values (field_words keys values)
+written_fields s [] [] h = tt
+written_fields s [] (value ∷ values) h = absurd h
+written_fields s (key ∷ keys) [] h = absurd h
+written_fields s (key ∷ keys) (value ∷ values) h =
+    inl (record { text = value_text value; spelled = refl; stands_for = h.0.read }, written_fields s keys values h.1)
 
 spaceless : (s : Spot) (keys : List Key) (values : List Value) → AllReads s keys values → AllLack 32 (field_words keys values)
 spaceless s [] [] h = tt
@@ -139,13 +126,27 @@ endless s [] (value ∷ values) h = absurd h
 endless s (key ∷ keys) [] h = absurd h
 endless s (key ∷ keys) (value ∷ values) h = (lacks_both 10 (key_word key) (value_text value) (key_fits key).endless h.0.endless, endless s keys values h.1)
 
--- fields that were read, all written: they are the same fields, of words without a space or an end of a line
-pub record WrittenAgain (s : Spot) (keys : List Key) (values : List Value) : Type 0 where
+-- fields that are all written: they are fields of these values, of words without a space or an end of a line
+pub record FieldsWritten (s : Spot) (keys : List Key) (values : List Value) : Type 0 where
   pub are_fields : AreFields s keys values (field_words keys values)
   pub spaceless : AllLack 32 (field_words keys values)
   pub endless : AllLack 10 (field_words keys values)
 
-pub fields_again : (s : Spot) (keys : List Key) (values : List Value) (words : List (List ℕ)) → AllLack 32 words → AllLack 10 words → AreFields s keys values words → WrittenAgain s keys values
-fields_again s keys values words space line h =
-    let reads = all_reads s keys values words space line h in
-    record { are_fields = written_again s keys values reads; spaceless = spaceless s keys values reads; endless = endless s keys values reads }
+pub fields_written : (s : Spot) (keys : List Key) (values : List Value) → AllReads s keys values → FieldsWritten s keys values
+fields_written s keys values h = record { are_fields = written_fields s keys values h; spaceless = spaceless s keys values h; endless = endless s keys values h }
+
+-- ---- fields that were read
+
+written_reads : (s : Spot) (key : Key) (value : Value) (word : List ℕ) → Lacks 32 word → Lacks 10 word → IsWritten s key value word → Reads s (kind_of key) value
+written_reads s key value word space line w =
+    value_reads s (kind_of key) w.text value w.stands_for (lacks_rest 32 (key_word key) w.text (subst (Lacks 32) w.spelled space))
+    (lacks_rest 10 (key_word key) w.text (subst (Lacks 10) w.spelled line))
+
+pub fields_read : (s : Spot) (keys : List Key) (values : List Value) (words : List (List ℕ)) → AllLack 32 words → AllLack 10 words → AreFields s keys values words → AllReads s keys values
+fields_read s [] [] [] space line h = tt
+fields_read s [] [] (word ∷ words) space line h = absurd h
+fields_read s [] (value ∷ values) words space line h = absurd h
+fields_read s (key ∷ keys) [] words space line h = absurd h
+fields_read s (key ∷ keys) (value ∷ values) [] space line h = (usual_reads s key value h.0, fields_read s keys values [] tt tt h.1)
+fields_read s (key ∷ keys) (value ∷ values) (word ∷ words) space line (inl h) = (written_reads s key value word space.0 line.0 h.0, fields_read s keys values words space.1 line.1 h.1)
+fields_read s (key ∷ keys) (value ∷ values) (word ∷ words) space line (inr h) = (usual_reads s key value h.0, fields_read s keys values (word ∷ words) space line h.1)

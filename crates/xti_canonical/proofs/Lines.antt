@@ -1,7 +1,8 @@
--- A line that is written whole is the line of the same call.
-use Rattle.std.proofs.Common.{◌≡◌, refl, sym, ap, subst, ◌∙◌, ℕ, ◌<◌, true, false, not, eqb, List, [], ◌∷◌, ◌++◌, append_assoc, Some, codes, decimal, arith}
+-- A line that is written whole is the line of its call, where the texts of its values are read as these.
+use Rattle.std.proofs.Common.{◌≡◌, refl, sym, ap, subst, ◌∙◌, ℕ, ◌≤◌, ◌<◌, true, false, not, eqb, List, [], ◌∷◌, ◌++◌, append_assoc, Some, codes, decimal, arith}
 use Rattle.std.specs.List.{list_all}
 use Rattle.std.proofs.lemmas.List.Elements.{All-nil, All-cons}
+use Rattle.xti_base.specs.declared.limits.TheConstants.{LAST_WORKER}
 use Rattle.xti_model.specs.declared.script.NamedCall.{NamedCall}
 use Rattle.xti_model.specs.declared.script.NamedCall.TheVariants as call
 use Rattle.xti_model.specs.declared.script.Line.{Line}
@@ -14,10 +15,10 @@ use Rattle.xti_script.specs.declared.verbs.Verb.TheVariants.{Open, Close, Bind, 
 use Rattle.xti_script.specs.Names.{Spot, after}
 use Rattle.xti_script.specs.Calls.{form_of, form, verb_word, call_with}
 use Rattle.xti_script.specs.Grammar.{IsCall, IsLine}
-use Rattle.xti_canonical.specs.Canonical.{written, written_call, text_of, call_text, line_text}
+use Rattle.xti_canonical.specs.Canonical.{Written, written, written_call, call_text, line_text}
 use Rattle.xti_canonical.proofs.Numbers.{Lacks, number_lacks, number_read}
 use Rattle.xti_canonical.proofs.Pieces.{AllLack, after_each, cut_again, lacks_by, lacks_both, pieces_lack, pieces_lack_separator}
-use Rattle.xti_canonical.proofs.Fields.{field_words, words_are_text, fields_again}
+use Rattle.xti_canonical.proofs.Fields.{AllReads, field_words, words_are_text, fields_written, fields_read}
 
 -- ---- words of calls
 
@@ -94,27 +95,68 @@ written_is OptMgmt (Name v1 ∷ Number v2 ∷ Bytes v3 ∷ Number v4 ∷ []) d e
 written_is SetMode (Name v1 ∷ Mode v2 ∷ []) d e = ap written_call (sym (some-is (call.SetMode v1 v2) d e))
 written_is verb values d e = absurd (none-is d e)
 
--- a call whose words were read, written whole: its text is words without a space or an end of a line, and they are the call
-record CallAgain (s : Spot) (call : NamedCall) : Type 0 where
-  first : List ℕ
-  others : List (List ℕ)
-  text_is : call_text call ≡ first ++ after_each 32 others
-  is_call : IsCall s call (first ∷ others)
-  spaceless : AllLack 32 (first ∷ others)
-  endless : AllLack 10 (first ∷ others)
+-- the values as which a call is written make this call
+made : (c : NamedCall) → call_with (written_call c).verb (written_call c).values ≡ Some c
+unfolding call_with written_call
+made (call.TOpen name prov nonblock) = refl
+made (call.TClose fd) = refl
+made (call.TBind fd addr qlen amax) = refl
+made (call.TUnbind fd) = refl
+made (call.TConnect fd addr opt udata amax omax umax) = refl
+made (call.TRcvConnect fd amax omax umax) = refl
+made (call.TListen fd name amax omax umax) = refl
+made (call.TAccept fd resfd seq opt udata) = refl
+made (call.TSnd fd bytes flags) = refl
+made (call.TSndV fd parts flags) = refl
+made (call.TRcv fd max) = refl
+made (call.TRcvV fd sizes) = refl
+made (call.TSndDis fd seq udata) = refl
+made (call.TRcvDis fd umax) = refl
+made (call.TSndRel fd) = refl
+made (call.TRcvRel fd) = refl
+made (call.TSndUData fd addr opt bytes) = refl
+made (call.TSndVUData fd addr opt parts) = refl
+made (call.TRcvUData fd max amax omax) = refl
+made (call.TRcvVUData fd sizes amax omax) = refl
+made (call.TRcvUDErr fd amax omax) = refl
+made (call.TLookAt fd) = refl
+made (call.TGetState fd) = refl
+made (call.TSync fd) = refl
+made (call.TGetInfo fd) = refl
+made (call.TGetProtAddr fd amax pmax) = refl
+made (call.TOptMgmt fd action opt omax) = refl
+made (call.SetMode fd nonblock) = refl
 
-call_again : (s : Spot) (call : NamedCall) (words : List (List ℕ)) → AllLack 32 words → AllLack 10 words → IsCall s call words → CallAgain s call
-call_again s call words space line h =
-    let f = fields_again s (form h.verb) h.values h.fields (subst (AllLack 32) h.spelled space).1 (subst (AllLack 10) h.spelled line).1 h.are_fields in
-    let text : call_text call ≡ text_of (written h.verb h.values) = ap text_of (written_is h.verb h.values call h.made) in
+-- the text of each of the call's values is read there as this value
+abbrev pub CallReads : Spot → NamedCall → Type 0
+CallReads s call = AllReads s (form (written_call call).verb) (written_call call).values
+
+-- a call that is written whole: its text is words without a space or an end of a line, and they are the call
+pub record CallWritten (s : Spot) (call : NamedCall) : Type 0 where
+  pub first : List ℕ
+  pub others : List (List ℕ)
+  pub text_is : call_text call ≡ first ++ after_each 32 others
+  pub is_call : IsCall s call (first ∷ others)
+  pub spaceless : AllLack 32 (first ∷ others)
+  pub endless : AllLack 10 (first ∷ others)
+
+pub call_written : (s : Spot) (call : NamedCall) → CallReads s call → CallWritten s call
+call_written s call h =
+    let w = written_call call in
+    let f = fields_written s (form w.verb) w.values h in
     record {
-      first = verb_word h.verb;
-      others = field_words (form h.verb) h.values;
-      text_is = text ∙ ap (λ t. verb_word h.verb ++ t) (words_are_text (form h.verb) h.values);
-      is_call = record { verb = h.verb; fields = field_words (form h.verb) h.values; values = h.values; spelled = refl; are_fields = f.are_fields; made = h.made };
-      spaceless = ((word_fits h.verb).spaceless, f.spaceless);
-      endless = ((word_fits h.verb).endless, f.endless);
+      first = verb_word w.verb;
+      others = field_words (form w.verb) w.values;
+      text_is = ap (λ t. verb_word w.verb ++ t) (words_are_text (form w.verb) w.values);
+      is_call = record { verb = w.verb; fields = field_words (form w.verb) w.values; values = w.values; spelled = refl; are_fields = f.are_fields; made = made call };
+      spaceless = ((word_fits w.verb).spaceless, f.spaceless);
+      endless = ((word_fits w.verb).endless, f.endless);
     }
+
+call_read : (s : Spot) (call : NamedCall) (words : List (List ℕ)) → AllLack 32 words → AllLack 10 words → IsCall s call words → CallReads s call
+call_read s call words space line h =
+    subst (λ (w : Written). AllReads s (form w.verb) w.values) (sym (written_is h.verb h.values call h.made))
+    (fields_read s (form h.verb) h.values h.fields (subst (AllLack 32) h.spelled space).1 (subst (AllLack 10) h.spelled line).1 h.are_fields)
 
 -- ---- lines
 
@@ -129,16 +171,19 @@ joined_lacks : (byte : ℕ) (texts : List (List ℕ)) → eqb 32 byte ≡ false 
 joined_lacks byte [] e h = All-nil (λ c. eqb c byte ≡ false)
 joined_lacks byte (text ∷ texts) e h = All-cons (λ c. eqb c byte ≡ false) 32 (text ++ after_each 32 texts) e (lacks_both byte text (after_each 32 texts) h.0 (joined_lacks byte texts e h.1))
 
--- a line that was read, written whole, is the same line
-pub record LineAgain (earlier : List Line) (line : Line) : Type 0 where
+-- the worker is one, and the text of each of its call's values is read there as this value
+pub record LineReads (earlier : List Line) (line : Line) : Type 0 where
+  pub is_worker : line.worker ≤ LAST_WORKER
+  pub call : CallReads (after earlier line.worker) line.call
+
+-- a line that is written whole
+pub record LineWritten (earlier : List Line) (line : Line) : Type 0 where
   pub is_line : IsLine earlier line (bare_line line)
   pub endless : Lacks 10 (bare_line line)
 
-pub line_again : (earlier : List Line) (line : Line) (text : List ℕ) → Lacks 10 text → IsLine earlier line text → LineAgain earlier line
-line_again earlier line text endless h =
-    let space : AllLack 32 (h.number ∷ h.words) = subst (AllLack 32) h.split (pieces_lack_separator 32 text) in
-    let end : AllLack 10 (h.number ∷ h.words) = subst (AllLack 10) h.split (pieces_lack 32 10 text endless) in
-    let c = call_again (after earlier line.worker) line.call h.words space.1 end.1 h.call in
+pub line_written : (earlier : List Line) (line : Line) → LineReads earlier line → LineWritten earlier line
+line_written earlier line h =
+    let c = call_written (after earlier line.worker) line.call h.call in
     let small : line.worker < 4294967296 = let most = h.is_worker in omega arith in
     let bare : bare_line line ≡ decimal line.worker ++ after_each 32 (c.first ∷ c.others) =
     append_assoc (decimal line.worker) (codes " ") (call_text line.call) ∙ ap (λ t. decimal line.worker ++ 32 ∷ t) c.text_is in
@@ -148,3 +193,9 @@ line_again earlier line text endless h =
       is_line = record { number = decimal line.worker; words = c.first ∷ c.others; split = cut; worker = number_read line.worker small; is_worker = h.is_worker; call = c.is_call };
       endless = subst (Lacks 10) (sym bare) (lacks_both 10 (decimal line.worker) (after_each 32 (c.first ∷ c.others)) (number_lacks 10 line.worker (omega arith) small) (joined_lacks 10 (c.first ∷ c.others) refl c.endless));
     }
+
+pub line_read : (earlier : List Line) (line : Line) (text : List ℕ) → Lacks 10 text → IsLine earlier line text → LineReads earlier line
+line_read earlier line text endless h =
+    let space : AllLack 32 (h.number ∷ h.words) = subst (AllLack 32) h.split (pieces_lack_separator 32 text) in
+    let end : AllLack 10 (h.number ∷ h.words) = subst (AllLack 10) h.split (pieces_lack 32 10 text endless) in
+    record { is_worker = h.is_worker; call = call_read (after earlier line.worker) line.call h.words space.1 end.1 h.call }

@@ -90,11 +90,12 @@ sizes_reads s sizes h some few = record {
 
 -- ---- words without a key
 
-reads_by : (s : Spot) (k : Kind) (v : Value) → value_in s k (value_text v) ≡ Some v
+-- by tests that compute
+pub reads_by : (s : Spot) (k : Kind) (v : Value) → value_in s k (value_text v) ≡ Some v
     → list_all (λ c. not (eqb c 32)) (value_text v) ≡ true → list_all (λ c. not (eqb c 10)) (value_text v) ≡ true → Reads s k v
 reads_by s k v read h i = record { read = read; spaceless = lacks_by 32 (value_text v) h; endless = lacks_by 10 (value_text v) i }
 
-provider_reads : (s : Spot) (prov : Prov) → Reads s kind.Provider (Provider prov)
+pub provider_reads : (s : Spot) (prov : Prov) → Reads s kind.Provider (Provider prov)
 unfolding provider_in
 provider_reads s Ticots = reads_by s kind.Provider (Provider Ticots) refl refl refl
 provider_reads s Ticotsord = reads_by s kind.Provider (Provider Ticotsord) refl refl refl
@@ -145,7 +146,11 @@ action_small word n h = go (bytes_eq word (codes "negotiate")) (bytes_eq word (c
 
 -- ---- names
 
--- a name is its own text, which was read already
+-- a name is its own text, where it may stand there
+pub name_reads : (s : Spot) (k : Kind) (name : List ℕ) → value_in s k name ≡ named (can_name s k name) name → can_name s k name ≡ true → Lacks 32 name → Lacks 10 name → Reads s k (Name name)
+name_reads s k name e can space line = record { read = e ∙ ap (λ known. named known name) can; spaceless = space; endless = line }
+
+-- a name that was read already
 named_reads : (s : Spot) (k : Kind) (text : List ℕ) (v : Value) (known : Bool) → value_in s k text ≡ Some v → value_in s k text ≡ named known text → Lacks 32 text → Lacks 10 text → Reads s k v
 named_reads s k text v true h e space line =
     let is : Name text ≡ v = cc in

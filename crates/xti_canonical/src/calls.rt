@@ -1,7 +1,8 @@
 //! Calls by their word and all their fields.
 
-ghost use Rattle.std.specs.Prelude.{◌≡◌, ◌++◌, OnOk, codes, decimal};
+ghost use Rattle.std.specs.Prelude.{◌≡◌, ◌++◌, OnOk, IsTrue, codes, decimal};
 ghost use Rattle.xti_canonical.specs.Canonical.{bytes_text, call_text};
+ghost use Rattle.xti_canonical.specs.Families.{is_address_or_options, is_connection_request, is_connection_receipt, is_send, is_receive};
 
 use crate::values::{
     put_bytes, put_mode, put_name, put_name_or_none, put_parts, put_provider, put_sizes,
@@ -11,18 +12,25 @@ use xti_base::Octets;
 use xti_model::{Name, NamedCall};
 use xti_text::put_number;
 
+// The most bytes that the caller takes of an address and of options.
+fn put_address_limits(out: &mut Vec<u8>, amax: u32, omax: u32) -> Result<(), AllocError>
+    ensures { OnOk result (out.new.items ≡ out.old.items ++ (codes " amax=" ++ decimal amax) ++ (codes " omax=" ++ decimal omax)) }
+{
+    put_number(out, " amax=", amax as u64)?;
+    put_number(out, " omax=", omax as u64)
+}
+
 // The most bytes that the caller takes of address, options and data.
 fn put_most(out: &mut Vec<u8>, amax: u32, omax: u32, umax: u32) -> Result<(), AllocError>
     ensures { OnOk result (out.new.items
         ≡ out.old.items ++ (codes " amax=" ++ decimal amax) ++ (codes " omax=" ++ decimal omax) ++ (codes " umax=" ++ decimal umax)) }
 {
-    put_number(out, " amax=", amax as u64)?;
-    put_number(out, " omax=", omax as u64)?;
+    put_address_limits(out, amax, omax)?;
     put_number(out, " umax=", umax as u64)
 }
 
 // The address and the options of a call.
-fn put_address(out: &mut Vec<u8>, addr: &Octets, opt: &Octets) -> Result<(), AllocError>
+fn put_address_and_options(out: &mut Vec<u8>, addr: &Octets, opt: &Octets) -> Result<(), AllocError>
     ensures { OnOk result (out.new.items ≡ out.old.items ++ (codes " addr=" ++ bytes_text addr.now) ++ (codes " opt=" ++ bytes_text opt.now)) }
 {
     put_bytes(out, " addr=", addr)?;
@@ -39,7 +47,7 @@ fn put_request(
     ensures { OnOk result (out.new.items
         ≡ out.old.items ++ (codes " addr=" ++ bytes_text addr.now) ++ (codes " opt=" ++ bytes_text opt.now) ++ (codes " udata=" ++ bytes_text udata.now)) }
 {
-    put_address(out, addr, opt)?;
+    put_address_and_options(out, addr, opt)?;
     put_bytes(out, " udata=", udata)
 }
 
@@ -60,22 +68,13 @@ fn put_acceptance(
     put_bytes(out, " udata=", udata)
 }
 
-/// Appends a call by its word and all its fields.
+// A call that names an address, asks for addresses or settles options.
 #[tactic(auto, unfolding(crate::specs::Canonical::written_call, xti_script::specs::Calls::form_of, xti_script::specs::Fields::field))]
-pub(crate) fn put_call(out: &mut Vec<u8>, call: &NamedCall) -> Result<(), AllocError>
+fn put_address_or_options(out: &mut Vec<u8>, call: &NamedCall) -> Result<(), AllocError>
+    requires { IsTrue (is_address_or_options call.now) }
     ensures { OnOk result (out.new.items ≡ out.old.items ++ call_text call.now) }
 {
     match call {
-        NamedCall::TOpen {
-            name,
-            prov,
-            nonblock,
-        } => {
-            put_name(out, "open ", name)?;
-            put_provider(out, " ", *prov)?;
-            put_mode(out, " ", *nonblock)
-        }
-        NamedCall::TClose { fd } => put_name(out, "close ", fd),
         NamedCall::TBind {
             fd,
             addr,
@@ -87,7 +86,33 @@ pub(crate) fn put_call(out: &mut Vec<u8>, call: &NamedCall) -> Result<(), AllocE
             put_number(out, " qlen=", *qlen as u64)?;
             put_number(out, " amax=", *amax as u64)
         }
-        NamedCall::TUnbind { fd } => put_name(out, "unbind ", fd),
+        NamedCall::TGetProtAddr { fd, amax, pmax } => {
+            put_name(out, "getprotaddr ", fd)?;
+            put_number(out, " amax=", *amax as u64)?;
+            put_number(out, " pmax=", *pmax as u64)
+        }
+        NamedCall::TOptMgmt {
+            fd,
+            action,
+            opt,
+            omax,
+        } => {
+            put_name(out, "optmgmt ", fd)?;
+            put_number(out, " ", *action as u64)?;
+            put_bytes(out, " opt=", opt)?;
+            put_number(out, " omax=", *omax as u64)
+        }
+        _ => unreachable!(),
+    }
+}
+
+// A call that asks for a connection, takes one or ends one.
+#[tactic(auto, unfolding(crate::specs::Canonical::written_call, xti_script::specs::Calls::form_of, xti_script::specs::Fields::field))]
+fn put_connection_request(out: &mut Vec<u8>, call: &NamedCall) -> Result<(), AllocError>
+    requires { IsTrue (is_connection_request call.now) }
+    ensures { OnOk result (out.new.items ≡ out.old.items ++ call_text call.now) }
+{
+    match call {
         NamedCall::TConnect {
             fd,
             addr,
@@ -101,6 +126,32 @@ pub(crate) fn put_call(out: &mut Vec<u8>, call: &NamedCall) -> Result<(), AllocE
             put_request(out, addr, opt, udata)?;
             put_most(out, *amax, *omax, *umax)
         }
+        NamedCall::TAccept {
+            fd,
+            resfd,
+            seq,
+            opt,
+            udata,
+        } => {
+            put_name(out, "accept ", fd)?;
+            put_acceptance(out, resfd, seq, opt, udata)
+        }
+        NamedCall::TSndDis { fd, seq, udata } => {
+            put_name(out, "snddis ", fd)?;
+            put_name_or_none(out, " ", seq)?;
+            put_bytes(out, " udata=", udata)
+        }
+        _ => unreachable!(),
+    }
+}
+
+// A call that takes what the other side asked or answered about a connection.
+#[tactic(auto, unfolding(crate::specs::Canonical::written_call, xti_script::specs::Calls::form_of, xti_script::specs::Fields::field))]
+fn put_connection_receipt(out: &mut Vec<u8>, call: &NamedCall) -> Result<(), AllocError>
+    requires { IsTrue (is_connection_receipt call.now) }
+    ensures { OnOk result (out.new.items ≡ out.old.items ++ call_text call.now) }
+{
+    match call {
         NamedCall::TRcvConnect {
             fd,
             amax,
@@ -121,16 +172,21 @@ pub(crate) fn put_call(out: &mut Vec<u8>, call: &NamedCall) -> Result<(), AllocE
             put_name(out, " ", name)?;
             put_most(out, *amax, *omax, *umax)
         }
-        NamedCall::TAccept {
-            fd,
-            resfd,
-            seq,
-            opt,
-            udata,
-        } => {
-            put_name(out, "accept ", fd)?;
-            put_acceptance(out, resfd, seq, opt, udata)
+        NamedCall::TRcvDis { fd, umax } => {
+            put_name(out, "rcvdis ", fd)?;
+            put_number(out, " umax=", *umax as u64)
         }
+        _ => unreachable!(),
+    }
+}
+
+// A call that sends data or a datagram.
+#[tactic(auto, unfolding(crate::specs::Canonical::written_call, xti_script::specs::Calls::form_of, xti_script::specs::Fields::field))]
+fn put_send(out: &mut Vec<u8>, call: &NamedCall) -> Result<(), AllocError>
+    requires { IsTrue (is_send call.now) }
+    ensures { OnOk result (out.new.items ≡ out.old.items ++ call_text call.now) }
+{
+    match call {
         NamedCall::TSnd { fd, bytes, flags } => {
             put_name(out, "snd ", fd)?;
             put_bytes(out, " data=", bytes)?;
@@ -141,25 +197,6 @@ pub(crate) fn put_call(out: &mut Vec<u8>, call: &NamedCall) -> Result<(), AllocE
             put_parts(out, " parts=", parts.as_slice())?;
             put_number(out, " flags=", *flags as u64)
         }
-        NamedCall::TRcv { fd, max } => {
-            put_name(out, "rcv ", fd)?;
-            put_number(out, " max=", *max as u64)
-        }
-        NamedCall::TRcvV { fd, sizes } => {
-            put_name(out, "rcvv ", fd)?;
-            put_sizes(out, " sizes=", sizes.as_slice())
-        }
-        NamedCall::TSndDis { fd, seq, udata } => {
-            put_name(out, "snddis ", fd)?;
-            put_name_or_none(out, " ", seq)?;
-            put_bytes(out, " udata=", udata)
-        }
-        NamedCall::TRcvDis { fd, umax } => {
-            put_name(out, "rcvdis ", fd)?;
-            put_number(out, " umax=", *umax as u64)
-        }
-        NamedCall::TSndRel { fd } => put_name(out, "sndrel ", fd),
-        NamedCall::TRcvRel { fd } => put_name(out, "rcvrel ", fd),
         NamedCall::TSndUData {
             fd,
             addr,
@@ -167,7 +204,7 @@ pub(crate) fn put_call(out: &mut Vec<u8>, call: &NamedCall) -> Result<(), AllocE
             bytes,
         } => {
             put_name(out, "sndudata ", fd)?;
-            put_address(out, addr, opt)?;
+            put_address_and_options(out, addr, opt)?;
             put_bytes(out, " data=", bytes)
         }
         NamedCall::TSndVUData {
@@ -177,8 +214,27 @@ pub(crate) fn put_call(out: &mut Vec<u8>, call: &NamedCall) -> Result<(), AllocE
             parts,
         } => {
             put_name(out, "sndvudata ", fd)?;
-            put_address(out, addr, opt)?;
+            put_address_and_options(out, addr, opt)?;
             put_parts(out, " parts=", parts.as_slice())
+        }
+        _ => unreachable!(),
+    }
+}
+
+// A call that takes data, a datagram or the error of a datagram.
+#[tactic(auto, unfolding(crate::specs::Canonical::written_call, xti_script::specs::Calls::form_of, xti_script::specs::Fields::field))]
+fn put_receive(out: &mut Vec<u8>, call: &NamedCall) -> Result<(), AllocError>
+    requires { IsTrue (is_receive call.now) }
+    ensures { OnOk result (out.new.items ≡ out.old.items ++ call_text call.now) }
+{
+    match call {
+        NamedCall::TRcv { fd, max } => {
+            put_name(out, "rcv ", fd)?;
+            put_number(out, " max=", *max as u64)
+        }
+        NamedCall::TRcvV { fd, sizes } => {
+            put_name(out, "rcvv ", fd)?;
+            put_sizes(out, " sizes=", sizes.as_slice())
         }
         NamedCall::TRcvUData {
             fd,
@@ -188,8 +244,7 @@ pub(crate) fn put_call(out: &mut Vec<u8>, call: &NamedCall) -> Result<(), AllocE
         } => {
             put_name(out, "rcvudata ", fd)?;
             put_number(out, " max=", *max as u64)?;
-            put_number(out, " amax=", *amax as u64)?;
-            put_number(out, " omax=", *omax as u64)
+            put_address_limits(out, *amax, *omax)
         }
         NamedCall::TRcvVUData {
             fd,
@@ -199,37 +254,60 @@ pub(crate) fn put_call(out: &mut Vec<u8>, call: &NamedCall) -> Result<(), AllocE
         } => {
             put_name(out, "rcvvudata ", fd)?;
             put_sizes(out, " sizes=", sizes.as_slice())?;
-            put_number(out, " amax=", *amax as u64)?;
-            put_number(out, " omax=", *omax as u64)
+            put_address_limits(out, *amax, *omax)
         }
         NamedCall::TRcvUDErr { fd, amax, omax } => {
             put_name(out, "rcvuderr ", fd)?;
-            put_number(out, " amax=", *amax as u64)?;
-            put_number(out, " omax=", *omax as u64)
+            put_address_limits(out, *amax, *omax)
         }
-        NamedCall::TLookAt { fd } => put_name(out, "look ", fd),
-        NamedCall::TGetState { fd } => put_name(out, "getstate ", fd),
-        NamedCall::TSync { fd } => put_name(out, "sync ", fd),
-        NamedCall::TGetInfo { fd } => put_name(out, "getinfo ", fd),
-        NamedCall::TGetProtAddr { fd, amax, pmax } => {
-            put_name(out, "getprotaddr ", fd)?;
-            put_number(out, " amax=", *amax as u64)?;
-            put_number(out, " pmax=", *pmax as u64)
-        }
-        NamedCall::TOptMgmt {
-            fd,
-            action,
-            opt,
-            omax,
+        _ => unreachable!(),
+    }
+}
+
+/// Appends a call by its word and all its fields.
+#[tactic(auto, unfolding(crate::specs::Canonical::written_call, xti_script::specs::Calls::form_of, xti_script::specs::Fields::field))]
+pub(crate) fn put_call(out: &mut Vec<u8>, call: &NamedCall) -> Result<(), AllocError>
+    ensures { OnOk result (out.new.items ≡ out.old.items ++ call_text call.now) }
+{
+    match call {
+        NamedCall::TOpen {
+            name,
+            prov,
+            nonblock,
         } => {
-            put_name(out, "optmgmt ", fd)?;
-            put_number(out, " ", *action as u64)?;
-            put_bytes(out, " opt=", opt)?;
-            put_number(out, " omax=", *omax as u64)
+            put_name(out, "open ", name)?;
+            put_provider(out, " ", *prov)?;
+            put_mode(out, " ", *nonblock)
         }
         NamedCall::SetMode { fd, nonblock } => {
             put_name(out, "mode ", fd)?;
             put_mode(out, " ", *nonblock)
         }
+        NamedCall::TClose { fd } => put_name(out, "close ", fd),
+        NamedCall::TUnbind { fd } => put_name(out, "unbind ", fd),
+        NamedCall::TSndRel { fd } => put_name(out, "sndrel ", fd),
+        NamedCall::TRcvRel { fd } => put_name(out, "rcvrel ", fd),
+        NamedCall::TLookAt { fd } => put_name(out, "look ", fd),
+        NamedCall::TGetState { fd } => put_name(out, "getstate ", fd),
+        NamedCall::TSync { fd } => put_name(out, "sync ", fd),
+        NamedCall::TGetInfo { fd } => put_name(out, "getinfo ", fd),
+        NamedCall::TBind { .. } | NamedCall::TGetProtAddr { .. } | NamedCall::TOptMgmt { .. } => {
+            put_address_or_options(out, call)
+        }
+        NamedCall::TConnect { .. } | NamedCall::TAccept { .. } | NamedCall::TSndDis { .. } => {
+            put_connection_request(out, call)
+        }
+        NamedCall::TRcvConnect { .. } | NamedCall::TListen { .. } | NamedCall::TRcvDis { .. } => {
+            put_connection_receipt(out, call)
+        }
+        NamedCall::TSnd { .. }
+        | NamedCall::TSndV { .. }
+        | NamedCall::TSndUData { .. }
+        | NamedCall::TSndVUData { .. } => put_send(out, call),
+        NamedCall::TRcv { .. }
+        | NamedCall::TRcvV { .. }
+        | NamedCall::TRcvUData { .. }
+        | NamedCall::TRcvVUData { .. }
+        | NamedCall::TRcvUDErr { .. } => put_receive(out, call),
     }
 }

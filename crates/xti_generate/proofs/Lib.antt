@@ -1,1 +1,5 @@
 mod MoreLines
+mod KnownNames
+mod LinesAreRead
+mod Limits
+mod GeneratedTexts

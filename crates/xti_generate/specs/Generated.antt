@@ -11,7 +11,7 @@ use Rattle.xti_model.specs.declared.script.Line.{Line}
 use Rattle.xti_model.specs.declared.script.Script.{Script}
 use Rattle.xti_model.specs.Profile.{usual}
 use Rattle.xti_words.specs.Values.{counted}
-use Rattle.xti_generate.specs.declared.sizes.TheConstants.{RING, SIZES, ACCEPTING, CONNECTING, ROUNDS}
+use Rattle.xti_generate.specs.declared.sizes.TheConstants.{RING, MOST_SENT, ACCEPTING, CONNECTING, ROUNDS}
 
 -- ---- calls, with the usual values of the fields that they don't name
 
@@ -37,17 +37,17 @@ abbrev pub sending_to : List ℕ → List ℕ → List ℕ → NamedCall
 sending_to name addr bytes = call.TSndUData name addr [] bytes
 
 abbrev pub receiving : List ℕ → NamedCall
-receiving name = call.TRcv name SIZES
+receiving name = call.TRcv name MOST_SENT
 
 abbrev pub receiving_datagram : List ℕ → NamedCall
-receiving_datagram name = call.TRcvUData name SIZES MOST_ADDRESS MOST_OPTIONS
+receiving_datagram name = call.TRcvUData name MOST_SENT MOST_ADDRESS MOST_OPTIONS
 
 -- ---- lines
 
 abbrev pub line : ℕ → NamedCall → Line
 line worker call = record { worker = worker; call = call }
 
--- the endpoint of a worker of the ring, and its address: n1, n2 and so on
+-- the name of the endpoint of a worker of the ring, and its address: n1, n2 and so on
 abbrev pub ring_name : ℕ → List ℕ
 ring_name worker = codes "n" ++ decimal worker
 
@@ -55,9 +55,9 @@ ring_name worker = codes "n" ++ decimal worker
 abbrev pub next : ℕ → ℕ
 next worker = if worker == RING then 1 else worker + 1
 
--- what a worker sends in a round: 1 to 64 bytes
+-- what a worker sends in a round: 1 to 64 bytes, one more than in the round before, and 1 after 64
 abbrev pub round_bytes : ℕ → ℕ → ℕ → List ℕ
-round_bytes shift worker round = counted (1 + (shift + worker + round) % SIZES)
+round_bytes shift worker round = counted (1 + (shift + worker + round) % MOST_SENT)
 
 abbrev pub ring_setup : ℕ → List Line
 ring_setup worker = line 0 (opening (ring_name worker) Ticlts) ∷ line 0 (binding (ring_name worker) (ring_name worker) 0) ∷ []
@@ -82,15 +82,15 @@ receive_round = line ACCEPTING (receiving (codes "r"))
 
 -- ---- workers
 
--- the setups of workers 1 to the last one
+-- the setups of so many workers of the ring
 unfoldable pub setups : ℕ → List Line
 setups workers = flat_map ring_setup (range_with_len 1 workers)
 
--- the first rounds of a worker of the ring
+-- so many rounds of a worker of the ring
 unfoldable pub datagram_rounds : ℕ → ℕ → ℕ → List Line
 datagram_rounds shift worker rounds = flat_map (datagram_round shift worker) (range_with_len 0 rounds)
 
--- the rounds of workers 1 to the last one, one worker after the other
+-- the rounds of so many workers, one worker after the other
 unfoldable pub ring : ℕ → ℕ → List Line
 ring shift workers = flat_map (λ worker. datagram_rounds shift worker ROUNDS) (range_with_len 1 workers)
 
@@ -115,6 +115,6 @@ connecting_side shift =
 unfoldable pub generated_lines : ℕ → List Line
 generated_lines shift = setups RING ++ connection_setup ++ ring shift RING ++ accepting_side ++ connecting_side shift
 
--- the script of a number: only its remainder counts, which shifts the sizes
+-- the script of a number: its remainder shifts the sizes
 unfoldable pub generated : ℕ → Script
-generated seed = record { providers = usual; lines = generated_lines (seed % SIZES) }
+generated seed = record { providers = usual; lines = generated_lines (seed % MOST_SENT) }

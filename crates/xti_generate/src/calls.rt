@@ -3,7 +3,7 @@
 ghost use Rattle.std.specs.Prelude.{◌≡◌, ◌∷◌, [], ◌++◌, OnOk, IfOk};
 ghost use Rattle.xti_generate.specs.Generated.{line, opening, binding, listening, accepting, connecting, sending, sending_to, receiving, receiving_datagram};
 
-use crate::sizes::SIZES;
+use crate::sizes::MOST_SENT;
 use std::alloc::{AllocError, Global};
 use xti_base::limits::{MOST_ADDRESS, MOST_CONNECT_DATA, MOST_OPTIONS};
 use xti_base::{Octets, Prov};
@@ -117,7 +117,7 @@ pub(crate) fn receive(alloc: Global, name: &[u8]) -> Result<NamedCall, AllocErro
 {
     Ok(NamedCall::TRcv {
         fd: Name::copy_of(alloc, name)?,
-        max: SIZES,
+        max: MOST_SENT,
     })
 }
 
@@ -126,7 +126,7 @@ pub(crate) fn receive_datagram(alloc: Global, name: &[u8]) -> Result<NamedCall, 
 {
     Ok(NamedCall::TRcvUData {
         fd: Name::copy_of(alloc, name)?,
-        max: SIZES,
+        max: MOST_SENT,
         amax: MOST_ADDRESS as u32,
         omax: MOST_OPTIONS as u32,
     })

@@ -3,8 +3,10 @@
 
 mod calls;
 mod connection;
+mod laws;
 mod ring;
 mod scripts;
 mod sizes;
 
+pub use laws::generated_scripts_have_texts;
 pub use scripts::generate;

@@ -4,7 +4,7 @@ ghost use Rattle.std.specs.Prelude.{◌≡◌, ◌+◌, ◌<◌, ◌≤◌, ◌�
 ghost use Rattle.xti_generate.specs.Generated.{ring_name, next, round_bytes, setups, ring_setup, datagram_round, datagram_rounds, ring};
 
 use crate::calls::{bind, open, put, receive_datagram, send_to};
-use crate::sizes::{RING, ROUNDS, SIZES};
+use crate::sizes::{MOST_SENT, RING, ROUNDS};
 use std::alloc::{AllocError, Global};
 use xti_base::{Octets, Prov};
 use xti_model::Line;
@@ -18,7 +18,7 @@ pub(crate) fn round_bytes(
 ) -> Result<Octets, AllocError>
     ensures { IfOk result (λ bytes. bytes ≡ round_bytes shift worker round) }
 {
-    let count = 1 + (shift as u64 + worker as u64 + round as u64) % SIZES as u64;
+    let count = 1 + (shift as u64 + worker as u64 + round as u64) % MOST_SENT as u64;
     let mut bytes = Vec::with_capacity(alloc, count as usize)?;
     for i in 0..count {
         bytes.push((i % 256) as u8)?;

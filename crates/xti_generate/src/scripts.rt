@@ -5,7 +5,7 @@ ghost use Rattle.xti_generate.specs.Generated.{generated};
 
 use crate::connection::{put_accepting_side, put_connecting_side, put_connection_setup};
 use crate::ring::{put_ring, put_setups};
-use crate::sizes::{LINES, SIZES};
+use crate::sizes::{LINES, MOST_SENT};
 use std::alloc::{AllocError, Global};
 use xti_base::Items;
 use xti_model::{Providers, Script};
@@ -20,7 +20,7 @@ use xti_model::{Providers, Script};
 pub fn generate(alloc: Global, seed: u64) -> Result<Script, AllocError>
     ensures { IfOk result (λ s. s ≡ generated seed) }
 {
-    let shift = (seed % SIZES as u64) as u32;
+    let shift = (seed % MOST_SENT as u64) as u32;
     let mut lines = Vec::with_capacity(alloc, LINES)?;
     put_setups(&mut lines)?;
     put_connection_setup(&mut lines)?;

@@ -12,11 +12,11 @@ pub const CONNECTING: u32 = 10;
 /// How often each of these workers sends or receives.
 pub const ROUNDS: u32 = 1_024;
 
-/// How many sizes there are of what is sent, from one byte on.
-pub const SIZES: u32 = 64;
+/// The most bytes that are sent at once: the sizes are 1 to this one, each one more than the one before, and then 1 again.
+pub const MOST_SENT: u32 = 64;
 
-/// The lines of a script: those of the setup, two a round of the ring, one a round of each side of the connection, and
-/// five that begin or end the connection.
+/// The lines of a script: those of the setup, two for each round of each worker of the ring, one for each round of
+/// each side of the connection, and five that begin or end the connection.
 pub const LINES: usize = 2 * RING as usize
     + 5
     + 2 * RING as usize * ROUNDS as usize
