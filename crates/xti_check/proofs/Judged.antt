@@ -19,25 +19,48 @@ use Rattle.xti_model.specs.History.{Going, own, call_after, going_after, unfinis
 use Rattle.xti_model.proofs.Legality.{after-snoc}
 use Rattle.xti_model.proofs.Working.{call_from, unfinished_from-snoc, IsCallOf, call_of-from, own-more}
 use Rattle.xti_journal.specs.JournalText.{answer_text}
+use Rattle.xti_journal_reader.specs.Grammar.{IsEntry}
+use Rattle.xti_answers.specs.Answers.{AreNumbers}
+use Rattle.xti_answers.proofs.Entries.{is_answer_letter, no-answer, step-text}
+use Rattle.xti_check.specs.Judging.{HasNumbers}
 use Rattle.xti_check.specs.Verdicts.{wanted_act, step_text, wanted, stalling, IsBlockedAt}
 
 -- ---- entries that are not right
 
 abbrev pub Wrong : Providers → World → List Entry → Entry → List ℕ → Type 0
-Wrong p w past e text = (Fits (step_at p w past e) e → ⊥) × (text ≡ wanted p w e.act (doing past e))
+Wrong p w past e text = (Fits (step_at p w past e) e → ⊥) × (text ≡ wanted p w e.act (doing past e)) × HasNumbers (step_at p w past e)
 
 pub wrong_act : (p : Providers) (w : World) (past : List Entry) (e : Entry) (text : List ℕ) → doing past e ≡ None → text ≡ wanted_act e.act → Wrong p w past e text
-wrong_act p w past e text d t = (λ f. (let g : Fits (option_and_then (step_going p w) None) e = subst (λ (o : Option Going). Fits (option_and_then (step_going p w) o) e) d f in g), t ∙ ap (wanted p w e.act) (sym d))
+wrong_act p w past e text d t = (λ f. (let g : Fits (option_and_then (step_going p w) None) e = subst (λ (o : Option Going). Fits (option_and_then (step_going p w) o) e) d f in g), t ∙ ap (wanted p w e.act) (sym d), subst (λ (o : Option Going). HasNumbers (option_and_then (step_going p w) o)) (sym d) tt)
 
 pub blocked_entry : (p : Providers) (w : World) (past : List Entry) (e : Entry) (g : Going) (text : List ℕ) → doing past e ≡ Some g → step_going p w g ≡ None → text ≡ codes "blocked" → Wrong p w past e text
 blocked_entry p w past e g text d b t =
     let at : step_at p w past e ≡ None = ap (option_and_then (step_going p w)) d ∙ b in
-    (λ f. (let h : Fits None e = subst (λ (o : Option Step). Fits o e) at f in h), t ∙ ap step_text (sym b) ∙ ap (wanted p w e.act) (sym d))
+    (λ f. (let h : Fits None e = subst (λ (o : Option Step). Fits o e) at f in h), t ∙ ap step_text (sym b) ∙ ap (wanted p w e.act) (sym d), subst HasNumbers (sym at) tt)
 
-pub other_step : (p : Providers) (w : World) (past : List Entry) (e : Entry) (g : Going) (s : Step) (text : List ℕ) → doing past e ≡ Some g → step_going p w g ≡ Some s → ((e.outcome ≡ s.outcome) × (e.after ≡ s.after) → ⊥) → text ≡ answer_text s.outcome s.after → Wrong p w past e text
-other_step p w past e g s text d b differs t =
+pub other_step : (p : Providers) (w : World) (past : List Entry) (e : Entry) (g : Going) (s : Step) (text : List ℕ) → doing past e ≡ Some g → step_going p w g ≡ Some s → ((e.outcome ≡ s.outcome) × (e.after ≡ s.after) → ⊥) → text ≡ answer_text s.outcome s.after → AreNumbers s.outcome → Wrong p w past e text
+other_step p w past e g s text d b differs t n =
     let at : step_at p w past e ≡ Some s = ap (option_and_then (step_going p w)) d ∙ b in
-    (λ f. differs (subst (λ (o : Option Step). Fits o e) at f), t ∙ ap step_text (sym b) ∙ ap (wanted p w e.act) (sym d))
+    (λ f. differs (subst (λ (o : Option Step). Fits o e) at f), t ∙ ap step_text (sym b) ∙ ap (wanted p w e.act) (sym d), subst HasNumbers (sym at) n)
+
+wanted-letter : (a : Act) → is_answer_letter (wanted_act a) ≡ false
+wanted-letter (act.Begin c) = refl
+wanted-letter act.More = refl
+
+-- another text should stand in a wrong entry
+pub texts_differ : (p : Providers) (w : World) (past : List Entry) (e : Entry) (text : List ℕ) → IsEntry past e → Wrong p w past e text → text ≡ answer_text e.outcome e.after → ⊥
+texts_differ p w past e text h wrong t = by (doing past e) refl (sym wrong.1 ∙ t)
+  where
+    by_step : (g : Going) → doing past e ≡ Some g → (o : Option Step) → step_going p w g ≡ o → step_text o ≡ answer_text e.outcome e.after → ⊥
+    by_step g d None b s = no-answer (codes "blocked") e.outcome e.after refl s
+    by_step g d (Some x) b s =
+        let at : step_at p w past e ≡ Some x = ap (option_and_then (step_going p w)) d ∙ b in
+        let same : (e.outcome ≡ x.outcome) × (e.after ≡ x.after) = step-text p w past e g x h d b (subst HasNumbers at wrong.2) s in
+        wrong.0 (subst (λ (o : Option Step). Fits o e) (sym at) same)
+
+    by : (o : Option Going) → doing past e ≡ o → wanted p w e.act o ≡ answer_text e.outcome e.after → ⊥
+    by None d s = no-answer (wanted_act e.act) e.outcome e.after (wanted-letter e.act) s
+    by (Some g) d s = by_step g d (step_going p w g) refl s
 
 -- ---- right entries
 
@@ -92,6 +115,22 @@ blocked_stall p w entries s g d b = subst (IsBlockedAt p w) (sym d) b
 pub moving_stall : (p : Providers) (w : World) (entries : List Entry) (s : StallLine) (g : Going) (x : Step) (text : List ℕ) → stalling entries s ≡ Some g → step_going p w g ≡ Some x → text ≡ answer_text x.outcome x.after → WrongStall p w entries s text
 moving_stall p w entries s g x text d b t =
     (λ f. (let n : step_going p w g ≡ None = subst (IsBlockedAt p w) d f in none-some x (sym n ∙ b)), t ∙ ap step_text (sym b) ∙ ap (wanted p w s.act) (sym d))
+
+-- another text should stand in a wrong stall line
+pub stall_texts_differ : (p : Providers) (w : World) (entries : List Entry) (s : StallLine) (text : List ℕ) → WrongStall p w entries s text → text ≡ codes "blocked" → ⊥
+stall_texts_differ p w entries s text wrong t = by (stalling entries s) wrong.0 (sym wrong.1 ∙ t)
+  where
+    by_act : (a : Act) → wanted_act a ≡ codes "blocked" → ⊥
+    by_act (act.Begin c) x = absurd cc
+    by_act act.More x = absurd cc
+
+    by_step : (o : Option Step) → (o ≡ None → ⊥) → step_text o ≡ codes "blocked" → ⊥
+    by_step None f x = f refl
+    by_step (Some st) f x = no-answer (codes "blocked") st.outcome st.after refl (sym x)
+
+    by : (o : Option Going) → (IsBlockedAt p w o → ⊥) → wanted p w s.act o ≡ codes "blocked" → ⊥
+    by None f x = by_act s.act x
+    by (Some g) f x = by_step (step_going p w g) f x
 
 -- ---- before all entries
 

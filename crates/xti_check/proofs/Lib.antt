@@ -1,3 +1,4 @@
 pub mod Judged
 pub mod Standing
 pub mod Lines
+pub mod Numbers

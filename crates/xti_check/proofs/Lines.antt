@@ -12,10 +12,12 @@ use Rattle.xti_model.specs.History.{step_at, after, Fits, Legal, doing}
 use Rattle.xti_model.proofs.Legality.{legal-snoc}
 use Rattle.xti_journal.specs.JournalText.{answer_text}
 use Rattle.xti_journal_reader.specs.Grammar.{AreEntries, AreStallsAfter, AreStalls, HasText}
+use Rattle.xti_answers.proofs.Entries.{entry-form}
 use Rattle.xti_check.specs.declared.judging.Judge.{Judge}
 use Rattle.xti_check.specs.declared.verdict.Verdict.TheVariants as verdict
 use Rattle.xti_check.specs.Verdicts.{IsVerdict, AreRightStalls, IsRightStall, wanted, stalling}
 use Rattle.xti_check.specs.Judging.{StandsAfter, JudgesEntry, JudgesStall, JudgesEntries, HaveWorkers, JudgesPlace}
+use Rattle.xti_check.proofs.Judged.{texts_differ, stall_texts_differ}
 
 pub record EntriesSoFar (j : Journal) (past : List Entry) (judge : Judge) (line : ℕ) : Type 0 where
   pub stands : StandsAfter past judge
@@ -38,8 +40,8 @@ right_entry j past old new line e s h p w =
       place = omega (arith, s.place, length-append past (e ∷ []));
     }
 
-pub wrong_entry : (j : Journal) (past others : List Entry) (old new : Judge) (line : ℕ) (e : Entry) (expected found : List ℕ) → EntriesSoFar j past old line → j.entries ≡ past ++ e ∷ others → JudgesEntry past e old new (Some expected) → found ≡ answer_text e.outcome e.after → IsVerdict j (verdict.Wrong line expected found)
-wrong_entry j past others old new line e expected found s w h f = inl (record {
+pub wrong_entry : (j : Journal) (past others : List Entry) (old new : Judge) (line : ℕ) (e : Entry) (expected found : List ℕ) → HasText j → EntriesSoFar j past old line → j.entries ≡ past ++ e ∷ others → JudgesEntry past e old new (Some expected) → found ≡ answer_text e.outcome e.after → IsVerdict j (verdict.Wrong line expected found)
+wrong_entry j past others old new line e expected found text s w h f = inl (record {
   past = past;
   entry = e;
   others = others;
@@ -49,6 +51,7 @@ wrong_entry j past others old new line e expected found s w h f = inl (record {
   wrong = subst (λ (q : Providers). Fits (step_at q (after q past) past e) e → ⊥) s.same h.0;
   expected_is = subst (λ (q : Providers). expected ≡ wanted q (after q past) e.act (doing past e)) s.same h.1;
   found_is = f;
+  differ = λ d. texts_differ old.world.providers (after old.world.providers past) past e expected (entry-form [] past others e (subst (AreEntries []) w text.entries)) h (d ∙ f);
 })
 
 pub all_entries : (j : Journal) (judge : Judge) (line : ℕ) → EntriesSoFar j j.entries judge line → JudgesEntries j judge None
@@ -139,6 +142,7 @@ wrong_stall j before others old new line s expected found l w h f = inr (record 
   wrong = subst (λ (q : Providers). IsRightStall q j.entries s → ⊥) l.same h.0;
   expected_is = subst (λ (q : Providers). expected ≡ wanted q (after q j.entries) s.act (stalling j.entries s)) l.same h.1;
   found_is = f;
+  differ = λ d. stall_texts_differ old.world.providers (after old.world.providers j.entries) j.entries s expected h (d ∙ f);
 })
 
 pub all_stalls : (j : Journal) (judge : Judge) (line : ℕ) → StallsSoFar j j.stalls judge line → IsVerdict j verdict.Legal
@@ -154,12 +158,12 @@ there (x ∷ xs) (suc i) l = there xs i (omega arith)
 pub have_workers : (j : Journal) (judge : Judge) → HasText j → judge.entries.now ≡ j.entries → HaveWorkers judge.entries.now
 have_workers j judge h w = subst HaveWorkers (sym w) (λ i d l. worker_from [] j.entries i d h.entries l)
 
-pub wrong_at : (j : Journal) (i : ℕ) (old new : Judge) (line : ℕ) (e : Entry) (o : Option (List ℕ)) (expected found : List ℕ) → EntriesSoFar j (take i j.entries) old line → i < length j.entries → e ≡ get_or j.entries i e → JudgesPlace i old new o → o ≡ Some expected → found ≡ answer_text e.outcome e.after
+pub wrong_at : (j : Journal) (i : ℕ) (old new : Judge) (line : ℕ) (e : Entry) (o : Option (List ℕ)) (expected found : List ℕ) → HasText j → EntriesSoFar j (take i j.entries) old line → i < length j.entries → e ≡ get_or j.entries i e → JudgesPlace i old new o → o ≡ Some expected → found ≡ answer_text e.outcome e.after
     → IsVerdict j (verdict.Wrong line expected found)
-wrong_at j i old new line e o expected found s l g judged is f =
+wrong_at j i old new line e o expected found text s l g judged is f =
     let w : j.entries ≡ take i j.entries ++ e ∷ drop (i + 1) j.entries = cut_at j.entries i e l g in
     let h : JudgesEntry (take i j.entries) e old new o = judged (take i j.entries) (drop (i + 1) j.entries) e (s.whole ∙ w) (length-take-le i j.entries (omega arith)) s.stands in
-    wrong_entry j (take i j.entries) (drop (i + 1) j.entries) old new line e expected found s w (subst (JudgesEntry (take i j.entries) e old new) is h) f
+    wrong_entry j (take i j.entries) (drop (i + 1) j.entries) old new line e expected found text s w (subst (JudgesEntry (take i j.entries) e old new) is h) f
 
 pub right_at : (j : Journal) (i : ℕ) (old new : Judge) (line next : ℕ) (o : Option (List ℕ)) → EntriesSoFar j (take i j.entries) old line → i < length j.entries → JudgesPlace i old new o → o ≡ None → new.world.providers ≡ old.world.providers → new.entries.now ≡ old.entries.now → next ≡ line + 1
     → EntriesSoFar j (take (i + 1) j.entries) new next

@@ -52,7 +52,7 @@ pub says_blocked : (past : List Entry) (j new : Judge) (e : Entry) (g : Going) (
 says_blocked past j new e g text d b t = blocked_entry j.world.providers (after j.world.providers past) past e g text d b t
 
 pub says_other : (past : List Entry) (j new : Judge) (e : Entry) (g : Going) (st : Step) (text : List ℕ) → doing past e ≡ Some g → step_going j.world.providers (after j.world.providers past) g ≡ Some st → Compares st.outcome st.after e (Some text) → JudgesEntry past e j new (Some text)
-says_other past j new e g st text d b c = other_step j.world.providers (after j.world.providers past) past e g st text d b c.0 c.1
+says_other past j new e g st text d b c = other_step j.world.providers (after j.world.providers past) past e g st text d b c.0 c.1 c.2
 
 pub says_right : (past : List Entry) (j new : Judge) (e : Entry) (g : Going) (st : Step) (left : Option Part) → StandsAfter past j → e.worker ≤ LAST_WORKER → doing past e ≡ Some g → step_going j.world.providers (after j.world.providers past) g ≡ Some st → Compares st.outcome st.after e None
     → new.world.providers ≡ j.world.providers → new.world.cells ≡ st.world → new.parts ≡ set j.parts e.worker left → new.entries.now ≡ j.entries.now → going_of j.entries.now left ≡ going_after (Some g.call) e.outcome → JudgesEntry past e j new None

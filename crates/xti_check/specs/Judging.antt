@@ -5,12 +5,14 @@ use Rattle.xti_base.specs.declared.kinds.State.{State}
 use Rattle.xti_model.specs.declared.entry.Entry.{Entry}
 use Rattle.xti_model.specs.declared.entry.Outcome.{Outcome}
 use Rattle.xti_model.specs.declared.script.StallLine.{StallLine}
+use Rattle.xti_model.specs.Step.{Step}
 use Rattle.xti_model.specs.History.{unfinished, doing, step_at, after, Fits, Legal}
 use Rattle.xti_check.specs.Parts.{going_of}
 use Rattle.xti_journal.specs.JournalText.{answer_text}
 use Rattle.xti_model.specs.declared.script.Journal.{Journal}
 use Rattle.xti_check.specs.declared.judging.Judge.{Judge}
 use Rattle.xti_check.specs.declared.verdict.Verdict.{Verdict}
+use Rattle.xti_answers.specs.Answers.{AreNumbers}
 use Rattle.xti_check.specs.Verdicts.{wanted, stalling, IsRightStall, IsVerdict}
 
 -- it stands after these entries: at the world that they leave, and with the unfinished call of each worker
@@ -19,20 +21,25 @@ pub record StandsAfter (past : List Entry) (judge : Judge) : Type 0 where
   pub world : judge.world.cells ≡ after judge.world.providers past
   pub own : (worker : ℕ) → worker < WORKERS → going_of judge.entries.now (slice_index_or judge.parts worker None) ≡ unfinished past worker
 
--- what an entry is after these: right, and the judge stands after it; or this should stand there
+-- the numbers of what the step answers have 32 bits
+abbrev pub HasNumbers : Option Step → Type 0
+HasNumbers None = Unit {0}
+HasNumbers (Some s) = AreNumbers s.outcome
+
+-- what an entry is after these: right, and the judge stands after it; or this should stand there, of numbers that have 32 bits
 abbrev pub JudgesEntry : List Entry → Entry → Judge → Judge → Option (List ℕ) → Type 0
 JudgesEntry past e old new None = Fits (step_at old.world.providers (after old.world.providers past) past e) e × StandsAfter (past ++ e ∷ []) new
-JudgesEntry past e old new (Some text) = (Fits (step_at old.world.providers (after old.world.providers past) past e) e → ⊥) × (text ≡ wanted old.world.providers (after old.world.providers past) e.act (doing past e))
+JudgesEntry past e old new (Some text) = (Fits (step_at old.world.providers (after old.world.providers past) past e) e → ⊥) × (text ≡ wanted old.world.providers (after old.world.providers past) e.act (doing past e)) × HasNumbers (step_at old.world.providers (after old.world.providers past) past e)
 
 -- what a stall line is after all entries: right, and all is as before; or this should stand there
 abbrev pub JudgesStall : List Entry → StallLine → Judge → Judge → Option (List ℕ) → Type 0
 JudgesStall entries s old new None = IsRightStall old.world.providers entries s × StandsAfter entries new
 JudgesStall entries s old new (Some text) = (IsRightStall old.world.providers entries s → ⊥) × (text ≡ wanted old.world.providers (after old.world.providers entries) s.act (stalling entries s))
 
--- nothing, where the entry has this outcome and this state; else their text
+-- nothing, where the entry has this outcome and this state; else their text, of numbers that have 32 bits
 abbrev pub Compares : Outcome → State → Entry → Option (List ℕ) → Type 0
 Compares outcome after e None = (e.outcome ≡ outcome) × (e.after ≡ after)
-Compares outcome after e (Some text) = ((e.outcome ≡ outcome) × (e.after ≡ after) → ⊥) × (text ≡ answer_text outcome after)
+Compares outcome after e (Some text) = ((e.outcome ≡ outcome) × (e.after ≡ after) → ⊥) × (text ≡ answer_text outcome after) × AreNumbers outcome
 
 -- the entries are right, and the judge stands after them; or this is the verdict
 abbrev pub JudgesEntries : Journal → Judge → Option Verdict → Type 0

@@ -55,7 +55,7 @@ wanted p w act (Some g) = step_text (step_going p w g)
 
 -- ---- verdicts
 
--- the first entry that isn't the step of its call
+-- the first entry that isn't the step of its call: another text should stand there
 pub record IsWrongEntry (j : Journal) (line : ℕ) (expected found : List ℕ) : Type 0 where
   pub past : List Entry
   pub entry : Entry
@@ -66,8 +66,9 @@ pub record IsWrongEntry (j : Journal) (line : ℕ) (expected found : List ℕ) :
   pub wrong : Fits (step_at j.providers (after j.providers past) past entry) entry → ⊥
   pub expected_is : expected ≡ wanted j.providers (after j.providers past) entry.act (doing past entry)
   pub found_is : found ≡ answer_text entry.outcome entry.after
+  pub differ : expected ≡ found → ⊥
 
--- the first stall line whose step isn't blocked, after right entries
+-- the first stall line whose step isn't blocked, after right entries: another text should stand there
 pub record IsWrongStall (j : Journal) (line : ℕ) (expected found : List ℕ) : Type 0 where
   pub before : List StallLine
   pub stall : StallLine
@@ -79,6 +80,7 @@ pub record IsWrongStall (j : Journal) (line : ℕ) (expected found : List ℕ) :
   pub wrong : IsRightStall j.providers j.entries stall → ⊥
   pub expected_is : expected ≡ wanted j.providers (after j.providers j.entries) stall.act (stalling j.entries stall)
   pub found_is : found ≡ codes "blocked"
+  pub differ : expected ≡ found → ⊥
 
 abbrev pub IsVerdict : Journal → Verdict → Type 0
 IsVerdict j verdict.Legal = IsLegal j

@@ -16,7 +16,7 @@ use xti_model::Journal;
 pub enum Verdict {
     /// Each entry is what XTI gives there, and each stall line's step is blocked.
     Legal,
-    /// The first line that is otherwise.
+    /// The first line that is otherwise; the two texts differ.
     Wrong {
         /// Its number, from 1.
         line: u64,

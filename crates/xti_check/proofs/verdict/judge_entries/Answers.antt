@@ -11,7 +11,7 @@ entry-requires-clause-worker c = have_workers c.args.journal.now c.loop-place.ju
 pub returns-in-Some : goal.returns-in-Some
 returns-in-Some c =
     let m = ap length c.as_slice-entries.ensures in
-    wrong_at c.args.journal.now c.loop-place.place c.loop-place.judge c.entry.new.self c.loop-place.line c.index-entries-place.result c.in_ok-expected.field-0 _ _ c.loop-place.invariant (omega (arith, m, c.loop-place-test.true)) (c.index-entries-place.is ∙ ap (λ l. get_or l c.loop-place.place c.index-entries-place.result) c.as_slice-entries.ensures) c.in_ok-expected.ensures.judged c.in-Some.is c.in_ok-found.ensures
+    wrong_at c.args.journal.now c.loop-place.place c.loop-place.judge c.entry.new.self c.loop-place.line c.index-entries-place.result c.in_ok-expected.field-0 _ _ c.requires.text c.loop-place.invariant (omega (arith, m, c.loop-place-test.true)) (c.index-entries-place.is ∙ ap (λ l. get_or l c.loop-place.place c.index-entries-place.result) c.as_slice-entries.ensures) c.in_ok-expected.ensures.judged c.in-Some.is c.in_ok-found.ensures
 
 pub loop-place-preserved : goal.loop-place-preserved
 loop-place-preserved c =

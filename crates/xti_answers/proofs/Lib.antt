@@ -1,0 +1,4 @@
+mod InForm
+mod Shapes
+pub mod Texts
+pub mod Entries

@@ -1,0 +1,31 @@
+use Rattle.std.proofs.Common.{rules}
+use Rattle.xti_check.proofs.Numbers.{are_numbers}
+use Rattle.xti_check.proofs.judging.compare.Goals as goal
+
+-- each number is of the outcome's own type
+pub returns : goal.returns
+returns c = (
+  search rules,
+  c.in_ok-write_answer.ensures,
+  are_numbers c.args.outcome (record {
+    part = search rules;
+    opened = search rules;
+    bound = search rules;
+    listened = search rules;
+    sent = search rules;
+    got = search rules;
+    reason = search rules;
+    disconnected = search rules;
+    datagram = search rules;
+    code = search rules;
+    addr = search rules;
+    options = search rules;
+    tsdu = search rules;
+    etsdu = search rules;
+    connect = search rules;
+    discon = search rules;
+    flags = search rules;
+    result = search rules;
+    lost = search rules;
+  }),
+)
