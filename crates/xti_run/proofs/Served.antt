@@ -1,5 +1,4 @@
 -- An input that the command takes is done.
-use Rattle.std.specs.Prelude.{◌⊎◌}
 use Rattle.xti_model.specs.Robin.{robin}
 use Rattle.xti_replay.specs.Stalls.{are_through}
 use Rattle.std.proofs.Common.{◌≡◌, inl, inr, Bool, true, false, ℕ, List, Option, Some, None, length, ap, subst, arith}

@@ -1,14 +1,13 @@
-use Rattle.std.proofs.Common.{◌≡◌, ap, sym, subst, ◌∙◌}
+use Rattle.std.proofs.Common.{ap, sym, subst, ◌∙◌}
 use Rattle.xti_model.specs.declared.script.Script.{Script}
 use Rattle.xti_script.specs.Grammar.{HasText}
-use Rattle.xti_run.proofs.Reported.{has_usual}
 use Rattle.xti_run.proofs.top.generated_answer.Goals as goal
 
 pub played-requires : goal.played-requires
-played-requires c = subst HasText (sym c.in_ok-script.ensures) (c.generated_scripts_have_texts.ensures c.args.seed)
+played-requires c = subst HasText (sym c.in_ok-script.ensures) (c.generated_scripts_have_texts.ensures.texts c.args.seed)
 
 pub write_script-requires-clause-text : goal.write_script-requires-clause-text
-write_script-requires-clause-text c = subst HasText (sym c.in_ok-script.ensures) (c.generated_scripts_have_texts.ensures c.args.seed)
+write_script-requires-clause-text c = subst HasText (sym c.in_ok-script.ensures) (c.generated_scripts_have_texts.ensures.texts c.args.seed)
 
 pub write_script-requires-clause-providers : goal.write_script-requires-clause-providers
-write_script-requires-clause-providers c = ap (λ (s : Script). s.providers) c.in_ok-script.ensures ∙ has_usual c.args.seed
+write_script-requires-clause-providers c = ap (λ (s : Script). s.providers) c.in_ok-script.ensures ∙ c.generated_scripts_have_texts.ensures.providers c.args.seed
