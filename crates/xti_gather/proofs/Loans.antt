@@ -181,16 +181,6 @@ pub push-others : (l : Lending) (n : ℕ) (h : Held) → IsLoan l → (k : ℕ) 
 push-others l n h loan k ne =
     ap (λ (o : Option Held). cond (eqb k (switch_number l.providers)) (option_map (λ (k : Known). switch_cell k.switch) l.registry) (option_map cell o)) (push-other n k l.numbers l.held h loan.kept.paired (ne_eqb n k (λ e. ne (sym e))))
 
--- The switch's table is lent, or taken back.
-abbrev pub switched : Lending → Option Known → Lending
-switched l o = record l { registry = o }
-
-pub switch-loan : (l : Lending) (o : Option Known) → IsLoan l → IsLoan (switched l o)
-switch-loan l o loan = record { kept = loan.kept; own = loan.own }
-
-pub switch-others : (l : Lending) (o : Option Known) (k : ℕ) → k ≢ switch_number l.providers → cell_lent (switched l o) k ≡ cell_lent l k
-switch-others l o k ne = rw (ne_eqb k (switch_number l.providers) ne) refl
-
 -- An endpoint is taken back.
 pub back-loan : (l : Lending) (n : ℕ) → IsLoan l → IsLoan (without_place l n)
 back-loan l n loan = record {
@@ -273,9 +263,6 @@ back-cell l n h loan e =
     let own : h.place ≡ n = own-place l.numbers l.held n h loan.own (sym e) in
     (cell-is l n h lt (sym e), (subst (λ z. z < places l.providers) (sym own) lt, (λ i. (sym own i, cell h) ∷ [])))
 
-pub back-none : (l : Lending) (n : ℕ) → n ≢ switch_number l.providers → None ≡ held_at l n → cell_lent l n ≡ None
-back-none l n ne e = rw (ne_eqb n (switch_number l.providers) ne, ← e) refl
-
 pub switch-back : (l : Lending) (k : Known) → Some k ≡ l.registry → (cell_lent l (switch_number l.providers) ≡ Some (switch_cell k.switch)) × StandsFor l.providers (rust.Switch k) ((switch_number l.providers, switch_cell k.switch) ∷ [])
 switch-back l k e = (lent-switch l ∙ ap (option_map (λ (k : Known). switch_cell k.switch)) (sym e), refl)
 
@@ -290,9 +277,6 @@ cell_in d (x ∷ xs) = x.1
 
 pub end-is : (p : Providers) (h : Held) (n : ℕ) (m : Cell) → StandsFor p (rust.End h) ((n, m) ∷ []) → (n < places p) × (h.place ≡ n) × (m ≡ cell h)
 end-is p h n m s = let e : n ≡ h.place = ap (number_in 0) s.1 in (subst (λ z. z < places p) (sym e) s.0, sym e, ap (cell_in m) s.1)
-
-pub switch-is : (p : Providers) (k : Known) (n : ℕ) (m : Cell) → StandsFor p (rust.Switch k) ((n, m) ∷ []) → (n ≡ switch_number p) × (m ≡ switch_cell k.switch)
-switch-is p k n m s = (ap (number_in 0) s, ap (cell_in m) s)
 
 -- The same cells are lent after a step.
 length-places : (hs : List Held) → length (map place_of_held hs) ≡ length hs

@@ -13,13 +13,6 @@ use Rattle.xti_gather.specs.Orders.{AllBelow, LentWithin, IsLeastMissing, InOrde
 use Rattle.xti_gather.proofs.Numbers.{StandsAt, stands-at, among-get, rises, not-both, one-get, cases, found-beside, none-beside, lower-all, one-not-lower}
 use Rattle.xti_gather.proofs.Loans.{place-lent, lent-either, lent-number}
 
-at-or-before : (j k : ℕ) → (k ≤ j → ⊥) → j < k
-at-or-before j k h = go (ltb j k) refl
-  where
-    go : (b : Bool) → ltb j k ≡ b → j < k
-    go true e = grind (arith, nat_tests)
-    go false e = absurd (h (grind (arith, nat_tests)))
-
 -- the first of rising numbers that is missing is the least
 pub least-missing : (l : Lending) (ns : List ℕ) (k n : ℕ) → ns ≡ listed ns → slice_get ns k ≡ Some n → is_lent l n ≡ false → ((j m : ℕ) → j < k → slice_get ns j ≡ Some m → is_lent l m ≡ true) → IsLeastMissing l ns n
 least-missing l ns k n rising here gone before = record {
@@ -96,17 +89,6 @@ fewer-lent l l' k loan p here gone others =
     let lt = lent-number l k loan here in
     let r : length (filter (is_lent l') (numbers 0 (places l.providers + 1))) < length (filter (is_lent l) (numbers 0 (places l.providers + 1))) = one-fewer (is_lent l) (is_lent l') (numbers 0 (places l.providers + 1)) k still here (ap is_some gone) (among-numbers 0 (places l.providers + 1) k (omega arith) (omega (arith, lt))) in
     subst (λ z. length (filter (is_lent l') (numbers 0 (places z + 1))) < length (filter (is_lent l) (numbers 0 (places l.providers + 1)))) (sym p) r
-
--- the least that is missing has a higher number than all that are lent
-pub in-order : (l l' : Lending) (ns : List ℕ) (k : ℕ) → IsLeastMissing l ns k → AllBelow l k → ((n : ℕ) → cell_lent l' n ≡ cell_lent l n) → InOrder l' ns
-in-order l l' ns k least below same n m i a g =
-    let lt : n < k = below n (sym (ap is_some (same n)) ∙ i) in
-    let le : k ≤ m = least.least m a (sym (ap is_some (same m)) ∙ g) in
-    omega (arith, lt, le)
-
--- so has each where nothing is lent
-pub none-in-order : (l : Lending) (ns : List ℕ) → ((n : ℕ) → cell_lent l n ≡ None) → InOrder l ns
-none-in-order l ns none n m i a g = absurd (not-both (is_lent l n) i (ap is_some (none n)))
 
 -- What is lent while the missing cells are entered in rising order.
 pub record SoFar (l : Lending) (ns : List ℕ) (k : ℕ) : Type 0 where

@@ -17,7 +17,8 @@ use xti_hall::{Hall, Seat};
 use xti_lent::Lent;
 use xti_model::Cells;
 
-/// Enters a cell and lends it, unless it is lent already. A cell that is entered has a higher number than all that are lent.
+/// Enters a cell and lends it, unless it is lent already. A cell that is entered has a higher number than all that are
+/// lent.
 fn enter<R: Wait>(rt: &R, hall: &Hall<Cell>, seat: &mut Seat<Cell>, lent: &mut Lent, cell: u32)
     requires hall { IsSeatOf hall.now seat.old × (setting_of hall.now ≡ whole lent.old.providers) }
     requires free { seat.old.view.journal ≡ false }

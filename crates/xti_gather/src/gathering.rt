@@ -19,9 +19,10 @@ use xti_model::Call;
 
 /// Enters the cells that the call touches, and no others, and lends them.
 ///
-/// The lent cells tell what the call touches, as far as they go. Those that it doesn't touch are given back, those that are
-/// missing are entered in rising order, and the lent cells are asked again. Where a missing cell has a lower number than one that
-/// is lent, all are given back first.
+/// The lent cells tell what the call touches, as far as they go. Those that it doesn't touch are given back, those that
+/// are missing are entered in rising order, and the lent cells are asked again. Where a missing cell has a lower number
+/// than one that is lent, all are given back first. How often it asks has no bound, since others change what the cells
+/// tell. Takes no memory.
 pub fn gather<R: Wait>(
     rt: &R,
     hall: &Hall<Cell>,

@@ -29,7 +29,8 @@ pub(crate) fn lend_cell(lent: &mut Lent, cell: u32, value: Cell)
     requires stands { (m : MCell) × StandsFor lent.old.providers value ((cell, m) ∷ []) }
     ensures providers { lent.new.providers ≡ lent.old.providers }
     ensures loan { IsLoan lent.new }
-    ensures here { (m : MCell) → StandsFor lent.old.providers value ((cell, m) ∷ []) → cell_lent lent.new cell ≡ Some m }
+    ensures here { (m : MCell)
+        → StandsFor lent.old.providers value ((cell, m) ∷ []) → cell_lent lent.new cell ≡ Some m }
     ensures others { (n : ℕ) → n ≢ cell → cell_lent lent.new n ≡ cell_lent lent.old n }
 {
     match value {

@@ -1,5 +1,5 @@
 -- A step on the lent cells is a step of the world after the recorded history.
-use Rattle.std.proofs.Common.{◌≡◌, ◌<◌, ◌+◌, ℕ, zero, suc, ltb, Bool, true, false, List, [], ◌∷◌, ◌++◌, length, length-append, Option, Some, None, refl, sym, ap, ◌∙◌, subst, arith, append_assoc}
+use Rattle.std.proofs.Common.{◌≡◌, ◌<◌, ◌+◌, ℕ, zero, suc, ltb, Bool, true, false, List, [], ◌∷◌, ◌++◌, Option, Some, None, refl, sym, ap, ◌∙◌, subst, arith}
 use Rattle.std.specs.Prelude.{is_some, option_map, option_and_then}
 use Rattle.std.proofs.lemmas.Bool.Decides.{nat_tests}
 use mathlib.Core.List.{IsPrefix}
@@ -38,11 +38,11 @@ use Rattle.xti_rule.specs.Histories.{part, cell_or_closed, own, after, Legal, To
 use Rattle.xti_rule.specs.Steps.{at, with_pen, without_pen, renew_from, Holds, Commits}
 use Rattle.xti_rule.proofs.Laws.{own-append, own-mine, after-more, legal-more}
 use Rattle.xti_rule.proofs.Lookups.{at_has}
-use Rattle.xti_hall.specs.Seats.{bare, wrote_entry, HoldsNone}
+use Rattle.xti_hall.specs.Seats.{bare, wrote_entry}
 use Rattle.xti_gather.specs.Lends.{Lends, Just}
 use Rattle.xti_gather.proofs.Loans.{lent-cell, loan-after}
 use Rattle.xti_gather.proofs.Wholes.{kept, whole-world, Of, sub-of}
-use Rattle.xti_step.specs.Steps.{HoldsNothing, Later, MayGo, entry_of, Made, Waits}
+use Rattle.xti_step.specs.Steps.{MayGo, entry_of, Made, Waits}
 
 -- a seat goes on lending while the journal comes and goes
 pub lends_same : (v v' : View) (l : Lending) → v'.setting ≡ v.setting → v'.held ≡ v.held → Lends v l → Lends v' l
@@ -215,16 +215,15 @@ module _ {v0 v1 v2 : View} {l : Lending} {c : Call} {g : Go} {h : List Entry} {m
       ap cell_or_closed (cell_at-is P (mixed (cell_lent l')) n (subst (λ (p : Providers). n < places p + 1) still.providers (lent-cell l' n m loan e)) ∙ ap (λ z. option_map (at_number n) (lent_or_kept z (kept W n))) e)
 
   -- after the commit the seat lends the cells as the step left them
-  pub ready_lends : (l' : Lending) (k : ℕ) (o : Outcome) (s : State) (v3 : View) → k ≡ v2.number → taken (applied.Step o s) (cells l') ≡ step P (cells l) c g → SameCells l l'
-      → v3 ≡ without_pen (wrote_entry v2 (entry k c g o s)) Free → Lends v3 l'
-  ready_lends l' k o s v3 is e still made =
+  pub ready_lends : (l' : Lending) (k : ℕ) (o : Outcome) (s : State) → k ≡ v2.number → taken (applied.Step o s) (cells l') ≡ step P (cells l) c g → SameCells l l' → Lends (without_pen (wrote_entry v2 (entry k c g o s)) Free) l'
+  ready_lends l' k o s is e still =
       let x : Entry = entry k c g o s in
       let log' : List Entry = v2.history ++ x ∷ [] in
       let loan : IsLoan l' = loan-after l l' r.lends.loan still in
       let w : after v2.setting log' ≡ cells_by P (mixed (cell_lent l')) = ready_after l' k o s is still e in
       let parts : (n : ℕ) (m : Cell) → cell_lent l' n ≡ Some m → m ≡ part n (after v2.setting log') = λ n m q. sym (ap (part n) w ∙ lent-part l' n m loan still q) in
       let legal : Legal v2.setting log' = legal-more v2.setting v2.history x r.holds.legal (ready_commits l' k o s is still e).right in
-      subst (λ (z : View). Lends z l') (sym made) record {
+      record {
         providers = still.providers ∙ same;
         loan = loan;
         held = λ n. renew-at 0 (after v2.setting log') v2.held n ∙ (ap (λ z. renewed (at v2 n) (part z (after v2.setting log'))) (omega arith) ∙ (ap (λ (z : Option Cell). renewed z (part n (after v2.setting log'))) (ready_lent.held n)
@@ -241,42 +240,14 @@ module _ {v0 v1 v2 : View} {l : Lending} {c : Call} {g : Go} {h : List Entry} {m
   seen-before : IsPrefix v0.seen v2.history
   seen-before = subst (λ (z : List Entry). IsPrefix z v2.history) (ap (λ (z : View). z.seen) base) r.holds.seen
 
-  pub ready_made : (k : ℕ) (o o' : Outcome) (s : State) (v3 v4 : View) → k ≡ v2.number → o' ≡ o → v3 ≡ without_pen (wrote_entry v2 (entry k c g o s)) Free → bare v4 ≡ bare v3 → Made v0 c g o' s v4
-  ready_made k o o' s v3 v4 is copy made left =
+  pub ready_made : (k : ℕ) (o o' : Outcome) (s : State) (v4 : View) → k ≡ v2.number → o' ≡ o → bare v4 ≡ bare (without_pen (wrote_entry v2 (entry k c g o s)) Free) → Made v0 c g o' s v4
+  ready_made k o o' s v4 is copy all =
       let x : entry k c g o s ≡ entry_of v0 c g o' s = λ i. entry ((is ∙ number) i) c g (sym copy i) s in record {
         before = v2.history;
         seen = seen-before;
-        ends = ap (λ (z : View). z.seen) left ∙ (ap (λ (z : View). z.seen) made ∙ ap (λ (z : Entry). v2.history ++ z ∷ []) x);
-        mine = ap (λ (z : View). z.mine) left ∙ (ap (λ (z : View). z.mine) made ∙ (own-append v2.number v2.history (entry k c g o s ∷ []) ∙ (ap (λ z. z ++ own v2.number (entry k c g o s ∷ [])) mine ∙ (ap (λ z. v0.mine ++ z) (own-mine v2.number (entry k c g o s) is) ∙ ap (λ (z : Entry). v0.mine ++ z ∷ []) x))));
+        ends = ap (λ (z : View). z.seen) all ∙ ap (λ (z : Entry). v2.history ++ z ∷ []) x;
+        mine = ap (λ (z : View). z.mine) all ∙ (own-append v2.number v2.history (entry k c g o s ∷ []) ∙ (ap (λ z. z ++ own v2.number (entry k c g o s ∷ [])) mine ∙ (ap (λ z. v0.mine ++ z) (own-mine v2.number (entry k c g o s) is) ∙ ap (λ (z : Entry). v0.mine ++ z ∷ []) x)));
       }
-
-  pub ready_later : (k : ℕ) (o : Outcome) (s : State) (v3 v4 : View) → v3 ≡ without_pen (wrote_entry v2 (entry k c g o s)) Free → bare v4 ≡ bare v3 → Later v0 v4
-  ready_later k o s v3 v4 made left =
-      let all : bare v4 ≡ bare (without_pen (wrote_entry v2 (entry k c g o s)) Free) = left ∙ ap bare made in record {
-        setting = ap (λ (z : View). z.setting) all ∙ ap (λ (z : View). z.setting) base;
-        number = ap (λ (z : View). z.number) all ∙ number;
-        next = ap (λ (z : View). z.next) all ∙ ap (λ (z : View). z.next) base;
-        seen = subst (λ (z : List Entry). IsPrefix v0.seen z) (sym (ap (λ (z : View). z.seen) all)) (longer v0.seen v2.history (entry k c g o s) seen-before);
-      }
-    where
-      longer : (xs ys : List Entry) (e : Entry) → IsPrefix xs ys → IsPrefix xs (ys ++ e ∷ [])
-      longer xs ys e p = (p.0 ++ e ∷ [], sym (append_assoc xs p.0 (e ∷ [])) ∙ ap (λ z. z ++ e ∷ []) p.1)
-
-  pub ready_seen : (k n : ℕ) (o : Outcome) (s : State) (v3 v4 : View) → n ≡ length v2.history → v3 ≡ without_pen (wrote_entry v2 (entry k c g o s)) Free → bare v4 ≡ bare v3 → length v4.seen ≡ n + 1
-  ready_seen k n o s v3 v4 at made left =
-      ap length (ap (λ (z : View). z.seen) left ∙ ap (λ (z : View). z.seen) made) ∙ (length-append v2.history (entry k c g o s ∷ []) ∙ ap (λ z. z + 1) (sym at))
-
-  pub ready_idle : (k : ℕ) (o : Outcome) (s : State) (v3 v4 : View) → v3 ≡ without_pen (wrote_entry v2 (entry k c g o s)) Free → bare v4 ≡ bare v3 → HoldsNone v4 → HoldsNothing v4
-  ready_idle k o s v3 v4 made left none = (ap (λ (z : View). z.journal) left ∙ ap (λ (z : View). z.journal) made, none)
-
-  -- a step that made no entry
-  pub ready_still : (v4 : View) → bare v4 ≡ bare (without_pen v2 Free) → Later v0 v4
-  ready_still v4 all = record {
-    setting = ap (λ (z : View). z.setting) all ∙ ap (λ (z : View). z.setting) base;
-    number = ap (λ (z : View). z.number) all ∙ number;
-    next = ap (λ (z : View). z.next) all ∙ ap (λ (z : View). z.next) base;
-    seen = subst (λ (z : List Entry). IsPrefix v0.seen z) (sym (ap (λ (z : View). z.seen) all)) seen-before;
-  }
 
   pub ready_mine : (v4 : View) → bare v4 ≡ bare (without_pen v2 Free) → v4.mine ≡ v0.mine
   ready_mine v4 all = ap (λ (z : View). z.mine) all ∙ ap (λ (z : View). z.mine) base

@@ -34,7 +34,7 @@ MayGo v c g = made_by (unfinished_from None None v.mine) (act_of g c) ≡ Some (
 abbrev pub entry_of : View → Call → Go → Outcome → State → Entry
 entry_of v c g outcome after = record { worker = v.number; act = act_of g c; outcome = outcome; after = after }
 
--- the step's entry is one more of the seat's own, and the last that it has seen; it comes after all that the seat had seen
+-- the step's entry is one more of the seat's own, and the last that it has seen, after all that it had seen
 pub record Made (v : View) (c : Call) (g : Go) (outcome : Outcome) (after : State) (v' : View) : Type 0 where
   pub before : List Entry
   pub seen : IsPrefix v.seen before

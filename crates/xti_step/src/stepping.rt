@@ -3,9 +3,9 @@
 ghost use Rattle.std.specs.Prelude.{◌≡◌, IfOk, OnErr};
 ghost use Rattle.xti_model.specs.Robin.{act_of};
 ghost use Rattle.xti_rule.specs.declared.view.Mark.TheVariants.{Free};
-ghost use Rattle.xti_rule.specs.Steps.{without_pen, Holds};
+ghost use Rattle.xti_rule.specs.Steps.{without_pen, Holds, Commits};
 ghost use Rattle.xti_hall.specs.Pens.{IsPenOf};
-ghost use Rattle.xti_hall.specs.Seats.{bare, HoldsNone};
+ghost use Rattle.xti_hall.specs.Seats.{bare, wrote_entry, HoldsNone};
 ghost use Rattle.xti_hall.specs.Words.{setting_of, IsSeatOf, IsSameSeat};
 ghost use Rattle.xti_gather.specs.Cells.{whole};
 ghost use Rattle.xti_gather.specs.Lends.{Lends, IsEmpty};
@@ -46,11 +46,28 @@ fn give_up(hall: &Hall<Cell>, seat: &mut Seat<Cell>, lent: &mut Lent, pen: Pen<C
     leave_all(hall, seat, lent);
 }
 
-/// One step of a call by a seat that holds nothing, in a hall that has all cells. The call begins, or is the seat's unfinished
-/// one with so many bytes taken.
+/// Writes the entry of the step that was made on the lent cells, gives the journal back, and then the cells.
+fn finish(hall: &Hall<Cell>, seat: &mut Seat<Cell>, lent: &mut Lent, pen: Pen<Cell>, entry: Entry)
+    requires hall { IsSeatOf hall.now seat.old × (setting_of hall.now ≡ whole lent.old.providers) }
+    requires holds { Holds seat.old.view }
+    requires pen { IsPenOf seat.old pen }
+    requires entry { Commits seat.old.view entry }
+    requires lends { Lends (without_pen (wrote_entry seat.old.view entry) Free) lent.old }
+    ensures hall { IsSameSeat seat.old seat.new }
+    ensures view { bare seat.new.view ≡ bare (without_pen (wrote_entry seat.old.view entry) Free) }
+    ensures none { HoldsNone seat.new.view }
+    ensures empty { IsEmpty lent.new × (lent.new.providers ≡ lent.old.providers) }
+{
+    hall.commit(seat, pen, entry);
+    leave_all(hall, seat, lent);
+}
+
+/// One step of a call by a seat that holds nothing, in a hall that has all cells. The call begins, or it is the seat's
+/// unfinished one with so many bytes taken.
 ///
-/// What is answered, and the length of the history that the step saw: where it was made, the seat's entry is the next. Where it is
-/// blocked, it is so after just that history. Out of memory no entry was made. Nothing is lent, before and after.
+/// It answers what the step answers, and the length of the history that it saw. Where the step was made, its entry is the
+/// next after that history; where it is blocked, it is so after just that history. Out of memory no entry was made. Nothing
+/// is lent before and after.
 pub fn step<G: Gate, R: Wait + Sync>(
     rt: &R,
     alloc: Global,
@@ -99,8 +116,7 @@ pub fn step<G: Gate, R: Wait + Sync>(
                 outcome,
                 after,
             };
-            hall.commit(seat, pen, entry);
-            leave_all(hall, seat, lent);
+            finish(hall, seat, lent, pen, entry);
             Ok((
                 Applied::Step {
                     outcome: told,

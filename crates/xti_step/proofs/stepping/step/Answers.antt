@@ -10,7 +10,7 @@ use Rattle.xti_lent.specs.Lending.{Lending, cell_lent, cells}
 use Rattle.xti_rule.specs.declared.view.View.{View}
 use Rattle.xti_rule.specs.declared.view.Mark.TheVariants.{Free}
 use Rattle.xti_rule.specs.Steps.{at, without_pen, Commits}
-use Rattle.xti_hall.specs.Seats.{wrote_entry}
+use Rattle.xti_hall.specs.Seats.{bare, wrote_entry}
 use Rattle.xti_gather.specs.Lends.{Lends, Just}
 use Rattle.xti_gather.proofs.Wholes.{lends-fit}
 use Rattle.xti_gather.proofs.Holdings.{just_held}
@@ -76,8 +76,8 @@ copy-told-requires g c =
     let e = ap (λ (z : Applied). taken z (cells c.apply.new.lent)) (sym c.in-Ok-Step.field-0-is) ∙ c.in-Ok-Step.ensures.step in
     subst (λ (n : Lengths). IsShortOutcome n c.in-Ok-Step.outcome) (sym c.in_ok-spare.ensures) (ready_short r c.apply.new.lent c.in-Ok-Step.outcome c.in-Ok-Step.after c.in-Ok-Step.ensures.kept e)
 
-pub commit-requires-clause-entry : goal.commit-requires-clause-entry
-commit-requires-clause-entry g c =
+pub finish-requires-clause-entry : goal.finish-requires-clause-entry
+finish-requires-clause-entry g c =
     let r : Ready c.args.seat.now.view c.gather.new.seat.view c.begin.new.seat.view c.gather.new.lent c.args.call.now c.args.go c.in-Ok.pen.history c.in-Ok.pen.marks = record {
       may = c.requires.go;
       rest = c.gather.ensures.rest;
@@ -93,8 +93,8 @@ commit-requires-clause-entry g c =
     let e = ap (λ (z : Applied). taken z (cells c.apply.new.lent)) (sym c.in-Ok-Step.field-0-is) ∙ c.in-Ok-Step.ensures.step in
     subst (λ (z : Act). Commits c.begin.new.seat.view (record { worker = k; act = z; outcome = o; after = s })) (sym c.in_ok-act.ensures) (ready_commits r c.apply.new.lent k o s c.number-in-Ok-Step.ensures.number c.in-Ok-Step.ensures.kept e)
 
-pub leave_all-requires-in-Ok-Step-clause-lends : goal.leave_all-requires-in-Ok-Step-clause-lends
-leave_all-requires-in-Ok-Step-clause-lends g c =
+pub finish-requires-clause-lends : goal.finish-requires-clause-lends
+finish-requires-clause-lends g c =
     let r : Ready c.args.seat.now.view c.gather.new.seat.view c.begin.new.seat.view c.gather.new.lent c.args.call.now c.args.go c.in-Ok.pen.history c.in-Ok.pen.marks = record {
       may = c.requires.go;
       rest = c.gather.ensures.rest;
@@ -108,8 +108,7 @@ leave_all-requires-in-Ok-Step-clause-lends g c =
     let o : Outcome = c.in-Ok-Step.outcome in
     let s : State = c.in-Ok-Step.after in
     let e = ap (λ (z : Applied). taken z (cells c.apply.new.lent)) (sym c.in-Ok-Step.field-0-is) ∙ c.in-Ok-Step.ensures.step in
-    let made = c.commit.ensures.view ∙ ap (λ (z : Act). without_pen (wrote_entry c.begin.new.seat.view (record { worker = k; act = z; outcome = o; after = s })) Free) c.in_ok-act.ensures in
-    ready_lends r c.apply.new.lent k o s c.commit.new.seat.view c.number-in-Ok-Step.ensures.number e c.in-Ok-Step.ensures.kept made
+    subst (λ (z : Act). Lends (without_pen (wrote_entry c.begin.new.seat.view (record { worker = k; act = z; outcome = o; after = s })) Free) c.apply.new.lent) (sym c.in_ok-act.ensures) (ready_lends r c.apply.new.lent k o s c.number-in-Ok-Step.ensures.number e c.in-Ok-Step.ensures.kept)
 
 pub returns-in-Ok-Blocked-clause-ok : goal.returns-in-Ok-Blocked-clause-ok
 returns-in-Ok-Blocked-clause-ok g c =
@@ -139,5 +138,5 @@ returns-in-Ok-Step-clause-ok g c =
     let k : ℕ = c.number-in-Ok-Step.result in
     let o : Outcome = c.in-Ok-Step.outcome in
     let s : State = c.in-Ok-Step.after in
-    let made = c.commit.ensures.view ∙ ap (λ (z : Act). without_pen (wrote_entry c.begin.new.seat.view (record { worker = k; act = z; outcome = o; after = s })) Free) c.in_ok-act.ensures in
-    ready_made r k o c.copy-told.result s c.commit.new.seat.view c.leave_all-in-Ok-Step.new.seat.view c.number-in-Ok-Step.ensures.number c.copy-told.ensures made c.leave_all-in-Ok-Step.ensures.rest
+    let all = c.finish.ensures.view ∙ ap (λ (z : Act). bare (without_pen (wrote_entry c.begin.new.seat.view (record { worker = k; act = z; outcome = o; after = s })) Free)) c.in_ok-act.ensures in
+    ready_made r k o c.copy-told.result s c.finish.new.seat.view c.number-in-Ok-Step.ensures.number c.copy-told.ensures all
