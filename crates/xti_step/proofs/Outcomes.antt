@@ -240,11 +240,12 @@ module _ {v0 v1 v2 : View} {l : Lending} {c : Call} {g : Go} {h : List Entry} {m
   seen-before : IsPrefix v0.seen v2.history
   seen-before = subst (λ (z : List Entry). IsPrefix z v2.history) (ap (λ (z : View). z.seen) base) r.holds.seen
 
-  pub ready_made : (k : ℕ) (o o' : Outcome) (s : State) (v4 : View) → k ≡ v2.number → o' ≡ o → bare v4 ≡ bare (without_pen (wrote_entry v2 (entry k c g o s)) Free) → Made v0 c g o' s v4
-  ready_made k o o' s v4 is copy all =
+  pub ready_made : (l' : Lending) (k : ℕ) (o o' : Outcome) (s : State) (v4 : View) → k ≡ v2.number → SameCells l l' → taken (applied.Step o s) (cells l') ≡ step P (cells l) c g → o' ≡ o → bare v4 ≡ bare (without_pen (wrote_entry v2 (entry k c g o s)) Free) → Made v0 c g o' s v4
+  ready_made l' k o o' s v4 is still e copy all =
       let x : entry k c g o s ≡ entry_of v0 c g o' s = λ i. entry ((is ∙ number) i) c g (sym copy i) s in record {
         before = v2.history;
         seen = seen-before;
+        right = subst (λ (z : Setting). Fits (step z.providers (after z v2.history) c g) (entry_of v0 c g o' s)) (ap (λ (z : View). z.setting) base) (subst (λ (z : Option Step). Fits z (entry_of v0 c g o' s)) (ready_step l' (applied.Step o s) still e) (copy, refl));
         ends = ap (λ (z : View). z.seen) all ∙ ap (λ (z : Entry). v2.history ++ z ∷ []) x;
         mine = ap (λ (z : View). z.mine) all ∙ (own-append v2.number v2.history (entry k c g o s ∷ []) ∙ (ap (λ z. z ++ own v2.number (entry k c g o s ∷ [])) mine ∙ (ap (λ z. v0.mine ++ z) (own-mine v2.number (entry k c g o s) is) ∙ ap (λ (z : Entry). v0.mine ++ z ∷ []) x)));
       }

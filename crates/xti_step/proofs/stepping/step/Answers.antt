@@ -138,5 +138,6 @@ returns-in-Ok-Step-clause-ok g c =
     let k : ℕ = c.number-in-Ok-Step.result in
     let o : Outcome = c.in-Ok-Step.outcome in
     let s : State = c.in-Ok-Step.after in
+    let e = ap (λ (z : Applied). taken z (cells c.apply.new.lent)) (sym c.in-Ok-Step.field-0-is) ∙ c.in-Ok-Step.ensures.step in
     let all = c.finish.ensures.view ∙ ap (λ (z : Act). bare (without_pen (wrote_entry c.begin.new.seat.view (record { worker = k; act = z; outcome = o; after = s })) Free)) c.in_ok-act.ensures in
-    ready_made r k o c.copy-told.result s c.finish.new.seat.view c.number-in-Ok-Step.ensures.number c.copy-told.ensures all
+    ready_made r c.apply.new.lent k o c.copy-told.result s c.finish.new.seat.view c.number-in-Ok-Step.ensures.number c.in-Ok-Step.ensures.kept e c.copy-told.ensures all
