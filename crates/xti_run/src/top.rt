@@ -12,7 +12,6 @@ ghost use Rattle.xti_command.specs.Words.{IsPlain, command_in, command_of, found
 ghost use Rattle.xti_run.specs.Entries.{ReportsAll};
 ghost use Rattle.xti_run.specs.Program.{IsReplayed, IsRefusedInput, IsLegalJournal, IsWrongJournal, IsRefusedJournal, IsWhole, IsListed, IsRefusedByte, IsAnswered, IsRun, IsOutput, IsRefusedWords, IsReader, IsPlayed, IsGenerated, IsWritten, IsWrittenOrOutOfMemory, IsCutOff, HasInput, IsDone, IsOutOfMemory, IsReadFault, IsUnanswered, NoFault, limit, refused_line, refused_byte, refused_words, refused_size, status_with};
 
-use crate::gate::Gate;
 use crate::report::Report;
 use crate::round_robin::texts_are_playable;
 use std::alloc::{AllocError, Global};
@@ -30,6 +29,7 @@ use xti_io::{ReadEnd, Sink, Source, read_all, write_all};
 use xti_model::{Entry, Script, Stalls, robin_follows, robin_is_complete, robin_is_legal};
 use xti_replay::Run;
 use xti_script::{ScriptFail, never_both, read_script};
+use xti_step::Gate;
 use xti_streams::scripts_keep_order;
 
 /// How a run of the program ends.

@@ -1,0 +1,6 @@
+pub mod Numbers
+pub mod Loans
+pub mod Wholes
+pub mod Holdings
+pub mod Orders
+pub mod OpeningCells

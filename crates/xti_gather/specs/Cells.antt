@@ -1,0 +1,18 @@
+-- What a cell of a hall stands for, and what a hall of all cells is.
+use Rattle.std.specs.Prelude.{◌≡◌, ◌<◌, ◌+◌, ℕ, List, [], ◌∷◌}
+use Rattle.xti_model.specs.declared.profile.Providers.{Providers}
+use Rattle.xti_model.specs.World.{Cell as MCell, switch_cell, places, switch_number}
+use Rattle.xti_end.specs.Held.{cell}
+use Rattle.xti_rule.specs.declared.setting.Setting.{Setting}
+use Rattle.xti_hall.specs.Words.{setting}
+use Rattle.xti_gather.specs.declared.cell.Cell.{Cell}
+use Rattle.xti_gather.specs.declared.cell.Cell.TheVariants.{End, Switch}
+
+-- the endpoint of a place stands for that place's cell, and the switch's table for the switch's
+abbrev pub StandsFor : Providers → Cell → List (ℕ × MCell) → Type 0
+StandsFor p (End e) l = (e.place < places p) × (l ≡ (e.place, cell e) ∷ [])
+StandsFor p (Switch r) l = l ≡ (switch_number p, switch_cell r.switch) ∷ []
+
+-- a hall of these providers, with a cell for each place and one for the switch
+abbrev pub whole : Providers → Setting
+whole p = setting p (places p + 1)

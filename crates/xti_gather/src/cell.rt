@@ -1,0 +1,20 @@
+//! A cell of a hall.
+
+use xti_end::Endpoint;
+use xti_registry::Registry;
+use xti_rule::Stands;
+
+/// The endpoint of a place, or the switch's table.
+#[derive(Drop)]
+pub enum Cell {
+    /// The endpoint of a place.
+    End(Endpoint),
+    /// The switch's table.
+    Switch(Registry),
+}
+
+impl Stands for Cell {
+    ghost use Rattle.xti_gather.specs.Cells.{StandsFor};
+
+    ghost stands = { λ p. StandsFor p.providers };
+}

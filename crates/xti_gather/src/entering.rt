@@ -1,0 +1,65 @@
+//! Cells are entered.
+
+ghost use Rattle.std.specs.Prelude.{◌≡◌, ◌≢◌, ◌<◌, ◌+◌, ℕ, true, false};
+ghost use Rattle.xti_model.specs.World.{places};
+ghost use Rattle.xti_lent.specs.Fit.{AllLent};
+ghost use Rattle.xti_lent.specs.Lending.{cell_lent, is_lent};
+ghost use Rattle.xti_hall.specs.Seats.{bare};
+ghost use Rattle.xti_hall.specs.Words.{setting_of, IsSeatOf, IsSameSeat};
+ghost use Rattle.xti_gather.specs.Cells.{whole};
+ghost use Rattle.xti_gather.specs.Lends.{Lends};
+ghost use Rattle.xti_gather.specs.Orders.{AreCells, AllBelow, InOrder};
+
+use crate::cell::Cell;
+use crate::lending::lend_cell;
+use std::sync::Wait;
+use xti_hall::{Hall, Seat};
+use xti_lent::Lent;
+use xti_model::Cells;
+
+/// Enters a cell and lends it, unless it is lent already. A cell that is entered has a higher number than all that are
+/// lent.
+fn enter<R: Wait>(rt: &R, hall: &Hall<Cell>, seat: &mut Seat<Cell>, lent: &mut Lent, cell: u32)
+    requires hall { IsSeatOf hall.now seat.old × (setting_of hall.now ≡ whole lent.old.providers) }
+    requires free { seat.old.view.journal ≡ false }
+    requires lends { Lends seat.old.view lent.old }
+    requires cell { cell < places lent.old.providers + 1 }
+    requires order { is_lent lent.old cell ≡ false → AllBelow lent.old cell }
+    ensures hall { IsSameSeat seat.old seat.new }
+    ensures rest { bare seat.new.view ≡ bare seat.old.view }
+    ensures lends { Lends seat.new.view lent.new }
+    ensures here { is_lent lent.new cell ≡ true }
+    ensures others { (n : ℕ) → n ≢ cell → cell_lent lent.new n ≡ cell_lent lent.old n }
+{
+    if lent.has(cell) {
+        return;
+    }
+    let value = hall.enter(rt, seat, cell);
+    lend_cell(lent, cell, value);
+}
+
+/// Enters those of these cells that are missing, in rising order.
+pub(crate) fn enter_missing<R: Wait>(
+    rt: &R,
+    hall: &Hall<Cell>,
+    seat: &mut Seat<Cell>,
+    lent: &mut Lent,
+    cells: &Cells,
+)
+    requires hall { IsSeatOf hall.now seat.old × (setting_of hall.now ≡ whole lent.old.providers) }
+    requires free { seat.old.view.journal ≡ false }
+    requires lends { Lends seat.old.view lent.old }
+    requires cells { AreCells lent.old.providers cells.now }
+    requires order { InOrder lent.old cells.now }
+    ensures hall { IsSameSeat seat.old seat.new }
+    ensures rest { bare seat.new.view ≡ bare seat.old.view }
+    ensures lends { Lends seat.new.view lent.new }
+    ensures all { AllLent lent.new cells.now }
+{
+    for place in 0..cells.len() {
+        let Some(cell) = cells.get(place) else {
+            unreachable!()
+        };
+        enter(rt, hall, seat, lent, cell);
+    }
+}

@@ -1,0 +1,38 @@
+//! The hall of the opening world.
+
+ghost use Rattle.std.specs.Prelude.{◌≡◌, ◌+◌, true, IfOk, vec_len};
+ghost use Rattle.xti_model.specs.World.{places};
+ghost use Rattle.xti_rule.specs.Rule.{newcomer};
+ghost use Rattle.xti_hall.specs.Seats.{StandInOrder};
+ghost use Rattle.xti_hall.specs.Words.{setting_of, id_of};
+ghost use Rattle.xti_gather.specs.Cells.{StandsFor, whole};
+
+use crate::cell::Cell;
+use std::alloc::{AllocError, Global};
+use xti_end::Endpoint;
+use xti_hall::{Hall, Seat};
+use xti_model::Providers;
+use xti_registry::Registry;
+
+/// The cells of the opening world, in their order.
+pub fn opening_cells(alloc: Global, p: &Providers) -> Result<Vec<Cell>, AllocError>
+    ensures many { IfOk result (λ v. vec_len v ≡ places p.now + 1) }
+    ensures stand { IfOk result (λ v. StandInOrder (λ s. StandsFor s.providers) (whole p.now) v.items) }
+{
+    let registry = Registry::fresh(alloc, p)?;
+    let mut cells = Vec::with_capacity(alloc, p.places() as usize + 1)?;
+    for place in 0..p.places() {
+        cells.push_reserved(Cell::End(Endpoint::closed(alloc, place)));
+    }
+    cells.push_reserved(Cell::Switch(registry));
+    Ok(cells)
+}
+
+/// A hall over the opening world of the providers, and its first seat.
+pub fn open_hall(alloc: Global, p: &Providers) -> Result<(Hall<Cell>, Seat<Cell>), AllocError>
+    ensures hall { IfOk result (λ r. setting_of r.0 ≡ whole p.now) }
+    ensures seat { IfOk result (λ r. (r.1.hall ≡ id_of r.0) × (r.1.view ≡ newcomer (whole p.now))) }
+{
+    let cells = opening_cells(alloc, p)?;
+    Hall::new(alloc, p, cells)
+}
