@@ -21,11 +21,7 @@ pub(crate) enum Report {
 
 impl Report {
     /// The report of no entries yet; a journal is written in the room of bytes that are done with.
-    pub(crate) fn begin(
-        summary: bool,
-        room: Octets,
-        p: &Providers,
-    ) -> Result<Report, AllocError>
+    pub(crate) fn begin(summary: bool, room: Octets, p: &Providers) -> Result<Report, AllocError>
         ensures { IfOk result (Reports summary p.now []) }
     {
         if summary {
