@@ -1,6 +1,10 @@
-//! All steps of a call by a seat of a hall, waiting where it is blocked.
+//! All steps of a call by a seat of a hall, waiting where it is blocked, and the library over them.
 #![tactic(auto)]
 
 mod calling;
+mod library;
+mod shared;
 
 pub use calling::{Halt, call, resume};
+pub use library::Caller;
+pub use shared::Xti;
