@@ -50,7 +50,7 @@ abbrev pub AreSteps : Call → Go → List Entry → Type 0
 AreSteps c g [] = Unit {0}
 AreSteps c g (e ∷ es) = (e.act ≡ act_of g c) × AllByRecursion IsMore es
 
--- all steps of the call that were left were made, and the last one, which is the last entry that was seen, answered this
+-- all steps of the call that were left were made; the last one is the last entry that was seen, and answered this
 pub record Answered (v : View) (c : Call) (g : Go) (v' : View) (reply : Reply) : Type 0 where
   pub parts : List Entry
   pub last : Entry

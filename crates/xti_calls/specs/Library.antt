@@ -1,4 +1,4 @@
--- What contracts see of the library and of its callers.
+-- What contracts see of the library and of its seats.
 use Rattle.std.specs.Prelude.{◌≡◌}
 use Rattle.xti_model.specs.declared.profile.Providers.{Providers}
 use Rattle.xti_lent.specs.Lending.{Lending}
@@ -9,7 +9,7 @@ use Rattle.xti_gather.specs.Lends.{IsEmpty}
 use Rattle.xti_step.specs.Steps.{HoldsNothing}
 use Rattle.xti_calls.specs.declared.shared.Xti.{Xti}
 
--- a caller between two calls: its seat holds nothing, and nothing is lent
+-- a seat between two calls holds nothing, and nothing is lent
 pub record IsReady (v : View) (l : Lending) : Type 0 where
   pub idle : HoldsNothing v
   pub empty : IsEmpty l
@@ -19,6 +19,6 @@ pub record IsReady (v : View) (l : Lending) : Type 0 where
 abbrev pub providers_of : Xti → Providers
 providers_of x = (setting_of x.hall).providers
 
--- the library made the caller
-abbrev pub IsCallerOf : Xti → SeatView → Type 0
-IsCallerOf x s = IsSeatOf x.hall s
+-- the library made the seat
+abbrev pub IsOf : Xti → SeatView → Type 0
+IsOf x s = IsSeatOf x.hall s

@@ -6,5 +6,5 @@ mod library;
 mod shared;
 
 pub use calling::{Halt, call, resume};
-pub use library::Caller;
+pub use library::Seat;
 pub use shared::Xti;

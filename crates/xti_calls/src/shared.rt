@@ -1,4 +1,4 @@
-//! What callers share.
+//! What threads share.
 
 ghost use Rattle.std.specs.Prelude.{◌≡◌};
 ghost use Rattle.xti_hall.specs.Words.{setting_of};
@@ -7,8 +7,8 @@ ghost use Rattle.xti_gather.specs.Cells.{whole};
 use xti_gather::Cell;
 use xti_hall::Hall;
 
-/// The library: a hall that has all cells of its providers. Threads share it by a reference, and each calls by a caller of
-/// its own.
+/// The library: a hall that has all cells of its providers. Threads share it by a reference, and each calls with a seat
+/// of its own.
 #[derive(Drop)]
 pub struct Xti {
     pub(crate) hall: Hall<Cell>,

@@ -12,8 +12,8 @@ use xti_model::Call;
 /// Is asked once for each attempt at a step, while the seat holds just the cells that the call touches, and not the
 /// journal.
 pub trait Gate: Sync {
-    /// May hold the seat back. `worker` is the seat's number, and `point` how many entries of the history are its own so
-    /// far.
+    /// May hold the seat back. `worker` is the seat's number, and `point` how many entries of the history are its own
+    /// so far.
     fn pause<R: Wait + Sync>(&self, rt: &R, worker: u32, point: u64, seat: &Seat<Cell>, call: &Call)
         requires worker { worker ≡ seat.now.view.number }
         requires point { point ≡ length seat.now.view.mine }

@@ -65,9 +65,9 @@ fn finish(hall: &Hall<Cell>, seat: &mut Seat<Cell>, lent: &mut Lent, pen: Pen<Ce
 /// One step of a call by a seat that holds nothing, in a hall that has all cells. The call begins, or it is the seat's
 /// unfinished one with so many bytes taken.
 ///
-/// It answers what the step answers, and the length of the history that it saw. Where the step was made, its entry is the
-/// next after that history; where it is blocked, it is so after just that history. Out of memory no entry was made. Nothing
-/// is lent before and after.
+/// It answers what the step answers, and the length of the history that it saw. Where the step was made, its entry is
+/// the next after that history; where it is blocked, it is so after just that history. Out of memory no entry was made.
+/// Nothing is lent before and after.
 pub fn step<G: Gate, R: Wait + Sync>(
     rt: &R,
     alloc: Global,
