@@ -1,0 +1,8 @@
+//! The library: the calls of XTI in their own types, over a hall in which threads meet.
+#![tactic(auto)]
+
+mod structures;
+mod words;
+
+pub use structures::{AllocFail, Bufs, StructKind, t_alloc};
+pub use words::{t_strerror, t_sysconf};
