@@ -1,2 +1,3 @@
 pub mod Structures
+pub mod Typed
 pub mod Words

@@ -1,8 +1,10 @@
 //! The library: the calls of XTI in their own types, over a hall in which threads meet.
 #![tactic(auto)]
 
+mod answers;
 mod structures;
 mod words;
 
+pub use answers::{Fail, Max, TCall};
 pub use structures::{AllocFail, Bufs, StructKind, t_alloc};
 pub use words::{t_strerror, t_sysconf};
