@@ -1,5 +1,5 @@
 -- The answers of calls in their own types, and the replies that they stand for.
-use Rattle.std.specs.Prelude.{◌≡◌, ℕ, List, [], Option, Result, Ok, Err}
+use Rattle.std.specs.Prelude.{◌≡◌, ℕ, List, [], Option, Result, MatchResult}
 use Rattle.xti_base.specs.declared.kinds.Event.{Event}
 use Rattle.xti_base.specs.declared.kinds.Fd.{Fd}
 use Rattle.xti_base.specs.declared.kinds.Seq.{Seq}
@@ -27,6 +27,7 @@ abbrev pub SaysError : Reply → Fail → Type 0
 SaysError r (fail.Err errno) = r ≡ reply.Refused errno
 SaysError r (fail.Look event) = r ≡ reply.Look event
 SaysError r (fail.Overflow seq) = r ≡ reply.Overflow seq
+SaysError r (fail.Halt halt) = ⊥
 SaysError r (fail.Memory e) = ⊥
 
 -- the reply is of this kind, or an error
@@ -38,8 +39,7 @@ MayBe a other = answer_to (Done other) ≡ a
 
 -- the reply is this answer, or this error
 abbrev pub Says : {T : Type 0} → (T → Reply → Type 0) → Reply → Result T Fail → Type 0
-Says is r (Ok answer) = is answer r
-Says is r (Err f) = SaysError r f
+Says is r result = MatchResult result (λ answer. is answer r) (SaysError r)
 
 -- ---- answers
 

@@ -5,6 +5,7 @@ ghost use Rattle.xti_journal_reader.specs.declared.verbs.Answer.TheVariants as a
 ghost use Rattle.xti_calls.specs.Typed.{MayBe, Says, IsError, SaysError};
 ghost use Rattle.xti_calls.specs.Typed.{IsDone, IsOpened, IsBound, IsConnected, IsListened, IsSent, IsGot, IsDisconnect, IsDatagram, IsDatagramError, IsSeen, IsState, IsInfo, AreAddresses, IsNegotiated};
 
+use crate::calling::Halt;
 use std::alloc::AllocError;
 use xti_base::{Errno, Event, Fd, Info, Octets, Seq, State};
 use xti_model::Reply;
@@ -18,8 +19,20 @@ pub enum Fail {
     Look(Event),
     /// TBUFOVFLW: a returned field is too long; the sequence number of t_listen, else 0.
     Overflow(Seq),
-    /// Out of memory before the first step, of which none was made.
+    /// The call stopped before its reply.
+    Halt(Halt),
+    /// Out of memory before the first step, and none was made.
     Memory(AllocError),
+}
+
+impl From<AllocError> for Fail {
+    ghost use Rattle.xti_calls.specs.declared.answers.Fail.TheVariants.{Memory};
+
+    ghost from_gives = { λ error e. e ≡ Memory error };
+
+    fn from(error: AllocError) -> Fail {
+        Fail::Memory(error)
+    }
 }
 
 /// The most bytes that the caller takes of an address, of options and of data.

@@ -1,0 +1,151 @@
+//! All steps of a call.
+
+ghost use Rattle.std.specs.Prelude.{◌≡◌, None, MatchResult};
+ghost use Rattle.xti_model.specs.declared.entry.Go.TheVariants.{Begin};
+ghost use Rattle.xti_model.specs.History.{unfinished_from};
+ghost use Rattle.xti_model.specs.Wants.{HasLeft, taken_before};
+ghost use Rattle.xti_hall.specs.Words.{setting_of, IsSeatOf, IsSameSeat};
+ghost use Rattle.xti_gather.specs.Cells.{whole};
+ghost use Rattle.xti_gather.specs.Lends.{IsEmpty};
+ghost use Rattle.xti_step.specs.Steps.{HoldsNothing, Later};
+ghost use Rattle.xti_calls.specs.Calling.{IsAt, IsUnfinished, Answered, Halted, going_at, where_left};
+
+use std::alloc::Global;
+use std::sync::Wait;
+use xti_gather::Cell;
+use xti_hall::{Hall, Seat, Stall, Waited};
+use xti_lent::Lent;
+use xti_model::{Applied, Call, Go, Outcome, Reply};
+use xti_step::{Gate, step};
+use xti_waits::{blocked_calls_have_wants, want_of};
+
+/// Why a call stops before its reply. The steps that were made stand in the history, and so many bytes are taken.
+#[derive(Clone, Copy)]
+pub enum Halt {
+    /// Out of memory.
+    OutOfMemory { taken: u32 },
+    /// The call is blocked, and no seat that is out can go on.
+    Stalled { taken: u32, stall: Stall },
+}
+
+/// How many bytes earlier steps took.
+fn taken_before(go: Go) -> u32
+    ensures { result ≡ taken_before go }
+{
+    match go {
+        Go::Begin => 0,
+        Go::More(n) => n,
+    }
+}
+
+/// The steps of a call from this one on, waiting where it is blocked.
+fn go_on<G: Gate, R: Wait + Sync>(
+    rt: &R,
+    alloc: Global,
+    hall: &Hall<Cell>,
+    seat: &mut Seat<Cell>,
+    lent: &mut Lent,
+    gate: &G,
+    call: &Call,
+    from: Go,
+) -> Result<Reply, Halt>
+    requires hall { IsSeatOf hall.now seat.old × (setting_of hall.now ≡ whole lent.old.providers) }
+    requires idle { HoldsNothing seat.old.view }
+    requires empty { IsEmpty lent.old }
+    requires from { IsAt seat.old.view call.now from }
+    requires left { HasLeft call.now from }
+    ensures hall { IsSameSeat seat.old seat.new }
+    ensures idle { HoldsNothing seat.new.view }
+    ensures empty { IsEmpty lent.new × (lent.new.providers ≡ lent.old.providers) }
+    ensures later { Later seat.old.view seat.new.view }
+    ensures made { MatchResult result
+        (Answered seat.old.view call.now from seat.new.view)
+        (Halted seat.old.view call.now from seat.new.view) }
+{
+    blocked_calls_have_wants();
+    let mut go = from;
+    for _ in rt.forever() {
+        match step(rt, alloc, hall, seat, lent, gate, call, go) {
+            Err(_) => {
+                return Err(Halt::OutOfMemory {
+                    taken: taken_before(go),
+                });
+            }
+            Ok((Applied::Step { outcome, .. }, _)) => match outcome {
+                Outcome::Done(reply) => return Ok(reply),
+                Outcome::Part { taken } => go = Go::More(taken),
+            },
+            Ok((Applied::Blocked, at)) => {
+                let Some(want) = want_of(call, go) else {
+                    unreachable!()
+                };
+                match hall.wait(rt, seat, want, at) {
+                    Waited::Again => {}
+                    Waited::Stalled(stall) => {
+                        return Err(Halt::Stalled {
+                            taken: taken_before(go),
+                            stall,
+                        });
+                    }
+                }
+            }
+        }
+    }
+    unreachable!()
+}
+
+/// All steps of a call by a seat that has none unfinished, waiting where it is blocked.
+///
+/// It answers the call's reply, which the last entry that the seat has seen has too, or why it stopped.
+pub fn call<G: Gate, R: Wait + Sync>(
+    rt: &R,
+    alloc: Global,
+    hall: &Hall<Cell>,
+    seat: &mut Seat<Cell>,
+    lent: &mut Lent,
+    gate: &G,
+    call: &Call,
+) -> Result<Reply, Halt>
+    requires hall { IsSeatOf hall.now seat.old × (setting_of hall.now ≡ whole lent.old.providers) }
+    requires idle { HoldsNothing seat.old.view }
+    requires empty { IsEmpty lent.old }
+    requires none { unfinished_from None None seat.old.view.mine ≡ None }
+    ensures hall { IsSameSeat seat.old seat.new }
+    ensures idle { HoldsNothing seat.new.view }
+    ensures empty { IsEmpty lent.new × (lent.new.providers ≡ lent.old.providers) }
+    ensures later { Later seat.old.view seat.new.view }
+    ensures made { MatchResult result
+        (Answered seat.old.view call.now Begin seat.new.view)
+        (Halted seat.old.view call.now Begin seat.new.view) }
+{
+    go_on(rt, alloc, hall, seat, lent, gate, call, Go::Begin)
+}
+
+/// The steps that are left of the seat's unfinished call, which this must be, waiting where it is blocked.
+pub fn resume<G: Gate, R: Wait + Sync>(
+    rt: &R,
+    alloc: Global,
+    hall: &Hall<Cell>,
+    seat: &mut Seat<Cell>,
+    lent: &mut Lent,
+    gate: &G,
+    call: &Call,
+) -> Result<Reply, Halt>
+    requires hall { IsSeatOf hall.now seat.old × (setting_of hall.now ≡ whole lent.old.providers) }
+    requires idle { HoldsNothing seat.old.view }
+    requires empty { IsEmpty lent.old }
+    requires unfinished { IsUnfinished seat.old.view call.now }
+    ensures hall { IsSameSeat seat.old seat.new }
+    ensures idle { HoldsNothing seat.new.view }
+    ensures empty { IsEmpty lent.new × (lent.new.providers ≡ lent.old.providers) }
+    ensures later { Later seat.old.view seat.new.view }
+    ensures made { MatchResult result
+        (Answered seat.old.view call.now (where_left seat.old.view) seat.new.view)
+        (Halted seat.old.view call.now (where_left seat.old.view) seat.new.view) }
+{
+    let _number = seat.number();
+    let Some(taken) = seat.unfinished() else {
+        unreachable!()
+    };
+    go_on(rt, alloc, hall, seat, lent, gate, call, Go::More(taken))
+}

@@ -1,0 +1,217 @@
+//! The library: a hall and its seats.
+
+ghost use Rattle.std.specs.Prelude.{◌≡◌, None, length, true, IfOk, OnErr, MatchResult};
+ghost use Rattle.xti_model.specs.declared.entry.Go.TheVariants.{Begin};
+ghost use Rattle.xti_model.specs.History.{unfinished_from};
+ghost use Rattle.xti_model.specs.Profile.{valid};
+ghost use Rattle.xti_rule.specs.Rule.{newcomer};
+ghost use Rattle.xti_rule.specs.declared.view.Mark.TheVariants.{Resting};
+ghost use Rattle.xti_hall.specs.Seats.{CutsOff, HasNoneToSpare, Looks, Meets, IsStanding, unfinished_bytes};
+ghost use Rattle.xti_hall.specs.Words.{IsSameSeat};
+ghost use Rattle.xti_gather.specs.Cells.{whole};
+ghost use Rattle.xti_step.specs.Steps.{Later, MayGo, Tells};
+ghost use Rattle.xti_calls.specs.Calling.{IsUnfinished, Answered, Halted, where_left};
+ghost use Rattle.xti_calls.specs.Library.{IsOf, providers_of};
+
+use crate::calling::{Halt, call, resume};
+use crate::shared::Xti;
+use std::alloc::{AllocError, Global};
+use std::marker::Model;
+use std::sync::Wait;
+use xti_gather::{Cell, nothing_lent, open_hall};
+use xti_hall::{NoSeat, Seat as HallSeat};
+use xti_lent::Lent;
+use xti_model::{Applied, Call, Entries, Go, Providers, Reply};
+use xti_step::{Gate, step};
+
+/// One caller's token: a seat of the library's hall, which holds nothing between two calls, with room for the cells of a
+/// step.
+#[derive(Drop)]
+pub struct Seat {
+    seat: HallSeat<Cell>,
+    lent: Lent,
+}
+
+impl Model for Seat {
+    ghost use Rattle.xti_hall.specs.Seats.{SeatView};
+    ghost use Rattle.xti_calls.specs.Library.{IsReady};
+
+    ghost Value = { SeatView };
+
+    ghost view = { λ s. s.seat };
+
+    ghost invariant = { λ s. IsReady s.seat.view s.lent };
+}
+
+impl Seat {
+    /// The seat's number. `standing` is true of every seat. Takes no memory.
+    pub fn number(&self) -> u32
+        ensures number { result ≡ self.now.view.number }
+        ensures standing { IsStanding self.now.view }
+    {
+        self.seat.number()
+    }
+
+    /// How many entries of the history are the seat's own. Takes no memory.
+    pub fn steps(&self) -> u64
+        ensures { result ≡ length self.now.view.mine }
+    {
+        self.seat.steps()
+    }
+
+    /// How many bytes were taken of the seat's unfinished call; `None` exactly where it has none. Takes no memory.
+    pub fn unfinished(&self) -> Option<u32>
+        ensures { result ≡ unfinished_bytes self.now.view.mine }
+    {
+        self.seat.unfinished()
+    }
+}
+
+impl Xti {
+    /// The library in its opening world, and the seat with number 0, whose spare numbers are 1 to 32.
+    pub fn new(alloc: Global, p: &Providers) -> Result<(Xti, Seat), AllocError>
+        requires { valid p.now ≡ true }
+        ensures providers { IfOk result (λ r. providers_of r.0 ≡ p.now) }
+        ensures seat { IfOk result (λ r. IsOf r.0 r.1 × (r.1.view ≡ newcomer (whole p.now))) }
+    {
+        let (hall, seat) = open_hall(alloc, p)?;
+        let lent = nothing_lent(alloc, p);
+        Ok((Xti { hall }, Seat { seat, lent }))
+    }
+
+    /// One step of a call, without waiting where it is blocked.
+    pub fn step<G: Gate, R: Wait + Sync>(
+        &self,
+        rt: &R,
+        alloc: Global,
+        seat: &mut Seat,
+        gate: &G,
+        call: &Call,
+        go: Go,
+    ) -> Result<Applied, AllocError>
+        requires seat { IsOf self.now seat.old }
+        requires go { MayGo seat.old.view call.now go }
+        ensures seat { IsSameSeat seat.old seat.new }
+        ensures later { Later seat.old.view seat.new.view }
+        ensures ok { IfOk result (Tells seat.old.view call.now go seat.new.view) }
+        ensures err { OnErr result (seat.new.view.mine ≡ seat.old.view.mine) }
+    {
+        let (applied, _at) = step(
+            rt,
+            alloc,
+            &self.hall,
+            &mut seat.seat,
+            &mut seat.lent,
+            gate,
+            call,
+            go,
+        )?;
+        Ok(applied)
+    }
+
+    /// All steps of a call by a seat that has none unfinished, waiting where it is blocked.
+    pub fn call<G: Gate, R: Wait + Sync>(
+        &self,
+        rt: &R,
+        alloc: Global,
+        seat: &mut Seat,
+        gate: &G,
+        made: &Call,
+    ) -> Result<Reply, Halt>
+        requires seat { IsOf self.now seat.old }
+        requires none { unfinished_from None None seat.old.view.mine ≡ None }
+        ensures seat { IsSameSeat seat.old seat.new }
+        ensures later { Later seat.old.view seat.new.view }
+        ensures made { MatchResult result
+            (Answered seat.old.view made.now Begin seat.new.view)
+            (Halted seat.old.view made.now Begin seat.new.view) }
+    {
+        call(
+            rt,
+            alloc,
+            &self.hall,
+            &mut seat.seat,
+            &mut seat.lent,
+            gate,
+            made,
+        )
+    }
+
+    /// The steps that are left of the seat's unfinished call, which this must be, waiting where it is blocked.
+    pub fn resume<G: Gate, R: Wait + Sync>(
+        &self,
+        rt: &R,
+        alloc: Global,
+        seat: &mut Seat,
+        gate: &G,
+        call: &Call,
+    ) -> Result<Reply, Halt>
+        requires seat { IsOf self.now seat.old }
+        requires unfinished { IsUnfinished seat.old.view call.now }
+        ensures seat { IsSameSeat seat.old seat.new }
+        ensures later { Later seat.old.view seat.new.view }
+        ensures made { MatchResult result
+            (Answered seat.old.view call.now (where_left seat.old.view) seat.new.view)
+            (Halted seat.old.view call.now (where_left seat.old.view) seat.new.view) }
+    {
+        resume(
+            rt,
+            alloc,
+            &self.hall,
+            &mut seat.seat,
+            &mut seat.lent,
+            gate,
+            call,
+        )
+    }
+
+    /// A seat with the least spare number of the given one, which has seen as much, made no call and has no spare number.
+    /// `NoSeat` exactly where it has no spare number; then it stays as it was. Takes no memory.
+    pub fn split<R: Wait>(&self, rt: &R, alloc: Global, seat: &mut Seat) -> Result<Seat, NoSeat>
+        requires { IsOf self.now seat.old }
+        ensures seat { IsSameSeat seat.old seat.new }
+        ensures seats { MatchResult result
+            (λ fresh. CutsOff seat.old seat.new fresh)
+            (λ _. HasNoneToSpare seat.old seat.new) }
+    {
+        let fresh = self.hall.split(rt, &mut seat.seat)?;
+        let lent = nothing_lent(alloc, seat.lent.providers());
+        Ok(Seat { seat: fresh, lent })
+    }
+
+    /// Until its next call gives the journal back, the seat counts as resting.
+    pub fn rest<R: Wait>(&self, rt: &R, seat: &mut Seat)
+        requires { IsOf self.now seat.old }
+        ensures seat { IsSameSeat seat.old seat.new }
+        ensures mark { seat.new.view.mark ≡ Resting }
+        ensures looks { Looks seat.old.view seat.new.view }
+    {
+        self.hall.rest(rt, &mut seat.seat);
+    }
+
+    /// The first seat, which has then seen what both had seen. Takes no memory, and waits for nobody.
+    pub fn meet(&self, seat: Seat, other: &mut Seat) -> Seat
+        requires { IsOf self.now seat × IsOf self.now other.old }
+        ensures seat { IsSameSeat seat result × (other.new ≡ other.old) }
+        ensures met { Meets seat.view other.old.view result.view }
+    {
+        let Seat { seat, lent } = seat;
+        let seat = self.hall.meet(seat, &mut other.seat);
+        Seat { seat, lent }
+    }
+
+    /// A copy of the history at this point, which is what the seat has then seen.
+    pub fn history<R: Wait>(
+        &self,
+        rt: &R,
+        alloc: Global,
+        seat: &mut Seat,
+    ) -> Result<Entries, AllocError>
+        requires { IsOf self.now seat.old }
+        ensures seat { IsSameSeat seat.old seat.new }
+        ensures looks { Looks seat.old.view seat.new.view }
+        ensures history { IfOk result (λ h. h ≡ seat.new.view.seen) }
+    {
+        self.hall.history(rt, alloc, &mut seat.seat)
+    }
+}

@@ -1,0 +1,16 @@
+//! What threads share.
+
+ghost use Rattle.std.specs.Prelude.{◌≡◌};
+ghost use Rattle.xti_hall.specs.Words.{setting_of};
+ghost use Rattle.xti_gather.specs.Cells.{whole};
+
+use xti_gather::Cell;
+use xti_hall::Hall;
+
+/// The library: a hall that has all cells of its providers. Threads share it by a reference, and each calls with a seat of
+/// its own.
+#[derive(Drop)]
+pub struct Xti {
+    pub(crate) hall: Hall<Cell>,
+    ghost all_cells: { setting_of hall ≡ whole (setting_of hall).providers },
+}
