@@ -1,3 +1,5 @@
 pub mod Unfinished
 pub mod Going
 pub mod Newcomers
+pub mod LastSteps
+pub mod Replied

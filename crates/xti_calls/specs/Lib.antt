@@ -1,2 +1,4 @@
 pub mod Calling
+pub mod Forms
 pub mod Library
+pub mod Typed

@@ -1,10 +1,14 @@
-//! All steps of a call by a seat of a hall, waiting where it is blocked, and the library over them.
+//! The library: the calls of XTI in their own types, over a hall in which threads meet.
 #![tactic(auto)]
 
+mod answers;
 mod calling;
+mod forms;
 mod library;
 mod shared;
 
+pub use answers::{Fail, Max, TCall};
 pub use calling::{Halt, call, resume};
 pub use library::Seat;
 pub use shared::Xti;
+pub use xti_structures::{AllocFail, Bufs, StructKind, t_alloc, t_strerror, t_sysconf};

@@ -1,0 +1,64 @@
+-- The reply of a call that was answered is of its kind, and is told by the typed answer.
+use Rattle.std.proofs.Common.{◌≡◌, ◌∙◌, sym, ap, subst}
+use Rattle.std.specs.Prelude.{Result, Ok, Err}
+use Rattle.xti_model.specs.declared.call.Call.{Call}
+use Rattle.xti_model.specs.declared.entry.Go.TheVariants.{Begin}
+use Rattle.xti_model.specs.declared.entry.Outcome.{Outcome}
+use Rattle.xti_model.specs.declared.entry.Outcome.TheVariants.{Done}
+use Rattle.xti_model.specs.declared.entry.Reply.{Reply}
+use Rattle.xti_model.specs.declared.entry.Reply.TheVariants as reply
+use Rattle.xti_model.specs.History.{after}
+use Rattle.xti_rule.specs.declared.view.View.{View}
+use Rattle.xti_hall.specs.Seats.{IsStanding}
+use Rattle.xti_journal_reader.specs.declared.verbs.Verb.{Verb}
+use Rattle.xti_journal_reader.specs.declared.verbs.Answer.{Answer}
+use Rattle.xti_journal_reader.specs.Calls.{answer_of, answer_to, verb_of, MayAnswer}
+use Rattle.xti_model.specs.declared.entry.Go.{Go}
+use Rattle.xti_model.specs.declared.profile.Providers.{Providers}
+use Rattle.xti_model.specs.World.{World}
+use Rattle.xti_sound.specs.Given.{OfStep}
+use Rattle.xti_answers.specs.Answers.{AnswersInForm}
+use Rattle.xti_calls.specs.declared.answers.Fail.{Fail}
+use Rattle.xti_calls.specs.declared.answers.Fail.TheVariants as fail
+use Rattle.xti_calls.specs.Calling.{Answered}
+use Rattle.xti_calls.specs.Typed.{MayBe, Says}
+use Rattle.xti_calls.specs.Forms.{Makes}
+use Rattle.xti_calls.proofs.LastSteps.{IsStepOf, answered-step}
+
+may-be : (verb : Verb) (r : Reply) → MayAnswer verb (answer_to (Done r)) → MayBe (answer_of verb) r
+may-be verb reply.Plain h = h
+may-be verb (reply.Opened fd) h = h
+may-be verb (reply.Bound addr qlen) h = h
+may-be verb (reply.Connected addr opt udata) h = h
+may-be verb (reply.Listened seq addr opt udata) h = h
+may-be verb (reply.Sent n) h = h
+may-be verb (reply.Got bytes flags) h = h
+may-be verb (reply.Discon reason seq udata) h = h
+may-be verb (reply.UData addr opt bytes flags) h = h
+may-be verb (reply.UDErr addr opt code) h = h
+may-be verb (reply.Seen event) h = h
+may-be verb (reply.Stands state) h = h
+may-be verb (reply.Limits info) h = h
+may-be verb (reply.Addresses local peer) h = h
+may-be verb (reply.Options result opt) h = h
+may-be verb (reply.Refused errno) h = tt
+may-be verb (reply.Look event) h = tt
+may-be verb (reply.Overflow seq) h = tt
+
+-- each step answers as the form of its call says
+abbrev pub StepsAnswerInForm : Type 0
+StepsAnswerInForm = (p : Providers) (w : World) (c : Call) (g : Go) → OfStep p w c g (λ s. AnswersInForm (verb_of c) s.outcome)
+
+pub answered_may_be : StepsAnswerInForm → (v : View) (c : Call) (v' : View) (r : Reply) → IsStanding v' → Answered v c Begin v' r → MayBe (answer_of (verb_of c)) r
+answered_may_be in-form v c v' r s a =
+    let p : Providers = v'.setting.providers in
+    let k : IsStepOf p c (Done r) = answered-step v c v' r s.legal s.mine a in
+    may-be (verb_of c) r (subst (λ (o : Outcome). MayAnswer (verb_of c) (answer_to o)) (sym k.outcome) (in-form p (after p k.past) c k.so_far k.made k.is).0)
+
+pub makes_said : {T : Type 0} (is : T → Reply → Type 0) (v : View) (c : Call) (v' : View) (r : Reply) (result : Result T Fail) → Answered v c Begin v' r → Says is r result → Makes c is v v' result
+makes_said is v c v' r (Ok a) k s = (r, k, s)
+makes_said is v c v' r (Err (fail.Err errno)) k s = subst (Answered v c Begin v') s k
+makes_said is v c v' r (Err (fail.Look event)) k s = subst (Answered v c Begin v') s k
+makes_said is v c v' r (Err (fail.Overflow seq)) k s = subst (Answered v c Begin v') s k
+makes_said is v c v' r (Err (fail.Halt halt)) k s = absurd s
+makes_said is v c v' r (Err (fail.Memory e)) k s = absurd s

@@ -1,0 +1,53 @@
+//! The calls of XTI in their own types.
+
+ghost use Rattle.std.specs.Prelude.{◌≡◌, None, MatchResult};
+ghost use Rattle.xti_model.specs.declared.entry.Go.TheVariants.{Begin};
+ghost use Rattle.xti_model.specs.History.{unfinished_from};
+ghost use Rattle.xti_hall.specs.Words.{IsSameSeat};
+ghost use Rattle.xti_journal_reader.specs.Calls.{answer_of, verb_of};
+ghost use Rattle.xti_step.specs.Steps.{Later};
+ghost use Rattle.xti_calls.specs.Calling.{Answered};
+ghost use Rattle.xti_calls.specs.Forms.{Fails};
+ghost use Rattle.xti_calls.specs.Library.{IsOf};
+ghost use Rattle.xti_calls.specs.Typed.{MayBe};
+
+use crate::answers::Fail;
+use crate::library::Seat;
+use crate::shared::Xti;
+use std::alloc::Global;
+use std::sync::Wait;
+use xti_answers::steps_answer_in_form;
+use xti_model::{Call, Reply};
+use xti_step::NoGate;
+
+mod connections;
+mod datagrams;
+mod endpoints;
+mod streams;
+
+impl Xti {
+    /// The reply of a call, which is of the call's kind.
+    fn reply<R: Wait + Sync>(
+        &self,
+        rt: &R,
+        alloc: Global,
+        seat: &mut Seat,
+        call: &Call,
+    ) -> Result<Reply, Fail>
+        requires seat { IsOf self.now seat.old }
+        requires none { unfinished_from None None seat.old.view.mine ≡ None }
+        ensures seat { IsSameSeat seat.old seat.new }
+        ensures later { Later seat.old.view seat.new.view }
+        ensures made { MatchResult result
+            (λ r. Answered seat.old.view call.now Begin seat.new.view r × MayBe (answer_of (verb_of call.now)) r)
+            (Fails call.now seat.old.view seat.new.view) }
+    {
+        steps_answer_in_form();
+        let reply = self.call(rt, alloc, seat, &NoGate, call);
+        let _number = seat.number();
+        match reply {
+            Ok(reply) => Ok(reply),
+            Err(halt) => Err(Fail::Halt(halt)),
+        }
+    }
+}
