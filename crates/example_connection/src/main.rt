@@ -6,17 +6,15 @@ mod failure;
 
 ghost use Rattle.std.specs.Prelude.{◌≡◌, None, OnOk};
 ghost use Rattle.xti_model.specs.History.{unfinished_from};
-ghost use Rattle.xti_hall.specs.Words.{IsSameSeat};
 ghost use Rattle.xti_calls.specs.Library.{IsOf};
 
 use crate::failure::Failure;
 use std::alloc::Global;
-use std::io;
 use std::io::{Eprint, Print};
 use std::process::ExitCode;
 use std::sync::Wait;
-use std::thread;
 use std::thread::{Scope, Threads};
+use std::{io, thread};
 use xti_base::{Event, Fd, State};
 use xti_calls::{Fail, Max, Seat, Xti};
 use xti_model::{Providers, usual_is_valid};
@@ -54,7 +52,7 @@ fn receive_all<R: Wait + Sync>(
 ) -> Result<String, Failure>
     requires seat { IsOf xti.now seat.old }
     requires none { unfinished_from None None seat.old.view.mine ≡ None }
-    ensures seat { IsSameSeat seat.old seat.new }
+    ensures seat { IsOf xti.now seat.new }
     ensures none { OnOk result (unfinished_from None None seat.new.view.mine ≡ None) }
 {
     let mut received = Vec::new(alloc);
@@ -72,41 +70,30 @@ fn receive_all<R: Wait + Sync>(
 }
 
 /// The listener's side, on an endpoint that is bound: waits for a request, accepts it, receives and answers.
-fn listen<R: Wait + Sync>(
-    rt: &R,
-    alloc: Global,
-    xti: &Xti,
-    seat: &mut Seat,
-    fd: Fd,
-) -> Side
+fn listen<R: Wait + Sync>(rt: &R, alloc: Global, xti: &Xti, seat: &mut Seat, fd: Fd) -> Side
     requires seat { IsOf xti.now seat.old }
     requires none { unfinished_from None None seat.old.view.mine ≡ None }
-    ensures seat { IsSameSeat seat.old seat.new }
+    ensures seat { IsOf xti.now seat.new }
 {
     let request = xti.t_listen(rt, alloc, seat, fd, MOST)?;
     xti.t_accept(rt, alloc, seat, fd, fd, request.seq, b"", b"")?;
     let received = receive_all(rt, alloc, xti, seat, fd)?;
-    xti.t_snd(rt, alloc, seat, fd, b"hello, caller", 0)?;
+    xti.t_snd(rt, alloc, seat, fd, b"welcome", 0)?;
     xti.t_sndrel(rt, alloc, seat, fd)?;
     let state = xti.t_getstate(rt, alloc, seat, fd)?;
     Ok(Ended { received, state })
 }
 
 /// The caller's side: asks the listener for a connection, sends, releases, and receives the answer.
-fn call<R: Wait + Sync>(
-    rt: &R,
-    alloc: Global,
-    xti: &Xti,
-    seat: &mut Seat,
-) -> Side
+fn call<R: Wait + Sync>(rt: &R, alloc: Global, xti: &Xti, seat: &mut Seat) -> Side
     requires seat { IsOf xti.now seat.old }
     requires none { unfinished_from None None seat.old.view.mine ≡ None }
-    ensures seat { IsSameSeat seat.old seat.new }
+    ensures seat { IsOf xti.now seat.new }
 {
     let fd = xti.t_open(rt, alloc, seat, PROVIDER, false)?;
     xti.t_bind(rt, alloc, seat, fd, b"", 0, MOST.addr)?;
     xti.t_connect(rt, alloc, seat, fd, LISTENER, b"", b"", MOST)?;
-    xti.t_snd(rt, alloc, seat, fd, b"hello, listener", 0)?;
+    xti.t_snd(rt, alloc, seat, fd, b"hello", 0)?;
     xti.t_sndrel(rt, alloc, seat, fd)?;
     let received = receive_all(rt, alloc, xti, seat, fd)?;
     let state = xti.t_getstate(rt, alloc, seat, fd)?;
@@ -148,7 +135,10 @@ fn both_sides<'s, E, R: Threads + Wait + Sync>(
 fn report<R: Print + Eprint>(rt: &R, name: &str, side: Side) -> io::Result<bool> {
     match side {
         Ok(Ended { received, state }) => {
-            println!(rt; "{name} received {received}, and ends in {}", state.name())?;
+            println!(rt;
+                "{name} received {received:?} and ended in {}",
+                state.name()
+            )?;
             Ok(true)
         }
         Err(failure) => {
