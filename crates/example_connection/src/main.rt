@@ -123,7 +123,10 @@ fn both_sides<'s, E, R: Threads + Wait + Sync>(
     requires listening { IsOf xti.now listening × (unfinished_from None None listening.view.mine ≡ None) }
     requires calling { IsOf xti.now calling × (unfinished_from None None calling.view.mine ≡ None) }
 {
-    let Ok(thread) = scope.spawn(move || caller(rt, alloc, xti, calling)) else {
+    let caller = move || -> Side
+        requires { IsOf xti.now calling × (unfinished_from None None calling.view.mine ≡ None) }
+    { caller(rt, alloc, xti, calling) };
+    let Ok(thread) = scope.spawn(caller) else {
         return Err(Failure::NoThread);
     };
     let listener = listen(rt, alloc, xti, &mut listening, fd);
@@ -161,9 +164,15 @@ fn exchange<R: Threads + Wait + Sync + Print + Eprint + AllocGlobal>(
     };
     let fd = xti.t_open(rt, alloc, &mut listening, PROVIDER, false)?;
     xti.t_bind(rt, alloc, &mut listening, fd, LISTENER, 1, MOST.addr)?;
-    let (listener, caller) = thread::scope(thread::scope_env(), rt, |scope| {
-        both_sides(scope, rt, alloc, &xti, listening, fd, calling)
-    })?;
+    let xti = &xti;
+    let (listener, caller) = thread::scope(
+        thread::scope_env(),
+        rt,
+        |scope| -> Result<(Side, Side), Failure>
+            requires listening { IsOf xti.now listening × (unfinished_from None None listening.view.mine ≡ None) }
+            requires calling { IsOf xti.now calling × (unfinished_from None None calling.view.mine ≡ None) }
+        { both_sides(scope, rt, alloc, xti, listening, fd, calling) },
+    )?;
     let listened = report(rt, "listener", listener)?;
     let called = report(rt, "caller", caller)?;
     Ok(listened && called)
