@@ -3,3 +3,4 @@ pub mod Going
 pub mod Newcomers
 pub mod LastSteps
 pub mod Replied
+pub mod Parts

@@ -1,5 +1,5 @@
 -- The reply of a call that was answered is of its kind, and is told by the typed answer.
-use Rattle.std.proofs.Common.{◌≡◌, ◌∙◌, sym, ap, subst}
+use Rattle.std.proofs.Common.{◌≡◌, ◌≤◌, ◌∙◌, ℕ, true, sym, ap, subst, arith}
 use Rattle.std.specs.Prelude.{Result, Ok, Err}
 use Rattle.xti_model.specs.declared.call.Call.{Call}
 use Rattle.xti_model.specs.declared.entry.Go.TheVariants.{Begin}
@@ -12,16 +12,21 @@ use Rattle.xti_rule.specs.declared.view.View.{View}
 use Rattle.xti_hall.specs.Seats.{IsStanding}
 use Rattle.xti_journal_reader.specs.declared.verbs.Verb.{Verb}
 use Rattle.xti_journal_reader.specs.declared.verbs.Answer.{Answer}
+use Rattle.xti_journal_reader.specs.declared.verbs.Answer.TheVariants.{Got, UData}
 use Rattle.xti_journal_reader.specs.Calls.{answer_of, answer_to, verb_of, MayAnswer}
 use Rattle.xti_model.specs.declared.entry.Go.{Go}
 use Rattle.xti_model.specs.declared.profile.Providers.{Providers}
+use Rattle.xti_model.specs.Profile.{valid}
 use Rattle.xti_model.specs.World.{World}
 use Rattle.xti_sound.specs.Given.{OfStep}
+use Rattle.xti_sound.specs.Replies.{lengths, lengths_of, IsShort, IsShortOutcome}
+use Rattle.xti_sound.proofs.Steps.{after-sound}
+use Rattle.xti_sound.proofs.ShortReplies.{replies-short}
 use Rattle.xti_answers.specs.Answers.{AnswersInForm}
 use Rattle.xti_calls.specs.declared.answers.Fail.{Fail}
 use Rattle.xti_calls.specs.declared.answers.Fail.TheVariants as fail
 use Rattle.xti_calls.specs.Calling.{Answered}
-use Rattle.xti_calls.specs.Typed.{MayBe, Says}
+use Rattle.xti_calls.specs.Typed.{MayBe, Says, HasAtMost}
 use Rattle.xti_calls.specs.Forms.{Makes}
 use Rattle.xti_calls.proofs.LastSteps.{IsStepOf, answered-step}
 
@@ -54,6 +59,23 @@ answered_may_be in-form v c v' r s a =
     let p : Providers = v'.setting.providers in
     let k : IsStepOf p c (Done r) = answered-step v c v' r s.legal s.mine a in
     may-be (verb_of c) r (subst (λ (o : Outcome). MayAnswer (verb_of c) (answer_to o)) (sym k.outcome) (in-form p (after p k.past) c k.so_far k.made k.is).0)
+
+pub answered_short : (v : View) (c : Call) (v' : View) (r : Reply) → valid v'.setting.providers ≡ true → IsStanding v' → Answered v c Begin v' r → IsShort (lengths_of c) r
+answered_short v c v' r ok s a =
+    let p : Providers = v'.setting.providers in
+    let k : IsStepOf p c (Done r) = answered-step v c v' r s.legal s.mine a in
+    subst (IsShortOutcome (lengths_of c)) (sym k.outcome) (replies-short p (after p k.past) (after-sound p k.past ok) c k.so_far k.made k.is)
+
+-- the data of a reply that is short have room
+pub got_fits : (n m : ℕ) (r : Reply) → MayBe Got r → IsShort (lengths n 0 0) r → n ≤ m → HasAtMost m r
+got_fits n m (reply.Got bytes flags) k s h = omega (arith, s, h)
+got_fits n m (reply.UData addr opt bytes flags) k s h = absurd (cc k)
+got_fits n m other k s h = tt
+
+pub datagram_fits : (a o n m : ℕ) (r : Reply) → MayBe UData r → IsShort (lengths a o n) r → n ≤ m → HasAtMost m r
+datagram_fits a o n m (reply.Got bytes flags) k s h = absurd (cc k)
+datagram_fits a o n m (reply.UData addr opt bytes flags) k s h = omega (arith, s.2, h)
+datagram_fits a o n m other k s h = tt
 
 pub makes_said : {T : Type 0} (is : T → Reply → Type 0) (v : View) (c : Call) (v' : View) (r : Reply) (result : Result T Fail) → Answered v c Begin v' r → Says is r result → Makes c is v v' result
 makes_said is v c v' r (Ok a) k s = (r, k, s)

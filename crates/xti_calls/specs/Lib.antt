@@ -1,4 +1,5 @@
 pub mod Calling
 pub mod Forms
 pub mod Library
+pub mod Parts
 pub mod Typed

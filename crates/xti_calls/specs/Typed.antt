@@ -1,5 +1,6 @@
 -- The answers of calls in their own types, and the replies that they stand for.
-use Rattle.std.specs.Prelude.{◌≡◌, ℕ, List, [], Option, Result, MatchResult}
+use Rattle.std.specs.Prelude.{◌≡◌, ◌≤◌, ℕ, List, [], length, Option, Result, MatchResult}
+use Rattle.std.specs.List.{concat}
 use Rattle.xti_base.specs.declared.kinds.Event.{Event}
 use Rattle.xti_base.specs.declared.kinds.Fd.{Fd}
 use Rattle.xti_base.specs.declared.kinds.Seq.{Seq}
@@ -13,6 +14,7 @@ use Rattle.xti_journal_reader.specs.Calls.{answer_to}
 use Rattle.xti_calls.specs.declared.answers.Fail.{Fail}
 use Rattle.xti_calls.specs.declared.answers.Fail.TheVariants as fail
 use Rattle.xti_calls.specs.declared.answers.TCall.{TCall}
+use Rattle.xti_calls.specs.Parts.{split_by}
 
 -- ---- errors
 
@@ -36,6 +38,12 @@ MayBe a (reply.Refused errno) = Unit {0}
 MayBe a (reply.Look event) = Unit {0}
 MayBe a (reply.Overflow seq) = Unit {0}
 MayBe a other = answer_to (Done other) ≡ a
+
+-- the reply has at most so many bytes of data
+abbrev pub HasAtMost : ℕ → Reply → Type 0
+HasAtMost n (reply.Got bytes flags) = length bytes ≤ n
+HasAtMost n (reply.UData addr opt bytes flags) = length bytes ≤ n
+HasAtMost n other = Unit {0}
 
 -- the reply is this answer, or this error
 abbrev pub Says : {T : Type 0} → (T → Reply → Type 0) → Reply → Result T Fail → Type 0
@@ -68,11 +76,20 @@ IsSent n r = r ≡ reply.Sent n
 abbrev pub IsGot : List ℕ × ℕ → Reply → Type 0
 IsGot (bytes, flags) r = r ≡ reply.Got bytes flags
 
+-- the parts are the bytes of the reply, cut by the sizes
+abbrev pub AreGot : List ℕ → List (List ℕ) × ℕ → Reply → Type 0
+AreGot sizes (parts, flags) r = (parts ≡ split_by sizes (concat parts)) × (r ≡ reply.Got (concat parts) flags)
+
 abbrev pub IsDisconnect : ℕ × Seq × List ℕ → Reply → Type 0
 IsDisconnect (reason, seq, udata) r = r ≡ reply.Discon reason seq udata
 
 abbrev pub IsDatagram : TCall × ℕ → Reply → Type 0
 IsDatagram (c, flags) r = (c.seq.0 ≡ no_seq) × (r ≡ reply.UData c.addr c.opt c.udata flags)
+
+-- the same of a datagram, which has no bytes beside its parts
+abbrev pub IsDatagramInParts : List ℕ → TCall × List (List ℕ) × ℕ → Reply → Type 0
+IsDatagramInParts sizes (c, parts, flags) r =
+    (c.seq.0 ≡ no_seq) × (c.udata ≡ []) × (parts ≡ split_by sizes (concat parts)) × (r ≡ reply.UData c.addr c.opt (concat parts) flags)
 
 abbrev pub IsDatagramError : List ℕ × List ℕ × ℕ → Reply → Type 0
 IsDatagramError (addr, opt, code) r = r ≡ reply.UDErr addr opt code

@@ -1,13 +1,14 @@
 //! The answers of calls in their own types.
 
-ghost use Rattle.std.specs.Prelude.{◌≡◌};
+ghost use Rattle.std.specs.Prelude.{◌≡◌, min, sum};
 ghost use Rattle.xti_journal_reader.specs.declared.verbs.Answer.TheVariants as answer;
-ghost use Rattle.xti_calls.specs.Typed.{MayBe, Says, IsError, SaysError};
-ghost use Rattle.xti_calls.specs.Typed.{IsDone, IsOpened, IsBound, IsConnected, IsListened, IsSent, IsGot, IsDisconnect, IsDatagram, IsDatagramError, IsSeen, IsState, IsInfo, AreAddresses, IsNegotiated};
+ghost use Rattle.xti_calls.specs.Typed.{MayBe, Says, IsError, SaysError, HasAtMost};
+ghost use Rattle.xti_calls.specs.Typed.{IsDone, IsOpened, IsBound, IsConnected, IsListened, IsSent, IsGot, AreGot, IsDisconnect, IsDatagram, IsDatagramInParts, IsDatagramError, IsSeen, IsState, IsInfo, AreAddresses, IsNegotiated};
 
+use crate::buffers::Buffers;
 use crate::calling::Halt;
-use std::alloc::AllocError;
-use xti_base::{Errno, Event, Fd, Info, Octets, Seq, State};
+use std::alloc::{AllocError, Global};
+use xti_base::{Errno, Event, Fd, Info, Octets, Parts, Seq, State};
 use xti_model::Reply;
 
 /// Why a call has no answer of its own.
@@ -167,6 +168,18 @@ pub(crate) fn got(reply: Reply) -> Result<(Octets, u32), Fail>
     }
 }
 
+/// Bytes of a connection in the caller's buffers, and flags.
+pub(crate) fn got_parts(reply: Reply, buffers: Buffers) -> Result<(Parts, u32), Fail>
+    requires kind { MayBe answer.Got reply }
+    requires room { HasAtMost (min (sum buffers.sizes) buffers.most) reply }
+    ensures { Says (AreGot buffers.sizes) reply result }
+{
+    match reply {
+        Reply::Got { bytes, flags } => Ok((buffers.fill(&bytes), flags)),
+        other => Err(failed(other)),
+    }
+}
+
 /// The reason of a disconnect, its sequence number and data.
 pub(crate) fn disconnected(reply: Reply) -> Result<(u32, Seq, Octets), Fail>
     requires { MayBe answer.Discon reply }
@@ -197,6 +210,35 @@ pub(crate) fn datagram(reply: Reply) -> Result<(TCall, u32), Fail>
                 udata: bytes,
             };
             Ok((datagram, flags))
+        }
+        other => Err(failed(other)),
+    }
+}
+
+/// A datagram or a part of one in the caller's buffers, and flags.
+pub(crate) fn datagram_parts(
+    alloc: Global,
+    reply: Reply,
+    buffers: Buffers,
+) -> Result<(TCall, Parts, u32), Fail>
+    requires kind { MayBe answer.UData reply }
+    requires room { HasAtMost (min (sum buffers.sizes) buffers.most) reply }
+    ensures { Says (IsDatagramInParts buffers.sizes) reply result }
+{
+    match reply {
+        Reply::UData {
+            addr,
+            opt,
+            bytes,
+            flags,
+        } => {
+            let datagram = TCall {
+                seq: NO_SEQ,
+                addr,
+                opt,
+                udata: Octets::new(alloc),
+            };
+            Ok((datagram, buffers.fill(&bytes), flags))
         }
         other => Err(failed(other)),
     }

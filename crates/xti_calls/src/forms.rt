@@ -1,10 +1,11 @@
 //! The calls of XTI in their own types.
 
-ghost use Rattle.std.specs.Prelude.{◌≡◌, None, MatchResult};
+ghost use Rattle.std.specs.Prelude.{◌≡◌, None, IfOk, MatchResult};
 ghost use Rattle.xti_model.specs.declared.entry.Go.TheVariants.{Begin};
 ghost use Rattle.xti_model.specs.History.{unfinished_from};
 ghost use Rattle.xti_hall.specs.Words.{IsSameSeat};
 ghost use Rattle.xti_journal_reader.specs.Calls.{answer_of, verb_of};
+ghost use Rattle.xti_sound.specs.Replies.{lengths_of, IsShort};
 ghost use Rattle.xti_step.specs.Steps.{Later};
 ghost use Rattle.xti_calls.specs.Calling.{Answered};
 ghost use Rattle.xti_calls.specs.Forms.{Fails};
@@ -26,7 +27,7 @@ mod endpoints;
 mod streams;
 
 impl Xti {
-    /// The reply of a call, which is of the call's kind.
+    /// The reply of a call, which is of the call's kind, and no longer than the call allows.
     fn reply<R: Wait + Sync>(
         &self,
         rt: &R,
@@ -41,6 +42,7 @@ impl Xti {
         ensures made { MatchResult result
             (λ r. Answered seat.old.view call.now Begin seat.new.view r × MayBe (answer_of (verb_of call.now)) r)
             (Fails call.now seat.old.view seat.new.view) }
+        ensures short { IfOk result (IsShort (lengths_of call.now)) }
     {
         steps_answer_in_form();
         let reply = self.call(rt, alloc, seat, &NoGate, call);

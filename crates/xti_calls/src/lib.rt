@@ -2,6 +2,7 @@
 #![tactic(auto)]
 
 mod answers;
+mod buffers;
 mod calling;
 mod forms;
 mod library;
@@ -11,4 +12,6 @@ pub use answers::{Fail, Max, TCall};
 pub use calling::{Halt, call, resume};
 pub use library::Seat;
 pub use shared::Xti;
+pub use xti_hall::{NoSeat, Stall};
+pub use xti_step::{Gate, NoGate};
 pub use xti_structures::{AllocFail, Bufs, StructKind, t_alloc, t_strerror, t_sysconf};

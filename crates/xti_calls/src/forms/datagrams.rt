@@ -7,14 +7,15 @@ ghost use Rattle.xti_hall.specs.Words.{IsSameSeat};
 ghost use Rattle.xti_step.specs.Steps.{Later};
 ghost use Rattle.xti_calls.specs.Forms.{Makes};
 ghost use Rattle.xti_calls.specs.Library.{IsOf};
-ghost use Rattle.xti_calls.specs.Typed.{IsDatagram, IsDatagramError, IsDone};
+ghost use Rattle.xti_calls.specs.Typed.{IsDatagram, IsDatagramError, IsDatagramInParts, IsDone};
 
-use crate::answers::{Fail, Max, TCall, datagram, datagram_error, done};
+use crate::answers::{Fail, Max, TCall, datagram, datagram_error, datagram_parts, done};
+use crate::buffers::{Buffers, MOST_OF_DATAGRAM};
 use crate::library::Seat;
 use crate::shared::Xti;
 use std::alloc::Global;
 use std::sync::Wait;
-use xti_base::{Fd, Octets};
+use xti_base::{Fd, Octets, Parts, Sizes};
 use xti_data::Gather;
 use xti_model::Call;
 
@@ -96,6 +97,35 @@ impl Xti {
             omax: max.opt,
         };
         datagram(self.reply(rt, alloc, seat, &call)?)
+    }
+
+    /// A datagram or a part of one, its bytes in parts of at most these sizes, each filled before the next, and flags (XNS,
+    /// t_rcvvudata). There is a part for each size, and `udata` is empty. Once bytes are received, memory can't run out.
+    #[tactic(auto, using(crate::proofs::Replied::makes_said, crate::proofs::Replied::datagram_fits), unfolding(xti_journal_reader::specs::Calls::form_of))]
+    pub fn t_rcvvudata<R: Wait + Sync>(
+        &self,
+        rt: &R,
+        alloc: Global,
+        seat: &mut Seat,
+        fd: Fd,
+        sizes: &Sizes,
+        amax: u32,
+        omax: u32,
+    ) -> Result<(TCall, Parts, u32), Fail>
+        requires seat { IsOf self.now seat.old }
+        requires none { unfinished_from None None seat.old.view.mine ≡ None }
+        ensures seat { IsSameSeat seat.old seat.new }
+        ensures later { Later seat.old.view seat.new.view }
+        ensures made { Makes (call.TRcvVUData fd sizes.now amax omax) (IsDatagramInParts sizes.now) seat.old.view seat.new.view result }
+    {
+        let buffers = Buffers::new(alloc, sizes.as_slice(), MOST_OF_DATAGRAM)?;
+        let call = Call::TRcvVUData {
+            fd,
+            sizes: sizes.copy()?,
+            amax,
+            omax,
+        };
+        datagram_parts(alloc, self.reply(rt, alloc, seat, &call)?, buffers)
     }
 
     /// Address and options of a datagram that was not delivered, and the code (XNS, t_rcvuderr).

@@ -7,14 +7,15 @@ ghost use Rattle.xti_hall.specs.Words.{IsSameSeat};
 ghost use Rattle.xti_step.specs.Steps.{Later};
 ghost use Rattle.xti_calls.specs.Forms.{Makes};
 ghost use Rattle.xti_calls.specs.Library.{IsOf};
-ghost use Rattle.xti_calls.specs.Typed.{IsGot, IsSent};
+ghost use Rattle.xti_calls.specs.Typed.{AreGot, IsGot, IsSent};
 
-use crate::answers::{Fail, got, sent};
+use crate::answers::{Fail, got, got_parts, sent};
+use crate::buffers::{Buffers, MOST_OF_STREAM};
 use crate::library::Seat;
 use crate::shared::Xti;
 use std::alloc::Global;
 use std::sync::Wait;
-use xti_base::{Fd, Octets};
+use xti_base::{Fd, Octets, Parts, Sizes};
 use xti_data::Gather;
 use xti_model::Call;
 
@@ -87,5 +88,30 @@ impl Xti {
     {
         let call = Call::TRcv { fd, max };
         got(self.reply(rt, alloc, seat, &call)?)
+    }
+
+    /// Bytes of a connection in parts of at most these sizes, each filled before the next, and flags (XNS, t_rcvv). There
+    /// is a part for each size. Once bytes are received, memory can't run out.
+    #[tactic(auto, using(crate::proofs::Replied::makes_said, crate::proofs::Replied::got_fits), unfolding(xti_journal_reader::specs::Calls::form_of))]
+    pub fn t_rcvv<R: Wait + Sync>(
+        &self,
+        rt: &R,
+        alloc: Global,
+        seat: &mut Seat,
+        fd: Fd,
+        sizes: &Sizes,
+    ) -> Result<(Parts, u32), Fail>
+        requires seat { IsOf self.now seat.old }
+        requires none { unfinished_from None None seat.old.view.mine ≡ None }
+        ensures seat { IsSameSeat seat.old seat.new }
+        ensures later { Later seat.old.view seat.new.view }
+        ensures made { Makes (call.TRcvV fd sizes.now) (AreGot sizes.now) seat.old.view seat.new.view result }
+    {
+        let buffers = Buffers::new(alloc, sizes.as_slice(), MOST_OF_STREAM)?;
+        let call = Call::TRcvV {
+            fd,
+            sizes: sizes.copy()?,
+        };
+        got_parts(self.reply(rt, alloc, seat, &call)?, buffers)
     }
 }

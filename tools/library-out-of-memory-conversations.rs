@@ -1,0 +1,740 @@
+//! Four conversations, each with all memory, and with some of it refused. Nothing here is proved.
+
+use crate::caller::{Caller, MOST, Refusals, again, bytes_from, name_of};
+use std::alloc::{AllocError, Global};
+use std::io::Eprint;
+use std::process::Abort;
+use std::sync::Wait;
+use std::thread::{self, Threads};
+use xti_base::{Event, Fd, Info, Octets, Parts, Seq, Sizes, State};
+use xti_calls::{AllocFail, Fail, Seat, StructKind, Xti, t_alloc, t_strerror, t_sysconf};
+use xti_data::Gather;
+use xti_model::{Call, Reply};
+
+/// An address that is too long to stand in a list of bytes itself.
+const LONG: &[u8] = b"an address of more than sixteen bytes";
+
+const OTHER: &[u8] = b"another address of more than sixteen bytes";
+
+/// XTI_GENERIC, XTI_SNDBUF and XTI_RCVBUF, of 90 and 70 bytes.
+const SIZES: &[u8] = &[
+    0, 0, 0, 20, 0, 0, 255, 255, 0, 0, 16, 1, 0, 0, 0, 0, 0, 0, 0, 90, //
+    0, 0, 0, 20, 0, 0, 255, 255, 0, 0, 16, 2, 0, 0, 0, 0, 0, 0, 0, 70,
+];
+
+/// The actions of t_optmgmt, and the flags of sends.
+const NEGOTIATE: u32 = 4;
+
+const CHECK: u32 = 8;
+
+const DEFAULT: u32 = 16;
+
+const CURRENT: u32 = 128;
+
+const MORE: u32 = 1;
+
+const EXPEDITED: u32 = 2;
+
+/// Text that goes with a request, an answer and a disconnect.
+const HELLO: &[u8] = b"hello, and some more bytes";
+
+const THERE: &[u8] = b"there, and some more bytes";
+
+const BYE: &[u8] = b"bye, and some more bytes";
+
+/// Parts of these lengths, of the bytes from this place on.
+fn parts(alloc: Global, start: usize, lengths: &[usize]) -> Result<Gather, AllocError> {
+    let mut parts = Gather::new(alloc);
+    let mut at = start;
+    for length in lengths {
+        parts.add(bytes_from(alloc, at, *length)?.as_slice())?;
+        at += *length;
+    }
+    Ok(parts)
+}
+
+/// Says how many bytes came, and how often the callers were refused memory.
+fn say<R: Eprint>(rt: &R, bytes: usize, all: &[Refusals]) {
+    let (mut again, mut resumed) = (0, 0);
+    for refusals in all {
+        again += refusals.again;
+        resumed += refusals.resumed;
+    }
+    eprintln!(rt;
+        "{bytes} bytes, each received once and in order; {again} calls made again, {resumed} resumed"
+    ).unwrap_or(());
+}
+
+/// Datagrams between two endpoints, with options, in parts, to nobody, and until there is no room.
+pub fn datagrams<R: Wait + Sync + Abort + Eprint>(
+    rt: &R,
+    alloc: Global,
+    xti: &Xti,
+    seat: Seat,
+) -> Result<Seat, AllocError> {
+    let mut me = Caller::new(rt, alloc, xti, seat);
+    let one = me.endpoint(b"ticlts", false, LONG, 0)?;
+    let other = me.endpoint(b"ticlts", true, OTHER, 0)?;
+    let whole = again(|| bytes_from(alloc, 0, 300))?;
+    me.get(
+        "sndudata",
+        |xti, rt, alloc, seat| xti.t_sndudata(rt, alloc, seat, one, OTHER, SIZES, whole.as_slice()),
+    )?;
+    let rest = again(|| parts(alloc, 300, &[40, 0, 17, 70]))?;
+    me.get(
+        "sndvudata",
+        |xti, rt, alloc, seat| xti.t_sndvudata(rt, alloc, seat, one, OTHER, b"", &rest),
+    )?;
+    let mut max = MOST;
+    max.udata = 130;
+    let mut flags_of_all = 0;
+    for _ in 0..4 {
+        let (datagram, flags) = me.get(
+            "rcvudata",
+            |xti, rt, alloc, seat| xti.t_rcvudata(rt, alloc, seat, other, max),
+        )?;
+        me.take(datagram.udata.as_slice());
+        flags_of_all += flags;
+    }
+    assert!(rt;
+        me.received == 427 && flags_of_all == 2,
+        "parts of datagrams"
+    );
+    me.fails(
+        "rcvudata",
+        "TNODATA",
+        |xti, rt, alloc, seat| xti.t_rcvudata(rt, alloc, seat, other, MOST),
+    )?;
+    to_nobody(&mut me, one)?;
+    until_full(&mut me, one, other)?;
+    with_short_buffers(&mut me, one, other)?;
+    for fd in [one, other] {
+        me.get(
+            "close",
+            |xti, rt, alloc, seat| xti.t_close(rt, alloc, seat, fd),
+        )?;
+    }
+    say(rt, me.received, &[me.refusals]);
+    let Caller { seat, .. } = me;
+    Ok(seat)
+}
+
+/// A datagram to an address that nobody has, and its error.
+fn to_nobody<R: Wait + Sync + Abort>(me: &mut Caller<'_, R>, fd: Fd) -> Result<(), AllocError> {
+    let nobody = b"an address that nobody is bound to";
+    me.get(
+        "sndudata",
+        |xti, rt, alloc, seat| xti.t_sndudata(rt, alloc, seat, fd, nobody, SIZES, HELLO),
+    )?;
+    me.fails(
+        "sndudata",
+        "T_UDERR",
+        |xti, rt, alloc, seat| xti.t_sndudata(rt, alloc, seat, fd, OTHER, b"", HELLO),
+    )?;
+    let (addr, opt, code) = me.get(
+        "rcvuderr",
+        |xti, rt, alloc, seat| xti.t_rcvuderr(rt, alloc, seat, fd, 64, 256),
+    )?;
+    assert!(me.rt;
+        addr.as_slice() == nobody.as_slice() && opt.as_slice() == SIZES && code == 1,
+        "the error"
+    );
+    Ok(())
+}
+
+/// Datagrams until no more may wait, and their receipt.
+fn until_full<R: Wait + Sync + Abort>(
+    me: &mut Caller<'_, R>,
+    one: Fd,
+    other: Fd,
+) -> Result<(), AllocError> {
+    let start = me.received;
+    for number in 0..16 {
+        let text = again(|| bytes_from(me.alloc, start + 20 * number, 20))?;
+        me.get(
+            "sndudata",
+            |xti, rt, alloc, seat| xti.t_sndudata(
+                rt,
+                alloc,
+                seat,
+                other,
+                LONG,
+                b"",
+                text.as_slice(),
+            ),
+        )?;
+    }
+    me.fails(
+        "sndudata",
+        "TFLOW",
+        |xti, rt, alloc, seat| xti.t_sndudata(rt, alloc, seat, other, LONG, b"", HELLO),
+    )?;
+    for _ in 0..16 {
+        let (datagram, _flags) = me.get(
+            "rcvudata",
+            |xti, rt, alloc, seat| xti.t_rcvudata(rt, alloc, seat, one, MOST),
+        )?;
+        me.take(datagram.udata.as_slice());
+    }
+    assert!(me.rt; me.received == start + 320, "all datagrams");
+    let event = me.get(
+        "look",
+        |xti, rt, alloc, seat| xti.t_look(rt, alloc, seat, other),
+    )?;
+    assert!(me.rt; matches!(event, Some(Event::T_GODATA)), "the flow event");
+    Ok(())
+}
+
+/// A receipt by two buffers, and one whose buffer for the address is too short.
+fn with_short_buffers<R: Wait + Sync + Abort>(
+    me: &mut Caller<'_, R>,
+    one: Fd,
+    other: Fd,
+) -> Result<(), AllocError> {
+    let start = me.received;
+    let text = again(|| bytes_from(me.alloc, start, 60))?;
+    for _ in 0..2 {
+        me.get(
+            "sndudata",
+            |xti, rt, alloc, seat| xti.t_sndudata(
+                rt,
+                alloc,
+                seat,
+                one,
+                OTHER,
+                b"",
+                text.as_slice(),
+            ),
+        )?;
+    }
+    let call = again(|| buffers(me.alloc, other))?;
+    let Some(Reply::UData { bytes, .. }) = me.call(&call)? else {
+        panic!(me.rt; "rcvvudata")
+    };
+    me.take(bytes.as_slice());
+    let mut max = MOST;
+    max.addr = 5;
+    me.fails(
+        "rcvudata",
+        "TBUFOVFLW",
+        |xti, rt, alloc, seat| xti.t_rcvudata(rt, alloc, seat, other, max),
+    )
+}
+
+/// A receive of a datagram by two buffers of 30 bytes.
+fn buffers(alloc: Global, fd: Fd) -> Result<Call, AllocError> {
+    Ok(Call::TRcvVUData {
+        fd,
+        sizes: sizes_of(alloc, &[30, 30])?,
+        amax: 64,
+        omax: 256,
+    })
+}
+
+/// A call that sends so many bytes from this place on.
+fn send(alloc: Global, fd: Fd, start: usize, len: usize, flags: u32) -> Result<Call, AllocError> {
+    Ok(Call::TSnd {
+        fd,
+        bytes: bytes_from(alloc, start, len)?,
+        flags,
+    })
+}
+
+/// A call that asks for a connection.
+fn request(alloc: Global, fd: Fd, addr: &[u8]) -> Result<Call, AllocError> {
+    Ok(Call::TConnect {
+        fd,
+        addr: Octets::copy_of(alloc, addr)?,
+        opt: Octets::copy_of(alloc, SIZES)?,
+        udata: Octets::copy_of(alloc, HELLO)?,
+        amax: 64,
+        omax: 256,
+        umax: 64,
+    })
+}
+
+/// Makes a send of bytes of a connection that waits for flow control, while the other end receives; how many were taken.
+fn send_while<R: Wait + Sync + Abort>(
+    from: &mut Caller<'_, R>,
+    call: &Call,
+    to: &mut Caller<'_, R>,
+    fd: Fd,
+) -> Result<u32, AllocError> {
+    for _ in 0..1_000 {
+        to.rest();
+        match from.call(call)? {
+            Some(Reply::Sent { n }) => return Ok(n),
+            Some(_) => panic!(from.rt; "snd"),
+            None => to.receive_all(fd, 70)?,
+        }
+    }
+    panic!(from.rt; "a send without end")
+}
+
+/// Makes a connection of two blocking endpoints, with one seat each.
+fn connect<R: Wait + Sync + Abort>(
+    caller: &mut Caller<'_, R>,
+    listener: &mut Caller<'_, R>,
+) -> Result<(Fd, Fd), AllocError> {
+    let there = listener.endpoint(b"ticotsord", false, LONG, 1)?;
+    let here = caller.endpoint(b"ticotsord", false, b"", 0)?;
+    let call = again(|| request(caller.alloc, here, LONG))?;
+    listener.rest();
+    assert!(caller.rt;
+        caller.call(&call)?.is_none(),
+        "a request that nobody answered"
+    );
+    assert!(caller.rt;
+        caller.seat.unfinished() == Some(0),
+        "a request is unfinished"
+    );
+    let heard = listener.get(
+        "listen",
+        |xti, rt, alloc, seat| xti.t_listen(rt, alloc, seat, there, MOST),
+    )?;
+    assert!(caller.rt;
+        heard.udata.as_slice() == HELLO && heard.opt.as_slice() == SIZES,
+        "the indication"
+    );
+    listener.get(
+        "accept",
+        |xti, rt, alloc, seat| xti.t_accept(rt, alloc, seat, there, there, heard.seq, b"", THERE),
+    )?;
+    listener.rest();
+    match caller.call(&call)? {
+        Some(Reply::Connected { udata, .. }) => assert!(caller.rt;
+            udata.as_slice() == THERE,
+            "the answer"
+        ),
+        _ => panic!(caller.rt; "connect"),
+    }
+    Ok((here, there))
+}
+
+/// A connection, data both ways by sends of several parts that wait for flow control, and an orderly release.
+pub fn connection<R: Wait + Sync + Abort + Eprint>(
+    rt: &R,
+    alloc: Global,
+    xti: &Xti,
+    mut seat: Seat,
+) -> Result<Seat, AllocError> {
+    let Ok(second) = xti.split(rt, alloc, &mut seat) else {
+        panic!(rt; "split")
+    };
+    let mut caller = Caller::new(rt, alloc, xti, seat);
+    let mut listener = Caller::new(rt, alloc, xti, second);
+    let (here, there) = connect(&mut caller, &mut listener)?;
+    let call = again(|| send(alloc, here, 0, 1_000, 0))?;
+    assert!(rt;
+        send_while(&mut caller, &call, &mut listener, there)? == 1_000,
+        "snd"
+    );
+    let pieces = again(|| parts(alloc, 1_000, &[200, 100, 0, 150]))?;
+    let call = Call::TSndV {
+        fd: here,
+        parts: again(|| pieces.parts().copy())?,
+        flags: 0,
+    };
+    assert!(rt;
+        send_while(&mut caller, &call, &mut listener, there)? == 450,
+        "sndv"
+    );
+    listener.receive_all(there, 70)?;
+    assert!(rt; listener.received == 1_450, "all bytes one way");
+    let call = again(|| send(alloc, there, 0, 500, 0))?;
+    assert!(rt;
+        send_while(&mut listener, &call, &mut caller, here)? == 500,
+        "snd back"
+    );
+    caller.receive_all(here, 33)?;
+    release(&mut caller, here, &mut listener, there)?;
+    say(
+        rt,
+        listener.received + caller.received,
+        &[listener.refusals, caller.refusals],
+    );
+    let Caller { seat, .. } = caller;
+    let Caller {
+        seat: mut other,
+        ..
+    } = listener;
+    Ok(xti.meet(seat, &mut other))
+}
+
+/// An orderly release, first by the caller; the listener still sends, and then releases too.
+fn release<R: Wait + Sync + Abort>(
+    caller: &mut Caller<'_, R>,
+    here: Fd,
+    listener: &mut Caller<'_, R>,
+    there: Fd,
+) -> Result<(), AllocError> {
+    caller.get(
+        "sndrel",
+        |xti, rt, alloc, seat| xti.t_sndrel(rt, alloc, seat, here),
+    )?;
+    listener.fails(
+        "rcv",
+        "T_ORDREL",
+        |xti, rt, alloc, seat| xti.t_rcv(rt, alloc, seat, there, 10),
+    )?;
+    listener.get(
+        "rcvrel",
+        |xti, rt, alloc, seat| xti.t_rcvrel(rt, alloc, seat, there),
+    )?;
+    let last = again(|| bytes_from(listener.alloc, 500, 90))?;
+    let sent = listener.get(
+        "snd",
+        |xti, rt, alloc, seat| xti.t_snd(rt, alloc, seat, there, last.as_slice(), 0),
+    )?;
+    listener.get(
+        "sndrel",
+        |xti, rt, alloc, seat| xti.t_sndrel(rt, alloc, seat, there),
+    )?;
+    caller.receive_all(here, 64)?;
+    caller.get(
+        "rcvrel",
+        |xti, rt, alloc, seat| xti.t_rcvrel(rt, alloc, seat, here),
+    )?;
+    assert!(caller.rt;
+        sent == 90 && caller.received == 590,
+        "all bytes the other way"
+    );
+    Ok(())
+}
+
+/// Two requests to a listener: one is accepted onto another endpoint, with messages and expedited data and a disconnect;
+/// the other one is rejected.
+pub fn expedited<R: Wait + Sync + Abort + Eprint>(
+    rt: &R,
+    alloc: Global,
+    xti: &Xti,
+    seat: Seat,
+) -> Result<Seat, AllocError> {
+    let mut me = Caller::new(rt, alloc, xti, seat);
+    let listener = me.endpoint(b"ticots", false, LONG, 2)?;
+    let first = me.endpoint(b"ticots", true, OTHER, 0)?;
+    let second = me.endpoint(b"ticots", true, b"", 0)?;
+    let fd = me.get(
+        "open",
+        |xti, rt, alloc, seat| xti.t_open(rt, alloc, seat, b"ticots", false),
+    )?;
+    for from in [first, second] {
+        me.fails(
+            "connect",
+            "TNODATA",
+            |xti, rt, alloc, seat| xti.t_connect(rt, alloc, seat, from, LONG, SIZES, HELLO, MOST),
+        )?;
+    }
+    let mut numbers = [Seq(0); 2];
+    for number in &mut numbers {
+        *number = me
+            .get(
+                "listen",
+                |xti, rt, alloc, seat| xti.t_listen(rt, alloc, seat, listener, MOST),
+            )?
+            .seq;
+    }
+    let [yes, no] = numbers;
+    me.get(
+        "accept",
+        |xti, rt, alloc, seat| xti.t_accept(rt, alloc, seat, listener, fd, yes, b"", THERE),
+    )?;
+    me.get(
+        "snddis",
+        |xti, rt, alloc, seat| xti.t_snddis(rt, alloc, seat, listener, no, BYE),
+    )?;
+    let (reason, _seq, udata) = me.get(
+        "rcvdis",
+        |xti, rt, alloc, seat| xti.t_rcvdis(rt, alloc, seat, second, 64),
+    )?;
+    assert!(rt; reason == 3 && udata.as_slice() == BYE, "the rejection");
+    let answer = me.get(
+        "rcvconnect",
+        |xti, rt, alloc, seat| xti.t_rcvconnect(rt, alloc, seat, first, MOST),
+    )?;
+    assert!(rt;
+        answer.addr.as_slice() == LONG && answer.udata.as_slice() == THERE,
+        "the answer"
+    );
+    messages(&mut me, first, fd)?;
+    me.get(
+        "snddis",
+        |xti, rt, alloc, seat| xti.t_snddis(rt, alloc, seat, first, Seq(0), BYE),
+    )?;
+    me.fails(
+        "rcv",
+        "T_DISCONNECT",
+        |xti, rt, alloc, seat| xti.t_rcv(rt, alloc, seat, fd, 10),
+    )?;
+    let (reason, _seq, udata) = me.get(
+        "rcvdis",
+        |xti, rt, alloc, seat| xti.t_rcvdis(rt, alloc, seat, fd, 64),
+    )?;
+    assert!(rt; reason == 4 && udata.as_slice() == BYE, "the disconnect");
+    for fd in [listener, first, second, fd] {
+        me.get(
+            "close",
+            |xti, rt, alloc, seat| xti.t_close(rt, alloc, seat, fd),
+        )?;
+    }
+    say(rt, me.received, &[me.refusals]);
+    let Caller { seat, .. } = me;
+    Ok(seat)
+}
+
+/// Expedited data overtake normal ones: bytes from place 60 on are sent first and received last.
+fn messages<R: Wait + Sync + Abort>(
+    me: &mut Caller<'_, R>,
+    from: Fd,
+    to: Fd,
+) -> Result<(), AllocError> {
+    for (start, len, flags) in [
+        (60, 50, MORE),
+        (110, 90, 0),
+        (0, 40, EXPEDITED + MORE),
+        (40, 20, EXPEDITED),
+    ] {
+        let text = again(|| bytes_from(me.alloc, start, len))?;
+        let sent = me.get(
+            "snd",
+            |xti, rt, alloc, seat| xti.t_snd(rt, alloc, seat, from, text.as_slice(), flags),
+        )?;
+        assert!(me.rt; sent as usize == len, "snd");
+    }
+    for (len, wanted) in [
+        (30, EXPEDITED + MORE),
+        (30, EXPEDITED),
+        (100, MORE),
+        (40, 0),
+    ] {
+        let (came, flags) = me.receive(to, len)?;
+        assert!(me.rt;
+            came == len as usize && flags == wanted,
+            "{came} bytes with flags {flags}"
+        );
+    }
+    let pieces = again(|| parts(me.alloc, 200, &[30, 31]))?;
+    me.get(
+        "sndv",
+        |xti, rt, alloc, seat| xti.t_sndv(rt, alloc, seat, from, &pieces, 0),
+    )?;
+    let sizes = again(|| sizes_of(me.alloc, &[40, 40]))?;
+    let call = Call::TRcvV { fd: to, sizes };
+    match me.call(&call)? {
+        Some(Reply::Got { bytes, .. }) => me.take(bytes.as_slice()),
+        _ => panic!(me.rt; "rcvv"),
+    }
+    assert!(me.rt; me.received == 261, "all messages");
+    Ok(())
+}
+
+/// Buffers of these sizes.
+fn sizes_of(alloc: Global, lengths: &[u32]) -> Result<Sizes, AllocError> {
+    let mut sizes = Sizes::new(alloc);
+    for length in lengths {
+        sizes.push(*length)?;
+    }
+    Ok(sizes)
+}
+
+/// How a thread ended.
+#[derive(Clone, Copy, PartialEq, Eq)]
+enum End {
+    Done,
+    OutOfMemory,
+    Stalled,
+}
+
+/// How many datagrams go from one thread to the other, and how many bytes each has.
+const ROUNDS: usize = 24;
+
+const LENGTH: usize = 50;
+
+/// Two threads: one sends datagrams, and waits for the other where it takes none; each asks for information, options and
+/// structures between them.
+pub fn mixed<R: Threads + Wait + Sync + Abort + Eprint>(
+    rt: &R,
+    alloc: Global,
+    xti: &Xti,
+    mut seat: Seat,
+) -> Result<Seat, AllocError> {
+    let Ok(second) = xti.split(rt, alloc, &mut seat) else {
+        panic!(rt; "split")
+    };
+    let mut me = Caller::new(rt, alloc, xti, seat);
+    let to = me.endpoint(b"ticlts", false, LONG, 0)?;
+    let Caller { seat, .. } = me;
+    let ((mut second, sent, refusals), (seat, received, others)) = thread::join(
+        rt,
+        || thread_of(Caller::new(rt, alloc, xti, second), |me| sender(me)),
+        || thread_of(Caller::new(rt, alloc, xti, seat), |me| receiver(me, to)),
+    );
+    let seat = xti.meet(seat, &mut second);
+    if sent == End::OutOfMemory || received == End::OutOfMemory {
+        return Err(AllocError);
+    }
+    assert!(rt;
+        sent == End::Done && received == End::Done,
+        "a thread stalled"
+    );
+    say(rt, ROUNDS * LENGTH, &[refusals, others]);
+    Ok(seat)
+}
+
+/// What a thread does; its seat then rests.
+fn thread_of<'a, R: Wait + Sync + Abort>(
+    mut me: Caller<'a, R>,
+    work: impl FnOnce(&mut Caller<'a, R>) -> Result<End, AllocError>,
+) -> (Seat, End, Refusals) {
+    let end = work(&mut me).unwrap_or(End::OutOfMemory);
+    me.rest();
+    let Caller { seat, refusals, .. } = me;
+    (seat, end, refusals)
+}
+
+/// Sends all datagrams, and between them asks about its endpoint.
+fn sender<R: Wait + Sync + Abort>(me: &mut Caller<'_, R>) -> Result<End, AllocError> {
+    let fd = me.endpoint(b"ticlts", false, OTHER, 0)?;
+    for number in 0..ROUNDS {
+        let text = again(|| bytes_from(me.alloc, LENGTH * number, LENGTH))?;
+        match me.form(|xti, rt, alloc, seat| xti.t_sndudata(
+            rt,
+            alloc,
+            seat,
+            fd,
+            LONG,
+            SIZES,
+            text.as_slice(),
+        ))? {
+            Ok(()) => {}
+            Err(fail) => return stalled(me, fail),
+        }
+        if number % 8 == 0 {
+            asks(me, fd)?;
+        }
+    }
+    me.get(
+        "sndudata",
+        |xti, rt, alloc, seat| xti.t_sndudata(rt, alloc, seat, fd, b"nobody", b"", HELLO),
+    )?;
+    let (addr, _opt, _code) = me.get(
+        "rcvuderr",
+        |xti, rt, alloc, seat| xti.t_rcvuderr(rt, alloc, seat, fd, 64, 0),
+    )?;
+    assert!(me.rt; addr.as_slice() == b"nobody".as_slice(), "the error");
+    me.get(
+        "unbind",
+        |xti, rt, alloc, seat| xti.t_unbind(rt, alloc, seat, fd),
+    )?;
+    me.get(
+        "close",
+        |xti, rt, alloc, seat| xti.t_close(rt, alloc, seat, fd),
+    )?;
+    Ok(End::Done)
+}
+
+/// A call that no seat answers, since the other thread ended.
+fn stalled<R: Wait + Sync + Abort>(me: &mut Caller<'_, R>, fail: Fail) -> Result<End, AllocError> {
+    assert!(me.rt; name_of(fail) == "stalled", "{}", name_of(fail));
+    Ok(End::Stalled)
+}
+
+/// Receives all datagrams, and between them asks about its endpoint.
+fn receiver<R: Wait + Sync + Abort>(me: &mut Caller<'_, R>, fd: Fd) -> Result<End, AllocError> {
+    for number in 0..ROUNDS {
+        match me.form(|xti, rt, alloc, seat| xti.t_rcvudata(rt, alloc, seat, fd, MOST))? {
+            Ok((datagram, _flags)) => me.take(datagram.udata.as_slice()),
+            Err(fail) => return stalled(me, fail),
+        }
+        if number % 8 == 4 {
+            asks(me, fd)?;
+        }
+    }
+    assert!(me.rt; me.received == ROUNDS * LENGTH, "all datagrams");
+    Ok(End::Done)
+}
+
+/// Options, information and structures of an endpoint, which stays as it was.
+fn asks<R: Wait + Sync + Abort>(me: &mut Caller<'_, R>, fd: Fd) -> Result<(), AllocError> {
+    for action in [CURRENT, NEGOTIATE, CHECK, DEFAULT] {
+        let (result, opt) = me.get(
+            "optmgmt",
+            |xti, rt, alloc, seat| xti.t_optmgmt(rt, alloc, seat, fd, action, SIZES, 256),
+        )?;
+        assert!(me.rt;
+            result == 32 && opt.as_slice().len() == SIZES.len(),
+            "options"
+        );
+    }
+    me.fails(
+        "optmgmt",
+        "TBADFLAG",
+        |xti, rt, alloc, seat| xti.t_optmgmt(rt, alloc, seat, fd, 1, SIZES, 256),
+    )?;
+    let info = me.get(
+        "getinfo",
+        |xti, rt, alloc, seat| xti.t_getinfo(rt, alloc, seat, fd),
+    )?;
+    structures(me, &info)?;
+    let state = me.get(
+        "getstate",
+        |xti, rt, alloc, seat| xti.t_getstate(rt, alloc, seat, fd),
+    )?;
+    let synced = me.get(
+        "sync",
+        |xti, rt, alloc, seat| xti.t_sync(rt, alloc, seat, fd),
+    )?;
+    assert!(me.rt;
+        state == State::T_IDLE && synced == State::T_IDLE,
+        "the state"
+    );
+    let (local, peer) = me.get(
+        "getprotaddr",
+        |xti, rt, alloc, seat| xti.t_getprotaddr(rt, alloc, seat, fd, 64, 64),
+    )?;
+    assert!(me.rt;
+        local.as_slice().len() > 16 && peer.as_slice().is_empty(),
+        "addresses"
+    );
+    me.fails(
+        "rcv",
+        "TNOTSUPPORT",
+        |xti, rt, alloc, seat| xti.t_rcv(rt, alloc, seat, fd, 10),
+    )?;
+    me.fails(
+        "rcvuderr",
+        "TNOUDERR",
+        |xti, rt, alloc, seat| xti.t_rcvuderr(rt, alloc, seat, fd, 64, 64),
+    )
+}
+
+/// The structures of a provider of datagrams.
+fn structures<R: Wait + Sync + Abort>(
+    me: &mut Caller<'_, R>,
+    info: &Info,
+) -> Result<(), AllocError> {
+    for kind in [
+        StructKind::Bind,
+        StructKind::OptMgmt,
+        StructKind::UnitData,
+        StructKind::UdError,
+        StructKind::Info,
+    ] {
+        let alloc = me.alloc;
+        let made = again(|| match t_alloc(alloc, info, kind) {
+            Ok(buffers) => Ok(Some(buffers)),
+            Err(AllocFail::OutOfMemory) => Err(AllocError),
+            Err(AllocFail::NoStructType) => Ok(None),
+        })?;
+        assert!(me.rt; made.is_some(), "a structure");
+    }
+    let refused = matches!(
+        t_alloc(me.alloc, info, StructKind::Call),
+        Err(AllocFail::NoStructType)
+    );
+    assert!(me.rt;
+        refused && t_strerror(9) == "TLOOK" && t_sysconf(0) == Ok(16),
+        "structures"
+    );
+    Ok(())
+}
