@@ -1,12 +1,11 @@
 -- The last entry of a call that was answered is a step of the call.
 use Rattle.std.proofs.Common.{◌≡◌, ℕ, Bool, true, false, List, [], ◌∷◌, ◌++◌, Option, Some, None, refl, sym, ap, ◌∙◌, subst, append_assoc}
-use Rattle.std.specs.Prelude.{option_and_then, filter}
+use Rattle.std.specs.Prelude.{option_and_then}
 use Rattle.std.specs.List.{AllByRecursion}
 use Rattle.std.proofs.lemmas.Bool.{eqb-true, eq-eqb}
 use Rattle.std.proofs.lemmas.List.{append-nil}
 use Rattle.xti_model.specs.declared.call.Call.{Call}
 use Rattle.xti_model.specs.declared.entry.Act.{Act}
-use Rattle.xti_model.specs.declared.entry.Act.TheVariants as act
 use Rattle.xti_model.specs.declared.entry.Go.{Go}
 use Rattle.xti_model.specs.declared.entry.Go.TheVariants as go
 use Rattle.xti_model.specs.declared.entry.Entry.{Entry}
@@ -15,9 +14,8 @@ use Rattle.xti_model.specs.declared.entry.Outcome.TheVariants.{Done}
 use Rattle.xti_model.specs.declared.entry.Reply.{Reply}
 use Rattle.xti_model.specs.declared.profile.Providers.{Providers}
 use Rattle.xti_model.specs.World.{World, opening}
-use Rattle.xti_model.specs.Robin.{act_of}
 use Rattle.xti_model.specs.Step.{Step, step}
-use Rattle.xti_model.specs.History.{Going, is_own, own, call_after, unfinished, unfinished_from, made_by, doing, step_going, step_at, left_by, after_from, after, Fits, LegalFrom, Legal}
+use Rattle.xti_model.specs.History.{Going, is_own, own, call_after, unfinished, doing, step_going, step_at, left_by, after_from, after, Fits, LegalFrom, Legal}
 use Rattle.xti_model.proofs.Working.{call_from, call_of-from, own-more}
 use Rattle.xti_rule.specs.declared.view.View.{View}
 use Rattle.xti_calls.specs.Calling.{IsMore, AreSteps, Answered}

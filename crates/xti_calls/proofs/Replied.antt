@@ -1,5 +1,5 @@
 -- The reply of a call that was answered is of its kind, and is told by the typed answer.
-use Rattle.std.proofs.Common.{◌≡◌, ◌≤◌, ◌∙◌, ℕ, true, sym, ap, subst, arith}
+use Rattle.std.proofs.Common.{◌≡◌, ◌≤◌, ℕ, true, sym, subst, arith}
 use Rattle.std.specs.Prelude.{Result, Ok, Err}
 use Rattle.xti_model.specs.declared.call.Call.{Call}
 use Rattle.xti_model.specs.declared.entry.Go.TheVariants.{Begin}
@@ -11,7 +11,6 @@ use Rattle.xti_model.specs.History.{after}
 use Rattle.xti_rule.specs.declared.view.View.{View}
 use Rattle.xti_hall.specs.Seats.{IsStanding}
 use Rattle.xti_journal_reader.specs.declared.verbs.Verb.{Verb}
-use Rattle.xti_journal_reader.specs.declared.verbs.Answer.{Answer}
 use Rattle.xti_journal_reader.specs.declared.verbs.Answer.TheVariants.{Got, UData}
 use Rattle.xti_journal_reader.specs.Calls.{answer_of, answer_to, verb_of, MayAnswer}
 use Rattle.xti_model.specs.declared.entry.Go.{Go}

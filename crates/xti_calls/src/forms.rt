@@ -33,19 +33,19 @@ impl Xti {
         rt: &R,
         alloc: Global,
         seat: &mut Seat,
-        call: &Call,
+        call: Call,
     ) -> Result<Reply, Fail>
         requires seat { IsOf self.now seat.old }
         requires none { unfinished_from None None seat.old.view.mine ≡ None }
         ensures seat { IsSameSeat seat.old seat.new }
         ensures later { Later seat.old.view seat.new.view }
         ensures made { MatchResult result
-            (λ r. Answered seat.old.view call.now Begin seat.new.view r × MayBe (answer_of (verb_of call.now)) r)
-            (Fails call.now seat.old.view seat.new.view) }
-        ensures short { IfOk result (IsShort (lengths_of call.now)) }
+            (λ r. Answered seat.old.view call Begin seat.new.view r × MayBe (answer_of (verb_of call)) r)
+            (Fails call seat.old.view seat.new.view) }
+        ensures short { IfOk result (IsShort (lengths_of call)) }
     {
         steps_answer_in_form();
-        let reply = self.call(rt, alloc, seat, &NoGate, call);
+        let reply = self.call(rt, alloc, seat, &NoGate, &call);
         let _number = seat.number();
         match reply {
             Ok(reply) => Ok(reply),

@@ -46,7 +46,7 @@ impl Xti {
             omax: max.opt,
             umax: max.udata,
         };
-        connected(self.reply(rt, alloc, seat, &call)?)
+        connected(self.reply(rt, alloc, seat, call)?)
     }
 
     /// The answer to a request (XNS, t_rcvconnect).
@@ -71,7 +71,7 @@ impl Xti {
             omax: max.opt,
             umax: max.udata,
         };
-        connected(self.reply(rt, alloc, seat, &call)?)
+        connected(self.reply(rt, alloc, seat, call)?)
     }
 
     /// An indication (XNS, t_listen).
@@ -96,7 +96,7 @@ impl Xti {
             omax: max.opt,
             umax: max.udata,
         };
-        listened(self.reply(rt, alloc, seat, &call)?)
+        listened(self.reply(rt, alloc, seat, call)?)
     }
 
     /// Accepts an indication onto an endpoint (XNS, t_accept).
@@ -125,7 +125,7 @@ impl Xti {
             opt: Octets::copy_of(alloc, opt)?,
             udata: Octets::copy_of(alloc, udata)?,
         };
-        done(self.reply(rt, alloc, seat, &call)?)
+        done(self.reply(rt, alloc, seat, call)?)
     }
 
     /// Rejects an indication, or ends a connection (XNS, t_snddis).
@@ -150,7 +150,7 @@ impl Xti {
             seq,
             udata: Octets::copy_of(alloc, udata)?,
         };
-        done(self.reply(rt, alloc, seat, &call)?)
+        done(self.reply(rt, alloc, seat, call)?)
     }
 
     /// The reason of a disconnect, the indication that it takes back or 0, and data (XNS, t_rcvdis).
@@ -170,7 +170,7 @@ impl Xti {
         ensures made { Makes (call.TRcvDis fd umax) IsDisconnect seat.old.view seat.new.view result }
     {
         let call = Call::TRcvDis { fd, umax };
-        disconnected(self.reply(rt, alloc, seat, &call)?)
+        disconnected(self.reply(rt, alloc, seat, call)?)
     }
 
     /// Asks for the orderly release of a connection (XNS, t_sndrel).
@@ -189,7 +189,7 @@ impl Xti {
         ensures made { Makes (call.TSndRel fd) IsDone seat.old.view seat.new.view result }
     {
         let call = Call::TSndRel { fd };
-        done(self.reply(rt, alloc, seat, &call)?)
+        done(self.reply(rt, alloc, seat, call)?)
     }
 
     /// Takes the request for an orderly release (XNS, t_rcvrel).
@@ -208,6 +208,6 @@ impl Xti {
         ensures made { Makes (call.TRcvRel fd) IsDone seat.old.view seat.new.view result }
     {
         let call = Call::TRcvRel { fd };
-        done(self.reply(rt, alloc, seat, &call)?)
+        done(self.reply(rt, alloc, seat, call)?)
     }
 }

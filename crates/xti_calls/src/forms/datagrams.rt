@@ -44,7 +44,7 @@ impl Xti {
             opt: Octets::copy_of(alloc, opt)?,
             bytes: Octets::copy_of(alloc, bytes)?,
         };
-        done(self.reply(rt, alloc, seat, &call)?)
+        done(self.reply(rt, alloc, seat, call)?)
     }
 
     /// Sends the parts, joined, as a datagram (XNS, t_sndvudata).
@@ -71,7 +71,7 @@ impl Xti {
             opt: Octets::copy_of(alloc, opt)?,
             parts: parts.parts().copy()?,
         };
-        done(self.reply(rt, alloc, seat, &call)?)
+        done(self.reply(rt, alloc, seat, call)?)
     }
 
     /// A datagram or a part of one, and flags (XNS, t_rcvudata).
@@ -96,7 +96,7 @@ impl Xti {
             amax: max.addr,
             omax: max.opt,
         };
-        datagram(self.reply(rt, alloc, seat, &call)?)
+        datagram(self.reply(rt, alloc, seat, call)?)
     }
 
     /// A datagram or a part of one, its bytes in parts of at most these sizes, each filled before the next, and flags (XNS,
@@ -125,7 +125,7 @@ impl Xti {
             amax,
             omax,
         };
-        datagram_parts(alloc, self.reply(rt, alloc, seat, &call)?, buffers)
+        datagram_parts(alloc, self.reply(rt, alloc, seat, call)?, buffers)
     }
 
     /// Address and options of a datagram that was not delivered, and the code (XNS, t_rcvuderr).
@@ -146,6 +146,6 @@ impl Xti {
         ensures made { Makes (call.TRcvUDErr fd amax omax) IsDatagramError seat.old.view seat.new.view result }
     {
         let call = Call::TRcvUDErr { fd, amax, omax };
-        datagram_error(self.reply(rt, alloc, seat, &call)?)
+        datagram_error(self.reply(rt, alloc, seat, call)?)
     }
 }

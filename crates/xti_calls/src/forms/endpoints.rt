@@ -39,7 +39,7 @@ impl Xti {
             prov: Prov::of_name(name),
             nonblock,
         };
-        opened(self.reply(rt, alloc, seat, &call)?)
+        opened(self.reply(rt, alloc, seat, call)?)
     }
 
     /// Closes an endpoint (XNS, t_close).
@@ -58,7 +58,7 @@ impl Xti {
         ensures made { Makes (call.TClose fd) IsDone seat.old.view seat.new.view result }
     {
         let call = Call::TClose { fd };
-        done(self.reply(rt, alloc, seat, &call)?)
+        done(self.reply(rt, alloc, seat, call)?)
     }
 
     /// Binds an endpoint to an address, or for an empty one to one that the provider chooses (XNS, t_bind), and answers the address and the queue length.
@@ -85,7 +85,7 @@ impl Xti {
             qlen,
             amax,
         };
-        bound(self.reply(rt, alloc, seat, &call)?)
+        bound(self.reply(rt, alloc, seat, call)?)
     }
 
     /// Takes the address from an endpoint (XNS, t_unbind).
@@ -104,7 +104,7 @@ impl Xti {
         ensures made { Makes (call.TUnbind fd) IsDone seat.old.view seat.new.view result }
     {
         let call = Call::TUnbind { fd };
-        done(self.reply(rt, alloc, seat, &call)?)
+        done(self.reply(rt, alloc, seat, call)?)
     }
 
     /// The first event that is pending (XNS, t_look).
@@ -123,7 +123,7 @@ impl Xti {
         ensures made { Makes (call.TLookAt fd) IsSeen seat.old.view seat.new.view result }
     {
         let call = Call::TLookAt { fd };
-        seen(self.reply(rt, alloc, seat, &call)?)
+        seen(self.reply(rt, alloc, seat, call)?)
     }
 
     /// The state (XNS, t_getstate).
@@ -142,7 +142,7 @@ impl Xti {
         ensures made { Makes (call.TGetState fd) IsState seat.old.view seat.new.view result }
     {
         let call = Call::TGetState { fd };
-        state(self.reply(rt, alloc, seat, &call)?)
+        state(self.reply(rt, alloc, seat, call)?)
     }
 
     /// The state too (XNS, t_sync).
@@ -161,7 +161,7 @@ impl Xti {
         ensures made { Makes (call.TSync fd) IsState seat.old.view seat.new.view result }
     {
         let call = Call::TSync { fd };
-        state(self.reply(rt, alloc, seat, &call)?)
+        state(self.reply(rt, alloc, seat, call)?)
     }
 
     /// What the provider offers (XNS, t_getinfo).
@@ -180,7 +180,7 @@ impl Xti {
         ensures made { Makes (call.TGetInfo fd) IsInfo seat.old.view seat.new.view result }
     {
         let call = Call::TGetInfo { fd };
-        info(self.reply(rt, alloc, seat, &call)?)
+        info(self.reply(rt, alloc, seat, call)?)
     }
 
     /// The endpoint's address and its peer's (XNS, t_getprotaddr).
@@ -201,7 +201,7 @@ impl Xti {
         ensures made { Makes (call.TGetProtAddr fd amax pmax) AreAddresses seat.old.view seat.new.view result }
     {
         let call = Call::TGetProtAddr { fd, amax, pmax };
-        addresses(self.reply(rt, alloc, seat, &call)?)
+        addresses(self.reply(rt, alloc, seat, call)?)
     }
 
     /// Settles options in their encoded form (XNS, t_optmgmt), and answers the overall result and the answered options.
@@ -228,7 +228,7 @@ impl Xti {
             opt: Octets::copy_of(alloc, opt)?,
             omax,
         };
-        negotiated(self.reply(rt, alloc, seat, &call)?)
+        negotiated(self.reply(rt, alloc, seat, call)?)
     }
 
     /// Sets O_NONBLOCK or clears it (fcntl).
@@ -248,6 +248,6 @@ impl Xti {
         ensures made { Makes (call.SetMode fd nonblock) IsDone seat.old.view seat.new.view result }
     {
         let call = Call::SetMode { fd, nonblock };
-        done(self.reply(rt, alloc, seat, &call)?)
+        done(self.reply(rt, alloc, seat, call)?)
     }
 }

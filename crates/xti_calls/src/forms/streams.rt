@@ -42,7 +42,7 @@ impl Xti {
             bytes: Octets::copy_of(alloc, bytes)?,
             flags,
         };
-        sent(self.reply(rt, alloc, seat, &call)?)
+        sent(self.reply(rt, alloc, seat, call)?)
     }
 
     /// Sends parts, joined, on a connection (XNS, t_sndv), and answers how many bytes were taken.
@@ -67,7 +67,7 @@ impl Xti {
             parts: parts.parts().copy()?,
             flags,
         };
-        sent(self.reply(rt, alloc, seat, &call)?)
+        sent(self.reply(rt, alloc, seat, call)?)
     }
 
     /// At most so many bytes of a connection, and flags (XNS, t_rcv).
@@ -87,7 +87,7 @@ impl Xti {
         ensures made { Makes (call.TRcv fd max) IsGot seat.old.view seat.new.view result }
     {
         let call = Call::TRcv { fd, max };
-        got(self.reply(rt, alloc, seat, &call)?)
+        got(self.reply(rt, alloc, seat, call)?)
     }
 
     /// Bytes of a connection in parts of at most these sizes, each filled before the next, and flags (XNS, t_rcvv). There
@@ -112,6 +112,6 @@ impl Xti {
             fd,
             sizes: sizes.copy()?,
         };
-        got_parts(self.reply(rt, alloc, seat, &call)?, buffers)
+        got_parts(self.reply(rt, alloc, seat, call)?, buffers)
     }
 }
