@@ -10,7 +10,7 @@ use Rattle.xti_command.specs.declared.command.Command.{Command}
 use Rattle.clap.specs.declared.builder.action.ArgAction.TheVariants.{SetTrue}
 use Rattle.xti_command.specs.declared.command.Command.TheVariants.{Read, Gen}
 use Rattle.xti_command.specs.declared.command.Reading.{Reading}
-use Rattle.xti_command.specs.declared.command.Reading.TheVariants.{Replay, Check, Frames}
+use Rattle.xti_command.specs.declared.command.Reading.TheVariants.{Replay, Run, Check, Frames}
 
 -- the texts of strings
 abbrev pub texts : List (String Global) → List Text
@@ -83,6 +83,7 @@ generating summary (Some seed) = option_map (λ n. Gen n summary) (seed_of seed)
 abbrev pub named : Text → Bool → Option Text → Option Command
 named word summary seed =
     if bytes_eq word (codes "replay") then without_seed (Replay summary) seed
+    else if bytes_eq word (codes "run") then without_seed (Run summary) seed
     else if bytes_eq word (codes "check") then alone Check summary seed
     else if bytes_eq word (codes "frames") then alone Frames summary seed
     else if bytes_eq word (codes "gen") then generating summary seed
@@ -109,6 +110,7 @@ summary_words false = []
 -- the plain words of a command: its own name, and what it takes beside it
 pub data IsPlain : List Text → Command → Type 0 where
   replay : (summary : Bool) → IsPlain (codes "replay" ∷ summary_words summary) (Read (Replay summary))
+  run : (summary : Bool) → IsPlain (codes "run" ∷ summary_words summary) (Read (Run summary))
   check : IsPlain (codes "check" ∷ []) (Read Check)
   frames : IsPlain (codes "frames" ∷ []) (Read Frames)
   gen : (seed : ℕ) (summary : Bool) → seed < 2 ^ 64 → IsPlain (codes "gen" ∷ codes "--seed" ∷ decimal seed ∷ summary_words summary) (Gen seed summary)

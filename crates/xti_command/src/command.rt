@@ -13,6 +13,8 @@ use std::alloc::{AllocError, Global};
 pub enum Reading {
     /// The calls of a script are made, and the journal is written, or its summary.
     Replay { summary: bool },
+    /// The calls of a script are made by threads, one for each worker, and the journal is written, or its summary.
+    Run { summary: bool },
     /// A journal is judged, and the verdict written.
     Check,
     /// A line is written for each of some frames.
@@ -106,6 +108,7 @@ fn command_named(word: &str, summary: bool, seed: Option<&str>) -> Option<Comman
 {
     match word {
         "replay" => without_seed(Reading::Replay { summary }, seed),
+        "run" => without_seed(Reading::Run { summary }, seed),
         "check" => alone(Reading::Check, summary, seed),
         "frames" => alone(Reading::Frames, summary, seed),
         "gen" => generating(summary, seed),
