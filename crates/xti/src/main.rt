@@ -15,6 +15,7 @@ const VERSION: &str = "xti 0.1.0\n";
 
 const USAGE: &str = "\
 usage: xti replay [--summary]
+       xti run [--summary]
        xti check
        xti frames
        xti gen --seed N [--summary]
@@ -22,6 +23,8 @@ usage: xti replay [--summary]
 
 replay  reads a script of XTI calls from standard input, makes the calls of
         its workers by turns, and prints their journal on standard output
+run     reads a script, makes the calls of each worker in a thread of its own,
+        and prints the journal of what happened
 check   reads a journal from standard input, and prints the number of its
         steps where each is what XTI gives there, else the first wrong line
 frames  reads TPI frames one after the other from standard input, and prints a
