@@ -73,14 +73,14 @@ def hexadecimal_over_its_limit():
     return script([*TWO_ENDPOINTS, f"1 sndudata a data=x:{octets(MOST_BYTES - 1).hex()}"])
 
 
-def lines(count):
+def lines(count, workers=32):
+    """So many lines of worker 0 and of so many others."""
     calls = [f"0 open e{i} ticlts nonblock" for i in range(64)]
     calls += [f"0 bind e{i} addr=t:a{i}" for i in range(64)]
     more = count - len(calls)
-    calls += [
-        f"{1 + i % 32} sndudata e{i % 61} addr=t:a{i % 64} data=t:{i}" if i // 64 % 2 == 0 else f"{1 + i % 32} rcvudata e{i % 64}"
-        for i in range(more)
-    ]
+    for i in range(more):
+        call = f"sndudata e{i % 61} addr=t:a{i % 64} data=t:{i}" if i // 64 % 2 == 0 else f"rcvudata e{i % 64}"
+        calls.append(f"{1 + i % workers} {call}")
     return script(calls)
 
 
@@ -218,6 +218,7 @@ INPUTS = {
     "a-byte-more-than-a-script-may-have": hexadecimal_over_its_limit,
     "as-many-lines-as-a-script-may-have": lambda: lines(MOST_LINES),
     "a-line-more-than-a-script-may-have": lambda: lines(MOST_LINES + 1),
+    "as-many-lines-as-a-script-may-have-on-one-thread": lambda: lines(MOST_LINES, 1),
     "as-many-lines-as-a-script-may-have-and-comments": lambda: commented(MOST_LINES),
     "a-line-more-than-a-script-may-have-and-comments": lambda: commented(MOST_LINES + 1),
     "as-many-bytes-as-a-script-may-have-and-comments": lambda: hexadecimal_between_comments(0),
