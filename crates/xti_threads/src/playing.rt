@@ -10,6 +10,7 @@ ghost use Rattle.xti_calls.specs.Library.{IsOf, providers_of};
 ghost use Rattle.xti_replay.specs.Playable.{IsPlayable, are_playable};
 ghost use Rattle.xti_replay.specs.Progress.{AreFresh};
 ghost use Rattle.xti_threads.specs.Working.{AfterSetup};
+ghost use Rattle.xti_threads.specs.Setting.{HasSetUp};
 ghost use Rattle.xti_threads.specs.Starting.{AllJobs, AllTold};
 ghost use Rattle.xti_threads.specs.Meeting.{Before, IsSetUp};
 
@@ -43,9 +44,32 @@ fn seat_all<R: Wait>(
         let Ok(seat) = xti.split(rt, alloc, main) else {
             unreachable!()
         };
+        let _number = seat.number();
         jobs.push_reserved(Job { seat, worker });
     }
     Ok(jobs)
+}
+
+/// Main's seat rests while each job's worker plays on a thread: the history that all have made.
+fn play_jobs<G: Gate, R: Threads + Wait + Sync>(
+    rt: &R,
+    alloc: Global,
+    xti: &Xti,
+    lines: &[Line],
+    setup: &Worker,
+    gate: &G,
+    mut main: Seat,
+    jobs: Vec<Job>,
+) -> Result<Entries, AllocError>
+    requires many { vec_len jobs < WORKERS }
+    requires lines { are_playable lines.now ≡ true }
+    requires setup { (past : List Entry) × AfterSetup lines.now past setup.now × IsSetUp lines.now past × Before xti.now past (vec_len jobs + 1) main × AllJobs xti.now lines.now past jobs.items }
+    ensures { IfOk result (IsHistoryOf (providers_of xti.now) lines.now) }
+{
+    xti.rest(rt, &mut main);
+    let _number = main.number();
+    let seats = run_all(rt, alloc, xti, lines, setup, gate, jobs)?;
+    meet_all(rt, alloc, xti, lines, main, seats)
 }
 
 /// Plays the workers but 0 after the setup, each on a thread: the history that all have made.
@@ -65,9 +89,23 @@ fn play_others<G: Gate, R: Threads + Wait + Sync>(
     ensures { IfOk result (IsHistoryOf (providers_of xti.now) lines.now) }
 {
     let jobs = seat_all(rt, alloc, xti, lines, &mut main, workers)?;
-    xti.rest(rt, &mut main);
-    let seats = run_all(rt, alloc, xti, lines, setup, gate, jobs)?;
-    meet_all(rt, alloc, xti, lines, main, seats)
+    play_jobs(rt, alloc, xti, lines, setup, gate, main, jobs)
+}
+
+/// The history that main's seat alone has made.
+fn read_alone<R: Wait>(
+    rt: &R,
+    alloc: Global,
+    xti: &Xti,
+    _lines: &[Line],
+    mut main: Seat,
+) -> Result<Entries, AllocError>
+    requires { HasSetUp xti.now _lines.now main }
+    ensures { IfOk result (IsHistoryOf (providers_of xti.now) _lines.now) }
+{
+    let history = xti.history(rt, alloc, &mut main);
+    let _number = main.number();
+    history
 }
 
 /// Plays worker 0, and once it is finished the others: the history that all have made.
@@ -89,7 +127,24 @@ fn play_workers<G: Gate, R: Threads + Wait + Sync>(
     if set_up(rt, alloc, xti, lines, gate, &mut main, &mut setup) {
         return play_others(rt, alloc, xti, lines, &setup, gate, main, workers);
     }
-    xti.history(rt, alloc, &mut main)
+    read_alone(rt, alloc, xti, lines, main)
+}
+
+/// Plays the workers of these lines by the library and its first seat: the history that all have made.
+fn play_lines<G: Gate, R: Threads + Wait + Sync>(
+    rt: &R,
+    alloc: Global,
+    xti: &Xti,
+    lines: &[Line],
+    gate: &G,
+    main: Seat,
+) -> Result<Entries, AllocError>
+    requires lines { are_playable lines.now ≡ true }
+    requires main { IsOf xti.now main × (main.view ≡ newcomer (whole (providers_of xti.now))) }
+    ensures { IfOk result (IsHistoryOf (providers_of xti.now) lines.now) }
+{
+    let workers = fresh_workers(alloc, lines)?;
+    play_workers(rt, alloc, xti, lines, gate, main, workers)
 }
 
 /// Plays a script's workers by threads: worker 0 on this thread, and once it is finished each other that has lines on a
@@ -106,8 +161,6 @@ pub fn play<G: Gate, R: Threads + Wait + Sync>(
     requires { IsPlayable s.now }
     ensures { IfOk result (IsHistoryOf s.now.providers s.now.lines) }
 {
-    let lines = s.lines.as_slice();
-    let workers = fresh_workers(alloc, lines)?;
     let (xti, main) = Xti::new(alloc, &s.providers)?;
-    play_workers(rt, alloc, &xti, lines, gate, main, workers)
+    play_lines(rt, alloc, &xti, s.lines.as_slice(), gate, main)
 }

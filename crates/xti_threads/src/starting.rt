@@ -119,7 +119,9 @@ fn start_all<'s, E, G: Gate, R: Threads + Wait + Sync>(
     let mut number = 0;
     for job in jobs {
         number += 1;
-        started.push_reserved(start(scope, rt, alloc, xti, lines, setup, gate, lacking, number, job));
+        started.push_reserved(start(
+            scope, rt, alloc, xti, lines, setup, gate, lacking, number, job,
+        ));
     }
     for one in started {
         seats.push_reserved(join(rt, one));
