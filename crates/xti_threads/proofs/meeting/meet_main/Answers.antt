@@ -40,7 +40,7 @@ loop-seat-preserved c =
         λ past u l met.
             let k = i.known.2 past u l met in
             let h = subst (EachFrom (HasMet c.args.xti.now c.args._lines.now past main.view.seen) (n + 1)) c.in-Some.ensures.steps.0 k.0 in
-            let new = back-follows (n + 1) c.in-Some.seat c.loop-seat.main.view c.meet-seat.result.view main.view.seen u (omega arith) h.0.0 (leads-own main l) h.0.1 (ap (λ (s : SeatView). s.view.seen) i.main) c.meet-seat.ensures.met c.number.ensures.standing in
+            let new = back-follows (n + 1) c.in-Some.seat c.loop-seat.main.view c.meet-seat.result.view main.view.seen u (omega arith) h.0.0 (leads-own main l) h.0.1 (ap (λ (s : SeatView). s.view.seen) i.main) c.meet-seat.ensures.met c.number-number.ensures.standing in
             (h.1, follow-more c.args._lines.now main.view.seen n k.1 new),
       );
     }

@@ -21,7 +21,7 @@ loop-seat-init c = record {
 
 pub meet-main-requires : goal.meet-main-requires
 meet-main-requires c =
-    let b = c.requires in
+    let b = c.requires.back in
     let k = c.loop-seat.invariant.known b.0 b.1 b.2 in
     let s = (subst (EachFrom (CameBack c.args.xti.now c.args._lines.now b.0) (vec_len c.loop-seat.met + 1)) c.in-Some.ensures.steps.0 k.1).0 in
     (k.0.of_x, s.of_x)
@@ -46,7 +46,7 @@ loop-seat-preserved c =
           met-grown c.args.xti.now c.args._lines.now past c.loop-seat.main.view.seen seen c.loop-seat.met.items m.first k.2 in
           let new : HasMet c.args.xti.now c.args._lines.now past seen (vec_len c.loop-seat.met + 1) c.meet-main.new.other =
           subst (HasMet c.args.xti.now c.args._lines.now past seen (vec_len c.loop-seat.met + 1)) (sym other) (h.0, m.second) in (
-            leads-meets c.loop-seat.main c.meet-main.result c.in-Some.seat.view k.0 c.meet-main.ensures.seat.0 m c.number.ensures.standing,
+            leads-meets c.loop-seat.main c.meet-main.result c.in-Some.seat.view k.0 c.meet-main.ensures.seat.0 m c.number-number.ensures.standing,
             subst (λ (n : ℕ). EachFrom (CameBack c.args.xti.now c.args._lines.now past) (n + 1) c.next.new.self.rest.items) (sym many) h.1,
             subst (AllMet c.args.xti.now c.args._lines.now past seen) (sym c.push_reserved.ensures.items)
                 (from_snoc (HasMet c.args.xti.now c.args._lines.now past seen) 1 (vec_len c.loop-seat.met + 1) c.loop-seat.met.items c.meet-main.new.other grown (omega (arith, count)) new),
