@@ -11,4 +11,5 @@ play_others-requires-clause-setup g c κs within =
     let others : List Worker = c.remove-setup.new.self.items in
     let fresh : EachFrom (Told lines []) 1 others = subst (EachFrom (Told lines []) 1) (sym c.remove-setup.ensures.items) (fresh-others lines c.args.workers.items c.requires.workers) in
     let done = c.set_up.ensures.finished c.if-set_up.true in
-    (c.set_up.new.main.view.seen, set-up-ends others done.0 done.1 fresh)
+    let ends = set-up-ends others done.0 done.1 fresh in
+    (c.set_up.new.main.view.seen, ends.0, ends.1, ends.2, ends.3)
