@@ -27,8 +27,8 @@ fn idle_workers(alloc: Global) -> Result<Vec<Worker>, AllocError>
     Ok(workers)
 }
 
-/// Workers with their lines, of which they have begun none.
-fn fresh_workers(alloc: Global, lines: &[Line]) -> Result<Vec<Worker>, AllocError>
+/// Workers with their lines, of which they have begun none; the worker of each number stands at it.
+pub fn fresh_workers(alloc: Global, lines: &[Line]) -> Result<Vec<Worker>, AllocError>
     requires { are_playable lines.now ≡ true }
     ensures { IfOk result (λ ws. AreFresh lines.now ws.items) }
 {

@@ -10,6 +10,7 @@ mod run;
 mod stalling;
 mod workers;
 
+pub use beginning::fresh_workers;
 pub use names::{Known, Names, Table};
 pub use replaying::replay;
 pub use resolving::Scope;

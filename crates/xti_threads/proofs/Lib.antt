@@ -1,0 +1,4 @@
+pub mod Owned
+pub mod Threads
+pub mod Meetings
+pub mod Played

@@ -1,0 +1,4 @@
+pub mod Working
+pub mod Setting
+pub mod Starting
+pub mod Meeting

@@ -1,0 +1,45 @@
+-- Main's seat after the setup, before the threads start and after they have ended.
+use Rattle.std.specs.Prelude.{◌≡◌, ℕ, List, true}
+use Rattle.std.specs.List.{list_all}
+use mathlib.Core.List.{IsPrefix}
+use Rattle.xti_model.specs.declared.entry.Entry.{Entry}
+use Rattle.xti_model.specs.declared.script.Line.{Line}
+use Rattle.xti_model.specs.Robin.{is_through}
+use Rattle.xti_model.specs.Complete.{Follows, is_setup}
+use Rattle.xti_rule.specs.Histories.{own}
+use Rattle.xti_hall.specs.Seats.{SeatView, IsStanding}
+use Rattle.xti_calls.specs.declared.shared.Xti.{Xti}
+use Rattle.xti_calls.specs.Library.{IsOf}
+use Rattle.xti_threads.specs.Working.{CameBack}
+use Rattle.xti_threads.specs.Starting.{EachFrom}
+
+-- worker 0 alone has made calls, those of its lines, and is finished
+pub record IsSetUp (lines : List Line) (past : List Entry) : Type 0 where
+  pub alone : list_all is_setup past ≡ true
+  pub follows : Follows past lines 0
+  pub finished : is_through lines past 0 ≡ true
+
+-- main's seat, which has made the calls of the setup and no more
+pub record Leads (x : Xti) (setup : List Entry) (next : ℕ) (s : SeatView) : Type 0 where
+  pub of_x : IsOf x s
+  pub next_is : s.view.next ≡ next
+  pub number_is : s.view.number ≡ 0
+  pub mine : s.view.mine ≡ own 0 setup
+  pub begins : IsPrefix setup s.view.seen
+  pub standing : IsStanding s.view
+
+-- and has seen no more
+pub record Before (x : Xti) (setup : List Entry) (next : ℕ) (s : SeatView) : Type 0 where
+  pub of_x : IsOf x s
+  pub next_is : s.view.next ≡ next
+  pub number_is : s.view.number ≡ 0
+  pub mine : s.view.mine ≡ own 0 setup
+  pub seen : s.view.seen ≡ setup
+  pub standing : IsStanding s.view
+
+-- a seat that came back, all of whose history was seen
+abbrev pub HasMet : Xti → List Line → List Entry → List Entry → ℕ → SeatView → Type 0
+HasMet x lines setup history number s = CameBack x lines setup number s × IsPrefix s.view.seen history
+
+abbrev pub AllMet : Xti → List Line → List Entry → List Entry → List SeatView → Type 0
+AllMet x lines setup history seats = EachFrom (HasMet x lines setup history) 1 seats

@@ -1,0 +1,49 @@
+-- What a worker's thread is given, and what it hands back.
+use Rattle.std.specs.Prelude.{◌≡◌, ◌<◌, ℕ, List, [], ◌++◌, true}
+use Rattle.std.specs.List.{list_all}
+use mathlib.Core.List.{IsPrefix}
+use Rattle.xti_base.specs.declared.limits.TheConstants.{WORKERS}
+use Rattle.xti_model.specs.declared.entry.Entry.{Entry}
+use Rattle.xti_model.specs.declared.script.Line.{Line}
+use Rattle.xti_model.specs.Robin.{is_through}
+use Rattle.xti_model.specs.Complete.{is_setup}
+use Rattle.xti_model.proofs.Following.{IsFollowed}
+use Rattle.xti_hall.specs.Seats.{SeatView, IsStanding}
+use Rattle.xti_calls.specs.declared.shared.Xti.{Xti}
+use Rattle.xti_calls.specs.Library.{IsOf}
+use Rattle.xti_replay.specs.declared.workers.Worker.{Worker}
+use Rattle.xti_replay.specs.Progress.{Told}
+use Rattle.xti_threads.specs.declared.working.Job.{Job}
+
+-- worker 0 alone has made calls, and is finished; and what it knows
+pub record AfterSetup (lines : List Line) (setup : List Entry) (w : Worker) : Type 0 where
+  pub told : Told lines setup 0 w
+  pub finished : is_through lines setup 0 ≡ true
+  pub alone : list_all is_setup setup ≡ true
+
+module _ (x : Xti) (lines : List Line) (setup : List Entry) where
+  -- the seat of the worker with this number, after the entries of the setup: its own entries are calls of its lines, in order, each once
+  pub record CameBack (number : ℕ) (s : SeatView) : Type 0 where
+    pub of_x : IsOf x s
+    pub number_is : s.view.number ≡ number
+    pub standing : IsStanding s.view
+    pub seen : IsPrefix setup s.view.seen
+    pub follows : IsFollowed lines (setup ++ s.view.mine) number
+
+  -- the same between two of its lines, with what its worker knows
+  pub record Works (number : ℕ) (s : SeatView) (w : Worker) : Type 0 where
+    pub back : CameBack number s
+    pub other : 0 < number
+    pub small : number < WORKERS
+    pub told : Told lines (setup ++ s.view.mine) number w
+
+  -- a seat that has made no call, and its worker
+  pub record IsJob (number : ℕ) (j : Job) : Type 0 where
+    pub of_x : IsOf x j.seat
+    pub number_is : j.seat.view.number ≡ number
+    pub other : 0 < number
+    pub small : number < WORKERS
+    pub standing : IsStanding j.seat.view
+    pub seen : j.seat.view.seen ≡ setup
+    pub mine : j.seat.view.mine ≡ []
+    pub told : Told lines setup number j.worker
