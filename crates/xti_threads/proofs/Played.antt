@@ -1,5 +1,5 @@
 -- Main's seat and the workers, from the setup to the threads.
-use Rattle.std.specs.Prelude.{ℕ, suc, ◌+◌, ◌<◌, ◌≤◌, List, [], ◌∷◌, ◌++◌, length, filter, None, slice_index_or, ◌≡◌, true}
+use Rattle.std.specs.Prelude.{ℕ, suc, ◌+◌, ◌<◌, ◌≤◌, List, [], ◌∷◌, length, filter, None, slice_index_or, ◌≡◌, true}
 use Rattle.std.specs.List.{list_all, remove}
 use Rattle.std.proofs.Common.{refl, sym, ap, subst, ◌∙◌, arith}
 use mathlib.Core.List.{IsPrefix}
@@ -23,7 +23,7 @@ use Rattle.xti_hall.specs.Words.{IsSameSeat}
 use Rattle.xti_calls.specs.declared.shared.Xti.{Xti}
 use Rattle.xti_calls.specs.Library.{IsOf, providers_of}
 use Rattle.xti_replay.specs.declared.workers.Worker.{Worker}
-use Rattle.xti_replay.specs.Progress.{Told, IsFresh, AreFresh}
+use Rattle.xti_replay.specs.Progress.{Told, AreFresh}
 use Rattle.xti_replay.proofs.Learning.{knows-still}
 use Rattle.xti_threads.specs.Working.{AfterSetup, IsJob}
 use Rattle.xti_threads.specs.Setting.{HasSetUp, SetsUp}

@@ -1,4 +1,4 @@
-use Rattle.std.proofs.Common.{sym, subst, ◌≡◌, ◌+◌, ℕ, vec_len}
+use Rattle.std.proofs.Common.{sym, subst, ◌+◌, ℕ}
 use Rattle.xti_threads.specs.Meeting.{Leads}
 use Rattle.xti_threads.proofs.Meetings.{met-grown, leads-looks}
 use Rattle.xti_threads.proofs.meeting.meet_all.Goals as goal

@@ -1,5 +1,4 @@
-use Rattle.std.proofs.Common.{rules, arith, ap, sym, subst, refl, ◌∙◌, ◌≡◌, ◌<◌, ◌+◌, ◌≤◌, ℕ, List, vec_len}
-use Rattle.xti_model.specs.declared.entry.Entry.{Entry}
+use Rattle.std.proofs.Common.{arith, ap, sym, subst, refl, ◌∙◌, ◌≡◌, ◌+◌, vec_len}
 use Rattle.xti_hall.specs.Seats.{SeatView}
 use Rattle.xti_calls.specs.Library.{IsOf}
 use Rattle.xti_threads.specs.Starting.{EachFrom}

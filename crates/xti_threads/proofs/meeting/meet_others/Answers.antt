@@ -1,8 +1,7 @@
-use Rattle.std.proofs.Common.{rules, arith, ap, sym, subst, refl, ◌∙◌, ◌≡◌, ◌<◌, ◌+◌, ◌≤◌, ℕ, List, [], ◌∷◌, vec_len, vec_capacity, length}
-use Rattle.xti_model.specs.declared.entry.Entry.{Entry}
+use Rattle.std.proofs.Common.{rules, arith, sym, subst, ◌≡◌, ◌+◌, ℕ, vec_len, length}
 use Rattle.xti_threads.specs.Working.{CameBack}
-use Rattle.xti_threads.specs.Starting.{AllBack, EachFrom}
-use Rattle.xti_threads.specs.Meeting.{Leads, HasMet, AllMet}
+use Rattle.xti_threads.specs.Starting.{EachFrom}
+use Rattle.xti_threads.specs.Meeting.{HasMet, AllMet}
 use Rattle.xti_threads.proofs.Threads.{from_snoc}
 use Rattle.xti_threads.proofs.Meetings.{met-grown, leads-meets}
 use Rattle.xti_threads.proofs.meeting.meet_others.Goals as goal

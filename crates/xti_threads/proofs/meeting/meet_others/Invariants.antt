@@ -1,4 +1,4 @@
-use Rattle.std.proofs.Common.{◌≡◌, ◌+◌, ◌≤◌, ℕ, List, vec_len, vec_capacity}
+use Rattle.std.proofs.Common.{◌≡◌, ◌+◌, ◌≤◌, List, vec_len, vec_capacity}
 use Rattle.xti_model.specs.declared.entry.Entry.{Entry}
 use Rattle.xti_threads.specs.Working.{CameBack}
 use Rattle.xti_threads.specs.Starting.{AllBack, EachFrom}

@@ -1,10 +1,8 @@
-use Rattle.std.proofs.Common.{rules, arith, ap, sym, subst, ◌∙◌, ◌≡◌, ◌<◌, ◌+◌, ◌≤◌, ℕ, List, vec_len, vec_capacity, length}
-use Rattle.xti_model.specs.declared.entry.Entry.{Entry}
+use Rattle.std.proofs.Common.{rules, arith, sym, subst, ◌≡◌, ◌+◌, ℕ, List, vec_len, length}
 use Rattle.xti_replay.specs.Progress.{Told}
 use Rattle.xti_threads.specs.declared.working.Job.{Job}
 use Rattle.xti_threads.specs.Working.{IsJob}
 use Rattle.xti_threads.specs.Starting.{AllJobs, EachFrom}
-use Rattle.xti_threads.specs.Meeting.{Before}
 use Rattle.xti_threads.proofs.Threads.{from_snoc}
 use Rattle.xti_threads.proofs.Played.{before-split, new-job}
 use Rattle.xti_threads.proofs.playing.seat_all.Goals as goal

@@ -1,8 +1,7 @@
-use Rattle.std.proofs.Common.{rules, arith, ap, sym, subst, refl, ◌∙◌, ◌≡◌, ◌<◌, ◌+◌, ◌≤◌, ℕ, List, [], ◌∷◌, vec_len, vec_capacity, length}
+use Rattle.std.proofs.Common.{rules, arith, sym, subst, ◌≡◌, ◌+◌, ◌≤◌, ℕ, List, vec_len, vec_capacity, length}
 use Rattle.xti_model.specs.declared.entry.Entry.{Entry}
-use Rattle.xti_hall.specs.Seats.{SeatView}
 use Rattle.xti_threads.specs.Working.{CameBack, IsJob, AfterSetup}
-use Rattle.xti_threads.specs.Starting.{HasStarted, AllJobs, AllBack, AllStarted, EachFrom}
+use Rattle.xti_threads.specs.Starting.{HasStarted, AllBack, AllStarted, EachFrom}
 use Rattle.xti_threads.proofs.Threads.{from_snoc}
 use Rattle.xti_threads.proofs.starting.start_all.Goals as goal
 

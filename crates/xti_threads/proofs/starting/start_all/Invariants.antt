@@ -1,7 +1,7 @@
-use Rattle.std.proofs.Common.{◌≡◌, ◌+◌, ◌≤◌, ◌<◌, List, [], vec_len, vec_capacity}
+use Rattle.std.proofs.Common.{◌≡◌, ◌+◌, ◌≤◌, List, [], vec_len, vec_capacity}
 use Rattle.xti_model.specs.declared.entry.Entry.{Entry}
-use Rattle.xti_threads.specs.Working.{CameBack, IsJob, AfterSetup}
-use Rattle.xti_threads.specs.Starting.{HasStarted, AllJobs, AllBack, AllStarted, EachFrom}
+use Rattle.xti_threads.specs.Working.{IsJob}
+use Rattle.xti_threads.specs.Starting.{AllJobs, AllBack, AllStarted, EachFrom}
 use Rattle.xti_threads.proofs.starting.start_all.Given as goal
 
 abbrev pub invariant-loop-job : goal.invariant-loop-job
