@@ -1,1 +1,5 @@
-
+pub mod OwnEntries
+pub mod FirstSteps
+pub mod Between
+pub mod Works
+pub mod Settings
