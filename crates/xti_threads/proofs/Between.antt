@@ -14,7 +14,7 @@ use Rattle.xti_model.specs.declared.entry.Reply.{Reply}
 use Rattle.xti_model.specs.declared.script.Line.{Line}
 use Rattle.xti_model.specs.History.{Going, unfinished, unfinished_from}
 use Rattle.xti_model.specs.Resolve.{is_begin, begun, meanings}
-use Rattle.xti_model.specs.Robin.{act_of, is_through, next_going}
+use Rattle.xti_model.specs.Robin.{act_of, is_through}
 use Rattle.xti_model.proofs.Appending.{begun-append}
 use Rattle.xti_model.proofs.Legality.{unfinished-goes_on}
 use Rattle.xti_model.proofs.Turns.{MayGo}
@@ -28,7 +28,7 @@ use Rattle.xti_replay.specs.declared.workers.Part.{Part}
 use Rattle.xti_replay.specs.declared.workers.Worker.{Worker}
 use Rattle.xti_replay.specs.Spots.{Spot}
 use Rattle.xti_replay.specs.Known.{HasLearnt}
-use Rattle.xti_replay.specs.Progress.{Told, IsNext, MayTake, part_going}
+use Rattle.xti_replay.specs.Progress.{Told, IsNext, IsNextCall, MayTake, part_going}
 use Rattle.xti_replay.proofs.Learning.{knows-more}
 use Rattle.xti_replay.proofs.Lines.{HasNext, next-by, beginning, call_at}
 use Rattle.xti_threads.specs.Working.{HasBegun}
@@ -111,6 +111,10 @@ module _ {lines : List Line} {front : List Entry} {n : ℕ} {v : View} {w setup 
 
   abbrev next-line : (c : Call) → IsNext lines past n (Some c) → (s : Spot) × HasNext lines past n w s
   next-line c next = next-by lines past n w (beginning c) k.told ended (sym next)
+
+  -- its next line's call, by what it knows
+  pub between-next : (o : Option Call) (c : Call) → o ≡ Some c → IsNextCall lines w setup o → IsNext lines past n (Some c)
+  between-next o c e known = subst (IsNext lines past n) e (known past n k.told k.setup_told)
 
   pub between-takes : (c : Call) → IsNext lines past n (Some c) → MayTake lines w (act.Begin c)
   between-takes c next =

@@ -1,5 +1,5 @@
 -- The first step of a call tells what its name stands for; where the call goes on, it defines none.
-use Rattle.std.proofs.Common.{◌≡◌, ℕ, ◌<◌, Bool, true, false, List, [], ◌∷◌, ◌++◌, Option, Some, None, refl, sym, ap, ◌∙◌, subst, arith, append_assoc}
+use Rattle.std.proofs.Common.{◌≡◌, ℕ, Bool, true, false, List, [], ◌∷◌, ◌++◌, Option, Some, None, refl, sym, ap, ◌∙◌, subst, arith, append_assoc}
 use Rattle.std.specs.Prelude.{option_and_then, IfSome, if◌then◌else◌}
 use Rattle.std.specs.List.{AllByRecursion}
 use Rattle.std.proofs.lemmas.Bool.{eqb-true}
@@ -92,9 +92,11 @@ first-part p h mine k c x y rest legal g idle begins goes = by x.outcome refl se
     given = own-step p (opening p) [] h (mine ++ x ∷ []) y rest k legal (g ∙ sym (append_assoc mine (x ∷ []) (y ∷ rest)))
 
     second : (v : World) × Fits (option_and_then (step_going p v) (going_after (Some c) x.outcome)) y
-    second = (given.0,
-        subst (λ (u : Option Going). Fits (option_and_then (step_going p given.0) u) y) left
-        (subst (λ (a : Act). Fits (option_and_then (step_going p given.0) (made_by (unfinished_from None None (mine ++ x ∷ [])) a)) y) goes given.1))
+    second = (
+      given.0,
+      subst (λ (u : Option Going). Fits (option_and_then (step_going p given.0) u) y) left
+          (subst (λ (a : Act). Fits (option_and_then (step_going p given.0) (made_by (unfinished_from None None (mine ++ x ∷ [])) a)) y) goes given.1),
+    )
 
     by : (o : Outcome) → x.outcome ≡ o → Fits (option_and_then (step_going p second.0) (going_after (Some c) o)) y → IsFirstPart c x.outcome
     by (Done reply) e f = absurd f

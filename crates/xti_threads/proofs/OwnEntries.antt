@@ -6,7 +6,6 @@ use Rattle.std.proofs.lemmas.Bool.{eq-eqb, eqb-true, ne_eqb, false≢true}
 use Rattle.std.proofs.lemmas.List.{append-nil}
 use Rattle.xti_model.specs.declared.entry.Entry.{Entry}
 use Rattle.xti_model.specs.declared.script.Line.{Line}
-use Rattle.xti_model.specs.History as history
 use Rattle.xti_model.specs.History.{is_own}
 use Rattle.xti_model.specs.Complete.{is_setup}
 use Rattle.xti_model.proofs.Appending.{own-append, all-split}

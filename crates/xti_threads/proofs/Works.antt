@@ -1,5 +1,5 @@
 -- A worker's calls by its seat are those of its lines.
-use Rattle.std.proofs.Common.{◌≡◌, ◌≢◌, ℕ, ◌<◌, true, List, [], ◌++◌, Option, Some, None, refl, sym, ap, ◌∙◌, subst, arith, append_assoc, inr}
+use Rattle.std.proofs.Common.{◌≡◌, ◌≢◌, ℕ, true, List, [], ◌++◌, Some, None, refl, sym, ap, ◌∙◌, subst, arith, append_assoc, inr}
 use Rattle.std.specs.List.{AllByRecursion}
 use Rattle.std.proofs.lemmas.List.{append-nil}
 use mathlib.Core.List.{IsPrefix}
@@ -13,7 +13,6 @@ use Rattle.xti_model.specs.Robin.{is_through}
 use Rattle.xti_model.proofs.Appending.{own-append}
 use Rattle.xti_model.proofs.Following.{IsFollowed}
 use Rattle.xti_model.proofs.Phases.{through-same}
-use Rattle.xti_rule.specs.declared.view.View.{View}
 use Rattle.xti_rule.specs.Histories.{own}
 use Rattle.xti_hall.specs.Seats.{SeatView, IsStanding, Looks}
 use Rattle.xti_hall.specs.Words.{IsSameSeat}
@@ -24,7 +23,7 @@ use Rattle.xti_calls.specs.declared.calling.Halt.TheVariants.{OutOfMemory, Stall
 use Rattle.xti_calls.specs.Calling.{AreSteps, Answered, Halted}
 use Rattle.xti_calls.specs.Library.{IsOf}
 use Rattle.xti_replay.specs.declared.workers.Worker.{Worker}
-use Rattle.xti_replay.specs.Progress.{Told, IsNext, part_going}
+use Rattle.xti_replay.specs.Progress.{Told, IsNext}
 use Rattle.xti_threads.specs.declared.working.Job.{Job}
 use Rattle.xti_threads.specs.Working.{AfterSetup, CameBack, HasBegun, IsJob, Works}
 use Rattle.xti_threads.proofs.OwnEntries.{IsBy, own-none-of, own-setup, mine-by, told-others}

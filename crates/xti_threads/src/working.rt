@@ -115,7 +115,18 @@ pub(crate) fn work<G: Gate, R: Wait + Sync>(
         mut seat,
         mut worker,
     } = job;
-    make_lines(rt, alloc, xti, lines, setup, gate, lacking, number, &mut seat, &mut worker);
+    make_lines(
+        rt,
+        alloc,
+        xti,
+        lines,
+        setup,
+        gate,
+        lacking,
+        number,
+        &mut seat,
+        &mut worker,
+    );
     xti.rest(rt, &mut seat);
     let _number = seat.number();
     seat
