@@ -1,6 +1,7 @@
 -- Worker 0's calls by main's seat are those of its lines.
 use Rattle.std.proofs.Common.{◌≡◌, List, [], ◌++◌, Option, Some, None, refl, sym, ap, ◌∙◌, arith, inl}
-use Rattle.std.specs.Prelude.{option_map}
+use Rattle.std.specs.Prelude.{false, is_some, option_map}
+use Rattle.std.proofs.lemmas.Bool.{false≢true}
 use Rattle.std.proofs.lemmas.Option.{none-some}
 use Rattle.xti_model.specs.declared.call.Call.{Call}
 use Rattle.xti_model.specs.declared.entry.Go.TheVariants as go
@@ -45,6 +46,10 @@ sets-whole {x} {lines} {s} {w} k none =
     by : (u : Option Going) → option_map (λ (g : Going). taken_before g.so_far) u ≡ None → u ≡ None
     by None e = refl
     by (Some g) e = absurd (none-some _ (sym e))
+
+pub sets-idle : {x : Xti} {lines : List Line} {s : SeatView} {w : Worker} → SetsUp x lines s w → (taken : Option ℕ) → taken ≡ unfinished_bytes s.view.mine → is_some taken ≡ false → w.part ≡ None
+sets-idle k None e n = sets-whole k (sym e)
+sets-idle k (Some t) e n = absurd (false≢true (sym n))
 
 module _ {x : Xti} {lines : List Line} {s : SeatView} {w : Worker} (k : SetsUp x lines s w) (b : Between lines [] 0 s.view w w) (c : Call) (next : IsNext lines s.view.mine 0 (Some c)) (s' : SeatView) (same : IsSameSeat s s') (standing : IsStanding s'.view) (later : Later s.view s'.view) where
   -- the seat after some steps of the call of the next line
