@@ -2,3 +2,8 @@ pub mod Owned
 pub mod Threads
 pub mod Meetings
 pub mod Played
+pub mod OwnEntries
+pub mod FirstSteps
+pub mod Between
+pub mod Works
+pub mod Settings

@@ -1,9 +1,11 @@
 -- What a worker's thread is given, and what it hands back.
-use Rattle.std.specs.Prelude.{◌≡◌, ◌<◌, ℕ, List, [], ◌++◌, true}
+use Rattle.std.specs.Prelude.{◌≡◌, ◌+◌, ◌<◌, ℕ, List, [], ◌++◌, None, true}
 use Rattle.std.specs.List.{list_all}
 use mathlib.Core.List.{IsPrefix}
 use Rattle.xti_base.specs.declared.limits.TheConstants.{WORKERS}
 use Rattle.xti_model.specs.declared.entry.Entry.{Entry}
+use Rattle.xti_model.specs.declared.entry.Outcome.TheVariants.{Done}
+use Rattle.xti_model.specs.declared.entry.Reply.{Reply}
 use Rattle.xti_model.specs.declared.script.Line.{Line}
 use Rattle.xti_model.specs.Robin.{is_through}
 use Rattle.xti_model.specs.Complete.{is_setup}
@@ -12,7 +14,7 @@ use Rattle.xti_hall.specs.Seats.{SeatView, IsStanding}
 use Rattle.xti_calls.specs.declared.shared.Xti.{Xti}
 use Rattle.xti_calls.specs.Library.{IsOf}
 use Rattle.xti_replay.specs.declared.workers.Worker.{Worker}
-use Rattle.xti_replay.specs.Progress.{Told}
+use Rattle.xti_replay.specs.Progress.{Told, LearnsNextLine}
 use Rattle.xti_threads.specs.declared.working.Job.{Job}
 
 -- worker 0 alone has made calls, and is finished; and what it knows
@@ -20,6 +22,13 @@ pub record AfterSetup (lines : List Line) (setup : List Entry) (w : Worker) : Ty
   pub told : Told lines setup 0 w
   pub finished : is_through lines setup 0 ≡ true
   pub alone : list_all is_setup setup ≡ true
+
+-- its next line is begun, and was answered so
+pub record HasBegun (lines : List Line) (reply : Reply) (old new : Worker) : Type 0 where
+  pub places : new.places ≡ old.places
+  pub count : new.begun ≡ old.begun + 1
+  pub whole : new.part ≡ None
+  pub names : LearnsNextLine lines (Done reply) old new
 
 module _ (x : Xti) (lines : List Line) (setup : List Entry) where
   -- the seat of the worker with this number, after the entries of the setup: its own entries are calls of its lines, in order, each once

@@ -1,19 +1,19 @@
 //! Worker 0's lines, made on the main thread before any other worker's.
 
-ghost use Rattle.std.specs.Prelude.{◌≡◌, ◌≢◌, true};
-ghost use Rattle.xti_threads.specs.declared.setting.Setting.TheVariants.{Finished, Stopped};
+ghost use Rattle.std.specs.Prelude.{◌≡◌, None, true};
+ghost use Rattle.xti_threads.specs.declared.setting.Setting.TheVariants.{Finished, Made};
 ghost use Rattle.xti_model.specs.Robin.{is_through};
 ghost use Rattle.xti_replay.specs.Playable.{are_playable};
 ghost use Rattle.xti_threads.specs.Setting.{HasSetUp, SetsUp};
 
+use crate::working::begin_line;
 use std::alloc::Global;
 use std::sync::Wait;
 use xti_calls::{Gate, Seat, Xti};
-use xti_model::{Act, Line, Outcome};
+use xti_model::Line;
 use xti_replay::Worker;
 
 /// How worker 0 stands after it was asked for its next line.
-#[derive(Clone, Copy, PartialEq, Eq)]
 enum Setting {
     /// It has made the line's call.
     Made,
@@ -33,11 +33,11 @@ fn make_line<G: Gate, R: Wait + Sync>(
     main: &mut Seat,
     worker: &mut Worker,
 ) -> Setting
-    requires lines { are_playable lines.now ≡ true }
     requires sets { SetsUp xti.now lines.now main.old worker.old }
+    requires whole { worker.old.part ≡ None }
     ensures sets { HasSetUp xti.now lines.now main.new }
-    ensures made { result ≢ Stopped → SetsUp xti.now lines.now main.new worker.new }
-    ensures finished { result ≡ Finished → is_through lines.now main.new.view.mine 0 ≡ true }
+    ensures made { result ≡ Made → SetsUp xti.now lines.now main.new worker.new × (worker.new.part ≡ None) }
+    ensures finished { result ≡ Finished → SetsUp xti.now lines.now main.new worker.new × (is_through lines.now main.new.view.mine 0 ≡ true) }
 {
     let Ok(next) = worker.next_call(lines, worker) else {
         return Setting::Stopped;
@@ -45,13 +45,14 @@ fn make_line<G: Gate, R: Wait + Sync>(
     let Some(next) = next else {
         return Setting::Finished;
     };
-    match xti.call(rt, alloc, main, gate, &next) {
+    let made = xti.call(rt, alloc, main, gate, &next);
+    let _number = main.number();
+    match made {
         Ok(reply) => {
-            let act = Act::Begin(next);
-            let outcome = Outcome::Done(reply);
-            match worker.advance(alloc, lines, &act, &outcome) {
-                Ok(()) => Setting::Made,
-                Err(_) => Setting::Stopped,
+            if begin_line(alloc, lines, worker, next, reply) {
+                Setting::Made
+            } else {
+                Setting::Stopped
             }
         }
         Err(_) => Setting::Stopped,
@@ -73,6 +74,9 @@ pub(crate) fn set_up<G: Gate, R: Wait + Sync>(
     ensures sets { HasSetUp xti.now lines.now main.new }
     ensures finished { result ≡ true → SetsUp xti.now lines.now main.new worker.new × (is_through lines.now main.new.view.mine 0 ≡ true) }
 {
+    if main.unfinished().is_some() {
+        return false;
+    }
     for _ in rt.forever() {
         match make_line(rt, alloc, xti, lines, gate, main, worker) {
             Setting::Made => {}

@@ -1,15 +1,17 @@
 //! A worker's lines, made on its thread.
 
-ghost use Rattle.std.specs.Prelude.{◌≡◌, ℕ, List, true};
+ghost use Rattle.std.specs.Prelude.{◌≡◌, List, None, true};
+ghost use Rattle.xti_model.specs.declared.entry.Act.TheVariants.{Begin};
 ghost use Rattle.xti_model.specs.declared.entry.Entry.{Entry};
 ghost use Rattle.xti_replay.specs.Playable.{are_playable};
-ghost use Rattle.xti_threads.specs.Working.{AfterSetup, CameBack, IsJob, Works};
+ghost use Rattle.xti_replay.specs.Progress.{MayTake};
+ghost use Rattle.xti_threads.specs.Working.{AfterSetup, CameBack, HasBegun, IsJob, Works};
 
 use std::alloc::Global;
 use std::sync::Wait;
 use std::sync::atomic::{AtomicBool, Ordering};
 use xti_calls::{Gate, Seat, Xti};
-use xti_model::{Act, Line, Outcome};
+use xti_model::{Act, Call, Line, Outcome, Reply};
 use xti_replay::Worker;
 
 /// A worker's seat, and what it knows of its lines.
@@ -17,6 +19,22 @@ use xti_replay::Worker;
 pub(crate) struct Job {
     pub(crate) seat: Seat,
     pub(crate) worker: Worker,
+}
+
+/// The worker has begun its next line, and learns what was answered; false out of memory.
+pub(crate) fn begin_line(
+    alloc: Global,
+    lines: &[Line],
+    worker: &mut Worker,
+    call: Call,
+    reply: Reply,
+) -> bool
+    requires { MayTake lines.now worker.old (Begin call) }
+    ensures { result ≡ true → HasBegun lines.now reply worker.old worker.new }
+{
+    let act = Act::Begin(call);
+    let outcome = Outcome::Done(reply);
+    worker.advance(alloc, lines, &act, &outcome).is_ok()
 }
 
 /// Makes the call of the worker's next line; false where there is none, or it stops.
@@ -31,20 +49,19 @@ fn make_line<G: Gate, R: Wait + Sync>(
     seat: &mut Seat,
     worker: &mut Worker,
 ) -> bool
-    requires lines { are_playable lines.now ≡ true }
     requires works { (past : List Entry) × AfterSetup lines.now past setup.now × Works xti.now lines.now past _number seat.old worker.old }
+    requires whole { worker.old.part ≡ None }
     ensures on { result ≡ true → (past : List Entry) → AfterSetup lines.now past setup.now → Works xti.now lines.now past _number seat.old worker.old → Works xti.now lines.now past _number seat.new worker.new }
+    ensures whole { result ≡ true → worker.new.part ≡ None }
     ensures back { (past : List Entry) → AfterSetup lines.now past setup.now → Works xti.now lines.now past _number seat.old worker.old → CameBack xti.now lines.now past _number seat.new }
 {
     let Ok(Some(next)) = worker.next_call(lines, setup) else {
         return false;
     };
-    match xti.call(rt, alloc, seat, gate, &next) {
-        Ok(reply) => {
-            let act = Act::Begin(next);
-            let outcome = Outcome::Done(reply);
-            worker.advance(alloc, lines, &act, &outcome).is_ok()
-        }
+    let made = xti.call(rt, alloc, seat, gate, &next);
+    let _number = seat.number();
+    match made {
+        Ok(reply) => begin_line(alloc, lines, worker, next, reply),
         Err(_) => false,
     }
 }
@@ -62,8 +79,8 @@ fn make_lines<G: Gate, R: Wait + Sync>(
     seat: &mut Seat,
     worker: &mut Worker,
 )
-    requires lines { are_playable lines.now ≡ true }
     requires works { (past : List Entry) × AfterSetup lines.now past setup.now × Works xti.now lines.now past number seat.old worker.old }
+    requires whole { worker.old.part ≡ None }
     ensures { (past : List Entry) → AfterSetup lines.now past setup.now → Works xti.now lines.now past number seat.old worker.old → CameBack xti.now lines.now past number seat.new }
 {
     for _ in rt.forever() {
@@ -98,7 +115,19 @@ pub(crate) fn work<G: Gate, R: Wait + Sync>(
         mut seat,
         mut worker,
     } = job;
-    make_lines(rt, alloc, xti, lines, setup, gate, lacking, number, &mut seat, &mut worker);
+    make_lines(
+        rt,
+        alloc,
+        xti,
+        lines,
+        setup,
+        gate,
+        lacking,
+        number,
+        &mut seat,
+        &mut worker,
+    );
     xti.rest(rt, &mut seat);
+    let _number = seat.number();
     seat
 }

@@ -1,0 +1,9 @@
+use Rattle.std.proofs.Common.{◌≡◌, None}
+use Rattle.xti_threads.specs.Setting.{SetsUp}
+use Rattle.xti_threads.proofs.setting.set_up.Given as goal
+
+abbrev pub invariant-loop : goal.invariant-loop
+invariant-loop g l = record {
+  sets : SetsUp l.fn.xti l.fn.lines l.main l.worker;
+  whole : l.worker.part ≡ None;
+}
