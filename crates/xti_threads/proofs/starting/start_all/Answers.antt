@@ -1,5 +1,7 @@
 use Rattle.std.proofs.Common.{rules, arith, sym, subst, ◌≡◌, ◌+◌, ◌≤◌, ℕ, List, vec_len, vec_capacity, length}
 use Rattle.xti_model.specs.declared.entry.Entry.{Entry}
+use Rattle.xti_hall.specs.Seats.{SeatView}
+use Rattle.xti_threads.specs.declared.starting.Started.{Started}
 use Rattle.xti_threads.specs.Working.{CameBack, IsJob, AfterSetup}
 use Rattle.xti_threads.specs.Starting.{HasStarted, AllBack, AllStarted, EachFrom}
 use Rattle.xti_threads.proofs.Threads.{from_snoc}
@@ -49,7 +51,7 @@ loop-job-preserved g c =
           let started : HasStarted c.args.xti.now c.args.lines.now setup (c.loop-job.number + 1) c.start.result =
           subst (λ (z : List Entry). HasStarted c.args.xti.now c.args.lines.now z (c.loop-job.number + 1) c.start.result) new.0.seen c.start.ensures in (
             new.1,
-            subst (AllStarted c.args.xti.now c.args.lines.now setup 1) (sym c.push_reserved.ensures.items)
+            subst (AllStarted c.args.xti.now c.args.lines.now setup 1) (sym {A = List Started} c.push_reserved.ensures.items)
                 (from_snoc (HasStarted c.args.xti.now c.args.lines.now setup) 1 (c.loop-job.number + 1) c.loop-job.started.items c.start.result k.1 (omega (arith, i.count, count)) started),
           );
     }
@@ -59,9 +61,9 @@ loop-one-init g c = let i = c.loop-job.invariant in record {
   many = omega (arith, i.many, i.none, i.count, c.into_iter-one-iterator.ensures.into_iter_gives.1, c.in-None.ensures.steps.0);
   room = i.room2;
   known = λ setup all. let k = i.known setup all in (
-    subst (λ (z : ℕ). AllStarted c.args.xti.now c.args.lines.now setup (z + 1) c.into_iter-one-iterator.result.rest.items) (sym i.none)
+    subst (λ (z : ℕ). AllStarted c.args.xti.now c.args.lines.now setup (z + 1) c.into_iter-one-iterator.result.rest.items) (sym {A = ℕ} i.none)
         (subst (AllStarted c.args.xti.now c.args.lines.now setup 1) (sym c.into_iter-one-iterator.ensures.into_iter_gives.0) k.1),
-    subst (AllBack c.args.xti.now c.args.lines.now setup) (sym i.empty) tt,
+    subst (AllBack c.args.xti.now c.args.lines.now setup) (sym {A = List SeatView} i.empty) tt,
   );
 }
 
@@ -88,8 +90,8 @@ loop-one-preserved g c =
       known = λ setup all.
           let k = i.known setup all in
           let h = subst (AllStarted c.args.xti.now c.args.lines.now setup (vec_len c.loop-one.seats + 1)) c.in-Some-one.ensures.steps.0 k.0 in (
-            subst (λ (z : ℕ). AllStarted c.args.xti.now c.args.lines.now setup (z + 1) c.next-in-loop-one.new.self.rest.items) (sym many) h.1,
-            subst (AllBack c.args.xti.now c.args.lines.now setup) (sym c.push_reserved-in-loop-one.ensures.items)
+            subst (λ (z : ℕ). AllStarted c.args.xti.now c.args.lines.now setup (z + 1) c.next-in-loop-one.new.self.rest.items) (sym {A = ℕ} many) h.1,
+            subst (AllBack c.args.xti.now c.args.lines.now setup) (sym {A = List SeatView} c.push_reserved-in-loop-one.ensures.items)
                 (from_snoc (CameBack c.args.xti.now c.args.lines.now setup) 1 (vec_len c.loop-one.seats + 1) c.loop-one.seats.items c.join.result k.1 (omega (arith, count))
                 (c.join.ensures c.args.xti.now c.args.lines.now setup (vec_len c.loop-one.seats + 1) h.0)),
           );
