@@ -1,4 +1,4 @@
--- Workers after a history of their script.
+-- Workers and their world after a history of their script.
 use Rattle.std.proofs.Common.{◌≡◌, ℕ, zero, suc, ◌+◌, ◌-◌, ◌<◌, true, List, [], ◌∷◌, ◌++◌, length, get_or, set, take, drop, Option, Some, None, refl, sym, ap, ◌∙◌, subst, arith}
 use Rattle.std.specs.Prelude.{slice_get, option_map, option_and_then, filter}
 use Rattle.std.specs.List.{list_all}
@@ -13,19 +13,21 @@ use Rattle.xti_model.specs.declared.entry.Entry.{Entry}
 use Rattle.xti_model.specs.declared.script.Line.{Line}
 use Rattle.xti_model.specs.declared.profile.Providers.{Providers}
 use Rattle.xti_model.specs.World.{World, opening}
-use Rattle.xti_model.specs.History.{Going, own, unfinished, begins, made_by, doing, step_going, step_at, left_by, Fits, LegalFrom}
+use Rattle.xti_model.specs.History.{Going, own, unfinished, begins, made_by, doing, step_going, step_at, left_by, after, Fits, LegalFrom}
 use Rattle.xti_model.specs.Resolve.{Placed, placed, begun, is_begin}
 use Rattle.xti_model.specs.Robin.{last_worker}
 use Rattle.xti_model.specs.Complete.{begun_calls, resolved_in, Follows, is_worker, IsHistoryOf}
 use Rattle.xti_model.proofs.Appending.{own-append, begun_calls-append}
 use Rattle.xti_model.proofs.GoingOn.{history-follows}
+use Rattle.xti_model.proofs.Legality.{after-snoc}
+use Rattle.xti_core.specs.Standing.{Standing}
 use Rattle.xti_replay.specs.declared.workers.Part.{Part}
 use Rattle.xti_replay.specs.declared.workers.Worker.{Worker}
 use Rattle.xti_replay.specs.Spots.{Spot, spots_of}
-use Rattle.xti_replay.specs.Progress.{Told, Of, AreKept, AreFresh, MayTake, IsKnown, part_going}
+use Rattle.xti_replay.specs.Progress.{Told, Of, AreKept, AreFresh, MayTake, IsAdvance, IsKnown, Repeats, part_going, going_in}
 use Rattle.xti_replay.proofs.Each.{at-worker, of-changed}
 use Rattle.xti_replay.proofs.Lines.{has-next, next_spot, placed_by, placed-spots, told-other}
-use Rattle.xti_replay.proofs.Steps.{IsAdvance, advance-begun, advance-more}
+use Rattle.xti_replay.proofs.Steps.{advance-begun, advance-more}
 
 last-by : (x : Entry) (past : List Entry) (n : ℕ) (e : Entry) → length past ≡ n → slice_get (x ∷ past) n ≡ Some e → last_worker x.worker past ≡ e.worker
 last-by x [] zero e l h = ap (λ (y : Entry). y.worker) (same_Some x e h)
@@ -182,6 +184,28 @@ module _ {p : Providers} {lines : List Line} {history : List Entry} (h : IsHisto
           let place : get_or w.places.items w.begun 0 ≡ b.spot.place = get_or_from_slice_get w.places.items w.begun b.spot.place 0 n.place in
           (slice_get_within w.places.items w.begun b.spot.place n.place, subst (λ (k : ℕ). k < length lines) (sym place) (slice_get_within lines b.spot.place b.spot.line n.line))
 
+  -- its step is that of the worker's call
+  entry-going : (w : Worker) → Told lines past e.worker w → going_in w.part e.act ≡ doing past e
+  entry-going w t = by e.act refl
+    where
+      by : (a : Act) → e.act ≡ a → going_in w.part e.act ≡ doing past e
+      by act.More q = ap (going_in w.part) q ∙ t.part ∙ sym (ap (made_by (unfinished past e.worker)) q)
+      by (act.Begin c) q =
+          let b = entry-begins p lines past e (drop (suc i) history) c here q in
+          ap (going_in w.part) q ∙ sym (ap (made_by (unfinished past e.worker)) q ∙ ap (λ (o : Option Going). made_by o (act.Begin c)) b.whole)
+
+  grown : take (i + 1) history ≡ past ++ e ∷ []
+  grown = take_more history i e lt ∙ ap (λ (x : Entry). past ++ x ∷ []) (sym at)
+
+  pub world-step : (w : Worker) (old new : Standing) → Told lines (take i history) e.worker w → old.providers ≡ p → old.cells ≡ after p (take i history) → Repeats w.part e.act old new → new.cells ≡ after p (take (i + 1) history)
+  world-step w old new t providers cells r =
+      r.cells
+      ∙ ap (λ (q : Providers). left_by old.cells (option_and_then (step_going q old.cells) (going_in w.part e.act))) providers
+      ∙ ap (λ (v : World). left_by v (option_and_then (step_going p v) (going_in w.part e.act))) cells
+      ∙ ap (λ (g : Option Going). left_by (after p past) (option_and_then (step_going p (after p past)) g)) (entry-going w t)
+      ∙ sym (after-snoc p (opening p) [] past e)
+      ∙ ap (after p) (sym grown)
+
   entry-told : (w new : Worker) → Told lines (take i history) e.worker w → IsAdvance lines w new e.act e.outcome → Told lines (past ++ e ∷ []) e.worker new
   entry-told w new t a = by e.act refl
     where
@@ -198,6 +222,3 @@ module _ {p : Providers} {lines : List Line} {history : List Entry} (h : IsHisto
         (λ k v ne l t. record { told = told-other lines past e k v (λ same. ne (sym same)) t.told; idle = t.idle })
         (λ l. let t = at-worker (IsTold lines past) ws e.worker w f.each l is in record { told = entry-told w new t.told a; idle = next ∙ t.idle });
   })
-    where
-      grown : take (i + 1) history ≡ past ++ e ∷ []
-      grown = take_more history i e lt ∙ ap (λ (x : Entry). past ++ x ∷ []) (sym at)

@@ -1,5 +1,5 @@
 -- A worker's next call, and its step.
-use Rattle.std.proofs.Common.{◌≡◌, ◌≢◌, ℕ, ◌+◌, ◌<◌, ◌⊎◌, inl, inr, Bool, true, false, eqb, List, [], ◌∷◌, ◌++◌, length, get_or, set, Option, Some, None, refl, sym, ap, ◌∙◌, subst, arith}
+use Rattle.std.proofs.Common.{◌≡◌, ◌≢◌, ℕ, ◌<◌, ◌⊎◌, inl, inr, Bool, true, false, eqb, List, [], ◌∷◌, ◌++◌, length, get_or, set, Option, Some, None, refl, sym, ap, ◌∙◌, subst, arith}
 use Rattle.std.specs.Prelude.{is_none, unwrap_or, option_map, option_and_then, slice_get}
 use Rattle.std.proofs.lemmas.Bool.Decides.{eqb_tells}
 use Rattle.std.proofs.lemmas.List.{length-set, get_or-set_same, set-get_or}
@@ -14,7 +14,7 @@ use Rattle.xti_model.specs.declared.entry.Outcome.{Outcome}
 use Rattle.xti_model.specs.declared.entry.Entry.{Entry}
 use Rattle.xti_model.specs.declared.script.Line.{Line}
 use Rattle.xti_model.specs.declared.profile.Providers.{Providers}
-use Rattle.xti_model.specs.History.{Going, unfinished, step_going, call_after, going_after}
+use Rattle.xti_model.specs.History.{Going, unfinished, step_going}
 use Rattle.xti_model.specs.World.{World}
 use Rattle.xti_model.specs.Step.{Step, step}
 use Rattle.xti_model.specs.Resolve.{with_numbers}
@@ -25,7 +25,7 @@ use Rattle.xti_replay.specs.declared.workers.Part.{Part}
 use Rattle.xti_replay.specs.declared.workers.Worker.{Worker}
 use Rattle.xti_replay.specs.Spots.{Spot}
 use Rattle.xti_replay.specs.Known.{HasLearnt, meanings_before}
-use Rattle.xti_replay.specs.Progress.{Told, IsNext, MayAsk, IsKnown, IsKept, AreKept, IsReady, IsFound, MayTake, begun_by, Learns, Makes, Asked, part_going, part_call, going_of, call_of, so_far_of, next_act}
+use Rattle.xti_replay.specs.Progress.{Told, IsNext, MayAsk, IsKnown, IsKept, AreKept, IsReady, IsFound, MayTake, IsAdvance, Makes, Asked, part_going, going_of, call_of, so_far_of, next_act}
 use Rattle.xti_replay.proofs.Lines.{beginning, HasNext, next-at, through-at, next-by, next-call, own-other, told-other, next-other, told-begun, told-more}
 use Rattle.xti_replay.proofs.Each.{at-worker, get_or_any, of-changed}
 
@@ -91,13 +91,6 @@ turn-by : (p : Providers) (lines : List Line) (cells : World) (past : List Entry
     → turn p lines cells past number ≡ Some (turn_of number g s)
 turn-by p lines cells past number g s n made =
     ap (option_and_then (turn_going p cells number)) n ∙ ap (option_map (turn_of number g)) (sym (made ∙ ap (option_and_then (step_going p cells)) n))
-
--- what an entry of a worker makes of what is told of it
-pub record IsAdvance (lines : List Line) (w new : Worker) (a : Act) (outcome : Outcome) : Type 0 where
-  pub places : new.places ≡ w.places
-  pub count : new.begun ≡ w.begun + begun_by a
-  pub part : part_going new.part ≡ going_after (call_after (part_call w.part) a) outcome
-  pub names : Learns lines (get_or w.places.items w.begun 0) a outcome w.names new.names
 
 pub advance-begun : (lines : List Line) (past : List Entry) (e : Entry) (number : ℕ) (c : Call) (w new : Worker) (s : Spot) → Told lines past number w → HasNext lines past number w s → e.worker ≡ number → e.act ≡ act.Begin c
     → IsAdvance lines w new (act.Begin c) e.outcome → Told lines (past ++ e ∷ []) number new

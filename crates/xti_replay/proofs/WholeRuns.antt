@@ -10,13 +10,14 @@ use Rattle.xti_model.specs.declared.script.Line.{Line}
 use Rattle.xti_model.specs.declared.script.Script.{Script}
 use Rattle.xti_model.specs.declared.script.StallLine.{StallLine}
 use Rattle.xti_model.specs.declared.profile.Providers.{Providers}
-use Rattle.xti_model.specs.World.{World}
-use Rattle.xti_model.specs.Robin.{is_through, last_worker, Turn, next_turn, robin_from, robin}
+use Rattle.xti_model.specs.World.{World, opening}
+use Rattle.xti_model.specs.History.{after}
+use Rattle.xti_model.specs.Robin.{is_through, last_worker, Turn, next_turn, robin_from, robin, most_steps}
 use Rattle.xti_model.specs.Complete.{is_setup, setup_first, IsHistoryOf}
 use Rattle.xti_model.proofs.Completing.{last-within}
 use Rattle.xti_replay.specs.declared.run.Run.{Run}
-use Rattle.xti_replay.specs.Runs.{StandsAfter, GoesOn, Leads, IsWhole}
-use Rattle.xti_replay.specs.Stalls.{stalls_of, stalls_after, are_through}
+use Rattle.xti_replay.specs.Runs.{StandsAfter, GoesOn, Leads, IsWhole, gone_on}
+use Rattle.xti_replay.specs.Stalls.{stalls_after, are_through}
 use Rattle.xti_replay.proofs.StallLines.{stalls-through}
 
 -- The beginning.
@@ -94,12 +95,17 @@ pub leads-stop : (s : Script) (all : List Entry) (more : ℕ) (past : List Entry
 leads-stop s all zero past r z k = (k.left, whole-of s past all r k.left k.stands k.lines)
 leads-stop s all (suc n) past r z k = absurd (omega (arith, z))
 
--- what a whole run gives
-pub record Ends (s : Script) (told : List StallLine) : Type 0 where
-  pub stalls : told ≡ stalls_of s
-  pub through : (told ≡ []) ↔ (are_through s.lines (robin s) ≡ true)
+-- where there are no entries yet, the whole run follows
+pub gone-from_start : (s : Script) → gone_on s [] ≡ robin s
+unfolding gone_on
+gone-from_start s = let begun : after s.providers [] ≡ opening s.providers = refl in ap (λ (w : World). robin_from s.providers s.lines most_steps w []) begun
 
-pub ends : (s : Script) (told : List StallLine) (lines : List Line) → lines ≡ s.lines → told ≡ stalls_after lines (robin s) → Ends s told
-ends s told lines e t =
-    let stalled : told ≡ stalls_of s = t ∙ ap (λ (ls : List Line). stalls_after ls (robin s)) e in
-    record { stalls = stalled; through = subst (λ (l : List StallLine). (l ≡ []) ↔ (are_through s.lines (robin s) ≡ true)) (sym stalled) (stalls-through s.lines (robin s)) }
+-- what a run to its end gives
+pub record Ends (s : Script) (all : List Entry) (told : List StallLine) : Type 0 where
+  pub stalls : told ≡ stalls_after s.lines all
+  pub through : (told ≡ []) ↔ (are_through s.lines all ≡ true)
+
+pub ends : (s : Script) (all : List Entry) (told : List StallLine) (lines : List Line) → lines ≡ s.lines → told ≡ stalls_after lines all → Ends s all told
+ends s all told lines e t =
+    let stalled : told ≡ stalls_after s.lines all = t ∙ ap (λ (ls : List Line). stalls_after ls all) e in
+    record { stalls = stalled; through = subst (λ (l : List StallLine). (l ≡ []) ↔ (are_through s.lines all ≡ true)) (sym stalled) (stalls-through s.lines all) }

@@ -1,5 +1,5 @@
 -- What is kept of a worker, beside its script and the entries so far.
-use Rattle.std.specs.Prelude.{ℕ, ◌≡◌, ◌<◌, ◌⊎◌, ◌&&◌, Bool, true, List, [], ◌∷◌, ◌++◌, length, slice_get, slice_index, slice_index_or, is_none, nat_le, Option, Some, None, if◌then◌else◌}
+use Rattle.std.specs.Prelude.{ℕ, ◌≡◌, ◌+◌, ◌<◌, ◌⊎◌, ◌&&◌, Bool, true, List, [], ◌∷◌, ◌++◌, length, slice_get, slice_index, slice_index_or, is_none, option_and_then, nat_le, Option, Some, None, if◌then◌else◌}
 use Rattle.xti_base.specs.declared.limits.TheConstants.{WORKERS}
 use Rattle.xti_model.specs.declared.call.Call.{Call}
 use Rattle.xti_model.specs.declared.entry.Act.{Act}
@@ -9,7 +9,7 @@ use Rattle.xti_model.specs.declared.entry.Go.TheVariants as go
 use Rattle.xti_model.specs.declared.entry.Outcome.{Outcome}
 use Rattle.xti_model.specs.declared.entry.Entry.{Entry}
 use Rattle.xti_model.specs.declared.script.Line.{Line}
-use Rattle.xti_model.specs.History.{Going, unfinished, going_after, call_after}
+use Rattle.xti_model.specs.History.{Going, unfinished, going_after, call_after, left_by, step_going}
 use Rattle.xti_model.specs.Resolve.{begun}
 use Rattle.xti_model.specs.Robin.{next_going, is_through, Turn}
 use Rattle.xti_core.specs.Standing.{Standing}
@@ -172,6 +172,23 @@ LearnsNextLine lines outcome old new = LearnsLine lines (next_place old) outcome
 -- the worker's names have what its next entry tells
 abbrev pub LearnsEntry : List Line → Act → Outcome → Worker → Worker → Type 0
 LearnsEntry lines a outcome old new = Learns lines (next_place old) a outcome old.names new.names
+
+-- what an entry of a worker makes of what is told of it
+pub record IsAdvance (lines : List Line) (w new : Worker) (a : Act) (outcome : Outcome) : Type 0 where
+  pub places : new.places ≡ w.places
+  pub count : new.begun ≡ w.begun + begun_by a
+  pub part : part_going new.part ≡ left_after w.part a outcome
+  pub names : LearnsEntry lines a outcome w new
+
+-- the call that a worker's entry makes a step of
+abbrev pub going_in : Option Part → Act → Option Going
+going_in part (act.Begin c) = Some (record { call = c; so_far = go.Begin })
+going_in part act.More = part_going part
+
+-- the step of a worker's entry was made once more
+pub record Repeats (part : Option Part) (a : Act) (old new : Standing) : Type 0 where
+  pub cells : new.cells ≡ left_by old.cells (option_and_then (step_going old.providers old.cells) (going_in part a))
+  pub providers : new.providers ≡ old.providers
 
 -- one worker's step was made, or there was none
 abbrev pub Makes : List Line → ℕ → List Entry → Standing → Standing → Worker → Worker → Option Entry → Option Turn → Type 0

@@ -6,6 +6,7 @@ use Rattle.xti_model.specs.declared.entry.Entry.{Entry}
 use Rattle.xti_model.specs.declared.script.Line.{Line}
 use Rattle.xti_model.specs.declared.script.Script.{Script}
 use Rattle.xti_model.specs.declared.script.StallLine.{StallLine}
+use Rattle.xti_model.specs.History.{after}
 use Rattle.xti_model.specs.Robin.{is_through, last_worker, robin_from, most_steps, Turn, turn, next_turn}
 use Rattle.xti_replay.specs.declared.run.Run.{Run}
 use Rattle.xti_replay.specs.Progress.{AreKept}
@@ -77,11 +78,15 @@ pub record Leads (s : Script) (all : List Entry) (more : ℕ) (past : List Entry
 abbrev pub IsRunOf : Script → List Entry → List Entry → Run → Type 0
 IsRunOf s all past r = Leads s all most_steps past r
 
--- the run is one of the script, after all its entries
+-- the run is one of the script, after all these entries
 pub record IsWhole (s : Script) (all : List Entry) (r : Run) : Type 0 where
   pub stands : StandsAfter all r
   pub lines : r.lines.now ≡ s.lines
 
--- whatever script the run was one of, from its beginning: all entries of that are added, and the run stands after them
+-- the history with the entries that follow it by turns
+unfoldable pub gone_on : Script → List Entry → List Entry
+gone_on s past = robin_from s.providers s.lines most_steps (after s.providers past) past
+
+-- whatever script the run was one of, after these entries: the others are added, and the run stands after them
 abbrev pub TakesAll : Run → Run → List Entry → List Entry → Type 0
-TakesAll old new before after = (s : Script) (all : List Entry) → IsRunOf s all [] old → (after ≡ before ++ all) × IsWhole s all new
+TakesAll old new before now = (s : Script) (all : List Entry) → IsRunOf s all before old → (now ≡ all) × IsWhole s all new

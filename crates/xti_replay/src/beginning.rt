@@ -1,20 +1,24 @@
-//! What workers are after a history of their script.
+//! What workers and their world are after a history of their script.
 
 ghost use Rattle.std.specs.Prelude.{◌≡◌, ◌+◌, ◌-◌, ◌++◌, ◌≤◌, ◌<◌, ℕ, List, [], length, take, IfOk, OnOk, true};
 ghost use Rattle.xti_base.specs.declared.limits.TheConstants.{WORKERS};
 ghost use Rattle.xti_model.specs.declared.entry.Entry.{Entry};
-ghost use Rattle.xti_model.specs.declared.profile.Providers.{Providers};
 ghost use Rattle.xti_model.specs.Complete.{IsHistoryOf};
+ghost use Rattle.xti_model.specs.History.{after, left_by};
 ghost use Rattle.xti_model.specs.Robin.{is_through, last_worker, numbers, order_after};
+ghost use Rattle.xti_model.specs.Step.{step};
+ghost use Rattle.xti_model.specs.World.{opening};
+ghost use Rattle.xti_core.specs.Standing.{Standing};
 ghost use Rattle.xti_replay.specs.Playable.{are_playable};
-ghost use Rattle.xti_replay.specs.Progress.{AreKept, AreFresh};
+ghost use Rattle.xti_replay.specs.Progress.{AreKept, AreFresh, IsAdvance, MayTake, Repeats};
 ghost use Rattle.xti_replay.specs.Turns.{AddsTurns, AreTurnsOf};
 
 use crate::workers::{Worker, put_back};
 use std::alloc::{AllocError, Global};
 use std::collections::VecDeque;
 use xti_base::limits::WORKERS;
-use xti_model::{Entry, Line};
+use xti_core::World;
+use xti_model::{Act, Call, Entry, Go, Line};
 
 /// Workers without lines.
 fn idle_workers(alloc: Global) -> Result<Vec<Worker>, AllocError>
@@ -40,20 +44,63 @@ pub fn fresh_workers(alloc: Global, lines: &[Line]) -> Result<Vec<Worker>, Alloc
     Ok(workers)
 }
 
-/// The workers after the history.
-pub(crate) fn workers_after(
+/// Makes a step once more.
+fn step_again(world: &mut World, call: &Call, go: Go) -> Result<(), AllocError>
+    ensures cells { OnOk result (world.new.cells ≡ left_by world.old.cells (step world.old.providers world.old.cells call.now go)) }
+    ensures providers { world.new.providers ≡ world.old.providers }
+{
+    world.step(call, go)?;
+    Ok(())
+}
+
+/// Makes the step of the worker's next entry once more.
+fn repeat(world: &mut World, worker: &Worker, act: &Act) -> Result<(), AllocError>
+    ensures { OnOk result (Repeats worker.now.part act.now world.old world.new) }
+{
+    match act {
+        Act::Begin(call) => step_again(world, call, Go::Begin),
+        Act::More => match &worker.part {
+            None => Ok(()),
+            Some(part) => step_again(world, &part.call, Go::More(part.taken)),
+        },
+    }
+}
+
+/// The worker's next entry is one of the history: the world and the worker come to stand after it.
+fn pass(
     alloc: Global,
     lines: &[Line],
+    world: &mut World,
+    worker: &mut Worker,
+    entry: &Entry,
+) -> Result<(), AllocError>
+    requires { MayTake lines.now worker.old entry.now.act }
+    ensures next { worker.new.next ≡ worker.old.next }
+    ensures advance { OnOk result (IsAdvance lines.now worker.old worker.new entry.now.act entry.now.outcome) }
+    ensures world { OnOk result (Repeats worker.old.part entry.now.act world.old world.new) }
+{
+    repeat(world, worker, &entry.act)?;
+    worker.advance(alloc, lines, &entry.act, &entry.outcome)
+}
+
+/// The workers after the history, through which the world goes from the opening one on.
+pub(crate) fn go_through(
+    alloc: Global,
+    lines: &[Line],
+    world: &mut World,
     history: &[Entry],
 ) -> Result<Vec<Worker>, AllocError>
     requires lines { are_playable lines.now ≡ true }
-    requires history { (p : Providers) × IsHistoryOf p lines.now history.now }
-    ensures { IfOk result (λ ws. AreKept lines.now history.now ws.items) }
+    requires history { IsHistoryOf world.old.providers lines.now history.now }
+    requires opening { world.old.cells ≡ opening world.old.providers }
+    ensures workers { IfOk result (λ ws. AreKept lines.now history.now ws.items) }
+    ensures cells { OnOk result (world.new.cells ≡ after world.old.providers history.now) }
+    ensures providers { OnOk result (world.new.providers ≡ world.old.providers) }
 {
     let mut workers = fresh_workers(alloc, lines)?;
     for entry in history {
         let worker = &mut workers[entry.worker as usize];
-        worker.advance(alloc, lines, &entry.act, &entry.outcome)?;
+        pass(alloc, lines, world, worker, entry)?;
     }
     Ok(workers)
 }

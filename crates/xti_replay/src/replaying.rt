@@ -6,32 +6,19 @@ ghost use Rattle.xti_model.specs.declared.script.Script.{Script};
 ghost use Rattle.xti_model.specs.History.{Legal};
 ghost use Rattle.xti_model.specs.Robin.{robin};
 ghost use Rattle.xti_model.specs.Work.{script_bytes};
-ghost use Rattle.xti_model.specs.Complete.{Follows, Each, workers, Complete};
+ghost use Rattle.xti_model.specs.Complete.{Follows, Each, workers, Complete, IsHistoryOf};
 ghost use Rattle.xti_replay.specs.Playable.{IsPlayable};
-ghost use Rattle.xti_replay.specs.Runs.{IsRunOf, TakesAll};
-ghost use Rattle.xti_replay.specs.Stalls.{stalls_of, are_through};
+ghost use Rattle.xti_replay.specs.Runs.{gone_on, IsRunOf, TakesAll};
+ghost use Rattle.xti_replay.specs.Stalls.{stalls_of, stalls_after, are_through};
 
 use crate::run::Run;
 use std::alloc::{AllocError, Global};
 use xti_base::limits::MOST_STEPS;
-use xti_core::World;
-use xti_model::{Entries, Journal, Script, robin_follows, robin_is_complete, robin_is_legal};
+use xti_model::{Entries, Journal, Script, robin_goes_on, robin_is_legal};
 
-impl<'a> Run<'a> {
-    /// The run of a script from its beginning.
-    pub fn of(alloc: Global, s: &'a Script) -> Result<Run<'a>, AllocError>
-        requires { IsPlayable s.now }
-        ensures { IfOk result (λ run. IsRunOf s.now (robin s.now) [] run) }
-    {
-        let world = World::fresh(alloc, &s.providers)?;
-        let run = Run::new(alloc, s.lines.as_slice(), world, &[])?;
-        Ok(run)
-    }
-}
-
-/// Takes the entries of a run to its end.
+/// Adds the entries that follow these, to the end of the run.
 fn take_entries(run: &mut Run, entries: &mut Entries) -> Result<(), AllocError>
-    requires { (s : Script) × (all : List Entry) × IsRunOf s all [] run.old }
+    requires { (s : Script) × (all : List Entry) × IsRunOf s all entries.old run.old }
     ensures { OnOk result (TakesAll run.old run.new entries.old entries.new) }
 {
     for _step in 0..MOST_STEPS {
@@ -43,8 +30,33 @@ fn take_entries(run: &mut Run, entries: &mut Entries) -> Result<(), AllocError>
     Ok(())
 }
 
-/// The journal of a script, whose workers take turns: worker 0 alone until it is finished, then the others, until each is
-/// finished or blocked.
+/// The journal of a legal history of a script, with which its workers go on by turns: worker 0 alone until it is finished,
+/// then the others, until each is finished or blocked.
+pub fn go_on(alloc: Global, s: &Script, history: Entries) -> Result<Journal, AllocError>
+    requires script { IsPlayable s.now }
+    requires history { IsHistoryOf s.now.providers s.now.lines history }
+    ensures entries { IfOk result (λ j. j.entries ≡ gone_on s.now history) }
+    ensures providers { IfOk result (λ j. j.providers ≡ s.now.providers) }
+    ensures stalls { IfOk result (λ j. j.stalls ≡ stalls_after s.now.lines (gone_on s.now history)) }
+    ensures through { IfOk result (λ j. (j.stalls ≡ []) ↔ (are_through s.now.lines j.entries ≡ true)) }
+    ensures legal { IfOk result (λ j. Legal s.now.providers j.entries) }
+    ensures follows { IfOk result (λ j. Each (Follows j.entries s.now.lines) workers) }
+    ensures complete { IfOk result (λ j. Complete s.now.providers j.entries s.now.lines) }
+{
+    robin_is_legal();
+    robin_goes_on();
+    let mut run = Run::after(alloc, s, history.as_slice())?;
+    let mut entries = history;
+    take_entries(&mut run, &mut entries)?;
+    let stalls = run.stalls()?;
+    Ok(Journal {
+        providers: s.providers,
+        entries,
+        stalls,
+    })
+}
+
+/// The journal of a script, whose workers take turns from its beginning on.
 pub fn replay(alloc: Global, s: &Script) -> Result<Journal, AllocError>
     requires { IsPlayable s.now }
     ensures entries { IfOk result (λ j. j.entries ≡ robin s.now) }
@@ -56,16 +68,5 @@ pub fn replay(alloc: Global, s: &Script) -> Result<Journal, AllocError>
     ensures complete { IfOk result (λ j. Complete s.now.providers j.entries s.now.lines) }
     ensures few { IfOk result (λ j. length j.entries ≤ length s.now.lines + script_bytes s.now.lines) }
 {
-    robin_is_legal();
-    robin_follows();
-    robin_is_complete();
-    let mut run = Run::of(alloc, s)?;
-    let mut entries = Entries::new(alloc);
-    take_entries(&mut run, &mut entries)?;
-    let stalls = run.stalls()?;
-    Ok(Journal {
-        providers: s.providers,
-        entries,
-        stalls,
-    })
+    go_on(alloc, s, Entries::new(alloc))
 }

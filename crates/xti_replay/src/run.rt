@@ -4,18 +4,17 @@ ghost use Rattle.std.specs.Prelude.{◌≡◌, List, None, IfOk, OnOk, true};
 ghost use Rattle.std.specs.Option.{option_copied};
 ghost use Rattle.xti_model.specs.declared.entry.Entry.{Entry};
 ghost use Rattle.xti_model.specs.Complete.{IsHistoryOf};
-ghost use Rattle.xti_model.specs.History.{after};
-ghost use Rattle.xti_replay.specs.Playable.{are_playable};
-ghost use Rattle.xti_replay.specs.Runs.{StandsAfter, StandsPastSetup, AsksOthers, AsksFirst, TakesNextTurn, TakesTurnOfOthers, AreStallsOf};
+ghost use Rattle.xti_replay.specs.Playable.{IsPlayable};
+ghost use Rattle.xti_replay.specs.Runs.{gone_on, IsRunOf, StandsAfter, StandsPastSetup, AsksOthers, AsksFirst, TakesNextTurn, TakesTurnOfOthers, AreStallsOf};
 
 use crate::asking::ask;
-use crate::beginning::{turns_after, workers_after};
+use crate::beginning::{go_through, turns_after};
 use crate::stalling::stall_lines;
 use crate::workers::{Worker, put_back};
 use std::alloc::{AllocError, Global};
 use std::collections::VecDeque;
 use xti_core::World;
-use xti_model::{Entry, Line, Stalls};
+use xti_model::{Entry, Line, Script, Stalls};
 
 /// A run of a script's lines that has come so far, and is asked for its next entry.
 #[derive(Drop)]
@@ -31,21 +30,15 @@ pub struct Run<'a> {
 }
 
 impl<'a> Run<'a> {
-    /// The run of these lines that goes on from a legal history of theirs, and from the world that it leaves.
-    pub fn new(
-        alloc: Global,
-        lines: &'a [Line],
-        world: World,
-        history: &[Entry],
-    ) -> Result<Run<'a>, AllocError>
-        requires lines { are_playable lines.now ≡ true }
-        requires history { IsHistoryOf world.providers lines.now history.now }
-        requires world { world.cells ≡ after world.providers history.now }
-        ensures stands { IfOk result (λ run. StandsAfter history.now run) }
-        ensures lines { IfOk result (λ run. run.lines.now ≡ lines.now) }
-        ensures world { IfOk result (λ run. run.world ≡ world) }
+    /// The run of a script that goes on from a legal history of it.
+    pub fn after(alloc: Global, s: &'a Script, history: &[Entry]) -> Result<Run<'a>, AllocError>
+        requires script { IsPlayable s.now }
+        requires history { IsHistoryOf s.now.providers s.now.lines history.now }
+        ensures { IfOk result (λ run. IsRunOf s.now (gone_on s.now history.now) history.now run) }
     {
-        let workers = workers_after(alloc, lines, history)?;
+        let lines = s.lines.as_slice();
+        let mut world = World::fresh(alloc, &s.providers)?;
+        let workers = go_through(alloc, lines, &mut world, history)?;
         let turns = turns_after(alloc, workers.as_slice(), history)?;
         Ok(Run {
             alloc,

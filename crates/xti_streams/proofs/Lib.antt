@@ -22,5 +22,5 @@ pub mod UnderWay
 pub mod AlongHistory
 pub mod BegunByAccept
 pub mod Histories
-pub mod ReplayedScripts
+pub mod FollowedScripts
 pub mod BytesAreNeeded

@@ -1,6 +1,6 @@
 -- The laws of connections: of each kind of data, what an end received against what the other end sent.
 use Rattle.std.specs.Prelude.{ℕ, ◌≡◌, ◌||◌, not, Bool, true, false, List, ◌++◌, Some, if◌then◌else◌}
-use Rattle.std.specs.List.{list_any}
+use Rattle.std.specs.List.{list_any, list_all}
 use Rattle.xti_model.specs.declared.call.Call.{Call}
 use Rattle.xti_model.specs.declared.call.Call.TheVariants as call
 use Rattle.xti_model.specs.declared.entry.Entry.{Entry}
@@ -8,6 +8,8 @@ use Rattle.xti_model.specs.declared.entry.Outcome.{Outcome}
 use Rattle.xti_model.specs.declared.entry.Outcome.TheVariants.{Done}
 use Rattle.xti_model.specs.declared.entry.Reply.TheVariants.{Plain}
 use Rattle.xti_model.specs.declared.profile.Providers.{Providers}
+use Rattle.xti_model.specs.declared.script.Script.{Script}
+use Rattle.xti_model.specs.Complete.{Follows, Each, workers, is_worker}
 use Rattle.xti_model.specs.Endpoint.{Endpoint}
 use Rattle.xti_model.specs.World.{World, endpoint}
 use Rattle.xti_model.specs.Links.{is_linked}
@@ -19,6 +21,12 @@ use Rattle.xti_model.specs.Streams.{Made, Connection, connection, life, is_over,
 -- a legal history whose sends are of bytes
 abbrev pub IsLegalOfBytes : Providers → List Entry → Type 0
 IsLegalOfBytes p entries = Legal p entries × AllSendBytes entries
+
+-- a legal history of the script's workers, each of which follows its lines
+pub record IsLegalRun (s : Script) (entries : List Entry) : Type 0 where
+  pub legal : Legal s.providers entries
+  pub workers_only : list_all is_worker entries ≡ true
+  pub follows : Each (Follows entries s.lines) workers
 
 -- one list is a prefix of another; it may be the whole
 pub record Prefix (prefix whole : List ℕ) : Type 0 where

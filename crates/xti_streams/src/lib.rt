@@ -9,7 +9,7 @@ ghost use Rattle.xti_model.specs.History.{Legal};
 ghost use Rattle.xti_model.specs.Robin.{robin};
 ghost use Rattle.xti_model.specs.SentBytes.{LinesSendBytes};
 ghost use Rattle.xti_script.specs.Grammar.{HasText};
-ghost use Rattle.xti_streams.specs.Laws.{IsLegalOfBytes, PrefixLaw, WaitingLaw, ReleaseLaw};
+ghost use Rattle.xti_streams.specs.Laws.{IsLegalOfBytes, IsLegalRun, PrefixLaw, WaitingLaw, ReleaseLaw};
 
 /// On each connection what was received is a prefix of what was sent.
 ///
@@ -30,11 +30,11 @@ pub fn replays_keep_order()
     ensures release { (s : Script) → LinesSendBytes s.lines → ReleaseLaw s.providers (robin s) }
 {}
 
-/// The same of the run of each script that has a text, whose sends are always of bytes.
+/// The same of every legal history of a script that has a text, whose sends are always of bytes.
 pub fn scripts_keep_order()
-    ensures prefix { (s : Script) → HasText s → PrefixLaw s.providers (robin s) }
-    ensures waiting { (s : Script) → HasText s → WaitingLaw s.providers (robin s) }
-    ensures release { (s : Script) → HasText s → ReleaseLaw s.providers (robin s) }
+    ensures prefix { (s : Script) (entries : List Entry) → HasText s → IsLegalRun s entries → PrefixLaw s.providers entries }
+    ensures waiting { (s : Script) (entries : List Entry) → HasText s → IsLegalRun s entries → WaitingLaw s.providers entries }
+    ensures release { (s : Script) (entries : List Entry) → HasText s → IsLegalRun s entries → ReleaseLaw s.providers entries }
 {}
 
 /// Without the premise on bytes each law is wrong of some legal history.
