@@ -31,6 +31,7 @@ use Rattle.xti_threads.specs.Starting.{EachFrom, AllTold}
 use Rattle.xti_threads.specs.Meeting.{IsSetUp, Leads, Before}
 use Rattle.xti_threads.proofs.Owned.{follows-same, own-again, own-setup, setup-only, history-alone}
 use Rattle.xti_threads.proofs.Threads.{from_map, from_index}
+use Rattle.xti_threads.proofs.Between.{no-part}
 
 -- what is told of a worker stays while its own entries do
 told-still : (lines : List Line) (past later : List Entry) (number : ℕ) (w : Worker) → own number later ≡ own number past → Told lines past number w → Told lines later number w
@@ -51,6 +52,10 @@ told-after lines past ws alone all = from_map (Told lines []) (Told lines past) 
 -- the first of the fresh workers is worker 0
 pub fresh-first : (lines : List Line) (ws : List Worker) (w : Worker) → AreFresh lines ws → w ≡ slice_index_or ws 0 w → Told lines [] 0 w
 fresh-first lines ws w f is = subst (Told lines [] 0) (sym is) (f.each 0 w (omega (arith, f.many))).told
+
+-- of whose calls none is part way
+pub fresh-whole : (lines : List Line) (ws : List Worker) (w : Worker) → AreFresh lines ws → w ≡ slice_index_or ws 0 w → w.part ≡ None
+fresh-whole lines ws w f is = no-part w.part (fresh-first lines ws w f is).part
 
 -- and the others follow
 pub fresh-others : (lines : List Line) (ws : List Worker) → AreFresh lines ws → EachFrom (Told lines []) 1 (remove ws 0)

@@ -38,19 +38,6 @@ sets-between {x} {lines} {s} {w} k whole = record {
   whole = whole;
 }
 
--- where its seat has no unfinished call, it is
-pub sets-whole : {x : Xti} {lines : List Line} {s : SeatView} {w : Worker} → SetsUp x lines s w → unfinished_bytes s.view.mine ≡ None → w.part ≡ None
-sets-whole {x} {lines} {s} {w} k none =
-    no-part w.part (k.told.part ∙ (ap (unfinished_from None None) (own-after [] s.view 0 refl k.seat.number_is k.seat.standing) ∙ by (unfinished_from None None s.view.mine) none))
-  where
-    by : (u : Option Going) → option_map (λ (g : Going). taken_before g.so_far) u ≡ None → u ≡ None
-    by None e = refl
-    by (Some g) e = absurd (none-some _ (sym e))
-
-pub sets-idle : {x : Xti} {lines : List Line} {s : SeatView} {w : Worker} → SetsUp x lines s w → (taken : Option ℕ) → taken ≡ unfinished_bytes s.view.mine → is_some taken ≡ false → w.part ≡ None
-sets-idle k None e n = sets-whole k (sym e)
-sets-idle k (Some t) e n = absurd (false≢true (sym n))
-
 module _ {x : Xti} {lines : List Line} {s : SeatView} {w : Worker} (k : SetsUp x lines s w) (b : Between lines [] 0 s.view w w) (c : Call) (next : IsNext lines s.view.mine 0 (Some c)) (s' : SeatView) (same : IsSameSeat s s') (standing : IsStanding s'.view) (later : Later s.view s'.view) where
   -- the seat after some steps of the call of the next line
   sets-back : (es : List Entry) → s'.view.mine ≡ s.view.mine ++ es → AreSteps c go.Begin es → HasSetUp x lines s'

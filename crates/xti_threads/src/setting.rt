@@ -3,7 +3,6 @@
 ghost use Rattle.std.specs.Prelude.{◌≡◌, None, true};
 ghost use Rattle.xti_threads.specs.declared.setting.Setting.TheVariants.{Finished, Made};
 ghost use Rattle.xti_model.specs.Robin.{is_through};
-ghost use Rattle.xti_replay.specs.Playable.{are_playable};
 ghost use Rattle.xti_threads.specs.Setting.{HasSetUp, SetsUp};
 
 use crate::working::begin_line;
@@ -69,14 +68,11 @@ pub(crate) fn set_up<G: Gate, R: Wait + Sync>(
     main: &mut Seat,
     worker: &mut Worker,
 ) -> bool
-    requires lines { are_playable lines.now ≡ true }
     requires sets { SetsUp xti.now lines.now main.old worker.old }
+    requires whole { worker.old.part ≡ None }
     ensures sets { HasSetUp xti.now lines.now main.new }
     ensures finished { result ≡ true → SetsUp xti.now lines.now main.new worker.new × (is_through lines.now main.new.view.mine 0 ≡ true) }
 {
-    if main.unfinished().is_some() {
-        return false;
-    }
     for _ in rt.forever() {
         match make_line(rt, alloc, xti, lines, gate, main, worker) {
             Setting::Made => {}

@@ -2,8 +2,11 @@ use Rattle.std.proofs.Common.{sym, subst, List, []}
 use Rattle.xti_replay.specs.declared.workers.Worker.{Worker}
 use Rattle.xti_replay.specs.Progress.{Told}
 use Rattle.xti_threads.specs.Starting.{EachFrom}
-use Rattle.xti_threads.proofs.Played.{fresh-others, set-up-ends}
+use Rattle.xti_threads.proofs.Played.{fresh-others, fresh-whole, set-up-ends}
 use Rattle.xti_threads.proofs.playing.play_workers.Goals as goal
+
+pub set_up-requires-clause-whole : goal.set_up-requires-clause-whole
+set_up-requires-clause-whole g c κs within = fresh-whole c.args.lines.now c.args.workers.items c.remove-setup.result c.requires.workers c.remove-setup.ensures.value
 
 pub play_others-requires-clause-setup : goal.play_others-requires-clause-setup
 play_others-requires-clause-setup g c κs within =
