@@ -2,18 +2,19 @@
 use Rattle.std.proofs.Common.{◌≡◌, ℕ, Bool, true, false, List, [], ◌∷◌, ◌++◌, length, refl, sym, ap, ◌∙◌, eqb, arith}
 use Rattle.std.proofs.lemmas.List.{append-nil}
 use Rattle.std.proofs.lemmas.Bool.{ne_eqb}
-use Rattle.std.specs.Prelude.{◌↔◌, ◌==◌, ◌+◌, ◌≤◌}
+use Rattle.std.specs.Prelude.{◌↔◌, ◌==◌, Result, Ok, Err, IfOk}
 use Rattle.xti_model.specs.declared.script.Script.{Script}
 use Rattle.xti_model.specs.declared.script.StallLine.{StallLine}
 use Rattle.xti_model.specs.History.{Legal}
 use Rattle.xti_model.specs.declared.entry.Entry.{Entry}
-use Rattle.xti_model.specs.Robin.{robin, last_worker}
-use Rattle.xti_model.specs.Complete.{Follows, Each, workers, Complete}
-use Rattle.xti_model.specs.Work.{script_bytes}
-use Rattle.xti_replay.specs.Stalls.{stalls_of, are_through}
-use Rattle.xti_streams.specs.Laws.{PrefixLaw, WaitingLaw, ReleaseLaw}
+use Rattle.xti_model.specs.declared.script.Journal.{Journal}
+use Rattle.xti_model.specs.Robin.{last_worker}
+use Rattle.xti_model.specs.Complete.{Complete}
+use Rattle.xti_replay.specs.Stalls.{stalls_after, are_through}
+use Rattle.xti_replay.proofs.WholeRuns.{Ends}
+use Rattle.xti_streams.specs.Laws.{IsLegalRun, PrefixLaw, WaitingLaw, ReleaseLaw}
 use Rattle.xti_journal.specs.Writing.{Written, Took}
-use Rattle.xti_run.specs.Program.{IsPlayed, printed_of, status_with}
+use Rattle.xti_run.specs.Program.{IsWholeRun, printed_of, status_with}
 
 status-is : (b : Bool) (stalls : List StallLine) → ((stalls ≡ []) ↔ (b ≡ true)) → status_with (length stalls == 0) ≡ status_with b
 status-is true [] h = refl
@@ -21,35 +22,40 @@ status-is false [] h = let e : false ≡ true = h.0 refl in cc
 status-is true (x ∷ xs) h = let e : x ∷ xs ≡ [] = h.1 refl in cc
 status-is false (x ∷ xs) h = let e : eqb (length (x ∷ xs)) 0 ≡ false = ne_eqb (length (x ∷ xs)) 0 (λ z. omega arith) in rw e refl
 
--- what is known of the run of a script
-pub record IsRunOf (s : Script) (told : List StallLine) : Type 0 where
-  pub stalls : told ≡ stalls_of s
-  pub through : (told ≡ []) ↔ (are_through s.lines (robin s) ≡ true)
-  pub legal : Legal s.providers (robin s)
-  pub follows : Each (Follows (robin s) s.lines) workers
-  pub complete : Complete s.providers (robin s) s.lines
-  pub few : length (robin s) ≤ length s.lines + script_bytes s.lines
-  pub prefix : PrefixLaw s.providers (robin s)
-  pub waiting : WaitingLaw s.providers (robin s)
-  pub release : ReleaseLaw s.providers (robin s)
-
 -- a journal begins with its head alone
 pub begun : (w : Written) (head : List ℕ) → w ≡ (head, 0) → Took (head, 0) [] w
 begun w head e = (ap (λ (v : Written). v.0) e ∙ sym (append-nil head), ap (λ (v : Written). v.1) e)
 
-pub played-is : (summary : Bool) (s : Script) (text : List ℕ) (told : List StallLine) (status : ℕ) → IsRunOf s told → status ≡ status_with (length told == 0)
-    → text ≡ printed_of summary (record { providers = s.providers; entries = robin s; stalls = told }) → IsPlayed summary s status text
-played-is summary s text told status r n t = record {
-  done = n ∙ status-is (are_through s.lines (robin s)) told r.through;
-  printed = t ∙ ap (λ (stalls : List StallLine). printed_of summary (record { providers = s.providers; entries = robin s; stalls = stalls })) r.stalls;
-  legal = r.legal;
-  follows = r.follows;
-  complete = r.complete;
-  few = r.few;
-  prefix = r.prefix;
-  waiting = r.waiting;
-  release = r.release;
+-- the entries are a legal history of the script, each worker of which follows its lines
+pub legal-run : (s : Script) (entries : List Entry) → Legal s.providers entries → Complete s.providers entries s.lines → IsLegalRun s entries
+legal-run s entries legal complete = record { legal = legal; workers_only = complete.workers_only; follows = complete.follows }
+
+-- what is answered to a run to its end
+pub whole-run : (summary : Bool) (s : Script) (entries : List Entry) (text : List ℕ) (told : List StallLine) (status : ℕ) → Ends s entries told → status ≡ status_with (length told == 0)
+    → text ≡ printed_of summary (record { providers = s.providers; entries = entries; stalls = told }) → Legal s.providers entries → Complete s.providers entries s.lines
+    → PrefixLaw s.providers entries → WaitingLaw s.providers entries → ReleaseLaw s.providers entries → IsWholeRun summary s entries status text
+whole-run summary s entries text told status end n t legal complete prefix waiting release = record {
+  done = n ∙ status-is (are_through s.lines entries) told end.through;
+  printed = t ∙ ap (λ (stalls : List StallLine). printed_of summary (record { providers = s.providers; entries = entries; stalls = stalls })) end.stalls;
+  legal = legal;
+  follows = complete.follows;
+  complete = complete;
+  prefix = prefix;
+  waiting = waiting;
+  release = release;
 }
+
+-- a law of legal histories of a script holds of a journal
+pub of-journal : {E : Type 0} (s : Script) (Law : List Entry → Type 0) (r : Result Journal E) → ((entries : List Entry) → IsLegalRun s entries → Law entries)
+    → IfOk r (λ (j : Journal). Legal s.providers j.entries) → IfOk r (λ (j : Journal). Complete s.providers j.entries s.lines) → IfOk r (λ (j : Journal). Law j.entries)
+of-journal s Law (Ok j) law legal complete = law j.entries (legal-run s j.entries legal complete)
+of-journal s Law (Err e) law legal complete = tt
+
+-- its stall lines, by its own entries
+pub own-stalls : {E : Type 0} (s : Script) (entries : List Entry) (r : Result Journal E) → IfOk r (λ (j : Journal). j.entries ≡ entries) → IfOk r (λ (j : Journal). j.stalls ≡ stalls_after s.lines entries)
+    → IfOk r (λ (j : Journal). j.stalls ≡ stalls_after s.lines j.entries)
+own-stalls s entries (Ok j) e t = t ∙ ap (stalls_after s.lines) (sym e)
+own-stalls s entries (Err x) e t = tt
 
 -- the worker of the entry that comes last
 pub last-added : (w : ℕ) (past : List Entry) (e : Entry) → last_worker w (past ++ e ∷ []) ≡ e.worker

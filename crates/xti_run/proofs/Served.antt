@@ -1,8 +1,9 @@
 -- An input that the command takes is done.
 use Rattle.xti_model.specs.Robin.{robin}
 use Rattle.xti_replay.specs.Stalls.{are_through}
-use Rattle.std.proofs.Common.{◌≡◌, inl, inr, Bool, true, false, ℕ, List, Option, Some, None, length, ap, subst, arith}
+use Rattle.std.proofs.Common.{◌≡◌, ◌<◌, inl, inr, Bool, true, false, ℕ, List, Option, Some, None, length, ap, subst, arith}
 use Rattle.tpi_grammar.specs.Frames.{IsFrames, IsFirstWrong}
+use Rattle.xti_model.specs.declared.entry.Entry.{Entry}
 use Rattle.xti_model.specs.declared.script.Script.{Script}
 use Rattle.xti_script.specs.Grammar.{IsScript}
 use Rattle.xti_script.specs.Refused.{IsRefusedAt}
@@ -12,9 +13,9 @@ use Rattle.xti_journal_reader.specs.Refused.{IsRefusedAt as IsNoJournalAt}
 use Rattle.xti_command.specs.declared.command.Command.{Command}
 use Rattle.xti_command.specs.declared.command.Command.TheVariants.{Read, Gen}
 use Rattle.xti_command.specs.declared.command.Reading.{Reading}
-use Rattle.xti_command.specs.declared.command.Reading.TheVariants.{Replay, Check, Frames}
+use Rattle.xti_command.specs.declared.command.Reading.TheVariants.{Replay, Run, Check, Frames}
 use Rattle.xti_generate.specs.Generated.{generated}
-use Rattle.xti_run.specs.Program.{IsLeft, IsRun, IsAnswer, IsOutput, IsOutputOf, IsDone, HasInput, HasScript, HasJournal, HasFrames, IsFinished, IsGenerated, status_with}
+use Rattle.xti_run.specs.Program.{IsLeft, IsRun, IsAnswer, IsOutput, IsOutputOf, IsDone, HasInput, HasScript, HasJournal, HasFrames, IsFinished, IsGenerated, IsWholeRun, limit, status_with}
 use Rattle.xti_command.specs.Words.{command_of}
 
 -- no text is a script and refused at a line, nor a journal, and no bytes are frames and wrong first at a place
@@ -35,10 +36,24 @@ either-status : (b : Bool) (status : ℕ) → status ≡ status_with b → IsFin
 either-status true status e = inl e
 either-status false status e = inr e
 
+run_finished : (summary : Bool) (s : Script) (entries : List Entry) (status : ℕ) (text : List ℕ) → IsWholeRun summary s entries status text → IsFinished status
+run_finished summary s entries status text whole = either-status (are_through s.lines entries) status whole.done
+
+no_refusal : NoScript → (left : Option (List ℕ)) (input : List ℕ) (line : ℕ) → IsLeft left input → HasScript left → IsRefusedAt input line → ⊥
+no_refusal never left input line l h refused = never input h.script line (subst (λ bs. IsScript h.script bs) (the_left left input h.input l h.told) h.is_script) refused
+
+not_long : (left : Option (List ℕ)) (input : List ℕ) → IsLeft left input → HasScript left → limit < length input → ⊥
+not_long left input l h long = let same : length h.input ≡ length input = ap length (the_left left input h.input l h.told) in omega (arith, long, h.within, same)
+
 script_served : NoScript → (summary : Bool) (left : Option (List ℕ)) (input : List ℕ) (status : ℕ) (text : List ℕ) → IsLeft left input → HasScript left → IsAnswer (Replay summary) input status text → IsFinished status
-script_served never summary left input status text l h (inl (within, inl done)) = either-status (are_through done.script.lines (robin done.script)) status done.played.done
-script_served never summary left input status text l h (inl (within, inr refused)) = absurd (never input h.script refused.line (subst (λ bs. IsScript h.script bs) (the_left left input h.input l h.told) h.is_script) refused.refused)
-script_served never summary left input status text l h (inr long) = let same : length h.input ≡ length input = ap length (the_left left input h.input l h.told) in absurd (omega (arith, long.long, h.within, same))
+script_served never summary left input status text l h (inl (within, inl done)) = run_finished summary done.script (robin done.script) status text done.played.whole
+script_served never summary left input status text l h (inl (within, inr refused)) = absurd (no_refusal never left input refused.line l h refused.refused)
+script_served never summary left input status text l h (inr long) = absurd (not_long left input l h long.long)
+
+threads_served : NoScript → (summary : Bool) (left : Option (List ℕ)) (input : List ℕ) (status : ℕ) (text : List ℕ) → IsLeft left input → HasScript left → IsAnswer (Run summary) input status text → IsFinished status
+threads_served never summary left input status text l h (inl (within, inl done)) = run_finished summary done.script done.threaded.entries status text done.threaded.whole
+threads_served never summary left input status text l h (inl (within, inr refused)) = absurd (no_refusal never left input refused.line l h refused.refused)
+threads_served never summary left input status text l h (inr long) = absurd (not_long left input l h long.long)
 
 journal_served : NoJournal → (left : Option (List ℕ)) (input : List ℕ) (status : ℕ) (text : List ℕ) → IsLeft left input → HasJournal left → IsAnswer Check input status text → IsDone (Read Check) status
 journal_served never left input status text l h (inl (within, inl legal)) = inl legal.done
@@ -53,12 +68,13 @@ frames_served never left input status text l h (inr long) = let same : length h.
 
 run_served : NoScript → NoJournal → NoFrames → (reading : Reading) (left : Option (List ℕ)) (status : ℕ) (text : List ℕ) → HasInput (Read reading) left → IsRun reading left status text → IsDone (Read reading) status
 run_served scripts journals frames (Replay summary) left status text h run = script_served scripts summary left run.input status text run.is_left h run.answer
+run_served scripts journals frames (Run summary) left status text h run = threads_served scripts summary left run.input status text run.is_left h run.answer
 run_served scripts journals frames Check left status text h run = journal_served journals left run.input status text run.is_left h run.answer
 run_served scripts journals frames Frames left status text h run = frames_served frames left run.input status text run.is_left h run.answer
 
-gen_served : (seed : ℕ) (summary : Bool) (status : ℕ) (text : List ℕ) → IsGenerated seed summary status text → IsFinished status
-gen_served seed false status text written = inl written.0
-gen_served seed true status text played = either-status (are_through (generated seed).lines (robin (generated seed))) status played.done
+gen_served : (seed : ℕ) (summary : Bool) (status : ℕ) (text : List ℕ) → IsGenerated seed summary status text → IsDone (Gen seed summary) status
+gen_served seed false status text written = written.0
+gen_served seed true status text played = run_finished true (generated seed) (robin (generated seed)) status text played.whole
 
 output_served : NoScript → NoJournal → NoFrames → (command : Command) (left : Option (List ℕ)) (status : ℕ) (text : List ℕ) → HasInput command left → IsOutputOf (Some command) left status text → IsDone command status
 output_served scripts journals frames (Read reading) left status text h out = run_served scripts journals frames reading left status text h out

@@ -28,8 +28,12 @@ ReportsOneMore old e new = (summary : Bool) (p : Providers) (past : List Entry) 
 abbrev pub IsReport : Report → List StallLine → List ℕ → Type 0
 IsReport r stalls text = (summary : Bool) (j : Journal) → Reports summary j.providers j.entries r → stalls ≡ j.stalls → text ≡ printed_of summary j
 
--- whatever script the run was one of, from its beginning: all entries of that are reported, and the run stands after them
+-- whatever entries were reported before, these are after theirs
+abbrev pub ReportsMore : Report → List Entry → Report → Type 0
+ReportsMore old entries new = (summary : Bool) (p : Providers) (past : List Entry) → Reports summary p past old → Reports summary p (past ++ entries) new
+
+-- whatever script the run was one of, after whatever entries: where these were reported, all entries of that are, and the run stands after them
 abbrev pub ReportsAll : Run → Run → Report → Report → Type 0
 ReportsAll old new before now =
-    (s : Script) (all : List Entry) → IsRunOf s all [] old
-    → ((summary : Bool) (p : Providers) → Reports summary p [] before → Reports summary p all now) × IsWhole s all new
+    (s : Script) (all past : List Entry) → IsRunOf s all past old
+    → ((summary : Bool) (p : Providers) → Reports summary p past before → Reports summary p all now) × IsWhole s all new

@@ -3,13 +3,14 @@ use Rattle.std.specs.Prelude.{◌≡◌, Bool, true, false, ℕ, ◌+◌, ◌<�
 use Rattle.xti_base.specs.declared.limits.TheConstants.{MOST_INPUT}
 use Rattle.xti_io.specs.Faults.{Rose}
 use Rattle.xti_io.specs.Sink.{Takes}
+use Rattle.xti_model.specs.declared.entry.Entry.{Entry}
 use Rattle.xti_model.specs.declared.script.Script.{Script}
 use Rattle.xti_model.specs.declared.script.Journal.{Journal}
 use Rattle.xti_model.specs.History.{Legal}
 use Rattle.xti_model.specs.Robin.{robin}
 use Rattle.xti_model.specs.Complete.{Follows, Each, workers, Complete}
 use Rattle.xti_model.specs.Work.{script_bytes}
-use Rattle.xti_replay.specs.Stalls.{stalls_of, are_through}
+use Rattle.xti_replay.specs.Stalls.{stalls_after, are_through}
 use Rattle.xti_streams.specs.Laws.{PrefixLaw, WaitingLaw, ReleaseLaw}
 use Rattle.xti_script.specs.Grammar.{IsScript}
 use Rattle.xti_script.specs.Refused.{IsRefusedAt}
@@ -26,24 +27,24 @@ use Rattle.xti_canonical.specs.Canonical.{script_text}
 use Rattle.xti_command.specs.declared.command.Command.{Command}
 use Rattle.xti_command.specs.declared.command.Command.TheVariants.{Read, Gen}
 use Rattle.xti_command.specs.declared.command.Reading.{Reading}
-use Rattle.xti_command.specs.declared.command.Reading.TheVariants.{Replay, Check, Frames}
+use Rattle.xti_command.specs.declared.command.Reading.TheVariants.{Replay, Run, Check, Frames}
 use Rattle.xti_command.specs.Words.{command_of}
 
 -- the most bytes of an input
 abbrev pub limit : ℕ
 limit = MOST_INPUT
 
--- the journal of the round-robin run
-abbrev pub replayed : Script → Journal
-replayed s = record { providers = s.providers; entries = robin s; stalls = stalls_of s }
+-- the journal of these entries, with a stall line for each worker that they leave unfinished
+abbrev pub journal_of : Script → List Entry → Journal
+journal_of s entries = record { providers = s.providers; entries = entries; stalls = stalls_after s.lines entries }
 
 -- 0 where all are finished, else 3
 abbrev pub status_with : Bool → ℕ
 status_with true = 0
 status_with false = 3
 
-abbrev pub run_status : Script → ℕ
-run_status s = status_with (are_through s.lines (robin s))
+abbrev pub run_status : Script → List Entry → ℕ
+run_status s entries = status_with (are_through s.lines entries)
 
 unfoldable pub refused_line : ℕ → List ℕ
 refused_line n = codes "refused line " ++ decimal n ++ codes "\n"
@@ -62,27 +63,42 @@ abbrev pub printed_of : Bool → Journal → List ℕ
 printed_of false j = journal_text j
 printed_of true j = summary_text j
 
--- The script was run: its journal with a stall line for each worker that is not finished, or the summary of that. The run is legal, has each worker's calls in script order, each once,
--- and ends early only where worker 0 is blocked in its setup, or each worker that is not finished is blocked; it has no more steps than the script has calls and bytes of arguments.
+-- The script was run, and these are all its entries: their journal with a stall line for each worker that is not finished, or the summary of that. The run is legal, has each worker's calls in script order, each once,
+-- and ends early only where worker 0 is blocked in its setup, or each worker that is not finished is blocked.
 -- On each connection of the run, and of normal and of expedited data each by itself, what an end received is a prefix of what the other end sent; while its life lasts and the connection is not broken there, what waits
 -- is the rest; and an end that received the orderly release received all.
 -- Status 0 where every worker is finished, else 3.
-pub record IsPlayed (summary : Bool) (script : Script) (status : ℕ) (text : List ℕ) : Type 0 where
-  pub done : status ≡ run_status script
-  pub printed : text ≡ printed_of summary (replayed script)
-  pub legal : Legal script.providers (robin script)
-  pub follows : Each (Follows (robin script) script.lines) workers
-  pub complete : Complete script.providers (robin script) script.lines
-  pub few : length (robin script) ≤ length script.lines + script_bytes script.lines
-  pub prefix : PrefixLaw script.providers (robin script)
-  pub waiting : WaitingLaw script.providers (robin script)
-  pub release : ReleaseLaw script.providers (robin script)
+pub record IsWholeRun (summary : Bool) (script : Script) (entries : List Entry) (status : ℕ) (text : List ℕ) : Type 0 where
+  pub done : status ≡ run_status script entries
+  pub printed : text ≡ printed_of summary (journal_of script entries)
+  pub legal : Legal script.providers entries
+  pub follows : Each (Follows entries script.lines) workers
+  pub complete : Complete script.providers entries script.lines
+  pub prefix : PrefixLaw script.providers entries
+  pub waiting : WaitingLaw script.providers entries
+  pub release : ReleaseLaw script.providers entries
 
--- the input is a valid script, which was run
+-- the script was run by turns, in no more steps than it has calls and bytes of arguments
+pub record IsPlayed (summary : Bool) (script : Script) (status : ℕ) (text : List ℕ) : Type 0 where
+  pub whole : IsWholeRun summary script (robin script) status text
+  pub few : length (robin script) ≤ length script.lines + script_bytes script.lines
+
+-- the script was run by threads, which made some whole run of it
+pub record IsThreaded (summary : Bool) (script : Script) (status : ℕ) (text : List ℕ) : Type 0 where
+  pub entries : List Entry
+  pub whole : IsWholeRun summary script entries status text
+
+-- the input is a valid script, which was run by turns
 pub record IsReplayed (summary : Bool) (input : List ℕ) (status : ℕ) (text : List ℕ) : Type 0 where
   pub script : Script
   pub is_script : IsScript script input
   pub played : IsPlayed summary script status text
+
+-- the input is a valid script, which was run by threads
+pub record IsRunByThreads (summary : Bool) (input : List ℕ) (status : ℕ) (text : List ℕ) : Type 0 where
+  pub script : Script
+  pub is_script : IsScript script input
+  pub threaded : IsThreaded summary script status text
 
 -- the input is no valid script: status 2, and the first line by which it is not
 pub record IsRefusedInput (input : List ℕ) (status : ℕ) (text : List ℕ) : Type 0 where
@@ -139,6 +155,7 @@ IsGenerated seed true status text = IsPlayed true (generated seed) status text
 -- the status and the text for an input within the limit
 abbrev pub IsAnswered : Reading → List ℕ → ℕ → List ℕ → Type 0
 IsAnswered (Replay summary) input status text = IsReplayed summary input status text ⊎ IsRefusedInput input status text
+IsAnswered (Run summary) input status text = IsRunByThreads summary input status text ⊎ IsRefusedInput input status text
 IsAnswered Check input status text = IsLegalJournal input status text ⊎ (IsWrongJournal input status text ⊎ IsRefusedJournal input status text)
 IsAnswered Frames input status text = IsListed input status text ⊎ IsRefusedByte input status text
 
@@ -221,13 +238,16 @@ IsFinished status = (status ≡ 0) ⊎ (status ≡ 3)
 -- how a command ends with what it takes, where memory is found
 abbrev pub IsDone : Command → ℕ → Type 0
 IsDone (Read (Replay summary)) status = IsFinished status
+IsDone (Read (Run summary)) status = IsFinished status
 IsDone (Read Check) status = (status ≡ 0) ⊎ (status ≡ 7)
 IsDone (Read Frames) status = status ≡ 0
-IsDone (Gen seed summary) status = IsFinished status
+IsDone (Gen seed false) status = status ≡ 0
+IsDone (Gen seed true) status = IsFinished status
 
 -- what a command takes; one that generates takes nothing
 abbrev pub HasInput : Command → Option (List ℕ) → Type 0
 HasInput (Read (Replay summary)) left = HasScript left
+HasInput (Read (Run summary)) left = HasScript left
 HasInput (Read Check) left = HasJournal left
 HasInput (Read Frames) left = HasFrames left
 HasInput (Gen seed summary) left = Unit {0}

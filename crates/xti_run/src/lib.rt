@@ -3,9 +3,11 @@
 
 mod report;
 mod round_robin;
+mod threading;
 mod top;
 
 pub use round_robin::replay;
+pub use threading::run;
 pub use top::{Status, program};
 pub use xti_command::Words;
 pub use xti_step::{Gate, NoGate};

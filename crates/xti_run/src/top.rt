@@ -1,16 +1,19 @@
 //! The top call.
 
-ghost use Rattle.std.specs.Prelude.{◌≡◌, ◌≢◌, ◌<◌, ◌≤◌, ◌+◌, ◌⊎◌, ℕ, List, [], Some, None, IfOk, OnOk, IfErr, OnErr, length, ◌==◌, true};
+ghost use Rattle.std.specs.Prelude.{◌≡◌, ◌≢◌, ◌<◌, ◌≤◌, ◌+◌, ◌⊎◌, ℕ, List, Some, None, IfOk, OnOk, IfErr, OnErr, length, ◌==◌, true};
 ghost use Rattle.xti_io.specs.Faults.{Rose};
 ghost use Rattle.xti_io.specs.Source.{GivesUpTo};
 ghost use Rattle.xti_model.specs.declared.script.Script.{Script};
 ghost use Rattle.xti_model.specs.declared.entry.Entry.{Entry};
-ghost use Rattle.xti_replay.specs.Runs.{IsRunOf};
+ghost use Rattle.std.specs.List.{list_all};
+ghost use Rattle.xti_model.specs.Complete.{IsHistoryOf, is_worker};
+ghost use Rattle.xti_replay.specs.Runs.{gone_on, IsRunOf};
 ghost use Rattle.xti_script.specs.Grammar.{HasText};
+ghost use Rattle.xti_script.specs.Read.{IsBad};
 ghost use Rattle.xti_command.specs.declared.command.Command.{Command};
 ghost use Rattle.xti_command.specs.Words.{IsPlain, command_in, command_of, found_in, is_taken};
-ghost use Rattle.xti_run.specs.Entries.{ReportsAll};
-ghost use Rattle.xti_run.specs.Program.{IsReplayed, IsRefusedInput, IsLegalJournal, IsWrongJournal, IsRefusedJournal, IsWhole, IsListed, IsRefusedByte, IsAnswered, IsRun, IsOutput, IsRefusedWords, IsReader, IsPlayed, IsGenerated, IsWritten, IsWrittenOrOutOfMemory, IsCutOff, HasInput, IsDone, IsOutOfMemory, IsReadFault, IsUnanswered, NoFault, limit, refused_line, refused_byte, refused_words, refused_size, status_with};
+ghost use Rattle.xti_run.specs.Entries.{ReportsMore, ReportsAll};
+ghost use Rattle.xti_run.specs.Program.{IsReplayed, IsRunByThreads, IsWholeRun, IsThreaded, IsRefusedInput, IsLegalJournal, IsWrongJournal, IsRefusedJournal, IsWhole, IsListed, IsRefusedByte, IsAnswered, IsRun, IsOutput, IsRefusedWords, IsReader, IsPlayed, IsGenerated, IsWritten, IsWrittenOrOutOfMemory, IsCutOff, HasInput, IsDone, IsOutOfMemory, IsReadFault, IsUnanswered, NoFault, limit, refused_line, refused_byte, refused_words, refused_size, status_with};
 
 use crate::report::Report;
 use crate::round_robin::texts_are_playable;
@@ -26,11 +29,12 @@ use xti_command::{Command, Reading, Words, WordsFail, plain_words_are_commands};
 use xti_frames::{FramesFail, show_frames};
 use xti_generate::{generate, generated_scripts_have_texts};
 use xti_io::{ReadEnd, Sink, Source, read_all, write_all};
-use xti_model::{Entry, Script, Stalls, robin_follows, robin_is_complete, robin_is_legal};
+use xti_model::{Entry, Script, Stalls, robin_goes_on, robin_is_legal};
 use xti_replay::Run;
 use xti_script::{ScriptFail, never_both, read_script};
 use xti_step::Gate;
 use xti_streams::scripts_keep_order;
+use xti_threads::play;
 
 /// How a run of the program ends.
 ///
@@ -77,9 +81,20 @@ fn journal_status(stalls: &Stalls) -> u8
     if stalls.is_empty() { 0 } else { 3 }
 }
 
+/// Reports the entries of a history.
+fn report_history(report: &mut Report, history: &[Entry]) -> Result<(), AllocError>
+    requires { list_all is_worker history.now ≡ true }
+    ensures { OnOk result (ReportsMore report.old history.now report.new) }
+{
+    for entry in history {
+        report.add(entry)?;
+    }
+    Ok(())
+}
+
 /// Reports the entries of a run to its end.
 fn report_entries(run: &mut Run, report: &mut Report) -> Result<(), AllocError>
-    requires { (s : Script) × (all : List Entry) × IsRunOf s all [] run.old }
+    requires { (s : Script) × (all : List Entry) × (past : List Entry) × IsRunOf s all past run.old }
     ensures { OnOk result (ReportsAll run.old run.new report.old report.new) }
 {
     for _step in 0..MOST_STEPS {
@@ -92,24 +107,73 @@ fn report_entries(run: &mut Run, report: &mut Report) -> Result<(), AllocError>
     Ok(())
 }
 
-/// What is answered to a script that has a text: its journal or its summary, made while it runs. The journal is written in the
-/// room of bytes that are done with.
-fn played(alloc: Global, summary: bool, script: &Script, room: Octets) -> Result<Answer, AllocError>
-    requires { HasText script.now }
-    ensures { IfOk result (λ a. IsPlayed summary script.now a.status a.text) }
+/// What is answered to a script that has a text, and to a history of it with which its workers go on by turns: the journal or
+/// the summary of all. The journal is written in the room of bytes that are done with.
+fn whole_run(
+    alloc: Global,
+    summary: bool,
+    script: &Script,
+    history: &[Entry],
+    room: Octets,
+) -> Result<Answer, AllocError>
+    requires text { HasText script.now }
+    requires history { IsHistoryOf script.now.providers script.now.lines history.now }
+    ensures { IfOk result (λ a. IsWholeRun summary script.now (gone_on script.now history.now) a.status a.text) }
 {
     texts_are_playable();
     robin_is_legal();
-    robin_follows();
-    robin_is_complete();
+    robin_goes_on();
     scripts_keep_order();
     let mut report = Report::begin(summary, room, &script.providers)?;
-    let mut run = Run::of(alloc, script)?;
+    report_history(&mut report, history)?;
+    let mut run = Run::after(alloc, script, history)?;
     report_entries(&mut run, &mut report)?;
     let stalls = run.stalls()?;
     let status = journal_status(&stalls);
     let text = report.end(alloc, &stalls)?;
     Ok(Answer { status, text })
+}
+
+/// What is answered to a script that has a text, whose workers take turns.
+fn played(alloc: Global, summary: bool, script: &Script, room: Octets) -> Result<Answer, AllocError>
+    requires { HasText script.now }
+    ensures { IfOk result (λ a. IsPlayed summary script.now a.status a.text) }
+{
+    whole_run(alloc, summary, script, &[], room)
+}
+
+/// What is answered to a script that has a text, whose workers are threads; what these leave undone is done by turns.
+fn threaded<T: Threads + Wait + Sync, G: Gate>(
+    rt: &T,
+    alloc: Global,
+    summary: bool,
+    script: &Script,
+    gate: &G,
+    room: Octets,
+) -> Result<Answer, AllocError>
+    requires { HasText script.now }
+    ensures { IfOk result (λ a. IsThreaded summary script.now a.status a.text) }
+{
+    texts_are_playable();
+    let history = play(rt, alloc, script, gate)?;
+    whole_run(alloc, summary, script, history.as_slice(), room)
+}
+
+/// What is answered to an input that is no valid script.
+fn refused_script(alloc: Global, fail: ScriptFail) -> Result<Answer, AllocError>
+    ensures { IfOk result (λ a. (input : List ℕ) → IsBad input fail → IsRefusedInput input a.status a.text) }
+{
+    match fail {
+        ScriptFail::Bad { line } => {
+            let text = line_text(alloc, line)?;
+            Ok(Answer { status: 2, text })
+        }
+        ScriptFail::TooMany { line } => {
+            let text = line_text(alloc, line)?;
+            Ok(Answer { status: 2, text })
+        }
+        ScriptFail::OutOfMemory => Err(AllocError),
+    }
 }
 
 /// What `replay` answers to an input within the limit.
@@ -118,15 +182,23 @@ fn replay_answer(alloc: Global, summary: bool, input: Octets) -> Result<Answer, 
 {
     match read_script(alloc, input.as_slice()) {
         Ok(script) => played(alloc, summary, &script, input),
-        Err(ScriptFail::Bad { line }) => {
-            let text = line_text(alloc, line)?;
-            Ok(Answer { status: 2, text })
-        }
-        Err(ScriptFail::TooMany { line }) => {
-            let text = line_text(alloc, line)?;
-            Ok(Answer { status: 2, text })
-        }
-        Err(ScriptFail::OutOfMemory) => Err(AllocError),
+        Err(fail) => refused_script(alloc, fail),
+    }
+}
+
+/// What `run` answers to an input within the limit.
+fn run_answer<T: Threads + Wait + Sync, G: Gate>(
+    rt: &T,
+    alloc: Global,
+    summary: bool,
+    input: Octets,
+    gate: &G,
+) -> Result<Answer, AllocError>
+    ensures { IfOk result (λ a. IsRunByThreads summary input a.status a.text ⊎ IsRefusedInput input a.status a.text) }
+{
+    match read_script(alloc, input.as_slice()) {
+        Ok(script) => threaded(rt, alloc, summary, &script, gate, input),
+        Err(fail) => refused_script(alloc, fail),
     }
 }
 
@@ -173,11 +245,18 @@ fn frames_answer(alloc: Global, input: &[u8]) -> Result<Answer, AllocError>
 }
 
 /// What is answered to an input within the limit.
-fn answer_to(alloc: Global, reading: Reading, input: Octets) -> Result<Answer, AllocError>
+fn answer_to<T: Threads + Wait + Sync, G: Gate>(
+    rt: &T,
+    alloc: Global,
+    reading: Reading,
+    input: Octets,
+    gate: &G,
+) -> Result<Answer, AllocError>
     ensures { IfOk result (λ a. IsAnswered reading input a.status a.text) }
 {
     match reading {
         Reading::Replay { summary } => replay_answer(alloc, summary, input),
+        Reading::Run { summary } => run_answer(rt, alloc, summary, input, gate),
         Reading::Check => check_answer(alloc, input.as_slice()),
         Reading::Frames => frames_answer(alloc, input.as_slice()),
     }
@@ -204,14 +283,20 @@ fn size_answer(alloc: Global) -> Result<Answer, AllocError>
 }
 
 /// What is answered to what the source has left.
-fn answer_from<R: Source>(alloc: Global, reading: Reading, source: &mut R) -> Result<Answer, Status>
+fn answer_from<T: Threads + Wait + Sync, R: Source, G: Gate>(
+    rt: &T,
+    alloc: Global,
+    reading: Reading,
+    source: &mut R,
+    gate: &G,
+) -> Result<Answer, Status>
     ensures ok { IfOk result (λ a. IsRun reading (R.left source.old) a.status a.text) }
     ensures err { IfErr result (λ s. IsOutOfMemory s.0 ⊎ IsReadFault s.0 (R.faults source.old) (R.faults source.new)) }
     ensures read { GivesUpTo (limit + 1) (R.left source.old) (R.left source.new) }
     ensures later { R.faults source.old ≤ R.faults source.new }
 {
     match read_all(alloc, source, MOST_INPUT) {
-        Ok(input) => Ok(answer_to(alloc, reading, input)?),
+        Ok(input) => Ok(answer_to(rt, alloc, reading, input, gate)?),
         Err(ReadEnd::TooLong) => Ok(size_answer(alloc)?),
         Err(ReadEnd::Fault) => Err(Status(5)),
         Err(ReadEnd::OutOfMemory) => Err(Status(4)),
@@ -219,7 +304,13 @@ fn answer_from<R: Source>(alloc: Global, reading: Reading, source: &mut R) -> Re
 }
 
 /// The answer to the words and what the source has left.
-fn output<R: Source>(alloc: Global, words: &Words, source: &mut R) -> Result<Answer, Status>
+fn output<T: Threads + Wait + Sync, R: Source, G: Gate>(
+    rt: &T,
+    alloc: Global,
+    words: &Words,
+    source: &mut R,
+    gate: &G,
+) -> Result<Answer, Status>
     ensures ok { IfOk result (λ a. IsOutput words.now (R.left source.old) a.status a.text) }
     ensures err { IfErr result (λ s. IsUnanswered words.now s.0 (R.faults source.old) (R.faults source.new)) }
     ensures read { IsReader words.now → GivesUpTo (limit + 1) (R.left source.old) (R.left source.new) }
@@ -227,19 +318,21 @@ fn output<R: Source>(alloc: Global, words: &Words, source: &mut R) -> Result<Ans
     ensures taken { is_taken words.now ≡ true → IfOk result (λ a. a.status ≡ 1 → command_in (found_in words.now) ≡ None) }
 {
     match words.command() {
-        Ok(Command::Read(reading)) => answer_from(alloc, reading, source),
+        Ok(Command::Read(reading)) => answer_from(rt, alloc, reading, source, gate),
         Ok(Command::Gen { seed, summary }) => Ok(generated_answer(alloc, seed, summary)?),
         Err(WordsFail::Refused) => Ok(words_answer(alloc)?),
         Err(WordsFail::OutOfMemory) => Err(Status(4)),
     }
 }
 
-/// What `program` does. Its type has no `Wait`, so it is proved to return.
-fn run_to_end<R: Source, W: Sink>(
+/// What `program` does. Only `run` waits, and so only it takes the runtime and the gate.
+fn run_to_end<T: Threads + Wait + Sync, R: Source, W: Sink, G: Gate>(
+    rt: &T,
     alloc: Global,
     words: &Words,
     source: &mut R,
     sink: &mut W,
+    gate: &G,
 ) -> Status
     // Below 4 and with 7 the whole text was written: the journal of a legal run or its summary, the verdict on a
     // journal, the lines of the frames, the generated script, or why there are none.
@@ -274,7 +367,7 @@ fn run_to_end<R: Source, W: Sink>(
     xti_journal_reader::never_both();
     frames_law();
     plain_words_are_commands();
-    match output(alloc, words, source) {
+    match output(rt, alloc, words, source, gate) {
         Err(status) => status,
         Ok(answer) => match write_all(sink, answer.text.as_slice()) {
             Ok(()) => Status(answer.status),
@@ -286,18 +379,26 @@ fn run_to_end<R: Source, W: Sink>(
 /// Runs the command of the words over a source and a sink, and answers how it ended.
 ///
 /// `replay` reads a script, makes the calls of its workers by turns, and writes the journal, or with `--summary` one line of
-/// numbers; `check` reads a journal, and writes `legal N` or its first wrong line; `frames` reads TPI frames one after the
-/// other, and writes a line for each; `gen --seed N` reads nothing and writes the script that is generated from the number, or
-/// with `--summary` makes its calls and writes the line of numbers.
+/// numbers; `run` does the same, but the calls are made by threads; `check` reads a journal, and writes `legal N` or its first
+/// wrong line; `frames` reads TPI frames one after the other, and writes a line for each; `gen --seed N` reads nothing and
+/// writes the script that is generated from the number, or with `--summary` makes its calls by turns and writes the line of
+/// numbers.
+///
+/// `run` makes worker 0's calls first, and then starts a thread for each other worker that has calls; at each step of theirs a
+/// thread may be held by the gate. Where a thread can't be started, or out of memory stops one, the calls that are left are
+/// made by turns. The order of the calls may differ from run to run. Whatever it is, what is written is one legal history:
+/// each worker's calls stand in script order, each once; it ends only where each worker is finished or blocked; and what an
+/// end of a connection received is a prefix of what the other sent.
+///
 /// The words are looked at first, then the source is read, and the whole text is made before the first write.
-/// No command waits for anybody, so the runtime and the gate are left alone.
+/// Only `run` waits or makes threads, and all of its threads are finished when it returns.
 pub fn program<T: Threads + Wait + Sync, R: Source, W: Sink, G: Gate>(
-    _rt: &T,
+    rt: &T,
     alloc: Global,
     words: &Words,
     source: &mut R,
     sink: &mut W,
-    _gate: &G,
+    gate: &G,
 ) -> Status
     // Below 4 and with 7 the whole text was written: the journal of a legal run or its summary, the verdict on a
     // journal, the lines of the frames, the generated script, or why there are none.
@@ -328,5 +429,5 @@ pub fn program<T: Threads + Wait + Sync, R: Source, W: Sink, G: Gate>(
     ensures read { IsReader words.now → GivesUpTo (limit + 1) (R.left source.old) (R.left source.new) }
     ensures unread { (IsReader words.now → ⊥) → source.new ≡ source.old }
 {
-    run_to_end(alloc, words, source, sink)
+    run_to_end(rt, alloc, words, source, sink, gate)
 }

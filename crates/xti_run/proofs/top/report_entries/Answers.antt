@@ -7,28 +7,28 @@ use Rattle.xti_replay.proofs.WholeRuns.{leads-step, leads-end, leads-stop}
 use Rattle.xti_run.proofs.top.report_entries.Goals as goal
 
 pub loop-step-init : goal.loop-step-init
-loop-step-init c = λ s all k. ([], λ summary p reported. reported, k)
+loop-step-init c = λ s all past k. (past, λ summary p reported. reported, k)
 
 pub step-requires : goal.step-requires
-step-requires c = let i = c.loop-step.invariant c.requires.0 c.requires.1 c.requires.2 in (i.0, i.2.stands)
+step-requires c = let i = c.loop-step.invariant c.requires.0 c.requires.1 c.requires.2 c.requires.3 in (i.0, i.2.stands)
 
 pub add-requires : goal.add-requires
 add-requires c =
-    let i = c.loop-step.invariant c.requires.0 c.requires.1 c.requires.2 in
+    let i = c.loop-step.invariant c.requires.0 c.requires.1 c.requires.2 c.requires.3 in
     let pos : 0 < most_steps - c.loop-step._step = omega arith in
     let l = leads-step c.requires.0 c.requires.1 (most_steps - c.loop-step._step) _ i.0 c.loop-step.run c.step.new.self c.step.new.self.made c.in-Some.entry.now i.2 pos refl (c.in_ok-step.ensures.goes_on i.0 i.2.stands) c.step.ensures.providers c.step.ensures.lines (sym c.in-Some.ensures) in
     omega (arith, l.stands.last, last-added 0 i.0 c.in-Some.entry.now)
 
 pub returns-in-None : goal.returns-in-None
-returns-in-None c = λ s all k.
-    let i = c.loop-step.invariant s all k in
+returns-in-None c = λ s all past k.
+    let i = c.loop-step.invariant s all past k in
     let pos : 0 < most_steps - c.loop-step._step = omega arith in
     let e = leads-end s all (most_steps - c.loop-step._step) i.0 c.loop-step.run c.step.new.self c.step.new.self.made i.2 pos (c.in_ok-step.ensures.goes_on i.0 i.2.stands) c.step.ensures.lines (sym c.in-None.ensures) in
     (λ summary p reported. subst (λ (es : List Entry). Reports summary p es c.loop-step.report) e.0 (i.1 summary p reported), e.1)
 
 pub loop-step-preserved : goal.loop-step-preserved
-loop-step-preserved c = λ s all k.
-    let i = c.loop-step.invariant s all k in
+loop-step-preserved c = λ s all past k.
+    let i = c.loop-step.invariant s all past k in
     let pos : 0 < most_steps - c.loop-step._step = omega arith in
     let less : most_steps - (c.loop-step._step + 1) ≡ most_steps - c.loop-step._step - 1 = omega arith in (
       i.0 ++ c.in-Some.entry.now ∷ [],
@@ -37,8 +37,8 @@ loop-step-preserved c = λ s all k.
     )
 
 pub returns : goal.returns
-returns c = λ s all k.
-    let i = c.loop-step.invariant s all k in
+returns c = λ s all past k.
+    let i = c.loop-step.invariant s all past k in
     let none : most_steps - c.loop-step._step ≡ 0 = omega arith in
     let e = leads-stop s all (most_steps - c.loop-step._step) i.0 c.loop-step.run none i.2 in
     (λ summary p reported. subst (λ (es : List Entry). Reports summary p es c.loop-step.report) e.0 (i.1 summary p reported), e.1)

@@ -1,4 +1,4 @@
-use Rattle.std.proofs.Common.{◌-◌, Bool, List, []}
+use Rattle.std.proofs.Common.{◌-◌, Bool, List}
 use Rattle.xti_model.specs.declared.entry.Entry.{Entry}
 use Rattle.xti_model.specs.declared.profile.Providers.{Providers}
 use Rattle.xti_model.specs.declared.script.Script.{Script}
@@ -9,5 +9,5 @@ use Rattle.xti_run.proofs.top.report_entries.Given as goal
 
 abbrev pub invariant-loop-step : goal.invariant-loop-step
 invariant-loop-step l =
-    (s : Script) (all : List Entry) → IsRunOf s all [] l.fn.run
-    → (past : List Entry) × ((summary : Bool) (p : Providers) → Reports summary p [] l.fn.report → Reports summary p past l.report) × Leads s all (most_steps - l._step) past l.run
+    (s : Script) (all past : List Entry) → IsRunOf s all past l.fn.run
+    → (now : List Entry) × ((summary : Bool) (p : Providers) → Reports summary p past l.fn.report → Reports summary p now l.report) × Leads s all (most_steps - l._step) now l.run

@@ -1,7 +1,7 @@
 use Rattle.std.proofs.Common.{inl, sym, ◌∙◌}
 use Rattle.std.proofs.lemmas.Option.{none-some}
 use Rattle.xti_run.proofs.Served.{served}
-use Rattle.xti_run.proofs.Statuses.{of_output}
+use Rattle.xti_run.proofs.Statuses.{never_unwritten, of_output}
 use Rattle.std.specs.Prelude.{ℕ, List, Option}
 use Rattle.xti_io.specs.Sink.{TakesUpTo}
 use Rattle.xti_io.specs.declared.sink.WriteEnd.{WriteEnd}
@@ -19,6 +19,12 @@ returns-clause-cut_off g c six =
 
 pub returns-in-Ok-write_all-clause-complete : goal.returns-in-Ok-write_all-clause-complete
 returns-in-Ok-write_all-clause-complete g c command named input source_fault sink_fault = inl (served c.never_both.ensures c.never_both-2.ensures c.frames_law.ensures.never_both c.args.words.now command (g.R.Source.left c.args.source.now) c.in-Ok.answer.status c.in-Ok.answer.text named input c.in-Ok.ensures.ok)
+
+pub returns-in-Ok-write_all-clause-unwritten : goal.returns-in-Ok-write_all-clause-unwritten
+returns-in-Ok-write_all-clause-unwritten g c never = absurd (never_unwritten _ _ (of_output _ _ _ _ c.in-Ok.ensures.ok) never)
+
+pub returns-in-Ok-write_all-clause-cut_off : goal.returns-in-Ok-write_all-clause-cut_off
+returns-in-Ok-write_all-clause-cut_off g c six = absurd ((of_output _ _ _ _ c.in-Ok.ensures.ok).no_write_fault six)
 
 pub returns-in-Ok-write_all-clause-read_fault : goal.returns-in-Ok-write_all-clause-read_fault
 returns-in-Ok-write_all-clause-read_fault g c five = absurd ((of_output _ _ _ _ c.in-Ok.ensures.ok).no_read_fault five)

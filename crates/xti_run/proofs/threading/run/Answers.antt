@@ -1,0 +1,26 @@
+use Rattle.std.proofs.Common.{rules}
+use Rattle.xti_streams.specs.Laws.{PrefixLaw, WaitingLaw, ReleaseLaw}
+use Rattle.xti_run.proofs.Answered.{of-journal, own-stalls}
+use Rattle.xti_replay.specs.Runs.{gone_on}
+use Rattle.xti_run.proofs.threading.run.Goals as goal
+
+pub play-requires : goal.play-requires
+play-requires g c = search (rules, c.texts_are_playable.ensures c.args.s.now c.requires)
+
+pub go_on-requires-clause-script : goal.go_on-requires-clause-script
+go_on-requires-clause-script g c = c.texts_are_playable.ensures c.args.s.now c.requires
+
+pub returns-clause-stalls : goal.returns-clause-stalls
+returns-clause-stalls g c = own-stalls c.args.s.now (gone_on c.args.s.now c.in_ok-history.history) c.go_on.result c.go_on.ensures.entries c.go_on.ensures.stalls
+
+pub returns-clause-prefix : goal.returns-clause-prefix
+returns-clause-prefix g c =
+    of-journal c.args.s.now (PrefixLaw c.args.s.now.providers) c.go_on.result (λ entries r. c.scripts_keep_order.ensures.prefix c.args.s.now entries c.requires r) c.go_on.ensures.legal c.go_on.ensures.complete
+
+pub returns-clause-waiting : goal.returns-clause-waiting
+returns-clause-waiting g c =
+    of-journal c.args.s.now (WaitingLaw c.args.s.now.providers) c.go_on.result (λ entries r. c.scripts_keep_order.ensures.waiting c.args.s.now entries c.requires r) c.go_on.ensures.legal c.go_on.ensures.complete
+
+pub returns-clause-release : goal.returns-clause-release
+returns-clause-release g c =
+    of-journal c.args.s.now (ReleaseLaw c.args.s.now.providers) c.go_on.result (λ entries r. c.scripts_keep_order.ensures.release c.args.s.now entries c.requires r) c.go_on.ensures.legal c.go_on.ensures.complete
