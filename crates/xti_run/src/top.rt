@@ -325,57 +325,6 @@ fn output<T: Threads + Wait + Sync, R: Source, G: Gate>(
     }
 }
 
-/// What `program` does. Only `run` waits, and so only it takes the runtime and the gate.
-fn run_to_end<T: Threads + Wait + Sync, R: Source, W: Sink, G: Gate>(
-    rt: &T,
-    alloc: Global,
-    words: &Words,
-    source: &mut R,
-    sink: &mut W,
-    gate: &G,
-) -> Status
-    // Below 4 and with 7 the whole text was written: the journal of a legal run or its summary, the verdict on a
-    // journal, the lines of the frames, the generated script, or why there are none.
-    ensures written { IsWhole result.0
-        → IsWritten words.now (R.left source.old) result.0 (W.held sink.old) (W.held sink.new) }
-    ensures unwritten { (result.0 ≡ 4) ⊎ (result.0 ≡ 5) → W.held sink.new ≡ W.held sink.old }
-    ensures cut_off { result.0 ≡ 6 → IsCutOff words.now (R.left source.old) (W.held sink.old) (W.held sink.new) }
-
-    // Faults are answered only where their count rose.
-    ensures read_fault { result.0 ≡ 5 → IsReader words.now × Rose (R.faults source.old) (R.faults source.new) }
-    ensures write_fault { result.0 ≡ 6 → Rose (W.faults sink.old) (W.faults sink.new) }
-    ensures range { result.0 < 8 }
-    ensures words { result.0 ≡ 1 → command_of words.now ≡ None }
-    ensures taken { is_taken words.now ≡ true → result.0 ≡ 1 → command_in (found_in words.now) ≡ None }
-    ensures plain { (command : Command) → IsPlain words.now command → result.0 ≢ 1 }
-
-    // With no fault the whole text is written, or memory ran out.
-    ensures settled { NoFault (R.faults source.old) (R.faults source.new)
-        → NoFault (W.faults sink.old) (W.faults sink.new)
-        → IsWrittenOrOutOfMemory words.now (R.left source.old) result.0 (W.held sink.old) (W.held sink.new) }
-    ensures complete { (command : Command) → command_of words.now ≡ Some command
-        → HasInput command (R.left source.old)
-        → NoFault (R.faults source.old) (R.faults source.new)
-        → NoFault (W.faults sink.old) (W.faults sink.new)
-        → IsDone command result.0 ⊎ IsOutOfMemory result.0 }
-
-    // What is read.
-    ensures read { IsReader words.now → GivesUpTo (limit + 1) (R.left source.old) (R.left source.new) }
-    ensures unread { (IsReader words.now → ⊥) → source.new ≡ source.old }
-{
-    never_both();
-    xti_journal_reader::never_both();
-    frames_law();
-    plain_words_are_commands();
-    match output(rt, alloc, words, source, gate) {
-        Err(status) => status,
-        Ok(answer) => match write_all(sink, answer.text.as_slice()) {
-            Ok(()) => Status(answer.status),
-            Err(_) => Status(6),
-        },
-    }
-}
-
 /// Runs the command of the words over a source and a sink, and answers how it ended.
 ///
 /// `replay` reads a script, makes the calls of its workers by turns, and writes the journal, or with `--summary` one line of
@@ -429,5 +378,15 @@ pub fn program<T: Threads + Wait + Sync, R: Source, W: Sink, G: Gate>(
     ensures read { IsReader words.now → GivesUpTo (limit + 1) (R.left source.old) (R.left source.new) }
     ensures unread { (IsReader words.now → ⊥) → source.new ≡ source.old }
 {
-    run_to_end(rt, alloc, words, source, sink, gate)
+    never_both();
+    xti_journal_reader::never_both();
+    frames_law();
+    plain_words_are_commands();
+    match output(rt, alloc, words, source, gate) {
+        Err(status) => status,
+        Ok(answer) => match write_all(sink, answer.text.as_slice()) {
+            Ok(()) => Status(answer.status),
+            Err(_) => Status(6),
+        },
+    }
 }

@@ -9,3 +9,5 @@ mod faults;
 mod running;
 #[cfg(test)]
 mod steps;
+#[cfg(test)]
+mod threads;

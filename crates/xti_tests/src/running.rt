@@ -8,7 +8,7 @@ use std::sync::Wait;
 use std::thread::Threads;
 use xti_base::{Calls, Octets};
 use xti_io::{MemSink, MemSource};
-use xti_run::{NoGate, Words, program};
+use xti_run::{Gate, NoGate, Words, program};
 
 /// The numbers of a read and of a write that fail.
 pub(crate) type Faults = (u32, u32);
@@ -44,12 +44,26 @@ pub(crate) fn answer<T: Threads + Wait + Sync>(
     input: &[&[u8]],
     faults: Faults,
 ) -> Result<Octets, AllocError> {
+    answer_at(rt, alloc, &[word], input, faults, &NoGate)
+}
+
+/// The same of a command of some words, at whose steps a gate may hold the threads.
+pub(crate) fn answer_at<T: Threads + Wait + Sync, G: Gate>(
+    rt: &T,
+    alloc: Global,
+    command: &[&str],
+    input: &[&[u8]],
+    faults: Faults,
+    gate: &G,
+) -> Result<Octets, AllocError> {
     let (failed_read, failed_write) = faults;
     let mut source = MemSource::new(joined(alloc, input)?, 7, only(alloc, failed_read)?);
     let mut sink = MemSink::new(alloc, 4096, 10, only(alloc, failed_write)?)?;
     let mut words = Words::new(alloc);
-    words.push(word)?;
-    let status = program(rt, alloc, &words, &mut source, &mut sink, &NoGate);
+    for word in command {
+        words.push(word)?;
+    }
+    let status = program(rt, alloc, &words, &mut source, &mut sink, gate);
     joined(
         alloc,
         &[&[b'0'.saturating_add(status.0), b' '], sink.held()],

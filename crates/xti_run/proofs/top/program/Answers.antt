@@ -7,7 +7,7 @@ use Rattle.xti_io.specs.Sink.{TakesUpTo}
 use Rattle.xti_io.specs.declared.sink.WriteEnd.{WriteEnd}
 use Rattle.xti_io.specs.declared.sink.WriteEnd.TheVariants.{Fault}
 use Rattle.xti_run.specs.Program.{IsCutOff, IsOutput}
-use Rattle.xti_run.proofs.top.run_to_end.Goals as goal
+use Rattle.xti_run.proofs.top.program.Goals as goal
 
 cut_off : (words : List (List ℕ)) (left : Option (List ℕ)) (status : ℕ) (text : List ℕ) (before now : Option (List ℕ)) (e : WriteEnd) → IsOutput words left status text → TakesUpTo e before now text → IsCutOff words left before now
 cut_off words left status text before now (Fault written) out h = record { status = status; text = text; written = written; output = out; part = h.0; taken = h.1 }
