@@ -1,4 +1,4 @@
-use Rattle.std.proofs.Common.{inr, subst, sym}
+use Rattle.std.proofs.Common.{inr}
 use Rattle.std.proofs.lemmas.Result.{IfOk-weaker}
 use Rattle.xti_run.proofs.top.run_answer.Goals as goal
 
