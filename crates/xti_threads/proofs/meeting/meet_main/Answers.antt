@@ -44,6 +44,23 @@ loop-seat-preserved c =
       );
     }
 
+pub loop-seat-preserved-in-Some : goal.loop-seat-preserved-in-Some
+loop-seat-preserved-in-Some c =
+    let i = c.loop-seat.invariant in
+    let n = i.known.0 in
+    let main = c.args.main.now in record {
+      main = c.meet-seat.ensures.seat.1 ∙ i.main;
+      known = (
+        n + 1,
+        omega (arith, i.known.1, c.in-Some.ensures.steps.1),
+        λ past u l met.
+            let k = i.known.2 past u l met in
+            let h = subst (EachFrom (HasMet c.args.xti.now c.args._lines.now past main.view.seen) (n + 1)) c.in-Some.ensures.steps.0 k.0 in
+            let new = back-follows (n + 1) c.in-Some.seat c.loop-seat.main.view c.meet-seat.result.view main.view.seen u (omega arith) h.0.0 (leads-own main l) h.0.1 (ap (λ (s : SeatView). s.view.seen) i.main) c.meet-seat.ensures.met c.number-number.ensures.standing in
+            (h.1, follow-more c.args._lines.now main.view.seen n k.1 new),
+      );
+    }
+
 pub returns : goal.returns
 returns c =
     let b = c.requires.met in
