@@ -17,6 +17,7 @@ const TRIES: u32 = 10_000_000;
 ///
 /// Where one lock is round everything, or a worker's calls are made after another's, worker 1 gives up; where no thread makes
 /// calls, nobody comes.
+#[derive(Drop)]
 struct Beside {
     came: AtomicBool,
     gave_up: AtomicBool,
