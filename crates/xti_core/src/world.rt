@@ -44,9 +44,9 @@ impl World {
         let registry = Registry::fresh(alloc, p)?;
         let mut lent = Lent::new(alloc, p);
         for place in 0..p.places() {
-            lent.lend(place, Endpoint::closed(alloc, place));
+            lent.lend(place, Box::new(alloc, Endpoint::closed(alloc, place))?);
         }
-        lent.lend_registry(registry);
+        lent.lend_registry(Box::new(alloc, registry)?);
         Ok(World { lent })
     }
 

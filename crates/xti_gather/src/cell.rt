@@ -8,9 +8,9 @@ use xti_rule::Stands;
 #[derive(Drop)]
 pub enum Cell {
     /// The endpoint of a place.
-    End(Endpoint),
+    End(Box<Endpoint>),
     /// The switch's table.
-    Switch(Registry),
+    Switch(Box<Registry>),
 }
 
 impl Stands for Cell {

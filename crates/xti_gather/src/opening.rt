@@ -22,9 +22,10 @@ pub fn opening_cells(alloc: Global, p: &Providers) -> Result<Vec<Cell>, AllocErr
     let registry = Registry::fresh(alloc, p)?;
     let mut cells = Vec::with_capacity(alloc, p.places() as usize + 1)?;
     for place in 0..p.places() {
-        cells.push_reserved(Cell::End(Endpoint::closed(alloc, place)));
+        let closed = Box::new(alloc, Endpoint::closed(alloc, place))?;
+        cells.push_reserved(Cell::End(closed));
     }
-    cells.push_reserved(Cell::Switch(registry));
+    cells.push_reserved(Cell::Switch(Box::new(alloc, registry)?));
     Ok(cells)
 }
 

@@ -1,5 +1,6 @@
 pub mod Places
 pub mod Lookups
+pub mod Slots
 pub mod Worlds
 pub mod Lendings
 pub mod Open

@@ -12,6 +12,7 @@ ghost use Rattle.xti_lent.specs.Kept.{Distinct};
 ghost use Rattle.xti_lent.specs.Lending.{held_at, is_lent, cells, lending, without_place};
 ghost use Rattle.xti_lent.specs.Lends.{IsOpenAt, LendsEndpoint, LendsRegistry};
 
+use crate::slot::Slot;
 use arrayvec::ArrayVec;
 use std::alloc::Global;
 use std::marker::Model;
@@ -27,21 +28,20 @@ pub struct Lent {
     alloc: Global,
     providers: Providers,
     numbers: ArrayVec<u32, MOST_PLACES>,
-    endpoints: ArrayVec<Endpoint, MOST_PLACES, Global>,
-    registry: Option<Registry>,
+    endpoints: ArrayVec<Slot, MOST_PLACES>,
+    registry: Option<Box<Registry>>,
 }
 
 impl Model for Lent {
     ghost use Rattle.xti_lent.specs.Lending.{Lending};
-    ghost use Rattle.xti_lent.specs.Kept.{IsKept};
+    ghost use Rattle.std.specs.Prelude.{option_map};
+    ghost use Rattle.xti_lent.specs.Kept.{IsKept, held_of};
 
     ghost Value = { Lending };
 
-    ghost view = { λ l. record { providers = l.providers; numbers = l.numbers.items; held = l.endpoints.items; registry = l.registry } };
+    ghost view = { λ l. record { providers = l.providers; numbers = l.numbers.items; held = held_of l.endpoints.items; registry = option_map (λ b. b.value) l.registry } };
 
-    ghost use Rattle.std.specs.Prelude.{length};
-
-    ghost invariant = { λ l. IsKept l.providers l.numbers.items (length l.endpoints.items) };
+    ghost invariant = { λ l. IsKept l.providers l.numbers.items l.endpoints.items };
 }
 
 impl Lent {
@@ -54,7 +54,7 @@ impl Lent {
             alloc,
             providers: *p,
             numbers: ArrayVec::new(),
-            endpoints: ArrayVec::new_in(alloc),
+            endpoints: ArrayVec::new(),
             registry: None,
         }
     }
@@ -68,21 +68,21 @@ impl Lent {
     }
 
     /// Lends an endpoint under the number of its place. There must be room, and none may be lent under it. Takes no memory.
-    pub fn lend(&mut self, place: u32, e: Endpoint)
+    pub fn lend(&mut self, place: u32, e: Box<Endpoint>)
         requires place { place < places self.old.providers }
-        requires own { e.place ≡ place }
+        requires own { e.value.place ≡ place }
         requires apart { held_at self.old place ≡ None }
         requires room { length self.old.numbers < MOST_PLACES }
-        ensures { self.new ≡ lending self.old place e }
+        ensures { self.new ≡ lending self.old place e.value }
     {
         self.numbers.push(place);
-        self.endpoints.push(e);
+        self.endpoints.push(Slot::of(e));
     }
 
     /// Lends the switch's table, which may not be lent yet. Takes no memory.
-    pub fn lend_registry(&mut self, r: Registry)
+    pub fn lend_registry(&mut self, r: Box<Registry>)
         requires { self.old.registry ≡ None }
-        ensures { self.new ≡ record self.old { registry = Some r } }
+        ensures { self.new ≡ record self.old { registry = Some r.value } }
     {
         self.registry = Some(r);
     }
@@ -104,18 +104,18 @@ impl Lent {
 
     /// Takes back the endpoint that is lent under this number; `None` exactly where none is. The others stay lent in their order.
     /// Takes no memory.
-    pub fn take_back(&mut self, place: u32) -> Option<Endpoint>
-        ensures endpoint { result ≡ held_at self.old place }
+    pub fn take_back(&mut self, place: u32) -> Option<Box<Endpoint>>
+        ensures endpoint { option_map (λ b. b.value) result ≡ held_at self.old place }
         ensures left { self.new ≡ without_place self.old place }
     {
         let i = index_of(self.numbers.as_slice(), place)?;
         self.numbers.remove(i);
-        Some(self.endpoints.remove(i))
+        self.endpoints.remove(i).into_box()
     }
 
     /// Takes the switch's table back; `None` exactly where it is not lent. Takes no memory.
-    pub fn take_registry(&mut self) -> Option<Registry>
-        ensures registry { result ≡ self.old.registry }
+    pub fn take_registry(&mut self) -> Option<Box<Registry>>
+        ensures registry { option_map (λ b. b.value) result ≡ self.old.registry }
         ensures left { self.new ≡ record self.old { registry = None } }
     {
         self.registry.take()
@@ -137,7 +137,7 @@ impl Lent {
         ensures { option_copied result ≡ held_at self.now place }
     {
         let i = index_of(self.numbers.as_slice(), place)?;
-        Some(&self.endpoints.as_slice()[i])
+        self.endpoints.as_slice()[i].endpoint()
     }
 
     /// The endpoint that is lent under this number, which must be there.
@@ -184,7 +184,7 @@ impl Lent {
     {
         match index_of(self.numbers.as_slice(), place) {
             Some(i) => match self.endpoints.get_mut(i) {
-                Some(e) => e,
+                Some(slot) => slot.endpoint_mut(),
                 None => unreachable!(),
             },
             None => unreachable!(),
@@ -195,7 +195,10 @@ impl Lent {
     pub fn find_registry(&self) -> Option<&Registry>
         ensures { option_copied result ≡ self.now.registry }
     {
-        self.registry.as_ref()
+        match &self.registry {
+            Some(r) => Some(r),
+            None => None,
+        }
     }
 
     /// The switch's table, which must be lent.
