@@ -35,13 +35,13 @@ pub struct Lent {
 impl Model for Lent {
     ghost use Rattle.xti_lent.specs.Lending.{Lending};
     ghost use Rattle.std.specs.Prelude.{option_map};
-    ghost use Rattle.xti_lent.specs.Kept.{IsKept, held_of};
+    ghost use Rattle.xti_lent.specs.Kept.{AreKept, held_of};
 
     ghost Value = { Lending };
 
     ghost view = { λ l. record { providers = l.providers; numbers = l.numbers.items; held = held_of l.endpoints.items; registry = option_map (λ b. b.value) l.registry } };
 
-    ghost invariant = { λ l. IsKept l.providers l.numbers.items l.endpoints.items };
+    ghost invariant = { λ l. AreKept l.providers l.numbers.items l.endpoints.items };
 }
 
 impl Lent {

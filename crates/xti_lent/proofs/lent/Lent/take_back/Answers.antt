@@ -11,12 +11,12 @@ use Rattle.xti_lent.proofs.lent.Lent.take_back.Goals as goal
 pub returns-in_err-i-clause-endpoint : goal.returns-in_err-i-clause-endpoint
 returns-in_err-i-clause-endpoint c =
     let n = rw c.as_slice.ensures.value at c.in_err-i.ensures.index in
-    rw (← c.self.view_is, c.from_residual.ensures) (nowhere c.args.place c.self.inside.numbers.items (held_of c.self.inside.endpoints.items) c.self.invariant.paired n)
+    rw (← c.self.view_is, c.from_residual.ensures) (nowhere c.args.place c.self.inside.numbers.items (held_of c.self.inside.endpoints.items) c.self.invariant.kept.paired n)
 
 pub returns-in_err-i-clause-left : goal.returns-in_err-i-clause-left
 returns-in_err-i-clause-left c =
     let n = rw c.as_slice.ensures.value at c.in_err-i.ensures.index in
-    let a = not-held c.args.place c.self.inside.numbers.items (held_of c.self.inside.endpoints.items) c.self.invariant.paired (sym (nowhere c.args.place c.self.inside.numbers.items (held_of c.self.inside.endpoints.items) c.self.invariant.paired n)) in
+    let a = not-held c.args.place c.self.inside.numbers.items (held_of c.self.inside.endpoints.items) c.self.invariant.kept.paired (sym (nowhere c.args.place c.self.inside.numbers.items (held_of c.self.inside.endpoints.items) c.self.invariant.kept.paired n)) in
     rw (← c.self.view_is) (λ i. record {
       providers = c.self.inside.providers;
       numbers = sym (absent-number c.args.place c.self.inside.numbers.items a) i;
@@ -27,27 +27,29 @@ returns-in_err-i-clause-left c =
 pub invariant_of-self : goal.invariant_of-self
 invariant_of-self c =
     let at = rw c.as_slice.ensures.value at c.in_ok-i.ensures.index in
-    let f = found c.args.place c.in_ok-i.i c.self.inside.numbers.items (held_of c.self.inside.endpoints.items) c.self.invariant.paired at in
-    let r = removed c.args.place c.in_ok-i.i c.self.inside.numbers.items (held_of c.self.inside.endpoints.items) c.self.invariant.paired at in
-    let all : length (held_of c.self.inside.endpoints.items) ≡ length c.self.inside.endpoints.items = c.self.invariant.paired ∙ sym c.self.invariant.full in
+    let f = found c.args.place c.in_ok-i.i c.self.inside.numbers.items (held_of c.self.inside.endpoints.items) c.self.invariant.kept.paired at in
+    let r = removed c.args.place c.in_ok-i.i c.self.inside.numbers.items (held_of c.self.inside.endpoints.items) c.self.invariant.kept.paired at in
+    let all : length (held_of c.self.inside.endpoints.items) ≡ length c.self.inside.endpoints.items = c.self.invariant.kept.paired ∙ sym c.self.invariant.full in
     let held = held-remove c.self.inside.endpoints.items c.in_ok-i.i all (omega (arith, f.inside, all)) in
     record {
-      valid_providers = c.self.invariant.valid_providers;
-      places = rw (c.remove.ensures.items, r.0) (places-less c.self.inside.providers c.args.place c.self.inside.numbers.items c.self.invariant.places);
-      distinct = rw (c.remove.ensures.items, r.0) (distinct-less c.args.place c.self.inside.numbers.items c.self.invariant.distinct);
-      paired = rw (c.remove.ensures.items, c.remove-2.ensures.items, r.0, held, r.1) (paired-less c.args.place c.self.inside.numbers.items (held_of c.self.inside.endpoints.items) c.self.invariant.paired);
+      kept = record {
+        valid_providers = c.self.invariant.kept.valid_providers;
+        places = rw (c.remove.ensures.items, r.0) (places-less c.self.inside.providers c.args.place c.self.inside.numbers.items c.self.invariant.kept.places);
+        distinct = rw (c.remove.ensures.items, r.0) (distinct-less c.args.place c.self.inside.numbers.items c.self.invariant.kept.distinct);
+        paired = rw (c.remove.ensures.items, c.remove-2.ensures.items, r.0, held, r.1) (paired-less c.args.place c.self.inside.numbers.items (held_of c.self.inside.endpoints.items) c.self.invariant.kept.paired);
+      };
       full = omega (arith, c.self.invariant.full, c.remove.ensures.len, c.remove-2.ensures.len);
     }
 
 pub returns-clause-endpoint : goal.returns-clause-endpoint
-returns-clause-endpoint c = rw (← c.self.view_is) (c.into_box.ensures ∙ slot-there c.args.place c.in_ok-i.i c.self.inside.numbers.items c.self.inside.endpoints.items c.remove-2.result c.self.invariant.paired c.self.invariant.full (rw c.as_slice.ensures.value at c.in_ok-i.ensures.index) c.remove-2.ensures.value)
+returns-clause-endpoint c = rw (← c.self.view_is) (c.into_box.ensures ∙ slot-there c.args.place c.in_ok-i.i c.self.inside.numbers.items c.self.inside.endpoints.items c.remove-2.result c.self.invariant.kept.paired c.self.invariant.full (rw c.as_slice.ensures.value at c.in_ok-i.ensures.index) c.remove-2.ensures.value)
 
 pub returns-clause-left : goal.returns-clause-left
 returns-clause-left c =
     let at = rw c.as_slice.ensures.value at c.in_ok-i.ensures.index in
-    let f = found c.args.place c.in_ok-i.i c.self.inside.numbers.items (held_of c.self.inside.endpoints.items) c.self.invariant.paired at in
-    let r = removed c.args.place c.in_ok-i.i c.self.inside.numbers.items (held_of c.self.inside.endpoints.items) c.self.invariant.paired at in
-    let all : length (held_of c.self.inside.endpoints.items) ≡ length c.self.inside.endpoints.items = c.self.invariant.paired ∙ sym c.self.invariant.full in
+    let f = found c.args.place c.in_ok-i.i c.self.inside.numbers.items (held_of c.self.inside.endpoints.items) c.self.invariant.kept.paired at in
+    let r = removed c.args.place c.in_ok-i.i c.self.inside.numbers.items (held_of c.self.inside.endpoints.items) c.self.invariant.kept.paired at in
+    let all : length (held_of c.self.inside.endpoints.items) ≡ length c.self.inside.endpoints.items = c.self.invariant.kept.paired ∙ sym c.self.invariant.full in
     rw (← c.self.view_is) (λ i. record {
       providers = c.self.inside.providers;
       numbers = (c.remove.ensures.items ∙ r.0) i;
