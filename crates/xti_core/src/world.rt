@@ -41,12 +41,13 @@ impl World {
         requires { valid p.now ≡ true }
         ensures { IfOk result (λ w. w ≡ record { providers = p.now; cells = opening p.now }) }
     {
-        let registry = Registry::fresh(alloc, p)?;
+        let registry = Box::new(alloc, Registry::fresh(alloc, p)?)?;
         let mut lent = Lent::new(alloc, p);
         for place in 0..p.places() {
-            lent.lend(place, Box::new(alloc, Endpoint::closed(alloc, place))?);
+            let closed = Box::new(alloc, Endpoint::closed(alloc, place))?;
+            lent.lend(place, closed);
         }
-        lent.lend_registry(Box::new(alloc, registry)?);
+        lent.lend_registry(registry);
         Ok(World { lent })
     }
 

@@ -1,6 +1,7 @@
 -- Cells that are lent and taken back, by their numbers.
 use Rattle.std.proofs.Common.{◌≡◌, ◌≢◌, ℕ, zero, suc, ◌+◌, ◌<◌, ◌≤◌, Bool, true, false, cond, eqb, List, [], ◌∷◌, ◌++◌, length, map, Option, Some, None, refl, sym, ap, ◌∙◌, subst, arith, length-append, ◌⊎◌, inl, inr}
-use Rattle.std.specs.Prelude.{is_some, option_map}
+use Rattle.std.specs.Prelude.{Box, is_some, option_map}
+use Rattle.std.specs.declared.alloc.Global.{Global}
 use Rattle.std.specs.List.{AllByRecursion}
 use Rattle.std.proofs.lemmas.Bool.{eq-eqb, ne_eqb, eqb-true}
 use Rattle.xti_model.specs.declared.profile.Providers.{Providers}
@@ -257,14 +258,15 @@ pub back-others : (l : Lending) (n k : ℕ) → k ≢ n → cell_lent (without_p
 back-others l n k ne =
     ap (λ (o : Option Held). cond (eqb k (switch_number l.providers)) (option_map (λ (k : Known). switch_cell k.switch) l.registry) (option_map cell o)) (gone-other n k l.numbers l.held (ne_eqb n k (λ e. ne (sym e))))
 
-pub back-cell : (l : Lending) (n : ℕ) (h : Held) → IsLoan l → Some h ≡ held_at l n → (cell_lent l n ≡ Some (cell h)) × StandsFor l.providers (rust.End h) ((n, cell h) ∷ [])
-back-cell l n h loan e =
+pub back-cell : (l : Lending) (n : ℕ) (b : Box Held Global) → IsLoan l → Some b.value ≡ held_at l n → (cell_lent l n ≡ Some (cell b.value)) × StandsFor l.providers (rust.End b) ((n, cell b.value) ∷ [])
+back-cell l n b loan e =
+    let h : Held = b.value in
     let lt = held-place l n h loan (sym e) in
     let own : h.place ≡ n = own-place l.numbers l.held n h loan.own (sym e) in
     (cell-is l n h lt (sym e), (subst (λ z. z < places l.providers) (sym own) lt, (λ i. (sym own i, cell h) ∷ [])))
 
-pub switch-back : (l : Lending) (k : Known) → Some k ≡ l.registry → (cell_lent l (switch_number l.providers) ≡ Some (switch_cell k.switch)) × StandsFor l.providers (rust.Switch k) ((switch_number l.providers, switch_cell k.switch) ∷ [])
-switch-back l k e = (lent-switch l ∙ ap (option_map (λ (k : Known). switch_cell k.switch)) (sym e), refl)
+pub switch-back : (l : Lending) (b : Box Known Global) → Some b.value ≡ l.registry → (cell_lent l (switch_number l.providers) ≡ Some (switch_cell b.value.switch)) × StandsFor l.providers (rust.Switch b) ((switch_number l.providers, switch_cell b.value.switch) ∷ [])
+switch-back l b e = (lent-switch l ∙ ap (option_map (λ (k : Known). switch_cell k.switch)) (sym e), refl)
 
 -- one pair of a list of one
 abbrev number_in : ℕ → List (ℕ × Cell) → ℕ
@@ -275,8 +277,8 @@ abbrev cell_in : Cell → List (ℕ × Cell) → Cell
 cell_in d [] = d
 cell_in d (x ∷ xs) = x.1
 
-pub end-is : (p : Providers) (h : Held) (n : ℕ) (m : Cell) → StandsFor p (rust.End h) ((n, m) ∷ []) → (n < places p) × (h.place ≡ n) × (m ≡ cell h)
-end-is p h n m s = let e : n ≡ h.place = ap (number_in 0) s.1 in (subst (λ z. z < places p) (sym e) s.0, sym e, ap (cell_in m) s.1)
+pub end-is : (p : Providers) (b : Box Held Global) (n : ℕ) (m : Cell) → StandsFor p (rust.End b) ((n, m) ∷ []) → (n < places p) × (b.value.place ≡ n) × (m ≡ cell b.value)
+end-is p b n m s = let e : n ≡ b.value.place = ap (number_in 0) s.1 in (subst (λ z. z < places p) (sym e) s.0, sym e, ap (cell_in m) s.1)
 
 -- The same cells are lent after a step.
 length-places : (hs : List Held) → length (map place_of_held hs) ≡ length hs

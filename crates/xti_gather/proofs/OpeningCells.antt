@@ -2,6 +2,8 @@
 use Rattle.std.proofs.Common.{◌≡◌, ⊎_elim, ℕ, zero, suc, ◌+◌, ◌<◌, ◌≤◌, Bool, true, false, cond, eqb, List, [], ◌∷◌, ◌++◌, length, Some, None, refl, sym, ap, ◌∙◌, subst, arith}
 use mathlib.Core.Option.{some, some-ne-none}
 use lib.ListN.{get_elem?}
+use Rattle.std.specs.Prelude.{Box}
+use Rattle.std.specs.declared.alloc.Global.{Global}
 use Rattle.std.proofs.lemmas.Bool.{eq-eqb, ne_eqb, eqb-true}
 use Rattle.std.proofs.lemmas.Bool.Decides.{nat_tests}
 use Rattle.xti_model.specs.declared.profile.Providers.{Providers}
@@ -21,11 +23,11 @@ AreClosed p xs = (i : ℕ) (x : rust.Cell) → get_elem? xs i ≡ some x → Sta
 pub none_closed : (p : Providers) (xs : List rust.Cell) → xs ≡ [] → AreClosed p xs
 none_closed p xs e i x h = absurd (some-ne-none x (sym (ap (λ z. get_elem? z i) (sym e) ∙ h)))
 
-pub one_closed : (p : Providers) (xs : List rust.Cell) (n : ℕ) (e : Held) → AreClosed p xs → length xs ≡ n → n < places p → e.place ≡ n → e.generation ≡ 0 → e.body ≡ None → AreClosed p (xs ++ End e ∷ [])
+pub one_closed : (p : Providers) (xs : List rust.Cell) (n : ℕ) (e : Box Held Global) → AreClosed p xs → length xs ≡ n → n < places p → e.value.place ≡ n → e.value.generation ≡ 0 → e.value.body ≡ None → AreClosed p (xs ++ End e ∷ [])
 one_closed p xs n e all many lt own g b i x h = ⊎_elim
     (λ (t : (i < length xs) × (get_elem? xs i ≡ some x)). all i x t.1)
     (λ (t : (i ≡ length xs) × (End e ≡ x)).
-    let s : e.place ≡ i = own ∙ (sym many ∙ sym t.0) in
+    let s : e.value.place ≡ i = own ∙ (sym many ∙ sym t.0) in
     subst (λ (z : rust.Cell). StandsFor p z ((i, endpoint_cell 0 None) ∷ [])) t.1 (
       subst (λ z. z < places p) (sym own) lt,
       λ k. (sym s k, endpoint_cell (sym g k) (sym b k)) ∷ [],
@@ -59,7 +61,7 @@ opening-switch : (p : Providers) → part (switch_number p) (opening p) ≡ swit
 unfolding opening
 opening-switch p = ap cell_or_closed (behind 0 (places p) (switch_number p) (record { number = switch_number p; cell = switch_cell (opening_switch (places p)) } ∷ []) (omega arith) ∙ only-one (switch_number p) (switch_cell (opening_switch (places p))))
 
-pub all_stand : (p : Providers) (xs ys : List rust.Cell) (k : Known) → AreClosed p xs → length xs ≡ places p → k.switch ≡ opening_switch (places p) → ys ≡ xs ++ Switch k ∷ [] → (i : ℕ) (x : rust.Cell) → get_elem? ys i ≡ some x → StandsFor p x ((i, part i (opening p)) ∷ [])
+pub all_stand : (p : Providers) (xs ys : List rust.Cell) (k : Box Known Global) → AreClosed p xs → length xs ≡ places p → k.value.switch ≡ opening_switch (places p) → ys ≡ xs ++ Switch k ∷ [] → (i : ℕ) (x : rust.Cell) → get_elem? ys i ≡ some x → StandsFor p x ((i, part i (opening p)) ∷ [])
 all_stand p xs ys k all many s is i x h = ⊎_elim
     (λ (t : (i < length xs) × (get_elem? xs i ≡ some x)). subst (λ z. StandsFor p x ((i, z) ∷ [])) (sym (opening-closed p i (subst (λ z. i < z) many t.0))) (all i x t.1))
     (λ (t : (i ≡ length xs) × (Switch k ≡ x)).

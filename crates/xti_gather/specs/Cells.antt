@@ -10,8 +10,8 @@ use Rattle.xti_gather.specs.declared.cell.Cell.TheVariants.{End, Switch}
 
 -- the endpoint of a place stands for that place's cell, and the switch's table for the switch's
 abbrev pub StandsFor : Providers → Cell → List (ℕ × MCell) → Type 0
-StandsFor p (End e) l = (e.place < places p) × (l ≡ (e.place, cell e) ∷ [])
-StandsFor p (Switch r) l = l ≡ (switch_number p, switch_cell r.switch) ∷ []
+StandsFor p (End e) l = (e.value.place < places p) × (l ≡ (e.value.place, cell e.value) ∷ [])
+StandsFor p (Switch r) l = l ≡ (switch_number p, switch_cell r.value.switch) ∷ []
 
 -- a hall of these providers, with a cell for each place and one for the switch
 abbrev pub whole : Providers → Setting

@@ -19,13 +19,13 @@ pub fn opening_cells(alloc: Global, p: &Providers) -> Result<Vec<Cell>, AllocErr
     ensures many { IfOk result (λ v. vec_len v ≡ places p.now + 1) }
     ensures stand { IfOk result (λ v. StandInOrder (λ s. StandsFor s.providers) (whole p.now) v.items) }
 {
-    let registry = Registry::fresh(alloc, p)?;
+    let registry = Box::new(alloc, Registry::fresh(alloc, p)?)?;
     let mut cells = Vec::with_capacity(alloc, p.places() as usize + 1)?;
     for place in 0..p.places() {
         let closed = Box::new(alloc, Endpoint::closed(alloc, place))?;
         cells.push_reserved(Cell::End(closed));
     }
-    cells.push_reserved(Cell::Switch(Box::new(alloc, registry)?));
+    cells.push_reserved(Cell::Switch(registry));
     Ok(cells)
 }
 

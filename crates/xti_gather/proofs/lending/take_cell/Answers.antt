@@ -10,7 +10,7 @@ pub returns-in-Some-clause-value : goal.returns-in-Some-clause-value
 returns-in-Some-clause-value c =
     let s : c.args.cell ≡ switch_number c.args.lent.now.providers = c.if-cell-switch_number.true ∙ c.switch_number.ensures in
     let q = switch-back c.args.lent.now c.in-Some.r c.in-Some.ensures.registry in
-    (switch_cell c.in-Some.r.switch, ap (cell_lent c.args.lent.now) s ∙ q.0, λ i. (s i, switch_cell c.in-Some.r.switch) ∷ [])
+    (switch_cell c.in-Some.r.value.switch, ap (cell_lent c.args.lent.now) s ∙ q.0, λ i. (s i, switch_cell c.in-Some.r.value.switch) ∷ [])
 
 pub returns-in-Some-take_back-clause-loan : goal.returns-in-Some-take_back-clause-loan
 returns-in-Some-take_back-clause-loan c = subst IsLoan (sym c.take_back.ensures.left) (back-loan c.args.lent.now c.args.cell c.requires.loan)
@@ -18,7 +18,7 @@ returns-in-Some-take_back-clause-loan c = subst IsLoan (sym c.take_back.ensures.
 pub returns-in-Some-take_back-clause-value : goal.returns-in-Some-take_back-clause-value
 returns-in-Some-take_back-clause-value c =
     let q = back-cell c.args.lent.now c.args.cell c.in-Some-take_back.e c.requires.loan c.in-Some-take_back.ensures.endpoint in
-    (cell c.in-Some-take_back.e, q.0, q.1)
+    (cell c.in-Some-take_back.e.value, q.0, q.1)
 
 pub returns-in-Some-take_back-clause-here : goal.returns-in-Some-take_back-clause-here
 returns-in-Some-take_back-clause-here c = ap (λ (l : Lending). cell_lent l c.args.cell) c.take_back.ensures.left ∙ back-here c.args.lent.now c.args.cell c.requires.loan (λ e. c.if-cell-switch_number.false (e ∙ sym c.switch_number.ensures))
