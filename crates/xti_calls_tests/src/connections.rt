@@ -1,0 +1,112 @@
+//! Connections, from their requests to their ends.
+
+use crate::asks::{Ask, Data, End, Endpoint, Look, MOST, Request};
+use xti_base::{Fd, Seq};
+
+/// The listener, bound to `l`.
+pub(crate) const LISTENER: Fd = Fd(0);
+
+/// The endpoint that asks for a connection.
+pub(crate) const CALLER: Fd = Fd(1);
+
+/// The endpoint onto which the request is accepted.
+pub(crate) const ANSWERER: Fd = Fd(2);
+
+/// A listener of the provider without orderly release, and two endpoints with O_NONBLOCK.
+pub(crate) const OF_TICOTS: &[Ask] = &[
+    Ask::Endpoint(Endpoint::Open(b"ticots", false)),
+    Ask::Endpoint(Endpoint::Bind(LISTENER, b"l", 1, 64)),
+    Ask::Endpoint(Endpoint::Open(b"ticots", true)),
+    Ask::Endpoint(Endpoint::Bind(CALLER, b"", 0, 64)),
+    Ask::Endpoint(Endpoint::Open(b"ticots", true)),
+];
+
+/// A listener of the provider with orderly release, and two endpoints with O_NONBLOCK.
+pub(crate) const OF_TICOTSORD: &[Ask] = &[
+    Ask::Endpoint(Endpoint::Open(b"ticotsord", false)),
+    Ask::Endpoint(Endpoint::Bind(LISTENER, b"l", 1, 64)),
+    Ask::Endpoint(Endpoint::Open(b"ticotsord", true)),
+    Ask::Endpoint(Endpoint::Bind(CALLER, b"", 0, 64)),
+    Ask::Endpoint(Endpoint::Open(b"ticotsord", true)),
+];
+
+/// A connection from the caller to the answerer.
+pub(crate) const CONNECT: &[Ask] = &[
+    Ask::Request(Request::Connect(CALLER, b"l", b"", b"", MOST)),
+    Ask::Request(Request::Listen(LISTENER, MOST)),
+    Ask::Request(Request::Accept(LISTENER, ANSWERER, Seq(1), b"", b"")),
+    Ask::Request(Request::Confirm(CALLER, MOST)),
+];
+
+/// Messages and expedited data.
+pub(crate) const MESSAGES: &[Ask] = &[
+    Ask::Data(Data::Send(CALLER, b"abcd", 3)),
+    Ask::Data(Data::Send(CALLER, b"n", 0)),
+    Ask::Data(Data::Receive(ANSWERER, 2)),
+    Ask::Data(Data::Receive(ANSWERER, 2)),
+    Ask::Data(Data::Receive(ANSWERER, 2)),
+    Ask::Look(Look::Event(ANSWERER)),
+    Ask::Data(Data::Send(CALLER, b"ef", 2)),
+    Ask::Data(Data::Receive(ANSWERER, 9)),
+    Ask::Data(Data::Receive(ANSWERER, 9)),
+];
+
+/// One part more than a vector may have.
+const SEVENTEEN: &[&[u8]] = &[
+    b"x", b"x", b"x", b"x", b"x", b"x", b"x", b"x", b"x", b"x", b"x", b"x", b"x", b"x", b"x", b"x",
+    b"x",
+];
+
+/// An empty message, a message that is sent in parts and received by buffers, and too many parts.
+pub(crate) const VECTORS: &[Ask] = &[
+    Ask::Data(Data::Send(CALLER, b"", 0)),
+    Ask::Data(Data::Receive(ANSWERER, 9)),
+    Ask::Data(Data::SendParts(CALLER, &[b"ab", b"c"], 0)),
+    Ask::Data(Data::ReceiveParts(ANSWERER, &[1, 9])),
+    Ask::Data(Data::SendParts(CALLER, SEVENTEEN, 0)),
+];
+
+/// What is told of both ends, and a disconnect before the data are received.
+pub(crate) const DISCONNECT: &[Ask] = &[
+    Ask::Look(Look::Addresses(ANSWERER, 64, 64)),
+    Ask::Look(Look::State(LISTENER)),
+    Ask::End(End::Release(CALLER)),
+    Ask::Data(Data::Send(CALLER, b"hi", 0)),
+    Ask::End(End::Disconnect(CALLER, Seq(0), b"")),
+    Ask::Data(Data::Receive(ANSWERER, 9)),
+    Ask::End(End::Disconnected(ANSWERER, 64)),
+    Ask::Endpoint(Endpoint::Close(ANSWERER)),
+    Ask::Look(Look::State(ANSWERER)),
+];
+
+/// Data, an orderly release from both sides, and the states afterwards.
+pub(crate) const RELEASE: &[Ask] = &[
+    Ask::Look(Look::State(CALLER)),
+    Ask::Data(Data::Send(CALLER, b"", 0)),
+    Ask::Data(Data::Send(CALLER, b"hi", 0)),
+    Ask::End(End::Release(CALLER)),
+    Ask::End(End::Released(ANSWERER)),
+    Ask::Data(Data::Receive(ANSWERER, 9)),
+    Ask::Data(Data::Receive(ANSWERER, 9)),
+    Ask::End(End::Released(ANSWERER)),
+    Ask::End(End::Release(ANSWERER)),
+    Ask::End(End::Released(CALLER)),
+    Ask::Look(Look::State(CALLER)),
+    Ask::Look(Look::State(ANSWERER)),
+];
+
+/// The endpoints without O_NONBLOCK.
+pub(crate) const BLOCKING: &[Ask] = &[
+    Ask::Endpoint(Endpoint::Mode(CALLER, false)),
+    Ask::Endpoint(Endpoint::Mode(ANSWERER, false)),
+];
+
+/// A send until there is no room, and the event that there is room again, in buffers of two and of three bytes.
+pub(crate) const SMALL_BUFFERS: &[Ask] = &[
+    Ask::Data(Data::Send(CALLER, b"\x00\x01\x02\x03\x04", 0)),
+    Ask::Data(Data::Send(CALLER, b"z", 0)),
+    Ask::Look(Look::Event(CALLER)),
+    Ask::Data(Data::Receive(ANSWERER, 1)),
+    Ask::Look(Look::Event(CALLER)),
+    Ask::Look(Look::Event(CALLER)),
+];

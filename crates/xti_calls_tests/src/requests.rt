@@ -1,0 +1,120 @@
+//! Requests for connections that aren't accepted at once.
+
+use crate::asks::{Ask, End, Endpoint, MOST, Request};
+use xti_base::{Fd, Seq};
+use xti_calls::Max;
+
+/// The listener, bound to `l`.
+const LISTENER: Fd = Fd(0);
+
+/// An endpoint that asks for a connection.
+const ONE: Fd = Fd(1);
+
+/// Another.
+const OTHER: Fd = Fd(2);
+
+/// An endpoint that is open, and not bound.
+const FRESH: Fd = Fd(3);
+
+/// One byte of an address at most.
+const SHORT_ADDRESS: Max = Max {
+    addr: 1,
+    opt: 256,
+    udata: 64,
+};
+
+/// A listener with a queue of one request.
+pub(crate) const SHORT_LISTENER: &[Ask] = &[
+    Ask::Endpoint(Endpoint::Open(b"ticots", false)),
+    Ask::Endpoint(Endpoint::Bind(LISTENER, b"l", 1, 64)),
+];
+
+/// A listener with a queue of two requests.
+pub(crate) const LONG_LISTENER: &[Ask] = &[
+    Ask::Endpoint(Endpoint::Open(b"ticots", false)),
+    Ask::Endpoint(Endpoint::Bind(LISTENER, b"l", 2, 64)),
+];
+
+/// Two requests to the listener.
+pub(crate) const TWO_REQUESTS: &[Ask] = &[
+    Ask::Endpoint(Endpoint::Open(b"ticots", true)),
+    Ask::Endpoint(Endpoint::Bind(ONE, b"", 0, 64)),
+    Ask::Endpoint(Endpoint::Open(b"ticots", true)),
+    Ask::Endpoint(Endpoint::Bind(OTHER, b"", 0, 64)),
+    Ask::Request(Request::Connect(ONE, b"l", b"", b"", MOST)),
+    Ask::Request(Request::Connect(OTHER, b"l", b"", b"", MOST)),
+];
+
+/// Of two requests the other one is refused.
+pub(crate) const SHORT_QUEUE: &[Ask] = &[
+    Ask::End(End::Disconnected(OTHER, 64)),
+    Ask::Request(Request::Listen(LISTENER, MOST)),
+    Ask::Request(Request::Listen(LISTENER, MOST)),
+];
+
+/// Two requests, which are accepted on another endpoint and on the listener.
+pub(crate) const LONG_QUEUE: &[Ask] = &[
+    Ask::Request(Request::Listen(LISTENER, MOST)),
+    Ask::Request(Request::Accept(LISTENER, LISTENER, Seq(1), b"", b"")),
+    Ask::Request(Request::Listen(LISTENER, MOST)),
+    Ask::Request(Request::Accept(LISTENER, LISTENER, Seq(1), b"", b"")),
+    Ask::Endpoint(Endpoint::Open(b"ticots", false)),
+    Ask::Request(Request::Accept(LISTENER, FRESH, Seq(1), b"", b"")),
+    Ask::Request(Request::Accept(LISTENER, LISTENER, Seq(2), b"", b"")),
+];
+
+/// An indication whose address is too long for the caller, and which is rejected.
+pub(crate) const REJECTED: &[Ask] = &[
+    Ask::Endpoint(Endpoint::Open(b"ticots", false)),
+    Ask::Endpoint(Endpoint::Bind(LISTENER, b"l", 1, 64)),
+    Ask::Endpoint(Endpoint::Open(b"ticots", true)),
+    Ask::Endpoint(Endpoint::Bind(ONE, b"", 0, 64)),
+    Ask::Request(Request::Connect(ONE, b"l", b"", b"", MOST)),
+    Ask::Request(Request::Listen(LISTENER, SHORT_ADDRESS)),
+    Ask::End(End::Disconnect(LISTENER, Seq(1), b"")),
+    Ask::End(End::Disconnected(ONE, 64)),
+];
+
+/// A request to an address that nobody has.
+pub(crate) const TO_NOBODY: &[Ask] = &[
+    Ask::Endpoint(Endpoint::Open(b"ticots", false)),
+    Ask::Endpoint(Endpoint::Bind(LISTENER, b"", 0, 64)),
+    Ask::Request(Request::Connect(LISTENER, b"no", b"", b"", MOST)),
+    Ask::End(End::Disconnected(LISTENER, 64)),
+    Ask::End(End::Disconnected(LISTENER, 64)),
+];
+
+/// A listener with one indication, and endpoints onto which it can't be accepted.
+pub(crate) const OUTSTANDING: &[Ask] = &[
+    Ask::Endpoint(Endpoint::Open(b"ticots", false)),
+    Ask::Endpoint(Endpoint::Bind(LISTENER, b"l", 1, 64)),
+    Ask::Endpoint(Endpoint::Open(b"ticots", true)),
+    Ask::Endpoint(Endpoint::Bind(ONE, b"", 0, 64)),
+    Ask::Request(Request::Connect(ONE, b"l", b"", b"", MOST)),
+    Ask::Request(Request::Listen(LISTENER, MOST)),
+    Ask::Endpoint(Endpoint::Open(b"ticotsord", false)),
+    Ask::Endpoint(Endpoint::Open(b"ticots", false)),
+    Ask::Endpoint(Endpoint::Bind(FRESH, b"m", 1, 64)),
+];
+
+/// Requests that can't be accepted so: another provider, an endpoint that listens, a sequence number of none.
+pub(crate) const NOT_ACCEPTED: &[Ask] = &[
+    Ask::Request(Request::Accept(LISTENER, OTHER, Seq(1), b"", b"")),
+    Ask::Request(Request::Accept(LISTENER, FRESH, Seq(1), b"", b"")),
+    Ask::Request(Request::Accept(LISTENER, LISTENER, Seq(2), b"", b"")),
+    Ask::Request(Request::Accept(LISTENER, LISTENER, Seq(1), b"", b"")),
+];
+
+/// An address that another listener has, and a listener that can't be unbound while a request waits.
+pub(crate) const UNBINDING: &[Ask] = &[
+    Ask::Endpoint(Endpoint::Open(b"ticots", false)),
+    Ask::Endpoint(Endpoint::Bind(LISTENER, b"l", 1, 64)),
+    Ask::Endpoint(Endpoint::Open(b"ticots", true)),
+    Ask::Endpoint(Endpoint::Bind(ONE, b"l", 1, 64)),
+    Ask::Endpoint(Endpoint::Bind(ONE, b"l", 0, 64)),
+    Ask::Request(Request::Connect(ONE, b"l", b"", b"", MOST)),
+    Ask::Endpoint(Endpoint::Unbind(LISTENER)),
+    Ask::Request(Request::Listen(LISTENER, MOST)),
+    Ask::End(End::Disconnect(LISTENER, Seq(1), b"")),
+    Ask::Endpoint(Endpoint::Unbind(LISTENER)),
+];
