@@ -1,8 +1,10 @@
 //! What calls answered, a line of text each.
 
 use std::alloc::Global;
+use std::process::Abort;
+use std::test::*;
 use xti_base::{Event, Fd, Info, Octets, Parts, Seq, State};
-use xti_calls::{Fail, Halt, TCall};
+use xti_calls::{Fail as CallFail, Halt, TCall};
 use xti_text::{put_number, put_octets, put_signed, put_text};
 
 /// The text of what calls answered. Where memory runs out it lacks a word, so that it is no text that a test wants.
@@ -19,9 +21,9 @@ impl Log {
         }
     }
 
-    /// The text so far.
-    pub(crate) fn as_slice(&self) -> &[u8] {
-        self.lines.as_slice()
+    /// The test fails where another text is wanted.
+    pub(crate) fn expect<R: Abort>(&self, rt: &R, topic: &str, wanted: &str) {
+        assert_eq!(rt; self.lines.as_slice(), wanted.as_bytes(), "{topic}");
     }
 
     /// Adds a text.
@@ -63,21 +65,21 @@ impl Log {
     }
 
     /// Adds why a call has no answer of its own.
-    fn fail(&mut self, fail: Fail) {
+    fn fail(&mut self, fail: CallFail) {
         match fail {
-            Fail::Err(errno) => self.text(errno.name()),
-            Fail::Look(event) => {
+            CallFail::Err(errno) => self.text(errno.name()),
+            CallFail::Look(event) => {
                 self.text("TLOOK ");
                 self.text(event.name());
             }
-            Fail::Overflow(seq) => self.number("TBUFOVFLW ", seq.0 as u64),
-            Fail::Halt(halt) => self.halt(halt),
-            Fail::Memory(_) => self.text("out of memory"),
+            CallFail::Overflow(seq) => self.number("TBUFOVFLW ", seq.0 as u64),
+            CallFail::Halt(halt) => self.halt(halt),
+            CallFail::Memory(_) => self.text("out of memory"),
         }
     }
 
     /// Adds what a call answered, a line.
-    pub(crate) fn note<T: Told + Drop>(&mut self, answer: Result<T, Fail>) {
+    pub(crate) fn note<T: Told + Drop>(&mut self, answer: Result<T, CallFail>) {
         match answer {
             Ok(told) => told.tell(self),
             Err(fail) => self.fail(fail),

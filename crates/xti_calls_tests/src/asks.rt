@@ -121,7 +121,9 @@ fn change_endpoint<R: Wait + Sync>(
     match *ask {
         Endpoint::Open(name, nonblock) => log.note(xti.t_open(rt, alloc, seat, name, nonblock)),
         Endpoint::Close(fd) => log.note(xti.t_close(rt, alloc, seat, fd)),
-        Endpoint::Bind(fd, addr, qlen, amax) => log.note(xti.t_bind(rt, alloc, seat, fd, addr, qlen, amax)),
+        Endpoint::Bind(fd, addr, qlen, amax) => log.note(xti.t_bind(
+            rt, alloc, seat, fd, addr, qlen, amax,
+        )),
         Endpoint::Unbind(fd) => log.note(xti.t_unbind(rt, alloc, seat, fd)),
         Endpoint::Mode(fd, nonblock) => log.note(xti.set_mode(rt, alloc, seat, fd, nonblock)),
     }
@@ -145,8 +147,12 @@ fn tell_endpoint<R: Wait + Sync>(
         Look::State(fd) => log.note(xti.t_getstate(rt, alloc, seat, fd)),
         Look::Sync(fd) => log.note(xti.t_sync(rt, alloc, seat, fd)),
         Look::Info(fd) => log.note(xti.t_getinfo(rt, alloc, seat, fd)),
-        Look::Addresses(fd, amax, pmax) => log.note(xti.t_getprotaddr(rt, alloc, seat, fd, amax, pmax)),
-        Look::Options(fd, action, opt, omax) => log.note(xti.t_optmgmt(rt, alloc, seat, fd, action, opt, omax)),
+        Look::Addresses(fd, amax, pmax) => log.note(xti.t_getprotaddr(
+            rt, alloc, seat, fd, amax, pmax,
+        )),
+        Look::Options(fd, action, opt, omax) => log.note(xti.t_optmgmt(
+            rt, alloc, seat, fd, action, opt, omax,
+        )),
     }
 }
 
@@ -164,10 +170,14 @@ fn make_connection<R: Wait + Sync>(
     ensures { IsOf xti.now seat.new }
 {
     match *ask {
-        Request::Connect(fd, addr, opt, udata, max) => log.note(xti.t_connect(rt, alloc, seat, fd, addr, opt, udata, max)),
+        Request::Connect(fd, addr, opt, udata, max) => log.note(xti.t_connect(
+            rt, alloc, seat, fd, addr, opt, udata, max,
+        )),
         Request::Confirm(fd, max) => log.note(xti.t_rcvconnect(rt, alloc, seat, fd, max)),
         Request::Listen(fd, max) => log.note(xti.t_listen(rt, alloc, seat, fd, max)),
-        Request::Accept(fd, resfd, seq, opt, udata) => log.note(xti.t_accept(rt, alloc, seat, fd, resfd, seq, opt, udata)),
+        Request::Accept(fd, resfd, seq, opt, udata) => log.note(xti.t_accept(
+            rt, alloc, seat, fd, resfd, seq, opt, udata,
+        )),
     }
 }
 
@@ -243,7 +253,9 @@ fn move_data<R: Wait + Sync>(
     match *ask {
         Data::Send(fd, bytes, flags) => log.note(xti.t_snd(rt, alloc, seat, fd, bytes, flags)),
         Data::Receive(fd, max) => log.note(xti.t_rcv(rt, alloc, seat, fd, max)),
-        Data::SendParts(fd, parts, flags) => log.note(send_parts(rt, alloc, xti, seat, fd, parts, flags)),
+        Data::SendParts(fd, parts, flags) => log.note(send_parts(
+            rt, alloc, xti, seat, fd, parts, flags,
+        )),
         Data::ReceiveParts(fd, all) => log.note(receive_parts(rt, alloc, xti, seat, fd, all)),
     }
 }
@@ -300,23 +312,24 @@ fn move_datagram<R: Wait + Sync>(
     ensures { IsOf xti.now seat.new }
 {
     match *ask {
-        Datagram::Send(fd, addr, opt, bytes) => log.note(xti.t_sndudata(rt, alloc, seat, fd, addr, opt, bytes)),
+        Datagram::Send(fd, addr, opt, bytes) => log.note(xti.t_sndudata(
+            rt, alloc, seat, fd, addr, opt, bytes,
+        )),
         Datagram::Receive(fd, max) => log.note(xti.t_rcvudata(rt, alloc, seat, fd, max)),
-        Datagram::SendParts(fd, addr, opt, parts) => log.note(send_datagram(rt, alloc, xti, seat, fd, addr, opt, parts)),
-        Datagram::ReceiveParts(fd, all, amax, omax) => log.note(receive_datagram(rt, alloc, xti, seat, fd, all, amax, omax)),
-        Datagram::Error(fd, amax, omax) => log.note(xti.t_rcvuderr(rt, alloc, seat, fd, amax, omax)),
+        Datagram::SendParts(fd, addr, opt, parts) => log.note(send_datagram(
+            rt, alloc, xti, seat, fd, addr, opt, parts,
+        )),
+        Datagram::ReceiveParts(fd, all, amax, omax) => log.note(receive_datagram(
+            rt, alloc, xti, seat, fd, all, amax, omax,
+        )),
+        Datagram::Error(fd, amax, omax) => log.note(xti.t_rcvuderr(
+            rt, alloc, seat, fd, amax, omax,
+        )),
     }
 }
 
 /// One call.
-fn make<R: Wait + Sync>(
-    rt: &R,
-    alloc: Global,
-    xti: &Xti,
-    seat: &mut Seat,
-    log: &mut Log,
-    ask: &Ask,
-)
+fn make<R: Wait + Sync>(rt: &R, alloc: Global, xti: &Xti, seat: &mut Seat, log: &mut Log, ask: &Ask)
     requires seat { IsOf xti.now seat.old }
     requires none { unfinished_from None None seat.old.view.mine ≡ None }
     ensures { IsOf xti.now seat.new }

@@ -377,7 +377,7 @@ fn conversations(rt: HostRuntime) -> Result<(), Fail> {
     for (topic, tables, wanted) in &TOPICS {
         let mut log = Log::new(rt.alloc());
         talk(&rt, rt.alloc(), &mut log, tables)?;
-        assert_eq!(rt; log.as_slice(), wanted.as_bytes(), "{topic}");
+        log.expect(&rt, topic, wanted);
     }
     Ok(())
 }

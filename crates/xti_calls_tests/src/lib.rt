@@ -1,4 +1,5 @@
-//! Tests of the library: its calls in their own types, with worked values from outside, and threads that are held at a gate.
+//! Tests of the library: its calls in their own types, with worked values from outside, and threads that are held at
+//! gates.
 #![tactic(auto)]
 
 #[cfg(test)]

@@ -23,8 +23,6 @@ pub(crate) enum Stop {
     NotValid,
     /// There is no seat.
     NoSeat,
-    /// No thread came to its gate.
-    NotHeld,
 }
 
 impl From<AllocError> for Stop {

@@ -385,7 +385,7 @@ fn small<R: Wait + Sync>(rt: &R, alloc: Global, log: &mut Log) -> Result<(), Sto
 fn parts(rt: HostRuntime) -> Result<(), Fail> {
     let mut log = Log::new(rt.alloc());
     sends(&rt, rt.alloc(), &mut log)?;
-    assert_eq!(rt; log.as_slice(), ANSWERS.as_bytes());
+    log.expect(&rt, "a send in parts", ANSWERS);
     Ok(())
 }
 
@@ -393,6 +393,6 @@ fn parts(rt: HostRuntime) -> Result<(), Fail> {
 fn buffers(rt: HostRuntime) -> Result<(), Fail> {
     let mut log = Log::new(rt.alloc());
     small(&rt, rt.alloc(), &mut log)?;
-    assert_eq!(rt; log.as_slice(), SMALL.as_bytes());
+    log.expect(&rt, "small buffers", SMALL);
     Ok(())
 }

@@ -88,8 +88,8 @@ fn entries<R: Wait>(rt: &R, alloc: Global, xti: &Xti, seat: &mut Seat) -> Result
     Ok(xti.history(rt, alloc, seat)?.as_slice().len())
 }
 
-/// How many more seats the first gives, whether the seat with number 1 gives none, its number when it has met the first, and
-/// how many entries it then tells.
+/// How many more seats the first gives, whether the seat with number 1 gives none, its number when it has met the
+/// first, and how many entries it then tells.
 fn crowd<R: Wait>(
     rt: &R,
     alloc: Global,
@@ -168,6 +168,6 @@ fn numbers(rt: HostRuntime) -> Result<(), Fail> {
 fn histories(rt: HostRuntime) -> Result<(), Fail> {
     let mut log = Log::new(rt.alloc());
     talked(&rt, rt.alloc(), &mut log)?;
-    assert_eq!(rt; log.as_slice(), ANSWERS.as_bytes());
+    log.expect(&rt, "a datagram between two seats", ANSWERS);
     Ok(())
 }
