@@ -44,7 +44,8 @@ halted v v' c (Stalled taken stall) n k e = is_unfinished v' c k.stopped.so_far 
 
 -- a call that was made is unfinished where bytes are taken
 pub made_unfinished : (v v' : View) (c : Call) (r : Result Reply Halt) (n : ℕ) →
-    MatchResult r (Answered v c go.Begin v') (Halted v c go.Begin v') → unfinished_bytes v'.mine ≡ Some n → IsUnfinished v' c
+    MatchResult r (Answered v c go.Begin v') (Halted v c go.Begin v') → unfinished_bytes v'.mine ≡ Some n →
+    IsUnfinished v' c
 made_unfinished v v' c (Ok reply) n k e = absurd (none_taken v' n k.finished e)
 made_unfinished v v' c (Err halt) n k e = halted v v' c halt n k e
 

@@ -166,7 +166,8 @@ fn finish<R: Wait + Sync>(
     finished(seat)
 }
 
-/// The send in two parts: the first stalls, since the other seat rests, and the second is made once bytes were received.
+/// The send in two parts: the first stalls, since the other seat rests, and the second is made once bytes were
+/// received.
 fn by_calls<R: Wait + Sync>(
     rt: &R,
     alloc: Global,
