@@ -65,7 +65,7 @@ impl Log {
     }
 
     /// Adds why a call has no answer of its own.
-    fn fail(&mut self, fail: CallFail) {
+    pub(crate) fn fail(&mut self, fail: CallFail) {
         match fail {
             CallFail::Err(errno) => self.text(errno.name()),
             CallFail::Look(event) => {
@@ -101,12 +101,6 @@ impl Told for () {
 }
 
 impl Told for u32 {
-    fn tell(&self, log: &mut Log) {
-        log.number("", *self as u64);
-    }
-}
-
-impl Told for usize {
     fn tell(&self, log: &mut Log) {
         log.number("", *self as u64);
     }

@@ -86,10 +86,13 @@ fn send(alloc: Global) -> Result<Call, AllocError> {
     })
 }
 
-/// How many bytes were received.
-fn length(answer: Result<(Octets, u32), CallFail>) -> Result<usize, CallFail> {
-    let (bytes, _flags) = answer?;
-    Ok(bytes.as_slice().len())
+/// Writes down how many bytes were received.
+fn put_length(log: &mut Log, answer: &Result<(Octets, u32), CallFail>) {
+    match answer {
+        Ok((bytes, _flags)) => log.number("", bytes.as_slice().len() as u64),
+        Err(fail) => log.fail(*fail),
+    }
+    log.text("\n");
 }
 
 /// Receives what waits, and writes down how many bytes they are. The seat rests afterwards.
@@ -105,15 +108,15 @@ fn receive<R: Wait + Sync>(
     ensures seat { IsOf xti.now seat.new }
     ensures none { OnOk result (unfinished_from None None seat.new.view.mine ≡ None) }
 {
-    log.note(length(xti.t_rcv(rt, alloc, seat, ANSWERER, 65_536)));
+    put_length(log, &xti.t_rcv(rt, alloc, seat, ANSWERER, 65_536));
     xti.rest(rt, seat);
     finished(seat)
 }
 
 /// Writes down why a call stopped.
-fn put_stopped(log: &mut Log, answer: Result<Reply, Halt>) {
+fn put_stopped(log: &mut Log, answer: &Result<Reply, Halt>) {
     match answer {
-        Err(halt) => log.halt(halt),
+        Err(halt) => log.halt(*halt),
         Ok(_) => log.text("finished"),
     }
     log.text("\n");
@@ -133,7 +136,7 @@ fn begin<R: Wait + Sync>(
     ensures seat { IsOf xti.now seat.new }
     ensures unfinished { OnOk result (IsUnfinished seat.new.view call.now) }
 {
-    put_stopped(log, xti.call(rt, alloc, seat, &NoGate, call));
+    put_stopped(log, &xti.call(rt, alloc, seat, &NoGate, call));
     match seat.unfinished() {
         Some(_) => Ok(()),
         None => Err(Stop::Finished),
@@ -141,9 +144,9 @@ fn begin<R: Wait + Sync>(
 }
 
 /// How many bytes a call of the seat has sent.
-fn sent(answer: Result<Reply, Halt>) -> u32 {
+fn sent(answer: &Result<Reply, Halt>) -> u32 {
     match answer {
-        Ok(Reply::Sent { n }) => n,
+        Ok(Reply::Sent { n }) => *n,
         _ => 0,
     }
 }
@@ -162,7 +165,7 @@ fn finish<R: Wait + Sync>(
     ensures seat { IsOf xti.now seat.new }
     ensures none { OnOk result (unfinished_from None None seat.new.view.mine ≡ None) }
 {
-    log.note(Ok(sent(xti.resume(rt, alloc, seat, &NoGate, call))));
+    log.note(Ok(sent(&xti.resume(rt, alloc, seat, &NoGate, call))));
     finished(seat)
 }
 
@@ -193,14 +196,14 @@ fn by_calls<R: Wait + Sync>(
 }
 
 /// How many bytes are taken of a call that goes on after a step.
-fn part_of(applied: Applied) -> Option<u32>
-    ensures { IfSome result (IsPart applied) }
+fn part_of(applied: &Applied) -> Option<u32>
+    ensures { IfSome result (IsPart applied.now) }
 {
     match applied {
         Applied::Step {
             outcome: Outcome::Part { taken },
             ..
-        } => Some(taken),
+        } => Some(*taken),
         _ => None,
     }
 }
@@ -227,7 +230,7 @@ fn first_part<R: Wait + Sync>(
     ensures part { IfOk result (λ taken. IsAt seat.new.view call.now (More taken)) }
 {
     let applied = xti.step(rt, alloc, seat, &NoGate, call, Go::Begin)?;
-    match part_of(applied) {
+    match part_of(&applied) {
         Some(taken) => Ok(taken),
         None => Err(Stop::Finished),
     }
@@ -257,12 +260,12 @@ fn blocked<R: Wait + Sync>(
 }
 
 /// How many bytes a send has taken by its last step.
-fn last_of(applied: Applied) -> u32 {
+fn last_of(applied: &Applied) -> u32 {
     match applied {
         Applied::Step {
             outcome: Outcome::Done(Reply::Sent { n }),
             ..
-        } => n,
+        } => *n,
         _ => 0,
     }
 }
@@ -282,7 +285,7 @@ fn last_part<R: Wait + Sync>(
     ensures { IsOf xti.now seat.new }
 {
     let applied = xti.step(rt, alloc, seat, &NoGate, call, Go::More(taken))?;
-    Ok(last_of(applied))
+    Ok(last_of(&applied))
 }
 
 /// A part of the send, and a step that is blocked; how many bytes are taken.

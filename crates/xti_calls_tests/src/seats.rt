@@ -8,15 +8,14 @@ use crate::answers::Log;
 use crate::asks::make_all;
 use crate::datagrams;
 use crate::library::{Stop, another_seat, library};
-use std::alloc::Global;
+use std::alloc::{AllocError, Global};
 use std::sync::Wait;
 use std::test::*;
-use xti_base::{Items, Octets};
 use xti_calls::{Seat, Xti};
-use xti_journal::write_journal;
-use xti_model::{Journal, Providers};
+use xti_journal::write_entry;
+use xti_model::Entry;
 
-/// What the calls of a datagram answer that the second seat sends and receives, and the journal of the history.
+/// What the calls of a datagram answer that the second seat sends and receives, and the lines of the history.
 const ANSWERS: &str = "0
 x:61 0
 1
@@ -24,10 +23,6 @@ x:62 0
 ok
 0 x:61 x: x:68656c 1
 0 x: x: x:6c6f 0
-xti-journal 1
-provider ticots tsdu=65536 sendzero=1 same_addr=0 sndbuf=16384 rcvbuf=16384
-provider ticotsord tsdu=0 sendzero=0 same_addr=0 sndbuf=16384 rcvbuf=16384
-provider ticlts tsdu=8192 sendzero=1 same_addr=0 sndbuf=16384 rcvbuf=16384
 1 0 open ticlts block => ok 0 T_UNBND
 2 0 bind 0 addr=x:61 qlen=0 amax=64 => ok x:61 0 T_IDLE
 3 0 open ticlts block => ok 1 T_UNBND
@@ -35,7 +30,6 @@ provider ticlts tsdu=8192 sendzero=1 same_addr=0 sndbuf=16384 rcvbuf=16384
 5 1 sndudata 0 addr=x:62 opt=x: data=x:68656c6c6f => ok T_IDLE
 6 1 rcvudata 1 max=3 amax=64 omax=256 => ok x:61 x: x:68656c 1 T_IDLE
 7 1 rcvudata 1 max=3 amax=64 omax=256 => ok x: x: x:6c6f 0 T_IDLE
-end 7
 ";
 
 /// The number of one more seat that this one gives, if it gives one.
@@ -62,23 +56,27 @@ fn splits<R: Wait>(rt: &R, alloc: Global, xti: &Xti, seat: &mut Seat) -> u32
     98
 }
 
-/// Writes down the journal of the history.
-fn journal<R: Wait>(
+/// Writes down these entries, a line each.
+fn put_entries(alloc: Global, log: &mut Log, entries: &[Entry]) -> Result<(), AllocError> {
+    for (index, entry) in entries.iter().enumerate() {
+        let line = write_entry(alloc, index as u64 + 1, entry)?;
+        log.append(line.as_slice());
+    }
+    Ok(())
+}
+
+/// Writes down the history.
+fn put_history<R: Wait>(
     rt: &R,
     alloc: Global,
     xti: &Xti,
     seat: &mut Seat,
     log: &mut Log,
-) -> Result<(), Stop>
+) -> Result<(), AllocError>
     requires { IsOf xti.now seat.old }
 {
-    let journal = Journal {
-        providers: Providers::usual(),
-        entries: xti.history(rt, alloc, seat)?,
-        stalls: Items::new(alloc),
-    };
-    log.append(write_journal(alloc, &journal)?.as_slice());
-    Ok(())
+    let history = xti.history(rt, alloc, seat)?;
+    put_entries(alloc, log, history.as_slice())
 }
 
 /// How many entries the seat tells.
@@ -132,7 +130,7 @@ fn datagram<R: Wait + Sync>(
     make_all(rt, alloc, xti, second, log, datagrams::TWO_PARTS)
 }
 
-/// Writes down what two seats are answered that have a datagram between them, and the journal that the first seat tells
+/// Writes down what two seats are answered that have a datagram between them, and the history that the first seat tells
 /// when it has met the second.
 fn talk<R: Wait + Sync>(
     rt: &R,
@@ -148,7 +146,7 @@ fn talk<R: Wait + Sync>(
     datagram(rt, alloc, xti, &mut first, second, log)?;
     xti.rest(rt, second);
     let mut first = xti.meet(first, second);
-    journal(rt, alloc, xti, &mut first, log)
+    Ok(put_history(rt, alloc, xti, &mut first, log)?)
 }
 
 /// The same in a library of its own.
