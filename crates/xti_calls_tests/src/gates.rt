@@ -205,10 +205,14 @@ fn held_side<R: Wait + Sync>(
     requires seat { IsOf xti.now seat }
     requires none { unfinished_from None None seat.view.mine ≡ None }
 {
-    match held_call(alloc, held) {
-        Ok(call) => xti.call(rt, alloc, &mut seat, gate, &call).is_ok(),
-        Err(_) => false,
-    }
+    let Ok(call) = held_call(alloc, held) else {
+        return false;
+    };
+    let answer = xti.call(rt, alloc, &mut seat, gate, &call);
+    drop(call);
+    let answered = answer.is_ok();
+    drop(answer);
+    answered
 }
 
 /// Makes these calls once the other thread is held, and then lets it go; what they answered. Where nobody is held it

@@ -108,7 +108,9 @@ fn receive<R: Wait + Sync>(
     ensures seat { IsOf xti.now seat.new }
     ensures none { OnOk result (unfinished_from None None seat.new.view.mine ≡ None) }
 {
-    put_length(log, &xti.t_rcv(rt, alloc, seat, ANSWERER, 65_536));
+    let answer = xti.t_rcv(rt, alloc, seat, ANSWERER, 65_536);
+    put_length(log, &answer);
+    drop(answer);
     xti.rest(rt, seat);
     finished(seat)
 }
@@ -136,7 +138,9 @@ fn begin<R: Wait + Sync>(
     ensures seat { IsOf xti.now seat.new }
     ensures unfinished { OnOk result (IsUnfinished seat.new.view call.now) }
 {
-    put_stopped(log, &xti.call(rt, alloc, seat, &NoGate, call));
+    let answer = xti.call(rt, alloc, seat, &NoGate, call);
+    put_stopped(log, &answer);
+    drop(answer);
     match seat.unfinished() {
         Some(_) => Ok(()),
         None => Err(Stop::Finished),
@@ -165,7 +169,9 @@ fn finish<R: Wait + Sync>(
     ensures seat { IsOf xti.now seat.new }
     ensures none { OnOk result (unfinished_from None None seat.new.view.mine ≡ None) }
 {
-    log.note(Ok(sent(&xti.resume(rt, alloc, seat, &NoGate, call))));
+    let answer = xti.resume(rt, alloc, seat, &NoGate, call);
+    log.note(Ok(sent(&answer)));
+    drop(answer);
     finished(seat)
 }
 
@@ -230,7 +236,9 @@ fn first_part<R: Wait + Sync>(
     ensures part { IfOk result (λ taken. IsAt seat.new.view call.now (More taken)) }
 {
     let applied = xti.step(rt, alloc, seat, &NoGate, call, Go::Begin)?;
-    match part_of(&applied) {
+    let part = part_of(&applied);
+    drop(applied);
+    match part {
         Some(taken) => Ok(taken),
         None => Err(Stop::Finished),
     }
@@ -252,11 +260,9 @@ fn blocked<R: Wait + Sync>(
     ensures part { OnOk result (IsAt seat.new.view call.now (More taken)) }
 {
     let applied = xti.step(rt, alloc, seat, &NoGate, call, Go::More(taken))?;
-    if is_blocked(&applied) {
-        Ok(())
-    } else {
-        Err(Stop::Finished)
-    }
+    let blocked = is_blocked(&applied);
+    drop(applied);
+    if blocked { Ok(()) } else { Err(Stop::Finished) }
 }
 
 /// How many bytes a send has taken by its last step.
@@ -285,7 +291,9 @@ fn last_part<R: Wait + Sync>(
     ensures { IsOf xti.now seat.new }
 {
     let applied = xti.step(rt, alloc, seat, &NoGate, call, Go::More(taken))?;
-    Ok(last_of(&applied))
+    let taken = last_of(&applied);
+    drop(applied);
+    Ok(taken)
 }
 
 /// A part of the send, and a step that is blocked; how many bytes are taken.
@@ -351,26 +359,34 @@ fn two_sends<R: Wait + Sync>(
     by_steps(rt, alloc, xti, seat, second, log, call)
 }
 
-/// Both sends, by the first seat and one more.
+/// Both sends, by the first seat of a library and one more.
 fn sends_with<R: Wait + Sync>(
     rt: &R,
     alloc: Global,
     xti: &Xti,
     mut seat: Seat,
     log: &mut Log,
+    call: &Call,
 ) -> Result<(), Stop>
     requires seat { IsOf xti.now seat }
     requires none { unfinished_from None None seat.view.mine ≡ None }
 {
     let mut second = another_seat(rt, alloc, xti, &mut seat)?;
-    let call = send(alloc)?;
-    two_sends(rt, alloc, xti, &mut seat, &mut second, log, &call)
+    two_sends(rt, alloc, xti, &mut seat, &mut second, log, call)
 }
 
-/// Writes down what both sends answer, in a library of their own.
-fn sends<R: Wait + Sync>(rt: &R, alloc: Global, log: &mut Log) -> Result<(), Stop> {
+/// The same in a library of its own.
+fn sends_of<R: Wait + Sync>(rt: &R, alloc: Global, log: &mut Log, call: &Call) -> Result<(), Stop> {
     let (xti, seat) = library(alloc)?;
-    sends_with(rt, alloc, &xti, seat, log)
+    sends_with(rt, alloc, &xti, seat, log, call)
+}
+
+/// Writes down what both sends answer.
+fn sends<R: Wait + Sync>(rt: &R, alloc: Global, log: &mut Log) -> Result<(), Stop> {
+    let call = send(alloc)?;
+    let made = sends_of(rt, alloc, log, &call);
+    drop(call);
+    made
 }
 
 /// Writes down what a connection with small buffers answers.

@@ -76,14 +76,19 @@ fn put_history<R: Wait>(
     requires { IsOf xti.now seat.old }
 {
     let history = xti.history(rt, alloc, seat)?;
-    put_entries(alloc, log, history.as_slice())
+    let put = put_entries(alloc, log, history.as_slice());
+    drop(history);
+    put
 }
 
 /// How many entries the seat tells.
 fn entries<R: Wait>(rt: &R, alloc: Global, xti: &Xti, seat: &mut Seat) -> Result<usize, Stop>
     requires { IsOf xti.now seat.old }
 {
-    Ok(xti.history(rt, alloc, seat)?.as_slice().len())
+    let history = xti.history(rt, alloc, seat)?;
+    let length = history.as_slice().len();
+    drop(history);
+    Ok(length)
 }
 
 /// How many more seats the first gives, whether the seat with number 1 gives none, its number when it has met the
