@@ -8,16 +8,16 @@ ghost use Rattle.xti_calls.specs.Calling.{IsAt, IsUnfinished};
 ghost use Rattle.xti_calls.specs.Library.{IsOf};
 ghost use Rattle.xti_calls_tests.specs.Parts.{IsPart};
 
-use crate::answers::{Stop, note, put_halt};
+use crate::answers::Log;
 use crate::asks::{Ask, converse};
 use crate::connections::{self, ANSWERER, CALLER};
+use crate::library::{Stop, another_seat, finished, library, library_with};
 use std::alloc::{AllocError, Global};
 use std::sync::Wait;
 use std::test::*;
 use xti_base::Octets;
 use xti_calls::{Fail as CallFail, Halt, NoGate, Seat, Xti};
-use xti_model::{Applied, Call, Go, Outcome, Providers, Reply, usual_is_valid};
-use xti_text::{put_number, put_text};
+use xti_model::{Applied, Call, Go, Outcome, Providers, Reply};
 
 /// More bytes than both buffers have room for.
 const BYTES: usize = 40_000;
@@ -64,17 +64,17 @@ none
 ";
 
 /// A connection of two endpoints without O_NONBLOCK.
-const CONNECTED: &[(u32, &[Ask])] = &[
-    (1, connections::OF_TICOTSORD),
-    (1, connections::CONNECT),
-    (1, connections::BLOCKING),
+const CONNECTED: &[&[Ask]] = &[
+    connections::OF_TICOTSORD,
+    connections::CONNECT,
+    connections::BLOCKING,
 ];
 
 /// A connection whose buffers are small.
-const SMALL_BUFFERS: &[(u32, &[Ask])] = &[
-    (1, connections::OF_TICOTSORD),
-    (1, connections::CONNECT),
-    (1, connections::SMALL_BUFFERS),
+const SMALL_BUFFERS: &[&[Ask]] = &[
+    connections::OF_TICOTSORD,
+    connections::CONNECT,
+    connections::SMALL_BUFFERS,
 ];
 
 /// The send.
@@ -86,41 +86,42 @@ fn send(alloc: Global) -> Result<Call, AllocError> {
     })
 }
 
-/// How many bytes were received.
-fn length(answer: Result<(Octets, u32), CallFail>) -> Result<usize, CallFail> {
-    let (bytes, _flags) = answer?;
-    Ok(bytes.as_slice().len())
+/// Writes down how many bytes were received.
+fn put_length(log: &mut Log, answer: &Result<(Octets, u32), CallFail>) {
+    match answer {
+        Ok((bytes, _flags)) => log.number("", bytes.as_slice().len() as u64),
+        Err(fail) => log.fail(*fail),
+    }
+    log.text("\n");
 }
 
-/// Receives what waits, and notes how many bytes they are. The seat rests afterwards.
+/// Receives what waits, and writes down how many bytes they are. The seat rests afterwards.
 fn receive<R: Wait + Sync>(
     rt: &R,
     alloc: Global,
     xti: &Xti,
     seat: &mut Seat,
-    log: &mut Vec<u8>,
+    log: &mut Log,
 ) -> Result<(), Stop>
     requires seat { IsOf xti.now seat.old }
     requires none { unfinished_from None None seat.old.view.mine ≡ None }
     ensures seat { IsOf xti.now seat.new }
     ensures none { OnOk result (unfinished_from None None seat.new.view.mine ≡ None) }
 {
-    note(
-        length(xti.t_rcv(rt, alloc, seat, ANSWERER, 65_536)),
-        seat,
-        log,
-    )?;
+    let answer = xti.t_rcv(rt, alloc, seat, ANSWERER, 65_536);
+    put_length(log, &answer);
+    drop(answer);
     xti.rest(rt, seat);
-    Ok(())
+    finished(seat)
 }
 
-/// Appends why a call stopped.
-fn put_stopped(log: &mut Vec<u8>, answer: Result<Reply, Halt>) -> Result<(), AllocError> {
+/// Writes down why a call stopped.
+fn put_stopped(log: &mut Log, answer: &Result<Reply, Halt>) {
     match answer {
-        Err(halt) => put_halt(log, halt)?,
-        Ok(_) => put_text(log, "finished")?,
+        Err(halt) => log.halt(*halt),
+        Ok(_) => log.text("finished"),
     }
-    put_text(log, "\n")
+    log.text("\n");
 }
 
 /// Begins the send, which stalls with a part of it made.
@@ -129,7 +130,7 @@ fn begin<R: Wait + Sync>(
     alloc: Global,
     xti: &Xti,
     seat: &mut Seat,
-    log: &mut Vec<u8>,
+    log: &mut Log,
     call: &Call,
 ) -> Result<(), Stop>
     requires seat { IsOf xti.now seat.old }
@@ -137,7 +138,9 @@ fn begin<R: Wait + Sync>(
     ensures seat { IsOf xti.now seat.new }
     ensures unfinished { OnOk result (IsUnfinished seat.new.view call.now) }
 {
-    put_stopped(log, xti.call(rt, alloc, seat, &NoGate, call))?;
+    let answer = xti.call(rt, alloc, seat, &NoGate, call);
+    put_stopped(log, &answer);
+    drop(answer);
     match seat.unfinished() {
         Some(_) => Ok(()),
         None => Err(Stop::Finished),
@@ -145,20 +148,20 @@ fn begin<R: Wait + Sync>(
 }
 
 /// How many bytes a call of the seat has sent.
-fn sent(answer: Result<Reply, Halt>) -> u32 {
+fn sent(answer: &Result<Reply, Halt>) -> u32 {
     match answer {
-        Ok(Reply::Sent { n }) => n,
+        Ok(Reply::Sent { n }) => *n,
         _ => 0,
     }
 }
 
-/// Goes on with the send, and notes how many bytes it has sent.
+/// Goes on with the send, and writes down how many bytes it has sent.
 fn finish<R: Wait + Sync>(
     rt: &R,
     alloc: Global,
     xti: &Xti,
     seat: &mut Seat,
-    log: &mut Vec<u8>,
+    log: &mut Log,
     call: &Call,
 ) -> Result<(), Stop>
     requires seat { IsOf xti.now seat.old }
@@ -166,18 +169,22 @@ fn finish<R: Wait + Sync>(
     ensures seat { IsOf xti.now seat.new }
     ensures none { OnOk result (unfinished_from None None seat.new.view.mine ≡ None) }
 {
-    let taken = sent(xti.resume(rt, alloc, seat, &NoGate, call));
-    note(Ok(taken), seat, log)
+    let answer = xti.resume(rt, alloc, seat, &NoGate, call);
+    log.note(Ok(sent(&answer)));
+    drop(answer);
+    finished(seat)
 }
 
-/// The send in two parts: the first stalls, since the other seat rests, and the second is made once bytes were received.
+/// The send in two parts: the first stalls, since the other seat rests, and the second is made once bytes were
+/// received.
 fn by_calls<R: Wait + Sync>(
     rt: &R,
     alloc: Global,
     xti: &Xti,
     seat: &mut Seat,
     second: &mut Seat,
-    log: &mut Vec<u8>,
+    log: &mut Log,
+    call: &Call,
 ) -> Result<(), Stop>
     requires seat { IsOf xti.now seat.old }
     requires none { unfinished_from None None seat.old.view.mine ≡ None }
@@ -188,22 +195,21 @@ fn by_calls<R: Wait + Sync>(
     ensures second { IsOf xti.now second.new }
     ensures none_there { OnOk result (unfinished_from None None second.new.view.mine ≡ None) }
 {
-    let call = send(alloc)?;
-    begin(rt, alloc, xti, second, log, &call)?;
+    begin(rt, alloc, xti, second, log, call)?;
     receive(rt, alloc, xti, seat, log)?;
-    finish(rt, alloc, xti, second, log, &call)?;
+    finish(rt, alloc, xti, second, log, call)?;
     receive(rt, alloc, xti, seat, log)
 }
 
 /// How many bytes are taken of a call that goes on after a step.
-fn part_of(applied: Applied) -> Option<u32>
-    ensures { IfSome result (IsPart applied) }
+fn part_of(applied: &Applied) -> Option<u32>
+    ensures { IfSome result (IsPart applied.now) }
 {
     match applied {
         Applied::Step {
             outcome: Outcome::Part { taken },
             ..
-        } => Some(taken),
+        } => Some(*taken),
         _ => None,
     }
 }
@@ -230,7 +236,9 @@ fn first_part<R: Wait + Sync>(
     ensures part { IfOk result (λ taken. IsAt seat.new.view call.now (More taken)) }
 {
     let applied = xti.step(rt, alloc, seat, &NoGate, call, Go::Begin)?;
-    match part_of(applied) {
+    let part = part_of(&applied);
+    drop(applied);
+    match part {
         Some(taken) => Ok(taken),
         None => Err(Stop::Finished),
     }
@@ -252,121 +260,159 @@ fn blocked<R: Wait + Sync>(
     ensures part { OnOk result (IsAt seat.new.view call.now (More taken)) }
 {
     let applied = xti.step(rt, alloc, seat, &NoGate, call, Go::More(taken))?;
-    if is_blocked(&applied) {
-        Ok(())
-    } else {
-        Err(Stop::Finished)
-    }
-}
-
-/// The same by steps: a part, a step that is blocked, and the rest of it once bytes were received.
-fn by_steps<R: Wait + Sync>(
-    rt: &R,
-    alloc: Global,
-    xti: &Xti,
-    seat: &mut Seat,
-    second: &mut Seat,
-    log: &mut Vec<u8>,
-) -> Result<(), Stop>
-    requires seat { IsOf xti.now seat.old }
-    requires none { unfinished_from None None seat.old.view.mine ≡ None }
-    requires second { IsOf xti.now second.old }
-    requires none_there { unfinished_from None None second.old.view.mine ≡ None }
-    ensures seat { IsOf xti.now seat.new }
-    ensures second { IsOf xti.now second.new }
-{
-    let call = send(alloc)?;
-    let taken = first_part(rt, alloc, xti, second, &call)?;
-    put_number(log, "part ", taken as u64)?;
-    blocked(rt, alloc, xti, second, &call, taken)?;
-    put_text(log, "\nblocked\n")?;
-    receive(rt, alloc, xti, seat, log)?;
-    last_part(rt, alloc, xti, second, log, &call, taken)?;
-    receive(rt, alloc, xti, seat, log)
+    let blocked = is_blocked(&applied);
+    drop(applied);
+    if blocked { Ok(()) } else { Err(Stop::Finished) }
 }
 
 /// How many bytes a send has taken by its last step.
-fn last_of(applied: Applied) -> u32 {
+fn last_of(applied: &Applied) -> u32 {
     match applied {
         Applied::Step {
             outcome: Outcome::Done(Reply::Sent { n }),
             ..
-        } => n,
+        } => *n,
         _ => 0,
     }
 }
 
-/// Makes the last step of a send, and appends how many bytes it has taken.
+/// How many bytes a send has taken by its last step, which this is to be.
 #[tactic(auto, using(crate::proofs::Sends::may_go_on))]
 fn last_part<R: Wait + Sync>(
     rt: &R,
     alloc: Global,
     xti: &Xti,
     seat: &mut Seat,
-    log: &mut Vec<u8>,
     call: &Call,
     taken: u32,
-) -> Result<(), Stop>
+) -> Result<u32, Stop>
     requires seat { IsOf xti.now seat.old }
     requires part { IsAt seat.old.view call.now (More taken) }
-    ensures seat { IsOf xti.now seat.new }
+    ensures { IsOf xti.now seat.new }
 {
-    let all = last_of(xti.step(rt, alloc, seat, &NoGate, call, Go::More(taken))?);
-    put_number(log, "", all as u64)?;
-    Ok(put_text(log, "\n")?)
+    let applied = xti.step(rt, alloc, seat, &NoGate, call, Go::More(taken))?;
+    let taken = last_of(&applied);
+    drop(applied);
+    Ok(taken)
 }
 
-/// What both sends answer, in a library of their own.
-fn sends<R: Wait + Sync>(rt: &R, alloc: Global) -> Result<Vec<u8>, Stop> {
-    usual_is_valid();
-    let (xti, mut first) = Xti::new(alloc, &Providers::usual())?;
-    let Ok(second) = xti.split(rt, alloc, &mut first) else {
-        return Err(Stop::NoSeat);
-    };
-    two_sends(rt, alloc, &xti, first, second)
+/// A part of the send, and a step that is blocked; how many bytes are taken.
+fn two_steps<R: Wait + Sync>(
+    rt: &R,
+    alloc: Global,
+    xti: &Xti,
+    seat: &mut Seat,
+    log: &mut Log,
+    call: &Call,
+) -> Result<u32, Stop>
+    requires seat { IsOf xti.now seat.old }
+    requires none { unfinished_from None None seat.old.view.mine ≡ None }
+    ensures seat { IsOf xti.now seat.new }
+    ensures part { IfOk result (λ taken. IsAt seat.new.view call.now (More taken)) }
+{
+    let taken = first_part(rt, alloc, xti, seat, call)?;
+    log.number("part ", taken as u64);
+    blocked(rt, alloc, xti, seat, call, taken)?;
+    log.text("\nblocked\n");
+    Ok(taken)
 }
 
-/// What both sends answer.
+/// The send by steps: a part, a step that is blocked, and the rest of it once bytes were received.
+fn by_steps<R: Wait + Sync>(
+    rt: &R,
+    alloc: Global,
+    xti: &Xti,
+    seat: &mut Seat,
+    second: &mut Seat,
+    log: &mut Log,
+    call: &Call,
+) -> Result<(), Stop>
+    requires seat { IsOf xti.now seat.old }
+    requires none { unfinished_from None None seat.old.view.mine ≡ None }
+    requires second { IsOf xti.now second.old }
+    requires none_there { unfinished_from None None second.old.view.mine ≡ None }
+{
+    let taken = two_steps(rt, alloc, xti, second, log, call)?;
+    receive(rt, alloc, xti, seat, log)?;
+    log.note(Ok(last_part(rt, alloc, xti, second, call, taken)?));
+    receive(rt, alloc, xti, seat, log)
+}
+
+/// Both sends, over a connection whose sender is the second seat.
 fn two_sends<R: Wait + Sync>(
     rt: &R,
     alloc: Global,
     xti: &Xti,
-    mut first: Seat,
-    mut second: Seat,
-) -> Result<Vec<u8>, Stop>
-    requires first { IsOf xti.now first × (unfinished_from None None first.view.mine ≡ None) }
-    requires second { IsOf xti.now second × (unfinished_from None None second.view.mine ≡ None) }
+    seat: &mut Seat,
+    second: &mut Seat,
+    log: &mut Log,
+    call: &Call,
+) -> Result<(), Stop>
+    requires seat { IsOf xti.now seat.old }
+    requires none { unfinished_from None None seat.old.view.mine ≡ None }
+    requires second { IsOf xti.now second.old }
+    requires none_there { unfinished_from None None second.old.view.mine ≡ None }
 {
-    let mut log = Vec::new(alloc);
-    converse(rt, alloc, xti, &mut first, &mut log, CONNECTED)?;
-    xti.rest(rt, &mut first);
-    by_calls(rt, alloc, xti, &mut first, &mut second, &mut log)?;
-    by_steps(rt, alloc, xti, &mut first, &mut second, &mut log)?;
-    Ok(log)
+    converse(rt, alloc, xti, seat, log, CONNECTED)?;
+    xti.rest(rt, seat);
+    by_calls(rt, alloc, xti, seat, second, log, call)?;
+    by_steps(rt, alloc, xti, seat, second, log, call)
 }
 
-/// What a connection with small buffers answers.
-fn small<R: Wait + Sync>(rt: &R, alloc: Global) -> Result<Vec<u8>, Stop> {
+/// Both sends, by the first seat of a library and one more.
+fn sends_with<R: Wait + Sync>(
+    rt: &R,
+    alloc: Global,
+    xti: &Xti,
+    mut seat: Seat,
+    log: &mut Log,
+    call: &Call,
+) -> Result<(), Stop>
+    requires seat { IsOf xti.now seat }
+    requires none { unfinished_from None None seat.view.mine ≡ None }
+{
+    let mut second = another_seat(rt, alloc, xti, &mut seat)?;
+    two_sends(rt, alloc, xti, &mut seat, &mut second, log, call)
+}
+
+/// The same in a library of its own.
+fn sends_of<R: Wait + Sync>(rt: &R, alloc: Global, log: &mut Log, call: &Call) -> Result<(), Stop> {
+    let (xti, seat) = library(alloc)?;
+    sends_with(rt, alloc, &xti, seat, log, call)
+}
+
+/// Writes down what both sends answer.
+fn sends<R: Wait + Sync>(rt: &R, alloc: Global, log: &mut Log) -> Result<(), Stop> {
+    let call = send(alloc)?;
+    let made = sends_of(rt, alloc, log, &call);
+    drop(call);
+    made
+}
+
+/// Writes down what a connection with small buffers answers.
+fn small<R: Wait + Sync>(rt: &R, alloc: Global, log: &mut Log) -> Result<(), Stop> {
     let mut providers = Providers::usual();
     providers.ticotsord.sndbuf = 2;
     providers.ticotsord.rcvbuf = 3;
     if !providers.valid() {
         return Err(Stop::NotValid);
     }
-    let (xti, mut seat) = Xti::new(alloc, &providers)?;
-    let mut log = Vec::new(alloc);
-    converse(rt, alloc, &xti, &mut seat, &mut log, SMALL_BUFFERS)?;
-    Ok(log)
+    let (xti, mut seat) = library_with(alloc, &providers)?;
+    converse(rt, alloc, &xti, &mut seat, log, SMALL_BUFFERS)
 }
 
 #[test]
 fn parts(rt: HostRuntime) -> Result<(), Fail> {
-    assert_eq!(rt; sends(&rt, rt.alloc())?.as_slice(), ANSWERS.as_bytes());
+    let mut log = Log::new(rt.alloc());
+    sends(&rt, rt.alloc(), &mut log)?;
+    log.expect(&rt, "a send in parts", ANSWERS);
     Ok(())
 }
 
 #[test]
 fn buffers(rt: HostRuntime) -> Result<(), Fail> {
-    assert_eq!(rt; small(&rt, rt.alloc())?.as_slice(), SMALL.as_bytes());
+    let mut log = Log::new(rt.alloc());
+    small(&rt, rt.alloc(), &mut log)?;
+    log.expect(&rt, "small buffers", SMALL);
     Ok(())
 }

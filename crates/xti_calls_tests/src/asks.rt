@@ -4,11 +4,12 @@ ghost use Rattle.std.specs.Prelude.{◌≡◌, None, OnOk};
 ghost use Rattle.xti_model.specs.History.{unfinished_from};
 ghost use Rattle.xti_calls.specs.Library.{IsOf};
 
-use crate::answers::{Stop, note};
+use crate::answers::Log;
+use crate::library::{Stop, finished};
 use std::alloc::{AllocError, Global};
 use std::sync::Wait;
-use xti_base::{Fd, Seq, Sizes};
-use xti_calls::{Max, Seat, Xti};
+use xti_base::{Fd, Octets, Parts, Seq, Sizes};
+use xti_calls::{Fail, Max, Seat, TCall, Xti};
 use xti_data::Gather;
 
 /// The most bytes that the callers take.
@@ -19,7 +20,6 @@ pub(crate) const MOST: Max = Max {
 };
 
 /// A call with its arguments.
-#[derive(Clone, Copy)]
 pub(crate) enum Ask {
     /// A call that changes an endpoint alone.
     Endpoint(Endpoint),
@@ -36,7 +36,6 @@ pub(crate) enum Ask {
 }
 
 /// Calls that change an endpoint alone.
-#[derive(Clone, Copy)]
 pub(crate) enum Endpoint {
     Open(&'static [u8], bool),
     Close(Fd),
@@ -46,7 +45,6 @@ pub(crate) enum Endpoint {
 }
 
 /// Calls that tell of an endpoint.
-#[derive(Clone, Copy)]
 pub(crate) enum Look {
     Event(Fd),
     State(Fd),
@@ -57,7 +55,6 @@ pub(crate) enum Look {
 }
 
 /// Calls that make a connection.
-#[derive(Clone, Copy)]
 pub(crate) enum Request {
     Connect(Fd, &'static [u8], &'static [u8], &'static [u8], Max),
     Confirm(Fd, Max),
@@ -66,7 +63,6 @@ pub(crate) enum Request {
 }
 
 /// Calls that end a connection.
-#[derive(Clone, Copy)]
 pub(crate) enum End {
     Disconnect(Fd, Seq, &'static [u8]),
     Disconnected(Fd, u32),
@@ -75,7 +71,6 @@ pub(crate) enum End {
 }
 
 /// Calls that move data over a connection.
-#[derive(Clone, Copy)]
 pub(crate) enum Data {
     Send(Fd, &'static [u8], u32),
     Receive(Fd, u32),
@@ -84,7 +79,6 @@ pub(crate) enum Data {
 }
 
 /// Calls of datagrams.
-#[derive(Clone, Copy)]
 pub(crate) enum Datagram {
     Send(Fd, &'static [u8], &'static [u8], &'static [u8]),
     Receive(Fd, Max),
@@ -117,32 +111,21 @@ fn change_endpoint<R: Wait + Sync>(
     alloc: Global,
     xti: &Xti,
     seat: &mut Seat,
-    log: &mut Vec<u8>,
+    log: &mut Log,
     ask: &Endpoint,
-) -> Result<(), Stop>
+)
     requires seat { IsOf xti.now seat.old }
     requires none { unfinished_from None None seat.old.view.mine ≡ None }
-    ensures seat { IsOf xti.now seat.new }
-    ensures none { OnOk result (unfinished_from None None seat.new.view.mine ≡ None) }
+    ensures { IsOf xti.now seat.new }
 {
     match *ask {
-        Endpoint::Open(name, nonblock) => note(
-            xti.t_open(rt, alloc, seat, name, nonblock),
-            seat,
-            log,
-        ),
-        Endpoint::Close(fd) => note(xti.t_close(rt, alloc, seat, fd), seat, log),
-        Endpoint::Bind(fd, addr, qlen, amax) => note(
-            xti.t_bind(rt, alloc, seat, fd, addr, qlen, amax),
-            seat,
-            log,
-        ),
-        Endpoint::Unbind(fd) => note(xti.t_unbind(rt, alloc, seat, fd), seat, log),
-        Endpoint::Mode(fd, nonblock) => note(
-            xti.set_mode(rt, alloc, seat, fd, nonblock),
-            seat,
-            log,
-        ),
+        Endpoint::Open(name, nonblock) => log.note(xti.t_open(rt, alloc, seat, name, nonblock)),
+        Endpoint::Close(fd) => log.note(xti.t_close(rt, alloc, seat, fd)),
+        Endpoint::Bind(fd, addr, qlen, amax) => log.note(xti.t_bind(
+            rt, alloc, seat, fd, addr, qlen, amax,
+        )),
+        Endpoint::Unbind(fd) => log.note(xti.t_unbind(rt, alloc, seat, fd)),
+        Endpoint::Mode(fd, nonblock) => log.note(xti.set_mode(rt, alloc, seat, fd, nonblock)),
     }
 }
 
@@ -152,29 +135,24 @@ fn tell_endpoint<R: Wait + Sync>(
     alloc: Global,
     xti: &Xti,
     seat: &mut Seat,
-    log: &mut Vec<u8>,
+    log: &mut Log,
     ask: &Look,
-) -> Result<(), Stop>
+)
     requires seat { IsOf xti.now seat.old }
     requires none { unfinished_from None None seat.old.view.mine ≡ None }
-    ensures seat { IsOf xti.now seat.new }
-    ensures none { OnOk result (unfinished_from None None seat.new.view.mine ≡ None) }
+    ensures { IsOf xti.now seat.new }
 {
     match *ask {
-        Look::Event(fd) => note(xti.t_look(rt, alloc, seat, fd), seat, log),
-        Look::State(fd) => note(xti.t_getstate(rt, alloc, seat, fd), seat, log),
-        Look::Sync(fd) => note(xti.t_sync(rt, alloc, seat, fd), seat, log),
-        Look::Info(fd) => note(xti.t_getinfo(rt, alloc, seat, fd), seat, log),
-        Look::Addresses(fd, amax, pmax) => note(
-            xti.t_getprotaddr(rt, alloc, seat, fd, amax, pmax),
-            seat,
-            log,
-        ),
-        Look::Options(fd, action, opt, omax) => note(
-            xti.t_optmgmt(rt, alloc, seat, fd, action, opt, omax),
-            seat,
-            log,
-        ),
+        Look::Event(fd) => log.note(xti.t_look(rt, alloc, seat, fd)),
+        Look::State(fd) => log.note(xti.t_getstate(rt, alloc, seat, fd)),
+        Look::Sync(fd) => log.note(xti.t_sync(rt, alloc, seat, fd)),
+        Look::Info(fd) => log.note(xti.t_getinfo(rt, alloc, seat, fd)),
+        Look::Addresses(fd, amax, pmax) => log.note(xti.t_getprotaddr(
+            rt, alloc, seat, fd, amax, pmax,
+        )),
+        Look::Options(fd, action, opt, omax) => log.note(xti.t_optmgmt(
+            rt, alloc, seat, fd, action, opt, omax,
+        )),
     }
 }
 
@@ -184,27 +162,22 @@ fn make_connection<R: Wait + Sync>(
     alloc: Global,
     xti: &Xti,
     seat: &mut Seat,
-    log: &mut Vec<u8>,
+    log: &mut Log,
     ask: &Request,
-) -> Result<(), Stop>
+)
     requires seat { IsOf xti.now seat.old }
     requires none { unfinished_from None None seat.old.view.mine ≡ None }
-    ensures seat { IsOf xti.now seat.new }
-    ensures none { OnOk result (unfinished_from None None seat.new.view.mine ≡ None) }
+    ensures { IsOf xti.now seat.new }
 {
     match *ask {
-        Request::Connect(fd, addr, opt, udata, max) => note(
-            xti.t_connect(rt, alloc, seat, fd, addr, opt, udata, max),
-            seat,
-            log,
-        ),
-        Request::Confirm(fd, max) => note(xti.t_rcvconnect(rt, alloc, seat, fd, max), seat, log),
-        Request::Listen(fd, max) => note(xti.t_listen(rt, alloc, seat, fd, max), seat, log),
-        Request::Accept(fd, resfd, seq, opt, udata) => note(
-            xti.t_accept(rt, alloc, seat, fd, resfd, seq, opt, udata),
-            seat,
-            log,
-        ),
+        Request::Connect(fd, addr, opt, udata, max) => log.note(xti.t_connect(
+            rt, alloc, seat, fd, addr, opt, udata, max,
+        )),
+        Request::Confirm(fd, max) => log.note(xti.t_rcvconnect(rt, alloc, seat, fd, max)),
+        Request::Listen(fd, max) => log.note(xti.t_listen(rt, alloc, seat, fd, max)),
+        Request::Accept(fd, resfd, seq, opt, udata) => log.note(xti.t_accept(
+            rt, alloc, seat, fd, resfd, seq, opt, udata,
+        )),
     }
 }
 
@@ -214,23 +187,18 @@ fn end_connection<R: Wait + Sync>(
     alloc: Global,
     xti: &Xti,
     seat: &mut Seat,
-    log: &mut Vec<u8>,
+    log: &mut Log,
     ask: &End,
-) -> Result<(), Stop>
+)
     requires seat { IsOf xti.now seat.old }
     requires none { unfinished_from None None seat.old.view.mine ≡ None }
-    ensures seat { IsOf xti.now seat.new }
-    ensures none { OnOk result (unfinished_from None None seat.new.view.mine ≡ None) }
+    ensures { IsOf xti.now seat.new }
 {
     match *ask {
-        End::Disconnect(fd, seq, udata) => note(
-            xti.t_snddis(rt, alloc, seat, fd, seq, udata),
-            seat,
-            log,
-        ),
-        End::Disconnected(fd, umax) => note(xti.t_rcvdis(rt, alloc, seat, fd, umax), seat, log),
-        End::Release(fd) => note(xti.t_sndrel(rt, alloc, seat, fd), seat, log),
-        End::Released(fd) => note(xti.t_rcvrel(rt, alloc, seat, fd), seat, log),
+        End::Disconnect(fd, seq, udata) => log.note(xti.t_snddis(rt, alloc, seat, fd, seq, udata)),
+        End::Disconnected(fd, umax) => log.note(xti.t_rcvdis(rt, alloc, seat, fd, umax)),
+        End::Release(fd) => log.note(xti.t_sndrel(rt, alloc, seat, fd)),
+        End::Released(fd) => log.note(xti.t_rcvrel(rt, alloc, seat, fd)),
     }
 }
 
@@ -240,18 +208,16 @@ fn send_parts<R: Wait + Sync>(
     alloc: Global,
     xti: &Xti,
     seat: &mut Seat,
-    log: &mut Vec<u8>,
     fd: Fd,
     parts: &[&[u8]],
     flags: u32,
-) -> Result<(), Stop>
+) -> Result<u32, Fail>
     requires seat { IsOf xti.now seat.old }
     requires none { unfinished_from None None seat.old.view.mine ≡ None }
-    ensures seat { IsOf xti.now seat.new }
-    ensures none { OnOk result (unfinished_from None None seat.new.view.mine ≡ None) }
+    ensures { IsOf xti.now seat.new }
 {
     let parts = gathered(alloc, parts)?;
-    note(xti.t_sndv(rt, alloc, seat, fd, &parts, flags), seat, log)
+    xti.t_sndv(rt, alloc, seat, fd, &parts, flags)
 }
 
 /// Receives into buffers of these sizes.
@@ -260,17 +226,15 @@ fn receive_parts<R: Wait + Sync>(
     alloc: Global,
     xti: &Xti,
     seat: &mut Seat,
-    log: &mut Vec<u8>,
     fd: Fd,
     all: &[u32],
-) -> Result<(), Stop>
+) -> Result<(Parts, u32), Fail>
     requires seat { IsOf xti.now seat.old }
     requires none { unfinished_from None None seat.old.view.mine ≡ None }
-    ensures seat { IsOf xti.now seat.new }
-    ensures none { OnOk result (unfinished_from None None seat.new.view.mine ≡ None) }
+    ensures { IsOf xti.now seat.new }
 {
     let sizes = sizes(alloc, all)?;
-    note(xti.t_rcvv(rt, alloc, seat, fd, &sizes), seat, log)
+    xti.t_rcvv(rt, alloc, seat, fd, &sizes)
 }
 
 /// A call that moves data over a connection.
@@ -279,25 +243,20 @@ fn move_data<R: Wait + Sync>(
     alloc: Global,
     xti: &Xti,
     seat: &mut Seat,
-    log: &mut Vec<u8>,
+    log: &mut Log,
     ask: &Data,
-) -> Result<(), Stop>
+)
     requires seat { IsOf xti.now seat.old }
     requires none { unfinished_from None None seat.old.view.mine ≡ None }
-    ensures seat { IsOf xti.now seat.new }
-    ensures none { OnOk result (unfinished_from None None seat.new.view.mine ≡ None) }
+    ensures { IsOf xti.now seat.new }
 {
     match *ask {
-        Data::Send(fd, bytes, flags) => note(
-            xti.t_snd(rt, alloc, seat, fd, bytes, flags),
-            seat,
-            log,
-        ),
-        Data::Receive(fd, max) => note(xti.t_rcv(rt, alloc, seat, fd, max), seat, log),
-        Data::SendParts(fd, parts, flags) => send_parts(
-            rt, alloc, xti, seat, log, fd, parts, flags,
-        ),
-        Data::ReceiveParts(fd, all) => receive_parts(rt, alloc, xti, seat, log, fd, all),
+        Data::Send(fd, bytes, flags) => log.note(xti.t_snd(rt, alloc, seat, fd, bytes, flags)),
+        Data::Receive(fd, max) => log.note(xti.t_rcv(rt, alloc, seat, fd, max)),
+        Data::SendParts(fd, parts, flags) => log.note(send_parts(
+            rt, alloc, xti, seat, fd, parts, flags,
+        )),
+        Data::ReceiveParts(fd, all) => log.note(receive_parts(rt, alloc, xti, seat, fd, all)),
     }
 }
 
@@ -307,23 +266,17 @@ fn send_datagram<R: Wait + Sync>(
     alloc: Global,
     xti: &Xti,
     seat: &mut Seat,
-    log: &mut Vec<u8>,
     fd: Fd,
     addr: &[u8],
     opt: &[u8],
     parts: &[&[u8]],
-) -> Result<(), Stop>
+) -> Result<(), Fail>
     requires seat { IsOf xti.now seat.old }
     requires none { unfinished_from None None seat.old.view.mine ≡ None }
-    ensures seat { IsOf xti.now seat.new }
-    ensures none { OnOk result (unfinished_from None None seat.new.view.mine ≡ None) }
+    ensures { IsOf xti.now seat.new }
 {
     let parts = gathered(alloc, parts)?;
-    note(
-        xti.t_sndvudata(rt, alloc, seat, fd, addr, opt, &parts),
-        seat,
-        log,
-    )
+    xti.t_sndvudata(rt, alloc, seat, fd, addr, opt, &parts)
 }
 
 /// Receives a datagram into buffers of these sizes.
@@ -332,23 +285,17 @@ fn receive_datagram<R: Wait + Sync>(
     alloc: Global,
     xti: &Xti,
     seat: &mut Seat,
-    log: &mut Vec<u8>,
     fd: Fd,
     all: &[u32],
     amax: u32,
     omax: u32,
-) -> Result<(), Stop>
+) -> Result<(TCall, Parts, u32), Fail>
     requires seat { IsOf xti.now seat.old }
     requires none { unfinished_from None None seat.old.view.mine ≡ None }
-    ensures seat { IsOf xti.now seat.new }
-    ensures none { OnOk result (unfinished_from None None seat.new.view.mine ≡ None) }
+    ensures { IsOf xti.now seat.new }
 {
     let sizes = sizes(alloc, all)?;
-    note(
-        xti.t_rcvvudata(rt, alloc, seat, fd, &sizes, amax, omax),
-        seat,
-        log,
-    )
+    xti.t_rcvvudata(rt, alloc, seat, fd, &sizes, amax, omax)
 }
 
 /// A call of datagrams.
@@ -357,48 +304,35 @@ fn move_datagram<R: Wait + Sync>(
     alloc: Global,
     xti: &Xti,
     seat: &mut Seat,
-    log: &mut Vec<u8>,
+    log: &mut Log,
     ask: &Datagram,
-) -> Result<(), Stop>
+)
     requires seat { IsOf xti.now seat.old }
     requires none { unfinished_from None None seat.old.view.mine ≡ None }
-    ensures seat { IsOf xti.now seat.new }
-    ensures none { OnOk result (unfinished_from None None seat.new.view.mine ≡ None) }
+    ensures { IsOf xti.now seat.new }
 {
     match *ask {
-        Datagram::Send(fd, addr, opt, bytes) => note(
-            xti.t_sndudata(rt, alloc, seat, fd, addr, opt, bytes),
-            seat,
-            log,
-        ),
-        Datagram::Receive(fd, max) => note(xti.t_rcvudata(rt, alloc, seat, fd, max), seat, log),
-        Datagram::SendParts(fd, addr, opt, parts) => send_datagram(
-            rt, alloc, xti, seat, log, fd, addr, opt, parts,
-        ),
-        Datagram::ReceiveParts(fd, all, amax, omax) => receive_datagram(
-            rt, alloc, xti, seat, log, fd, all, amax, omax,
-        ),
-        Datagram::Error(fd, amax, omax) => note(
-            xti.t_rcvuderr(rt, alloc, seat, fd, amax, omax),
-            seat,
-            log,
-        ),
+        Datagram::Send(fd, addr, opt, bytes) => log.note(xti.t_sndudata(
+            rt, alloc, seat, fd, addr, opt, bytes,
+        )),
+        Datagram::Receive(fd, max) => log.note(xti.t_rcvudata(rt, alloc, seat, fd, max)),
+        Datagram::SendParts(fd, addr, opt, parts) => log.note(send_datagram(
+            rt, alloc, xti, seat, fd, addr, opt, parts,
+        )),
+        Datagram::ReceiveParts(fd, all, amax, omax) => log.note(receive_datagram(
+            rt, alloc, xti, seat, fd, all, amax, omax,
+        )),
+        Datagram::Error(fd, amax, omax) => log.note(xti.t_rcvuderr(
+            rt, alloc, seat, fd, amax, omax,
+        )),
     }
 }
 
 /// One call.
-fn make<R: Wait + Sync>(
-    rt: &R,
-    alloc: Global,
-    xti: &Xti,
-    seat: &mut Seat,
-    log: &mut Vec<u8>,
-    ask: &Ask,
-) -> Result<(), Stop>
+fn make<R: Wait + Sync>(rt: &R, alloc: Global, xti: &Xti, seat: &mut Seat, log: &mut Log, ask: &Ask)
     requires seat { IsOf xti.now seat.old }
     requires none { unfinished_from None None seat.old.view.mine ≡ None }
-    ensures seat { IsOf xti.now seat.new }
-    ensures none { OnOk result (unfinished_from None None seat.new.view.mine ≡ None) }
+    ensures { IsOf xti.now seat.new }
 {
     match ask {
         Ask::Endpoint(ask) => change_endpoint(rt, alloc, xti, seat, log, ask),
@@ -410,13 +344,13 @@ fn make<R: Wait + Sync>(
     }
 }
 
-/// All calls of a table.
+/// All calls of a table, each of which is finished.
 pub(crate) fn make_all<R: Wait + Sync>(
     rt: &R,
     alloc: Global,
     xti: &Xti,
     seat: &mut Seat,
-    log: &mut Vec<u8>,
+    log: &mut Log,
     asks: &[Ask],
 ) -> Result<(), Stop>
     requires seat { IsOf xti.now seat.old }
@@ -425,48 +359,28 @@ pub(crate) fn make_all<R: Wait + Sync>(
     ensures none { OnOk result (unfinished_from None None seat.new.view.mine ≡ None) }
 {
     for ask in asks {
-        make(rt, alloc, xti, seat, log, ask)?;
+        make(rt, alloc, xti, seat, log, ask);
+        finished(seat)?;
     }
     Ok(())
 }
 
-/// All calls of a table, so many times.
-fn repeat<R: Wait + Sync>(
-    rt: &R,
-    alloc: Global,
-    xti: &Xti,
-    seat: &mut Seat,
-    log: &mut Vec<u8>,
-    times: u32,
-    asks: &[Ask],
-) -> Result<(), Stop>
-    requires seat { IsOf xti.now seat.old }
-    requires none { unfinished_from None None seat.old.view.mine ≡ None }
-    ensures seat { IsOf xti.now seat.new }
-    ensures none { OnOk result (unfinished_from None None seat.new.view.mine ≡ None) }
-{
-    for _ in 0..times {
-        make_all(rt, alloc, xti, seat, log, asks)?;
-    }
-    Ok(())
-}
-
-/// All calls of tables, each table so many times.
+/// All calls of these tables.
 pub(crate) fn converse<R: Wait + Sync>(
     rt: &R,
     alloc: Global,
     xti: &Xti,
     seat: &mut Seat,
-    log: &mut Vec<u8>,
-    tables: &[(u32, &[Ask])],
+    log: &mut Log,
+    tables: &[&[Ask]],
 ) -> Result<(), Stop>
     requires seat { IsOf xti.now seat.old }
     requires none { unfinished_from None None seat.old.view.mine ≡ None }
     ensures seat { IsOf xti.now seat.new }
     ensures none { OnOk result (unfinished_from None None seat.new.view.mine ≡ None) }
 {
-    for (times, asks) in tables {
-        repeat(rt, alloc, xti, seat, log, *times, asks)?;
+    for asks in tables {
+        make_all(rt, alloc, xti, seat, log, asks)?;
     }
     Ok(())
 }

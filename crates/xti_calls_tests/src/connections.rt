@@ -1,6 +1,8 @@
 //! Connections, from their requests to their ends.
 
 use crate::asks::{Ask, Data, End, Endpoint, Look, MOST, Request};
+use crate::conversations::{Topic, talk_about};
+use std::test::*;
 use xti_base::{Fd, Seq};
 
 /// The listener, bound to `l`.
@@ -110,3 +112,75 @@ pub(crate) const SMALL_BUFFERS: &[Ask] = &[
     Ask::Look(Look::Event(CALLER)),
     Ask::Look(Look::Event(CALLER)),
 ];
+
+static TOPICS: [Topic; 2] = [
+    (
+        "messages",
+        &[OF_TICOTS, CONNECT, MESSAGES, VECTORS, DISCONNECT],
+        "0
+x:6c 1
+1
+x:2330 0
+2
+TNODATA
+1 x:2330 x: x:
+ok
+0 x:6c x: x:
+4
+1
+x:6162 3
+x:6364 3
+TNODATA
+none
+2
+x:6566 2
+x:6e 0
+0
+x: 0
+3
+x:61 x:6263 0
+TBADDATA
+x:6c x:2330
+T_IDLE
+TNOTSUPPORT
+2
+ok
+TLOOK T_DISCONNECT
+4 0 x:
+ok
+TBADF
+",
+    ),
+    (
+        "a release",
+        &[OF_TICOTSORD, CONNECT, RELEASE],
+        "0
+x:6c 1
+1
+x:2330 0
+2
+TNODATA
+1 x:2330 x: x:
+ok
+0 x:6c x: x:
+T_DATAXFER
+TBADDATA
+2
+ok
+TNOREL
+x:6869 0
+TLOOK T_ORDREL
+ok
+ok
+ok
+T_IDLE
+T_IDLE
+",
+    ),
+];
+
+#[test]
+fn connections(rt: HostRuntime) -> Result<(), Fail> {
+    talk_about(&rt, rt.alloc(), &TOPICS)?;
+    Ok(())
+}

@@ -1,6 +1,8 @@
 //! Datagrams.
 
 use crate::asks::{Ask, Datagram, Endpoint, Look, MOST};
+use crate::conversations::{Topic, talk_about};
+use std::test::*;
 use xti_base::Fd;
 use xti_calls::Max;
 
@@ -60,13 +62,93 @@ pub(crate) const NOTHING_WAITS: &[Ask] = &[
 pub(crate) const NONBLOCK: &[Ask] = &[Ask::Endpoint(Endpoint::Mode(A, true))];
 
 /// One datagram more.
-pub(crate) const ONE_MORE: &[Ask] = &[Ask::Datagram(Datagram::Send(A, b"b", b"", b"x"))];
+const ONE_MORE: Ask = Ask::Datagram(Datagram::Send(A, b"b", b"", b"x"));
+
+/// As many datagrams as there is room for.
+pub(crate) const SIXTEEN_MORE: &[Ask] = &[ONE_MORE; 16];
 
 /// A datagram for which there is no room, and the event that there is room again.
 pub(crate) const FLOW: &[Ask] = &[
-    Ask::Datagram(Datagram::Send(A, b"b", b"", b"x")),
+    ONE_MORE,
     Ask::Look(Look::Event(A)),
     Ask::Datagram(Datagram::Receive(B, MOST)),
     Ask::Look(Look::Event(A)),
     Ask::Look(Look::Event(A)),
 ];
+
+static TOPICS: [Topic; 4] = [
+    (
+        "a datagram to nobody",
+        &[TO_NOBODY],
+        "0
+x:61 0
+ok
+TLOOK T_UDERR
+T_UDERR
+x:7a7a x: 1
+ok
+TNOUDERR
+",
+    ),
+    (
+        "a datagram in parts",
+        &[TWO_ENDPOINTS, IN_PARTS],
+        "0
+x:61 0
+1
+x:62 0
+ok
+0 x:61 x: x: x:6162 x:63 1
+0 x: x: x: x:6465 0
+",
+    ),
+    (
+        "nothing waits",
+        &[TWO_ENDPOINTS, NOTHING_WAITS],
+        "0
+x:61 0
+1
+x:62 0
+stalled at 4 waiting 1 resting 0 taken 0
+ok
+TNODATA
+",
+    ),
+    (
+        "the flow of datagrams",
+        &[TWO_ENDPOINTS, NONBLOCK, SIXTEEN_MORE, FLOW],
+        "0
+x:61 0
+1
+x:62 0
+ok
+ok
+ok
+ok
+ok
+ok
+ok
+ok
+ok
+ok
+ok
+ok
+ok
+ok
+ok
+ok
+ok
+TFLOW
+none
+0 x:61 x: x:78 0
+T_GODATA
+none
+",
+    ),
+];
+
+#[test]
+fn datagrams(rt: HostRuntime) -> Result<(), Fail> {
+    talk_about(&rt, rt.alloc(), &TOPICS)?;
+    Ok(())
+}

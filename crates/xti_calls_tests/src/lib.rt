@@ -1,5 +1,5 @@
-//! Tests of the library: its calls in their own types, with worked values from outside, and threads that are held at a gate.
-//! `tools/library-calls` makes a crate of these texts, and runs its tests. Nothing here is proved.
+//! Tests of the library: its calls in their own types, with worked values from outside, and threads that are held at
+//! gates.
 #![tactic(auto)]
 
 #[cfg(test)]
@@ -16,6 +16,8 @@ mod datagrams;
 mod endpoints;
 #[cfg(test)]
 mod gates;
+#[cfg(test)]
+mod library;
 #[cfg(test)]
 mod parts;
 #[cfg(test)]

@@ -1,6 +1,8 @@
 //! Requests for connections that aren't accepted at once.
 
 use crate::asks::{Ask, End, Endpoint, MOST, Request};
+use crate::conversations::{Topic, talk_about};
+use std::test::*;
 use xti_base::{Fd, Seq};
 use xti_calls::Max;
 
@@ -118,3 +120,104 @@ pub(crate) const UNBINDING: &[Ask] = &[
     Ask::End(End::Disconnect(LISTENER, Seq(1), b"")),
     Ask::Endpoint(Endpoint::Unbind(LISTENER)),
 ];
+
+static TOPICS: [Topic; 6] = [
+    (
+        "a short queue",
+        &[SHORT_LISTENER, TWO_REQUESTS, SHORT_QUEUE],
+        "0
+x:6c 1
+1
+x:2330 0
+2
+x:2331 0
+TNODATA
+TNODATA
+2 0 x:
+1 x:2330 x: x:
+TQFULL
+",
+    ),
+    (
+        "a long queue",
+        &[LONG_LISTENER, TWO_REQUESTS, LONG_QUEUE],
+        "0
+x:6c 2
+1
+x:2330 0
+2
+x:2331 0
+TNODATA
+TNODATA
+1 x:2330 x: x:
+TLOOK T_LISTEN
+2 x:2331 x: x:
+TINDOUT
+3
+ok
+ok
+",
+    ),
+    (
+        "a request that is rejected",
+        &[REJECTED],
+        "0
+x:6c 1
+1
+x:2330 0
+TNODATA
+TBUFOVFLW 1
+ok
+3 0 x:
+",
+    ),
+    (
+        "a request to nobody",
+        &[TO_NOBODY],
+        "0
+x:2330 0
+TLOOK T_DISCONNECT
+1 0 x:
+TOUTSTATE
+",
+    ),
+    (
+        "a request that isn't accepted",
+        &[OUTSTANDING, NOT_ACCEPTED],
+        "0
+x:6c 1
+1
+x:2330 0
+TNODATA
+1 x:2330 x: x:
+2
+3
+x:6d 1
+TPROVMISMATCH
+TRESQLEN
+TBADSEQ
+ok
+",
+    ),
+    (
+        "unbinding",
+        &[UNBINDING],
+        "0
+x:6c 1
+1
+TADDRBUSY
+x:6c 0
+TNODATA
+TLOOK T_LISTEN
+1 x:6c x: x:
+ok
+ok
+",
+    ),
+];
+
+#[test]
+fn requests(rt: HostRuntime) -> Result<(), Fail> {
+    talk_about(&rt, rt.alloc(), &TOPICS)?;
+    Ok(())
+}

@@ -1,0 +1,312 @@
+//! A thread that is held at its gate holds up no step on other cells.
+
+ghost use Rattle.std.specs.Prelude.{◌≡◌, None, IfOk};
+ghost use Rattle.xti_model.specs.History.{unfinished_from};
+ghost use Rattle.xti_calls.specs.Library.{IsOf};
+
+use crate::answers::Log;
+use crate::asks::{Ask, Data, Datagram, Endpoint, Look, MOST, Request, converse, make_all};
+use crate::datagrams;
+use crate::library::{Stop, another_seat, library};
+use std::alloc::{AllocError, Global};
+use std::sync::Wait;
+use std::sync::atomic::{AtomicBool, Ordering};
+use std::test::*;
+use std::thread::{self, Threads};
+use xti_base::{Fd, Octets, Seq};
+use xti_calls::{Gate, Seat, Xti};
+use xti_gather::Cell;
+use xti_hall::Seat as HallSeat;
+use xti_model::Call;
+
+/// How often a thread looks whether another has come so far, before it gives up.
+const TRIES: u32 = 10_000_000;
+
+/// Whether the flag is set, now or in a while.
+fn comes(flag: &AtomicBool) -> bool {
+    for _try in 0..TRIES {
+        if flag.load(Ordering::SeqCst) {
+            return true;
+        }
+        thread::yield_now();
+    }
+    false
+}
+
+/// A gate at which a step is held until it is let go.
+#[derive(Drop)]
+struct Holding {
+    held: AtomicBool,
+    freed: AtomicBool,
+    in_time: AtomicBool,
+}
+
+impl Holding {
+    /// Nobody is held yet.
+    fn new() -> Holding {
+        Holding {
+            held: AtomicBool::new(false),
+            freed: AtomicBool::new(false),
+            in_time: AtomicBool::new(false),
+        }
+    }
+}
+
+impl Gate for Holding {
+    fn pause<R: Wait + Sync>(
+        &self,
+        _rt: &R,
+        _worker: u32,
+        _point: u64,
+        _seat: &HallSeat<Cell>,
+        _call: &Call,
+    ) {
+        self.held.store(true, Ordering::SeqCst);
+        let freed = comes(&self.freed);
+        self.in_time.store(freed, Ordering::SeqCst);
+    }
+}
+
+/// What a thread is held at.
+#[derive(Clone, Copy)]
+enum Held {
+    /// A call of one endpoint, while others make steps on two other endpoints.
+    Endpoint,
+    /// A send on a connection, while others make steps on two other connections, and on two that are asked for.
+    Connection,
+}
+
+/// What is held, what the endpoints are before, the other thread's calls meanwhile, and what they answer.
+struct Case {
+    topic: &'static str,
+    held: Held,
+    before: &'static [&'static [Ask]],
+    asks: &'static [Ask],
+    wanted: &'static str,
+}
+
+static CASES: [Case; 2] = [
+    Case {
+        topic: "held on an endpoint",
+        held: Held::Endpoint,
+        before: &[datagrams::TWO_ENDPOINTS, THIRD],
+        asks: ON_ENDPOINTS,
+        wanted: "T_IDLE
+ok
+0 x:61 x: x:68656c6c6f 0
+T_IDLE
+T_IDLE
+",
+    },
+    Case {
+        topic: "held on a connection",
+        held: Held::Connection,
+        before: &[
+            FIRST_CONNECTION,
+            SECOND_CONNECTION,
+            THIRD_CONNECTION,
+            TWO_REQUESTS,
+        ],
+        asks: ON_CONNECTIONS,
+        wanted: "2
+x:6869 0
+2
+x:6869 0
+TOUTSTATE
+ok
+T_DISCONNECT
+T_DISCONNECT
+",
+    },
+];
+
+/// A third endpoint of datagrams.
+const THIRD: &[Ask] = &[
+    Ask::Endpoint(Endpoint::Open(b"ticlts", false)),
+    Ask::Endpoint(Endpoint::Bind(Fd(2), b"c", 0, 64)),
+];
+
+/// A connection between two more endpoints, a listener and a caller, which get these descriptors.
+macro_rules! connection {
+    ($listener:expr, $caller:expr, $address:expr) => {
+        &[
+            Ask::Endpoint(Endpoint::Open(b"ticots", true)),
+            Ask::Endpoint(Endpoint::Bind($listener, $address, 1, 64)),
+            Ask::Endpoint(Endpoint::Open(b"ticots", true)),
+            Ask::Endpoint(Endpoint::Bind($caller, b"", 0, 64)),
+            Ask::Request(Request::Connect($caller, $address, b"", b"", MOST)),
+            Ask::Request(Request::Listen($listener, MOST)),
+            Ask::Request(Request::Accept($listener, $listener, Seq(1), b"", b"")),
+            Ask::Request(Request::Confirm($caller, MOST)),
+        ]
+    };
+}
+
+const FIRST_CONNECTION: &[Ask] = connection!(Fd(0), Fd(1), b"1");
+
+const SECOND_CONNECTION: &[Ask] = connection!(Fd(2), Fd(3), b"2");
+
+const THIRD_CONNECTION: &[Ask] = connection!(Fd(4), Fd(5), b"3");
+
+/// A listener and two endpoints that ask it for connections, with descriptors from 6 on.
+const TWO_REQUESTS: &[Ask] = &[
+    Ask::Endpoint(Endpoint::Open(b"ticots", true)),
+    Ask::Endpoint(Endpoint::Bind(Fd(6), b"l", 2, 64)),
+    Ask::Endpoint(Endpoint::Open(b"ticots", true)),
+    Ask::Endpoint(Endpoint::Bind(Fd(7), b"", 0, 64)),
+    Ask::Endpoint(Endpoint::Open(b"ticots", true)),
+    Ask::Endpoint(Endpoint::Bind(Fd(8), b"", 0, 64)),
+    Ask::Request(Request::Connect(Fd(7), b"l", b"", b"", MOST)),
+    Ask::Request(Request::Connect(Fd(8), b"l", b"", b"", MOST)),
+];
+
+/// Calls of two endpoints, and a datagram between them.
+const ON_ENDPOINTS: &[Ask] = &[
+    Ask::Look(Look::State(Fd(0))),
+    Ask::Datagram(Datagram::Send(Fd(0), b"b", b"", b"hello")),
+    Ask::Datagram(Datagram::Receive(Fd(1), MOST)),
+    Ask::Look(Look::State(Fd(1))),
+    Ask::Look(Look::State(Fd(0))),
+];
+
+/// Data on two connections, a step that touches both, and one that touches those that are asked for.
+const ON_CONNECTIONS: &[Ask] = &[
+    Ask::Data(Data::Send(Fd(1), b"hi", 0)),
+    Ask::Data(Data::Receive(Fd(0), 9)),
+    Ask::Data(Data::Send(Fd(3), b"hi", 0)),
+    Ask::Data(Data::Receive(Fd(2), 9)),
+    Ask::Request(Request::Accept(Fd(0), Fd(2), Seq(1), b"", b"")),
+    Ask::Endpoint(Endpoint::Close(Fd(6))),
+    Ask::Look(Look::Event(Fd(7))),
+    Ask::Look(Look::Event(Fd(8))),
+];
+
+/// The call of the thread that is held.
+fn held_call(alloc: Global, held: Held) -> Result<Call, AllocError> {
+    match held {
+        Held::Endpoint => Ok(Call::TGetState { fd: Fd(2) }),
+        Held::Connection => Ok(Call::TSnd {
+            fd: Fd(5),
+            bytes: Octets::copy_of(alloc, b"hi")?,
+            flags: 0,
+        }),
+    }
+}
+
+/// Makes the call, held at the gate; whether it was answered.
+fn held_side<R: Wait + Sync>(
+    rt: &R,
+    alloc: Global,
+    xti: &Xti,
+    mut seat: Seat,
+    gate: &Holding,
+    held: Held,
+) -> bool
+    requires seat { IsOf xti.now seat }
+    requires none { unfinished_from None None seat.view.mine ≡ None }
+{
+    let Ok(call) = held_call(alloc, held) else {
+        return false;
+    };
+    let answer = xti.call(rt, alloc, &mut seat, gate, &call);
+    drop(call);
+    let answered = answer.is_ok();
+    drop(answer);
+    answered
+}
+
+/// Makes these calls once the other thread is held, and then lets it go; what they answered. Where nobody is held it
+/// makes none.
+fn free_side<R: Wait + Sync>(
+    rt: &R,
+    alloc: Global,
+    xti: &Xti,
+    mut seat: Seat,
+    gate: &Holding,
+    asks: &[Ask],
+) -> Log
+    requires seat { IsOf xti.now seat }
+    requires none { unfinished_from None None seat.view.mine ≡ None }
+{
+    let mut log = Log::new(alloc);
+    if comes(&gate.held) {
+        let _ = make_all(rt, alloc, xti, &mut seat, &mut log, asks);
+    }
+    gate.freed.store(true, Ordering::SeqCst);
+    log
+}
+
+/// Both threads: whether the held call was answered and was let go in time, and what the other calls answered.
+fn both_sides<R: Threads + Wait + Sync>(
+    rt: &R,
+    alloc: Global,
+    xti: &Xti,
+    holding: Seat,
+    free: Seat,
+    held: Held,
+    asks: &[Ask],
+) -> (bool, Log)
+    requires holding { IsOf xti.now holding × (unfinished_from None None holding.view.mine ≡ None) }
+    requires free { IsOf xti.now free × (unfinished_from None None free.view.mine ≡ None) }
+{
+    let gate = Holding::new();
+    let (answered, log) = thread::join(
+        rt,
+        || -> bool
+            requires { IsOf xti.now holding × (unfinished_from None None holding.view.mine ≡ None) }
+        { held_side(rt, alloc, xti, holding, &gate, held) },
+        || -> Log
+            requires { IsOf xti.now free × (unfinished_from None None free.view.mine ≡ None) }
+        { free_side(rt, alloc, xti, free, &gate, asks) },
+    );
+    (answered && gate.in_time.load(Ordering::SeqCst), log)
+}
+
+/// Makes the calls before the threads start; the seat of the thread that is held.
+fn prepare<R: Wait + Sync>(
+    rt: &R,
+    alloc: Global,
+    xti: &Xti,
+    first: &mut Seat,
+    before: &[&[Ask]],
+) -> Result<Seat, Stop>
+    requires seat { IsOf xti.now first.old }
+    requires none { unfinished_from None None first.old.view.mine ≡ None }
+    ensures seat { IfOk result (λ _. IsOf xti.now first.new × (unfinished_from None None first.new.view.mine ≡ None)) }
+    ensures other { IfOk result (λ r. IsOf xti.now r × (unfinished_from None None r.view.mine ≡ None)) }
+{
+    let mut log = Log::new(alloc);
+    converse(rt, alloc, xti, first, &mut log, before)?;
+    another_seat(rt, alloc, xti, first)
+}
+
+/// A case by the first seat and one more.
+fn run_with<R: Threads + Wait + Sync>(
+    rt: &R,
+    alloc: Global,
+    xti: &Xti,
+    mut first: Seat,
+    case: &Case,
+) -> Result<(bool, Log), Stop>
+    requires seat { IsOf xti.now first }
+    requires none { unfinished_from None None first.view.mine ≡ None }
+{
+    let holding = prepare(rt, alloc, xti, &mut first, case.before)?;
+    Ok(both_sides(rt, alloc, xti, holding, first, case.held, case.asks))
+}
+
+/// The same in a library of its own.
+fn run<R: Threads + Wait + Sync>(rt: &R, alloc: Global, case: &Case) -> Result<(bool, Log), Stop> {
+    let (xti, first) = library(alloc)?;
+    run_with(rt, alloc, &xti, first, case)
+}
+
+#[test]
+fn gates(rt: HostRuntime) -> Result<(), Fail> {
+    for case in &CASES {
+        let (in_time, log) = run(&rt, rt.alloc(), case)?;
+        log.expect(&rt, case.topic, case.wanted);
+        assert!(rt; in_time, "{}", case.topic);
+    }
+    Ok(())
+}

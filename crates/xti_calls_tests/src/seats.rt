@@ -1,0 +1,176 @@
+//! Seats: their numbers, what they have seen, and the one history.
+
+ghost use Rattle.std.specs.Prelude.{◌≡◌, None};
+ghost use Rattle.xti_model.specs.History.{unfinished_from};
+ghost use Rattle.xti_calls.specs.Library.{IsOf};
+
+use crate::answers::Log;
+use crate::asks::make_all;
+use crate::datagrams;
+use crate::library::{Stop, another_seat, library};
+use std::alloc::{AllocError, Global};
+use std::sync::Wait;
+use std::test::*;
+use xti_calls::{Seat, Xti};
+use xti_journal::write_entry;
+use xti_model::Entry;
+
+/// What the calls of a datagram answer that the second seat sends and receives, and the lines of the history.
+const ANSWERS: &str = "0
+x:61 0
+1
+x:62 0
+ok
+0 x:61 x: x:68656c 1
+0 x: x: x:6c6f 0
+1 0 open ticlts block => ok 0 T_UNBND
+2 0 bind 0 addr=x:61 qlen=0 amax=64 => ok x:61 0 T_IDLE
+3 0 open ticlts block => ok 1 T_UNBND
+4 0 bind 1 addr=x:62 qlen=0 amax=64 => ok x:62 0 T_IDLE
+5 1 sndudata 0 addr=x:62 opt=x: data=x:68656c6c6f => ok T_IDLE
+6 1 rcvudata 1 max=3 amax=64 omax=256 => ok x:61 x: x:68656c 1 T_IDLE
+7 1 rcvudata 1 max=3 amax=64 omax=256 => ok x: x: x:6c6f 0 T_IDLE
+";
+
+/// The number of one more seat that this one gives, if it gives one.
+fn given<R: Wait>(rt: &R, alloc: Global, xti: &Xti, seat: &mut Seat) -> Option<u32>
+    requires { IsOf xti.now seat.old }
+    ensures { IsOf xti.now seat.new }
+{
+    match xti.split(rt, alloc, seat) {
+        Ok(other) => Some(other.number()),
+        Err(_) => None,
+    }
+}
+
+/// How many more seats the first gives, if their numbers are 2, 3 and so on.
+fn splits<R: Wait>(rt: &R, alloc: Global, xti: &Xti, seat: &mut Seat) -> u32
+    requires { IsOf xti.now seat.old }
+    ensures { IsOf xti.now seat.new }
+{
+    for number in 2..100 {
+        if given(rt, alloc, xti, seat) != Some(number) {
+            return number - 2;
+        }
+    }
+    98
+}
+
+/// Writes down these entries, a line each.
+fn put_entries(alloc: Global, log: &mut Log, entries: &[Entry]) -> Result<(), AllocError> {
+    for (index, entry) in entries.iter().enumerate() {
+        let line = write_entry(alloc, index as u64 + 1, entry)?;
+        log.append(line.as_slice());
+    }
+    Ok(())
+}
+
+/// Writes down the history.
+fn put_history<R: Wait>(
+    rt: &R,
+    alloc: Global,
+    xti: &Xti,
+    seat: &mut Seat,
+    log: &mut Log,
+) -> Result<(), AllocError>
+    requires { IsOf xti.now seat.old }
+{
+    let history = xti.history(rt, alloc, seat)?;
+    let put = put_entries(alloc, log, history.as_slice());
+    drop(history);
+    put
+}
+
+/// How many entries the seat tells.
+fn entries<R: Wait>(rt: &R, alloc: Global, xti: &Xti, seat: &mut Seat) -> Result<usize, Stop>
+    requires { IsOf xti.now seat.old }
+{
+    let history = xti.history(rt, alloc, seat)?;
+    let length = history.as_slice().len();
+    drop(history);
+    Ok(length)
+}
+
+/// How many more seats the first gives, whether the seat with number 1 gives none, its number when it has met the
+/// first, and how many entries it then tells.
+fn crowd<R: Wait>(
+    rt: &R,
+    alloc: Global,
+    xti: &Xti,
+    first: &mut Seat,
+    mut one: Seat,
+) -> Result<(u32, bool, u32, usize), Stop>
+    requires first { IsOf xti.now first.old }
+    requires one { IsOf xti.now one }
+{
+    let more = splits(rt, alloc, xti, first);
+    let refused = given(rt, alloc, xti, &mut one).is_none();
+    let mut one = xti.meet(one, first);
+    let entries = entries(rt, alloc, xti, &mut one)?;
+    Ok((more, refused, one.number(), entries))
+}
+
+/// The same in a library of its own.
+fn crowded<R: Wait>(rt: &R, alloc: Global) -> Result<(u32, bool, u32, usize), Stop> {
+    let (xti, mut first) = library(alloc)?;
+    let one = another_seat(rt, alloc, &xti, &mut first)?;
+    crowd(rt, alloc, &xti, &mut first, one)
+}
+
+/// A datagram between two endpoints of the first seat, sent and received by the second.
+fn datagram<R: Wait + Sync>(
+    rt: &R,
+    alloc: Global,
+    xti: &Xti,
+    first: &mut Seat,
+    second: &mut Seat,
+    log: &mut Log,
+) -> Result<(), Stop>
+    requires first { IsOf xti.now first.old × (unfinished_from None None first.old.view.mine ≡ None) }
+    requires second { IsOf xti.now second.old × (unfinished_from None None second.old.view.mine ≡ None) }
+    ensures first { IsOf xti.now first.new }
+    ensures second { IsOf xti.now second.new }
+{
+    make_all(rt, alloc, xti, first, log, datagrams::TWO_ENDPOINTS)?;
+    make_all(rt, alloc, xti, second, log, datagrams::TWO_PARTS)
+}
+
+/// Writes down what two seats are answered that have a datagram between them, and the history that the first seat tells
+/// when it has met the second.
+fn talk<R: Wait + Sync>(
+    rt: &R,
+    alloc: Global,
+    xti: &Xti,
+    mut first: Seat,
+    second: &mut Seat,
+    log: &mut Log,
+) -> Result<(), Stop>
+    requires first { IsOf xti.now first × (unfinished_from None None first.view.mine ≡ None) }
+    requires second { IsOf xti.now second.old × (unfinished_from None None second.old.view.mine ≡ None) }
+{
+    datagram(rt, alloc, xti, &mut first, second, log)?;
+    xti.rest(rt, second);
+    let mut first = xti.meet(first, second);
+    Ok(put_history(rt, alloc, xti, &mut first, log)?)
+}
+
+/// The same in a library of its own.
+fn talked<R: Wait + Sync>(rt: &R, alloc: Global, log: &mut Log) -> Result<(), Stop> {
+    let (xti, mut first) = library(alloc)?;
+    let mut second = another_seat(rt, alloc, &xti, &mut first)?;
+    talk(rt, alloc, &xti, first, &mut second, log)
+}
+
+#[test]
+fn numbers(rt: HostRuntime) -> Result<(), Fail> {
+    assert_eq!(rt; crowded(&rt, rt.alloc())?, (31, true, 1, 0));
+    Ok(())
+}
+
+#[test]
+fn histories(rt: HostRuntime) -> Result<(), Fail> {
+    let mut log = Log::new(rt.alloc());
+    talked(&rt, rt.alloc(), &mut log)?;
+    log.expect(&rt, "a datagram between two seats", ANSWERS);
+    Ok(())
+}
