@@ -33,9 +33,11 @@ impl Stands for Cell {
 fn open_hall(alloc: Global, p: &Providers) -> Option<(Hall<Cell>, Seat<Cell>)> {
     let mut cells = Vec::with_capacity(alloc, p.places() as usize + 1).ok()?;
     for place in 0..p.places() {
-        cells.push(Cell::End(Endpoint::closed(alloc, place))).ok()?;
+        let closed = Box::new(alloc, Endpoint::closed(alloc, place)).ok()?;
+        cells.push(Cell::End(closed)).ok()?;
     }
-    cells.push(Cell::Switch(Registry::fresh(alloc, p).ok()?)).ok()?;
+    let registry = Box::new(alloc, Registry::fresh(alloc, p).ok()?).ok()?;
+    cells.push(Cell::Switch(registry)).ok()?;
     Hall::new(alloc, p, cells).ok()
 }
 
