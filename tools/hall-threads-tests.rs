@@ -19,8 +19,8 @@ use xti_wants::{Want, WantKind};
 /// An endpoint, or the switch's table.
 #[derive(Drop)]
 enum Cell {
-    End(Endpoint),
-    Switch(Registry),
+    End(Box<Endpoint>),
+    Switch(Box<Registry>),
 }
 
 impl Stands for Cell {
