@@ -1,26 +1,22 @@
 -- A call that is made in parts: where its seat is after each step.
-use Rattle.std.proofs.Common.{◌≡◌, ℕ, [], ◌∷◌, ◌++◌, Option, Some, None, ap, subst, ◌∙◌, refl}
+use Rattle.std.proofs.Common.{◌≡◌, ℕ, Option, Some, None, ap, ◌∙◌}
 use Rattle.std.specs.Prelude.{Result, Ok, Err, MatchResult, option_map}
-use Rattle.xti_base.specs.declared.kinds.State.{State}
 use Rattle.xti_model.specs.declared.call.Call.{Call}
-use Rattle.xti_model.specs.declared.entry.Act.{Act}
 use Rattle.xti_model.specs.declared.entry.Act.TheVariants as act
 use Rattle.xti_model.specs.declared.entry.Applied.{Applied}
 use Rattle.xti_model.specs.declared.entry.Applied.TheVariants as applied
-use Rattle.xti_model.specs.declared.entry.Entry.{Entry}
 use Rattle.xti_model.specs.declared.entry.Go.{Go}
 use Rattle.xti_model.specs.declared.entry.Go.TheVariants as go
 use Rattle.xti_model.specs.declared.entry.Reply.{Reply}
 use Rattle.xti_model.specs.History.{Going, going_after, made_by, unfinished_from}
 use Rattle.xti_model.specs.Wants.{taken_before}
-use Rattle.xti_model.proofs.Working.{call_from, call_of-from, unfinished_from-snoc}
+use Rattle.xti_model.proofs.Working.{unfinished_from-snoc}
 use Rattle.xti_rule.specs.declared.view.View.{View}
 use Rattle.xti_hall.specs.Seats.{unfinished_bytes}
 use Rattle.xti_step.specs.Steps.{MayGo, Tells}
 use Rattle.xti_calls.specs.declared.calling.Halt.{Halt}
 use Rattle.xti_calls.specs.declared.calling.Halt.TheVariants.{OutOfMemory, Stalled}
 use Rattle.xti_calls.specs.Calling.{Answered, Halted, IsAt, IsUnfinished}
-use Rattle.xti_calls.proofs.Unfinished.{made-call}
 use Rattle.xti_calls_tests.specs.Parts.{IsPart}
 
 -- ---- a call that stopped

@@ -8,7 +8,7 @@ use crate::answers::Log;
 use crate::library::{Stop, finished};
 use std::alloc::{AllocError, Global};
 use std::sync::Wait;
-use xti_base::{Fd, Octets, Parts, Seq, Sizes};
+use xti_base::{Fd, Parts, Seq, Sizes};
 use xti_calls::{Fail, Max, Seat, TCall, Xti};
 use xti_data::Gather;
 
@@ -87,13 +87,24 @@ pub(crate) enum Datagram {
     Error(Fd, u32, u32),
 }
 
-/// These parts.
-fn gathered(alloc: Global, parts: &[&[u8]]) -> Result<Gather, AllocError> {
-    let mut gathered = Gather::new(alloc);
+/// Adds these parts.
+fn gather(gathered: &mut Gather, parts: &[&[u8]]) -> Result<(), AllocError> {
     for part in parts {
         gathered.add(part)?;
     }
-    Ok(gathered)
+    Ok(())
+}
+
+/// These parts.
+fn gathered(alloc: Global, parts: &[&[u8]]) -> Result<Gather, AllocError> {
+    let mut gathered = Gather::new(alloc);
+    match gather(&mut gathered, parts) {
+        Ok(()) => Ok(gathered),
+        Err(error) => {
+            drop(gathered);
+            Err(error)
+        }
+    }
 }
 
 /// These sizes.
@@ -217,7 +228,9 @@ fn send_parts<R: Wait + Sync>(
     ensures { IsOf xti.now seat.new }
 {
     let parts = gathered(alloc, parts)?;
-    xti.t_sndv(rt, alloc, seat, fd, &parts, flags)
+    let sent = xti.t_sndv(rt, alloc, seat, fd, &parts, flags);
+    drop(parts);
+    sent
 }
 
 /// Receives into buffers of these sizes.
@@ -276,7 +289,9 @@ fn send_datagram<R: Wait + Sync>(
     ensures { IsOf xti.now seat.new }
 {
     let parts = gathered(alloc, parts)?;
-    xti.t_sndvudata(rt, alloc, seat, fd, addr, opt, &parts)
+    let sent = xti.t_sndvudata(rt, alloc, seat, fd, addr, opt, &parts);
+    drop(parts);
+    sent
 }
 
 /// Receives a datagram into buffers of these sizes.

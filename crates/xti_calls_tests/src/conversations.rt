@@ -18,7 +18,10 @@ fn talk<R: Wait + Sync>(
     tables: &[&[Ask]],
 ) -> Result<(), Stop> {
     let (xti, mut seat) = library(alloc)?;
-    converse(rt, alloc, &xti, &mut seat, log, tables)
+    let made = converse(rt, alloc, &xti, &mut seat, log, tables);
+    drop(seat);
+    drop(xti);
+    made
 }
 
 /// Has each conversation, which is to answer what is wanted.

@@ -194,6 +194,28 @@ fn held_call(alloc: Global, held: Held) -> Result<Call, AllocError> {
 }
 
 /// Makes the call, held at the gate; whether it was answered.
+fn make_held<R: Wait + Sync>(
+    rt: &R,
+    alloc: Global,
+    xti: &Xti,
+    seat: &mut Seat,
+    gate: &Holding,
+    held: Held,
+) -> bool
+    requires seat { IsOf xti.now seat.old }
+    requires none { unfinished_from None None seat.old.view.mine ≡ None }
+{
+    let Ok(call) = held_call(alloc, held) else {
+        return false;
+    };
+    let answer = xti.call(rt, alloc, seat, gate, &call);
+    drop(call);
+    let answered = answer.is_ok();
+    drop(answer);
+    answered
+}
+
+/// The same by a seat that nobody has afterwards.
 fn held_side<R: Wait + Sync>(
     rt: &R,
     alloc: Global,
@@ -205,13 +227,8 @@ fn held_side<R: Wait + Sync>(
     requires seat { IsOf xti.now seat }
     requires none { unfinished_from None None seat.view.mine ≡ None }
 {
-    let Ok(call) = held_call(alloc, held) else {
-        return false;
-    };
-    let answer = xti.call(rt, alloc, &mut seat, gate, &call);
-    drop(call);
-    let answered = answer.is_ok();
-    drop(answer);
+    let answered = make_held(rt, alloc, xti, &mut seat, gate, held);
+    drop(seat);
     answered
 }
 
@@ -233,6 +250,7 @@ fn free_side<R: Wait + Sync>(
         let _ = make_all(rt, alloc, xti, &mut seat, &mut log, asks);
     }
     gate.freed.store(true, Ordering::SeqCst);
+    drop(seat);
     log
 }
 
@@ -291,14 +309,21 @@ fn run_with<R: Threads + Wait + Sync>(
     requires seat { IsOf xti.now first }
     requires none { unfinished_from None None first.view.mine ≡ None }
 {
-    let holding = prepare(rt, alloc, xti, &mut first, case.before)?;
-    Ok(both_sides(rt, alloc, xti, holding, first, case.held, case.asks))
+    match prepare(rt, alloc, xti, &mut first, case.before) {
+        Ok(holding) => Ok(both_sides(rt, alloc, xti, holding, first, case.held, case.asks)),
+        Err(stop) => {
+            drop(first);
+            Err(stop)
+        }
+    }
 }
 
 /// The same in a library of its own.
 fn run<R: Threads + Wait + Sync>(rt: &R, alloc: Global, case: &Case) -> Result<(bool, Log), Stop> {
     let (xti, first) = library(alloc)?;
-    run_with(rt, alloc, &xti, first, case)
+    let ran = run_with(rt, alloc, &xti, first, case);
+    drop(xti);
+    ran
 }
 
 #[test]

@@ -364,21 +364,26 @@ fn sends_with<R: Wait + Sync>(
     rt: &R,
     alloc: Global,
     xti: &Xti,
-    mut seat: Seat,
+    seat: &mut Seat,
     log: &mut Log,
     call: &Call,
 ) -> Result<(), Stop>
-    requires seat { IsOf xti.now seat }
-    requires none { unfinished_from None None seat.view.mine ≡ None }
+    requires seat { IsOf xti.now seat.old }
+    requires none { unfinished_from None None seat.old.view.mine ≡ None }
 {
-    let mut second = another_seat(rt, alloc, xti, &mut seat)?;
-    two_sends(rt, alloc, xti, &mut seat, &mut second, log, call)
+    let mut second = another_seat(rt, alloc, xti, seat)?;
+    let made = two_sends(rt, alloc, xti, seat, &mut second, log, call);
+    drop(second);
+    made
 }
 
 /// The same in a library of its own.
 fn sends_of<R: Wait + Sync>(rt: &R, alloc: Global, log: &mut Log, call: &Call) -> Result<(), Stop> {
-    let (xti, seat) = library(alloc)?;
-    sends_with(rt, alloc, &xti, seat, log, call)
+    let (xti, mut seat) = library(alloc)?;
+    let made = sends_with(rt, alloc, &xti, &mut seat, log, call);
+    drop(seat);
+    drop(xti);
+    made
 }
 
 /// Writes down what both sends answer.
@@ -398,7 +403,10 @@ fn small<R: Wait + Sync>(rt: &R, alloc: Global, log: &mut Log) -> Result<(), Sto
         return Err(Stop::NotValid);
     }
     let (xti, mut seat) = library_with(alloc, &providers)?;
-    converse(rt, alloc, &xti, &mut seat, log, SMALL_BUFFERS)
+    let made = converse(rt, alloc, &xti, &mut seat, log, SMALL_BUFFERS);
+    drop(seat);
+    drop(xti);
+    made
 }
 
 #[test]

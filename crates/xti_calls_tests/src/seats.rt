@@ -38,7 +38,11 @@ fn given<R: Wait>(rt: &R, alloc: Global, xti: &Xti, seat: &mut Seat) -> Option<u
     ensures { IsOf xti.now seat.new }
 {
     match xti.split(rt, alloc, seat) {
-        Ok(other) => Some(other.number()),
+        Ok(other) => {
+            let number = other.number();
+            drop(other);
+            Some(number)
+        }
         Err(_) => None,
     }
 }
@@ -56,11 +60,17 @@ fn splits<R: Wait>(rt: &R, alloc: Global, xti: &Xti, seat: &mut Seat) -> u32
     98
 }
 
+/// Writes down an entry.
+fn put_entry(alloc: Global, log: &mut Log, number: u64, entry: &Entry) -> Result<(), AllocError> {
+    let line = write_entry(alloc, number, entry)?;
+    log.append(line.as_slice());
+    Ok(())
+}
+
 /// Writes down these entries, a line each.
 fn put_entries(alloc: Global, log: &mut Log, entries: &[Entry]) -> Result<(), AllocError> {
     for (index, entry) in entries.iter().enumerate() {
-        let line = write_entry(alloc, index as u64 + 1, entry)?;
-        log.append(line.as_slice());
+        put_entry(alloc, log, index as u64 + 1, entry)?;
     }
     Ok(())
 }
@@ -106,15 +116,33 @@ fn crowd<R: Wait>(
     let more = splits(rt, alloc, xti, first);
     let refused = given(rt, alloc, xti, &mut one).is_none();
     let mut one = xti.meet(one, first);
-    let entries = entries(rt, alloc, xti, &mut one)?;
-    Ok((more, refused, one.number(), entries))
+    let number = one.number();
+    let entries = entries(rt, alloc, xti, &mut one);
+    drop(one);
+    Ok((more, refused, number, entries?))
+}
+
+/// The same of the first seat of a library, and of one that it gives.
+fn crowd_of<R: Wait>(
+    rt: &R,
+    alloc: Global,
+    xti: &Xti,
+    first: &mut Seat,
+) -> Result<(u32, bool, u32, usize), Stop>
+    requires seat { IsOf xti.now first.old }
+    requires none { unfinished_from None None first.old.view.mine ≡ None }
+{
+    let one = another_seat(rt, alloc, xti, first)?;
+    crowd(rt, alloc, xti, first, one)
 }
 
 /// The same in a library of its own.
 fn crowded<R: Wait>(rt: &R, alloc: Global) -> Result<(u32, bool, u32, usize), Stop> {
     let (xti, mut first) = library(alloc)?;
-    let one = another_seat(rt, alloc, &xti, &mut first)?;
-    crowd(rt, alloc, &xti, &mut first, one)
+    let found = crowd_of(rt, alloc, &xti, &mut first);
+    drop(first);
+    drop(xti);
+    found
 }
 
 /// A datagram between two endpoints of the first seat, sent and received by the second.
@@ -148,17 +176,45 @@ fn talk<R: Wait + Sync>(
     requires first { IsOf xti.now first × (unfinished_from None None first.view.mine ≡ None) }
     requires second { IsOf xti.now second.old × (unfinished_from None None second.old.view.mine ≡ None) }
 {
-    datagram(rt, alloc, xti, &mut first, second, log)?;
+    let talked = datagram(rt, alloc, xti, &mut first, second, log);
     xti.rest(rt, second);
     let mut first = xti.meet(first, second);
-    Ok(put_history(rt, alloc, xti, &mut first, log)?)
+    let told = put_history(rt, alloc, xti, &mut first, log);
+    drop(first);
+    talked?;
+    Ok(told?)
+}
+
+/// The same by the first seat of a library and one more.
+fn talk_of<R: Wait + Sync>(
+    rt: &R,
+    alloc: Global,
+    xti: &Xti,
+    mut first: Seat,
+    log: &mut Log,
+) -> Result<(), Stop>
+    requires seat { IsOf xti.now first }
+    requires none { unfinished_from None None first.view.mine ≡ None }
+{
+    match another_seat(rt, alloc, xti, &mut first) {
+        Ok(mut second) => {
+            let talked = talk(rt, alloc, xti, first, &mut second, log);
+            drop(second);
+            talked
+        }
+        Err(stop) => {
+            drop(first);
+            Err(stop)
+        }
+    }
 }
 
 /// The same in a library of its own.
 fn talked<R: Wait + Sync>(rt: &R, alloc: Global, log: &mut Log) -> Result<(), Stop> {
-    let (xti, mut first) = library(alloc)?;
-    let mut second = another_seat(rt, alloc, &xti, &mut first)?;
-    talk(rt, alloc, &xti, first, &mut second, log)
+    let (xti, first) = library(alloc)?;
+    let talked = talk_of(rt, alloc, &xti, first, log);
+    drop(xti);
+    talked
 }
 
 #[test]

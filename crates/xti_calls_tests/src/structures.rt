@@ -1,7 +1,5 @@
 //! Structures and their buffers, the names of errors, and what the system sets.
 
-ghost use Rattle.std.specs.Prelude.{◌≡◌, IfOk};
-
 use std::alloc::Global;
 use std::test::*;
 use xti_base::{Errno, Info, Limit, ServType};
@@ -32,38 +30,37 @@ const CONNECTIONS: Info = Info {
 };
 
 /// How many bytes of address, options and data there are, and whether those of the address are zero.
-fn sizes(made: Result<Bufs, AllocFail>) -> Result<(usize, usize, usize, bool), AllocFail> {
-    let bufs = made?;
-    let mut zero = true;
-    for byte in bufs.addr.as_slice() {
-        zero = zero && *byte == 0;
-    }
-    Ok((
+fn sizes(bufs: &Bufs) -> (usize, usize, usize, bool) {
+    (
         bufs.addr.as_slice().len(),
         bufs.opt.as_slice().len(),
         bufs.udata.as_slice().len(),
-        zero,
-    ))
+        bufs.addr.as_slice().iter().all(|byte| *byte == 0),
+    )
 }
 
-/// The buffers of a request of datagrams, and of an address of connections.
-fn two_structures(
-    alloc: Global,
-) -> (
-    Result<(usize, usize, usize, bool), AllocFail>,
-    Result<(usize, usize, usize, bool), AllocFail>,
-) {
-    (
-        sizes(t_alloc(alloc, &DATAGRAMS, StructKind::Call)),
-        sizes(t_alloc(alloc, &CONNECTIONS, StructKind::Bind)),
-    )
+/// The same of the buffers of a structure.
+fn sizes_of(made: Result<Bufs, AllocFail>) -> Result<(usize, usize, usize, bool), AllocFail> {
+    let bufs = made?;
+    let sizes = sizes(&bufs);
+    drop(bufs);
+    Ok(sizes)
+}
+
+/// The sizes of a request, which the provider of datagrams has none of.
+fn request_sizes(alloc: Global) -> Result<(usize, usize, usize, bool), AllocFail> {
+    sizes_of(t_alloc(alloc, &DATAGRAMS, StructKind::Call))
+}
+
+/// The sizes of an address of connections.
+fn address_sizes(alloc: Global) -> Result<(usize, usize, usize, bool), AllocFail> {
+    sizes_of(t_alloc(alloc, &CONNECTIONS, StructKind::Bind))
 }
 
 #[test]
 fn structures(rt: HostRuntime) {
-    let (call, bind) = two_structures(rt.alloc());
-    assert_eq!(rt; call, Err(AllocFail::NoStructType));
-    assert_eq!(rt; bind, Ok((64, 0, 0, true)));
+    assert_eq!(rt; request_sizes(rt.alloc()), Err(AllocFail::NoStructType));
+    assert_eq!(rt; address_sizes(rt.alloc()), Ok((64, 0, 0, true)));
     assert_eq!(rt; t_strerror(9), "TLOOK");
     assert_eq!(rt; t_strerror(30), "unknown");
     assert_eq!(rt; t_sysconf(0), Ok(16));
