@@ -62,9 +62,13 @@ static CASES: [Case; 11] = [
 fn prov(told: Told) -> Prov
     ensures { is_provider result ≡ true }
 {
-    match told {
-        Told::Datagram | Told::DatagramInParts | Told::DatagramError => Prov::Ticlts,
-        _ => Prov::Ticots,
+    if matches!(
+        told,
+        Told::Datagram | Told::DatagramInParts | Told::DatagramError
+    ) {
+        Prov::Ticlts
+    } else {
+        Prov::Ticots
     }
 }
 
