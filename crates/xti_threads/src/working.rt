@@ -34,7 +34,10 @@ pub(crate) fn begin_line(
 {
     let act = Act::Begin(call);
     let outcome = Outcome::Done(reply);
-    worker.advance(alloc, lines, &act, &outcome).is_ok()
+    let begun = worker.advance(alloc, lines, &act, &outcome).is_ok();
+    drop(act);
+    drop(outcome);
+    begun
 }
 
 /// Makes the call of the worker's next line; false where there is none, or it stops.
@@ -62,7 +65,10 @@ fn make_line<G: Gate, R: Wait + Sync>(
     let _number = seat.number();
     match made {
         Ok(reply) => begin_line(alloc, lines, worker, next, reply),
-        Err(_) => false,
+        Err(_) => {
+            drop(next);
+            false
+        }
     }
 }
 
