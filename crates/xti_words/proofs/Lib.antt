@@ -4,3 +4,5 @@ pub mod LineEnd
 pub mod WordLaws
 pub mod TextBytes
 pub mod WordBytes
+pub mod Counting
+pub mod HexDigits

@@ -60,7 +60,7 @@ plain-bytes text bs h = go (is_plain_text text) refl h
     go true i h = subst AreBytes (some-is text bs h) (all text i)
     go false i h = absurd (none-is bs h)
 
-hex-digit : (c n : ℕ) → hex_digit c ≡ Some n → n < 16
+pub hex-digit : (c n : ℕ) → hex_digit c ≡ Some n → n < 16
 hex-digit c n h = go (is_digit c) refl (leb 97 c && leb c 102) refl h
   where
     go : (a : Bool) → is_digit c ≡ a → (b : Bool) → (leb 97 c && leb c 102) ≡ b → cond a (Some (c - 48)) (cond b (Some (c - 87)) None) ≡ Some n → n < 16

@@ -1,11 +1,11 @@
 -- Reading numbers, bytes and several values from left to right.
-use Rattle.std.proofs.Common.{◌≡◌, ℕ, ◌+◌, ◌-◌, ◌*◌, ◌<◌, ◌≤◌, Bool, true, false, cond, not, ◌&&◌, eqb, ltb, List, [], ◌∷◌, ◌++◌, length, drop, Option, Some, None, refl, sym, ap, ◌∙◌, append_assoc, arith}
+use Rattle.std.proofs.Common.{◌≡◌, ℕ, suc, ◌+◌, ◌-◌, ◌*◌, ◌<◌, ◌≤◌, Bool, true, false, cond, not, ◌&&◌, eqb, ltb, List, [], ◌∷◌, ◌++◌, length, get_or, drop, Option, Some, None, refl, sym, ap, ◌∙◌, append_assoc, drop-cons, arith}
 use Rattle.std.specs.List.{list_all}
 use Rattle.std.proofs.lemmas.Bool.{ltb-true, ltb-false, lt-ltb, eqb-true}
-use Rattle.std.proofs.lemmas.List.{append-nil}
+use Rattle.std.proofs.lemmas.List.{append-nil, drop_all}
 use Rattle.xti_words.specs.Texts.{is_digit}
 use Rattle.xti_words.specs.Values.{decimal_behind, number_in, hex_digit, hex_pair, hex_bytes, onto}
-use Rattle.xti_words.specs.Numbers.{digits_behind, can_begin, first_byte}
+use Rattle.xti_words.specs.Numbers.{with_digit, digits_behind, can_begin, first_byte}
 
 -- ---- numbers
 
@@ -59,6 +59,20 @@ number_none (c ∷ []) b t e = let f : true ≡ false = sym e ∙ t in absurd cc
 number_none (c ∷ d ∷ cs) b t e =
     let begins : not (eqb c 48) ≡ false = sym e ∙ t in
     rw begins refl
+
+-- one digit after the other
+
+digit_next : (word : List ℕ) (i n : ℕ) → i < length word → digits_behind (Some n) (drop i word) ≡ digits_behind (with_digit n (get_or word i 0)) (drop (i + 1) word)
+digit_next word i n h = let next : i + 1 ≡ suc i = omega arith in rw next (ap (digits_behind (Some n)) (drop-cons word i 0 h))
+
+pub digit_more : (word : List ℕ) (i n m : ℕ) (total : Option ℕ) → i < length word → with_digit n (get_or word i 0) ≡ Some m → digits_behind (Some n) (drop i word) ≡ total → digits_behind (Some m) (drop (i + 1) word) ≡ total
+digit_more word i n m total h e so_far = ap (λ o. digits_behind o (drop (i + 1) word)) (sym e) ∙ sym (digit_next word i n h) ∙ so_far
+
+pub digit_none : (word : List ℕ) (i n : ℕ) (total : Option ℕ) → i < length word → with_digit n (get_or word i 0) ≡ None → digits_behind (Some n) (drop i word) ≡ total → None ≡ total
+digit_none word i n total h e so_far = ap (λ o. digits_behind o (drop (i + 1) word)) (sym e) ∙ sym (digit_next word i n h) ∙ so_far
+
+pub digit_last : (word : List ℕ) (i n : ℕ) (total : Option ℕ) → length word ≤ i → digits_behind (Some n) (drop i word) ≡ total → Some n ≡ total
+digit_last word i n total h so_far = ap (digits_behind (Some n)) (sym (drop_all i word h)) ∙ so_far
 
 -- ---- one value after the other
 

@@ -107,6 +107,19 @@ fn are_marked(bytes: &[u8]) -> bool
     all == 1
 }
 
+fn is_text_byte(c: u8) -> bool
+    ensures { result ≡ is_text_byte c }
+{
+    mark(c) == 1
+}
+
+// One byte after the other, which takes least where they are few.
+fn are_few_text_bytes(text: &[u8]) -> bool
+    ensures { result ≡ list_all is_text_byte text.now }
+{
+    text.iter().all(|c| is_text_byte(*c))
+}
+
 fn are_text_bytes(text: &[u8]) -> bool
     ensures { result ≡ list_all is_text_byte text.now }
 {
@@ -117,7 +130,7 @@ fn are_text_bytes(text: &[u8]) -> bool
         }
         rest = others;
     }
-    are_marked(rest)
+    are_few_text_bytes(rest)
 }
 
 /// Whether the text may stand after `t:`.

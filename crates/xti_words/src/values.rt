@@ -3,7 +3,7 @@
 ghost use Rattle.std.specs.Prelude.{◌≡◌, ◌==◌, ◌≤◌, ◌∷◌, [], length, IfOk, Some};
 ghost use Rattle.xti_words.specs.Texts.{is_plain_text};
 ghost use Rattle.xti_words.specs.Values.{number_in, hex_digit, hex_bytes, plain_bytes, counted, counted_bytes, bytes_in, each_in, list_in};
-ghost use Rattle.xti_words.specs.Numbers.{with_digit, digits_behind, can_begin, first_byte};
+ghost use Rattle.xti_words.specs.Numbers.{with_digit, can_begin, first_byte};
 ghost use Rattle.xti_words.specs.Texts.{views};
 
 use crate::texts::{is_digit, is_plain_text, pieces_of};
@@ -13,6 +13,27 @@ use xti_base::{Octets, Parts, Sizes};
 
 /// The most parts or sizes of a word.
 pub const MOST_PIECES: usize = 32;
+
+/// The bytes from 0 to 255, which come again and again where bytes are counted.
+#[rattlefmt::skip]
+static ROUND: [u8; 256] = [
+      0,   1,   2,   3,   4,   5,   6,   7,   8,   9,  10,  11,  12,  13,  14,  15,
+     16,  17,  18,  19,  20,  21,  22,  23,  24,  25,  26,  27,  28,  29,  30,  31,
+     32,  33,  34,  35,  36,  37,  38,  39,  40,  41,  42,  43,  44,  45,  46,  47,
+     48,  49,  50,  51,  52,  53,  54,  55,  56,  57,  58,  59,  60,  61,  62,  63,
+     64,  65,  66,  67,  68,  69,  70,  71,  72,  73,  74,  75,  76,  77,  78,  79,
+     80,  81,  82,  83,  84,  85,  86,  87,  88,  89,  90,  91,  92,  93,  94,  95,
+     96,  97,  98,  99, 100, 101, 102, 103, 104, 105, 106, 107, 108, 109, 110, 111,
+    112, 113, 114, 115, 116, 117, 118, 119, 120, 121, 122, 123, 124, 125, 126, 127,
+    128, 129, 130, 131, 132, 133, 134, 135, 136, 137, 138, 139, 140, 141, 142, 143,
+    144, 145, 146, 147, 148, 149, 150, 151, 152, 153, 154, 155, 156, 157, 158, 159,
+    160, 161, 162, 163, 164, 165, 166, 167, 168, 169, 170, 171, 172, 173, 174, 175,
+    176, 177, 178, 179, 180, 181, 182, 183, 184, 185, 186, 187, 188, 189, 190, 191,
+    192, 193, 194, 195, 196, 197, 198, 199, 200, 201, 202, 203, 204, 205, 206, 207,
+    208, 209, 210, 211, 212, 213, 214, 215, 216, 217, 218, 219, 220, 221, 222, 223,
+    224, 225, 226, 227, 228, 229, 230, 231, 232, 233, 234, 235, 236, 237, 238, 239,
+    240, 241, 242, 243, 244, 245, 246, 247, 248, 249, 250, 251, 252, 253, 254, 255,
+];
 
 fn with_digit(number: u32, c: u8) -> Option<u32>
     ensures { result ≡ with_digit number c }
@@ -25,15 +46,6 @@ fn with_digit(number: u32, c: u8) -> Option<u32>
         return None;
     }
     Some(longer as u32)
-}
-
-fn digits_behind(number: u32, digits: &[u8]) -> Option<u32>
-    ensures { result ≡ digits_behind (Some number) digits.now }
-{
-    match digits {
-        [] => Some(number),
-        [c, rest @ ..] => digits_behind(with_digit(number, *c)?, rest),
-    }
 }
 
 fn can_begin(word: &[u8]) -> bool
@@ -50,21 +62,45 @@ fn can_begin(word: &[u8]) -> bool
 pub fn number_in(word: &[u8]) -> Option<u32>
     ensures { result ≡ number_in word.now }
 {
-    if can_begin(word) {
-        digits_behind(0, word)
-    } else {
-        None
+    if !can_begin(word) {
+        return None;
     }
+    let mut number = 0;
+    for c in word {
+        number = with_digit(number, *c)?;
+    }
+    Some(number)
 }
+
+/// What stands in `HEX_DIGITS` for a byte that is no digit.
+const NO_DIGIT: u8 = 255;
+
+/// What each byte is as a hexadecimal digit.
+#[rattlefmt::skip]
+static HEX_DIGITS: [u8; 256] = [
+    255, 255, 255, 255, 255, 255, 255, 255, 255, 255, 255, 255, 255, 255, 255, 255,
+    255, 255, 255, 255, 255, 255, 255, 255, 255, 255, 255, 255, 255, 255, 255, 255,
+    255, 255, 255, 255, 255, 255, 255, 255, 255, 255, 255, 255, 255, 255, 255, 255,
+      0,   1,   2,   3,   4,   5,   6,   7,   8,   9, 255, 255, 255, 255, 255, 255,
+    255, 255, 255, 255, 255, 255, 255, 255, 255, 255, 255, 255, 255, 255, 255, 255,
+    255, 255, 255, 255, 255, 255, 255, 255, 255, 255, 255, 255, 255, 255, 255, 255,
+    255,  10,  11,  12,  13,  14,  15, 255, 255, 255, 255, 255, 255, 255, 255, 255,
+    255, 255, 255, 255, 255, 255, 255, 255, 255, 255, 255, 255, 255, 255, 255, 255,
+    255, 255, 255, 255, 255, 255, 255, 255, 255, 255, 255, 255, 255, 255, 255, 255,
+    255, 255, 255, 255, 255, 255, 255, 255, 255, 255, 255, 255, 255, 255, 255, 255,
+    255, 255, 255, 255, 255, 255, 255, 255, 255, 255, 255, 255, 255, 255, 255, 255,
+    255, 255, 255, 255, 255, 255, 255, 255, 255, 255, 255, 255, 255, 255, 255, 255,
+    255, 255, 255, 255, 255, 255, 255, 255, 255, 255, 255, 255, 255, 255, 255, 255,
+    255, 255, 255, 255, 255, 255, 255, 255, 255, 255, 255, 255, 255, 255, 255, 255,
+    255, 255, 255, 255, 255, 255, 255, 255, 255, 255, 255, 255, 255, 255, 255, 255,
+    255, 255, 255, 255, 255, 255, 255, 255, 255, 255, 255, 255, 255, 255, 255, 255,
+];
 
 fn hex_digit(c: u8) -> Option<u8>
     ensures { result ≡ hex_digit c }
 {
-    match c {
-        b'0'..=b'9' => Some(c - b'0'),
-        b'a'..=b'f' => Some(c - b'a' + 10),
-        _ => None,
-    }
+    let digit = HEX_DIGITS[c as usize];
+    if digit == NO_DIGIT { None } else { Some(digit) }
 }
 
 fn first_byte(digits: &[u8]) -> Option<u8>
@@ -76,6 +112,8 @@ fn first_byte(digits: &[u8]) -> Option<u8>
     Some(hex_digit(*high)? * 16 + hex_digit(*low)?)
 }
 
+// Apart, since most bytes are plain text.
+#[inline(never)]
 fn hex_bytes(alloc: Global, digits: &[u8]) -> Result<Option<Octets>, AllocError>
     ensures { IfOk result (λ bytes. bytes ≡ hex_bytes digits.now) }
 {
@@ -109,12 +147,17 @@ fn counted(alloc: Global, count: usize) -> Result<Octets, AllocError>
     ensures { IfOk result (λ bytes. bytes ≡ counted count) }
 {
     let mut bytes = Vec::with_capacity(alloc, count)?;
-    for i in 0..count {
-        bytes.push((i % 256) as u8)?;
+    let mut left = count;
+    while left >= ROUND.len() {
+        bytes.extend_from_slice(ROUND.as_slice())?;
+        left -= ROUND.len();
     }
+    bytes.extend_from_slice(&ROUND[..left])?;
     Ok(Octets::from_vec(bytes))
 }
 
+// Apart, since most bytes are plain text.
+#[inline(never)]
 fn counted_bytes(alloc: Global, word: &[u8]) -> Result<Option<Octets>, AllocError>
     ensures { IfOk result (λ bytes. bytes ≡ counted_bytes (number_in word.now)) }
 {

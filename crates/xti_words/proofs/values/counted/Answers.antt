@@ -1,8 +1,11 @@
-use Rattle.std.proofs.Common.{◌%◌, ◌++◌, ◌∷◌, [], sym, ap, ◌∙◌, arith}
-use Rattle.std.proofs.lemmas.List.FromFn.{map-range_with_len_more}
+use Rattle.std.proofs.Common.{◌-◌, ◌∙◌, refl, arith}
+use Rattle.xti_words.proofs.Counting.{one_more}
 use Rattle.xti_words.proofs.values.counted.Goals as goal
 
-pub loop-i-preserved : goal.loop-i-preserved
-loop-i-preserved c =
-    let more = map-range_with_len_more (λ n. n % 256) 0 c.loop-i.i c.loop-i.i (omega arith) in
-    c.in_ok-push.ensures.items ∙ ap (λ bytes. bytes ++ c.loop-i.i % 256 ∷ []) c.loop-i.invariant ∙ sym more
+pub loop-left-preserved : goal.loop-left-preserved
+loop-left-preserved c =
+    (one_more c.loop-left.bytes.items _ _ (c.args.count - c.loop-left.left) 256 _ c.loop-left.invariant.0 c.loop-left.invariant.2 (omega arith) c.as_slice.ensures c.in_ok-extend_from_slice.ensures.items (omega arith), omega arith, omega arith)
+
+pub returns : goal.returns
+returns c =
+    c.from_vec.ensures ∙ one_more c.loop-left.bytes.items _ _ (c.args.count - c.loop-left.left) c.loop-left.left c.args.count c.loop-left.invariant.0 c.loop-left.invariant.2 (omega arith) refl c.in_ok-extend_from_slice-2.ensures.items (omega arith)
