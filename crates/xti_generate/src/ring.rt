@@ -8,6 +8,7 @@ use crate::sizes::{MOST_SENT, RING, ROUNDS};
 use std::alloc::{AllocError, Global};
 use xti_base::{Octets, Prov};
 use xti_model::Line;
+use xti_words::counted;
 
 /// The bytes that a worker sends in a round.
 pub(crate) fn round_bytes(
@@ -19,11 +20,7 @@ pub(crate) fn round_bytes(
     ensures { IfOk result (λ bytes. bytes ≡ round_bytes shift worker round) }
 {
     let count = 1 + (shift as u64 + worker as u64 + round as u64) % MOST_SENT as u64;
-    let mut bytes = Vec::with_capacity(alloc, count as usize)?;
-    for i in 0..count {
-        bytes.push((i % 256) as u8)?;
-    }
-    Ok(Octets::from_vec(bytes))
+    counted(alloc, count as usize)
 }
 
 // The endpoint of a worker, and its address.

@@ -10,5 +10,5 @@ mod words;
 pub use operands::{action_in, mode_in, provider_in};
 pub use options::options_in;
 pub use texts::{first_line, is_ascii, is_name};
-pub use values::{MOST_PIECES, bytes_in, number_in, parts_in, sizes_in};
+pub use values::{MOST_PIECES, bytes_in, counted, number_in, parts_in, sizes_in};
 pub use words::Words;

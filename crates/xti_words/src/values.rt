@@ -142,10 +142,13 @@ fn plain_bytes(alloc: Global, text: &[u8]) -> Result<Option<Octets>, AllocError>
     Ok(Some(Octets::copy_of(alloc, text)?))
 }
 
-/// The bytes i mod 256 for each i from 0 below the number.
-fn counted(alloc: Global, count: usize) -> Result<Octets, AllocError>
+/// The bytes i mod 256 for each i from 0 below the number; `Err` is out of memory.
+pub fn counted(alloc: Global, count: usize) -> Result<Octets, AllocError>
     ensures { IfOk result (λ bytes. bytes ≡ counted count) }
 {
+    if count <= ROUND.len() {
+        return Octets::copy_of(alloc, &ROUND[..count]);
+    }
     let mut bytes = Vec::with_capacity(alloc, count)?;
     let mut left = count;
     while left >= ROUND.len() {
