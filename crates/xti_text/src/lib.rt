@@ -8,8 +8,11 @@ ghost use Rattle.xti_text.specs.Words.{number_word, signed_word, hex_digit, hex_
 use itoa::Buffer;
 use std::alloc::AllocError;
 
-/// So many bytes are written with their room made at once.
-const MANY: usize = 32;
+/// So many bytes are turned into their digits at once. Those of fewer are looked up one by one.
+const SIXTEEN: usize = 16;
+
+/// The room that the digits of so many bytes need.
+const PAIRS_OF_SIXTEEN: usize = 2 * SIXTEEN;
 
 /// The room that a number of two to five digits needs.
 const FIVE: usize = 5;
@@ -17,6 +20,16 @@ const FIVE: usize = 5;
 /// The two digits of each number below 100.
 static PAIRS: [u8; 200] =
     *b"00010203040506070809101112131415161718192021222324252627282930313233343536373839404142434445464748495051525354555657585960616263646566676869707172737475767778798081828384858687888990919293949596979899";
+
+/// The two hexadecimal digits of each byte.
+static HEX_PAIRS: [u8; 512] = *b"000102030405060708090a0b0c0d0e0f101112131415161718191a1b1c1d1e1f\
+       202122232425262728292a2b2c2d2e2f303132333435363738393a3b3c3d3e3f\
+       404142434445464748494a4b4c4d4e4f505152535455565758595a5b5c5d5e5f\
+       606162636465666768696a6b6c6d6e6f707172737475767778797a7b7c7d7e7f\
+       808182838485868788898a8b8c8d8e8f909192939495969798999a9b9c9d9e9f\
+       a0a1a2a3a4a5a6a7a8a9aaabacadaeafb0b1b2b3b4b5b6b7b8b9babbbcbdbebf\
+       c0c1c2c3c4c5c6c7c8c9cacbcccdcecfd0d1d2d3d4d5d6d7d8d9dadbdcdddedf\
+       e0e1e2e3e4e5e6e7e8e9eaebecedeeeff0f1f2f3f4f5f6f7f8f9fafbfcfdfeff";
 
 /// Appends a text.
 #[inline(always)]
@@ -141,49 +154,75 @@ pub fn put_pairs(out: &mut Vec<u8>, key: &str, bytes: &[u8]) -> Result<(), Alloc
     }
 }
 
-// Of few bytes the room is asked once, and eight at once are turned while there are so many. Nothing else is called then.
+// Mostly the bytes are few, and there is room: nothing else is called then.
 #[inline(never)]
 fn put_hex(out: &mut Vec<u8>, bytes: &[u8]) -> Result<(), AllocError>
     ensures { OnOk result (out.new.items ≡ out.old.items ++ flat_map hex_pair bytes.now) }
 {
-    if bytes.len() >= MANY {
+    if bytes.len() >= SIXTEEN || out.capacity() - out.len() < PAIRS_OF_SIXTEEN {
         return put_many(out, bytes);
     }
-    out.reserve(2 * bytes.len())?;
-    let mut rest = bytes;
-    while let Some((eight, others)) = rest.split_first_chunk::<8>() {
-        out.extend_from_slice(&pairs_of(eight))?;
-        rest = others;
-    }
-    for b in rest {
-        out.push_reserved(hex_digit(*b / 16));
-        out.push_reserved(hex_digit(*b % 16));
-    }
+    put_few(out, bytes)
+}
+
+// Room for the digits of sixteen bytes is taken at once, and what isn't filled is given back.
+#[inline(always)]
+fn put_few(out: &mut Vec<u8>, bytes: &[u8]) -> Result<(), AllocError>
+    requires { length bytes.now < 16 }
+    ensures { OnOk result (out.new.items ≡ out.old.items ++ flat_map hex_pair bytes.now) }
+{
+    let start = out.len();
+    out.extend_from_slice(&[0; PAIRS_OF_SIXTEEN])?;
+    let (_, room) = out.as_mut_slice().split_at_mut(start);
+    let (pairs, _) = room.split_at_mut(2 * bytes.len());
+    look_up_pairs(pairs, bytes);
+    out.truncate(start + 2 * bytes.len());
     Ok(())
 }
 
 #[inline(always)]
-fn pairs_of(eight: &[u8; 8]) -> [u8; 16]
-    ensures { result ≡ flat_map hex_pair eight.now }
+fn look_up_pairs(out: &mut [u8], bytes: &[u8])
+    requires { length out.old ≡ 2 * length bytes.now }
+    ensures { out.new ≡ flat_map hex_pair bytes.now }
 {
-    let mut pairs = [0; 16];
-    fill_pairs(&mut pairs, eight);
-    pairs
+    for i in 0..bytes.len() {
+        let [high, low] = pair_of(bytes[i]);
+        out[2 * i] = high;
+        out[2 * i + 1] = low;
+    }
 }
 
-// Room for all the digits at once.
+// The two digits of a byte.
+#[inline(always)]
+#[tactic(auto, using(crate::proofs::HexPairs::hex_pairs_at))]
+fn pair_of(b: u8) -> [u8; 2]
+    ensures { result ≡ hex_pair b }
+{
+    let from = 2 * b as usize;
+    [HEX_PAIRS[from], HEX_PAIRS[from + 1]]
+}
+
+// Room for all the digits is asked once.
 #[inline(never)]
 fn put_many(out: &mut Vec<u8>, bytes: &[u8]) -> Result<(), AllocError>
     ensures { OnOk result (out.new.items ≡ out.old.items ++ flat_map hex_pair bytes.now) }
 {
-    let start = out.len();
-    let Some(end) = start.checked_add(2 * bytes.len()) else {
-        return Err(AllocError);
-    };
-    out.resize(end, 0)?;
-    let (_, pairs) = out.as_mut_slice().split_at_mut(start);
-    fill_pairs(pairs, bytes);
-    Ok(())
+    out.reserve(2 * bytes.len())?;
+    let mut rest = bytes;
+    while let Some((sixteen, others)) = rest.split_first_chunk::<SIXTEEN>() {
+        out.extend_from_slice(&pairs_of(sixteen))?;
+        rest = others;
+    }
+    put_few(out, rest)
+}
+
+#[inline(always)]
+fn pairs_of(sixteen: &[u8; SIXTEEN]) -> [u8; PAIRS_OF_SIXTEEN]
+    ensures { result ≡ flat_map hex_pair sixteen.now }
+{
+    let mut pairs = [0; PAIRS_OF_SIXTEEN];
+    fill_pairs(&mut pairs, sixteen);
+    pairs
 }
 
 // Two digits for each byte. Without a table, so that several bytes are turned at once.
