@@ -3,10 +3,14 @@
 
 ghost use Rattle.std.specs.Prelude.{◌≡◌, ◌*◌, ◌+◌, ◌/◌, ◌%◌, ◌∷◌, [], ◌++◌, ◌<◌, ◌≤◌, OnOk, length, codes, decimal};
 ghost use Rattle.std.specs.List.{flat_map};
+ghost use Rattle.std.specs.Vec.{vec_len, vec_capacity};
 ghost use Rattle.xti_text.specs.Words.{number_word, signed_word, hex_digit, hex_pair, octets_word};
 
 use itoa::Buffer;
 use std::alloc::AllocError;
+
+/// Fewer bytes are written without a call.
+const FEW: usize = 8;
 
 /// So many bytes are turned into their digits at once. Those of fewer are looked up one by one.
 const SIXTEEN: usize = 16;
@@ -14,7 +18,7 @@ const SIXTEEN: usize = 16;
 /// The room that the digits of so many bytes need.
 const PAIRS_OF_SIXTEEN: usize = 2 * SIXTEEN;
 
-/// The room that a number of two to five digits needs.
+/// The room that up to five digits need.
 const FIVE: usize = 5;
 
 /// The two digits of each number below 100.
@@ -40,28 +44,20 @@ pub fn put_text(out: &mut Vec<u8>, text: &str) -> Result<(), AllocError>
 }
 
 /// Appends a number in decimal digits, without leading zeros.
-// A key is short and known where it is written: it is copied there, and not by a call.
+// A key is short and known where it is written: it is copied there, and not by a call. The room for all is asked once.
 #[inline(always)]
 pub fn put_number(out: &mut Vec<u8>, key: &str, n: u64) -> Result<(), AllocError>
     ensures { OnOk result (out.new.items ≡ out.old.items ++ number_word key.now n) }
 {
-    if n < 10 {
-        return put_digit(out, key, n);
+    if n >= 100_000 || out.capacity() - out.len() < key.len() + FIVE {
+        return put_long(out, key, n);
     }
-    put_text(out, key)?;
-    put_digits(out, n)
-}
-
-// The room for the key and the digit is asked once.
-#[inline(always)]
-#[tactic(auto, using(std::proofs::lemmas::Fmt::decimal_digit))]
-fn put_digit(out: &mut Vec<u8>, key: &str, n: u64) -> Result<(), AllocError>
-    requires { n < 10 }
-    ensures { OnOk result (out.new.items ≡ out.old.items ++ key.now ++ decimal n) }
-{
-    out.reserve(key.len() + 1)?;
     out.extend_from_slice(key.as_bytes())?;
-    out.push_reserved(digit(n));
+    if n < 10 {
+        push_digit(out, n);
+    } else {
+        push_digits(out, n);
+    }
     Ok(())
 }
 
@@ -74,11 +70,13 @@ pub fn put_signed(out: &mut Vec<u8>, key: &str, n: i64) -> Result<(), AllocError
     put_text(out, buffer.format(n))
 }
 
+// A longer number, or one for which room is made.
 #[inline(never)]
-fn put_long(out: &mut Vec<u8>, n: u64) -> Result<(), AllocError>
-    ensures { OnOk result (out.new.items ≡ out.old.items ++ decimal n) }
+fn put_long(out: &mut Vec<u8>, key: &str, n: u64) -> Result<(), AllocError>
+    ensures { OnOk result (out.new.items ≡ out.old.items ++ key.now ++ decimal n) }
 {
     let mut buffer = Buffer::new();
+    put_text(out, key)?;
     put_text(out, buffer.format(n))
 }
 
@@ -89,29 +87,48 @@ fn digit(n: u64) -> u8
     b'0' + n as u8
 }
 
-// Two to five digits are copied as a whole, where there is room for them.
+#[inline(always)]
+#[tactic(auto, using(std::proofs::lemmas::Fmt::decimal_digit))]
+fn push_digit(out: &mut Vec<u8>, n: u64)
+    requires { (n < 10) × (vec_len out.old < vec_capacity out.old) }
+    ensures { out.new.items ≡ out.old.items ++ decimal n }
+{
+    out.push_reserved(digit(n));
+}
+
+// Two to five digits, for which there is room.
 #[inline(never)]
 #[tactic(auto, using(crate::proofs::Digits::two, crate::proofs::Digits::three, crate::proofs::Digits::four, crate::proofs::Digits::five))]
-fn put_digits(out: &mut Vec<u8>, n: u64) -> Result<(), AllocError>
-    requires { 10 ≤ n }
-    ensures { OnOk result (out.new.items ≡ out.old.items ++ decimal n) }
+fn push_digits(out: &mut Vec<u8>, n: u64)
+    requires { (10 ≤ n) × (n < 100000) × (vec_len out.old + 5 ≤ vec_capacity out.old) }
+    ensures { out.new.items ≡ out.old.items ++ decimal n }
 {
-    if n >= 100_000 || out.capacity() - out.len() < FIVE {
-        return put_long(out, n);
-    }
     if n < 100 {
-        return out.extend_from_slice(&pair(n));
+        return push_pair(out, n);
     }
     let hundreds = n / 100;
-    let [ten, one] = pair(n % 100);
     if n < 1_000 {
-        return out.extend_from_slice(&[digit(hundreds), ten, one]);
+        out.push_reserved(digit(hundreds));
+        return push_pair(out, n % 100);
     }
-    let [thousand, hundred] = pair(hundreds % 100);
     if n < 10_000 {
-        return out.extend_from_slice(&[thousand, hundred, ten, one]);
+        push_pair(out, hundreds % 100);
+        return push_pair(out, n % 100);
     }
-    out.extend_from_slice(&[digit(hundreds / 100), thousand, hundred, ten, one])
+    out.push_reserved(digit(hundreds / 100));
+    push_pair(out, hundreds % 100);
+    push_pair(out, n % 100);
+}
+
+#[inline(always)]
+fn push_pair(out: &mut Vec<u8>, n: u64)
+    requires { (n < 100) × (vec_len out.old + 2 ≤ vec_capacity out.old) }
+    ensures items { out.new.items ≡ out.old.items ++ (48 + n / 10) ∷ (48 + n % 10) ∷ [] }
+    ensures room { (vec_len out.new ≡ vec_len out.old + 2) × (vec_capacity out.new ≡ vec_capacity out.old) }
+{
+    let [ten, one] = pair(n);
+    out.push_reserved(ten);
+    out.push_reserved(one);
 }
 
 // The two digits of a number below 100.
@@ -159,7 +176,7 @@ pub fn put_pairs(out: &mut Vec<u8>, key: &str, bytes: &[u8]) -> Result<(), Alloc
 fn put_hex(out: &mut Vec<u8>, bytes: &[u8]) -> Result<(), AllocError>
     ensures { OnOk result (out.new.items ≡ out.old.items ++ flat_map hex_pair bytes.now) }
 {
-    if bytes.len() >= SIXTEEN || out.capacity() - out.len() < PAIRS_OF_SIXTEEN {
+    if bytes.len() >= FEW || out.capacity() - out.len() < PAIRS_OF_SIXTEEN {
         return put_many(out, bytes);
     }
     put_few(out, bytes)
