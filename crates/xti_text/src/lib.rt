@@ -230,6 +230,9 @@ fn put_many(out: &mut Vec<u8>, bytes: &[u8]) -> Result<(), AllocError>
         out.extend_from_slice(&pairs_of(sixteen))?;
         rest = others;
     }
+    if rest.is_empty() {
+        return Ok(());
+    }
     put_few(out, rest)
 }
 
