@@ -98,7 +98,7 @@ fn push_digit(out: &mut Vec<u8>, n: u64)
 
 // Two to five digits, for which there is room.
 #[inline(never)]
-#[tactic(auto, using(crate::proofs::Digits::two, crate::proofs::Digits::three, crate::proofs::Digits::four, crate::proofs::Digits::five))]
+#[tactic(auto, using(crate::proofs::Digits::two))]
 fn push_digits(out: &mut Vec<u8>, n: u64)
     requires { (10 ≤ n) × (n < 100000) × (vec_len out.old + 5 ≤ vec_capacity out.old) }
     ensures { out.new.items ≡ out.old.items ++ decimal n }
