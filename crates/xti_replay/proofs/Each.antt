@@ -2,6 +2,7 @@
 use Rattle.std.proofs.Common.{◌≡◌, ◌≢◌, ℕ, zero, suc, ◌<◌, true, false, eqb, List, [], ◌∷◌, ◌++◌, length, get_or, set, refl, sym, subst, arith, ◌⊎◌, inl, inr, ap, ◌∙◌, Option, Some, None}
 use Rattle.std.specs.Prelude.{is_some}
 use Rattle.std.proofs.lemmas.Bool.Decides.{eqb_tells}
+use Rattle.std.proofs.lemmas.Option.{none-some}
 use Rattle.std.proofs.lemmas.List.{length-set, get_or-set_same, get_or-set_other}
 use Rattle.xti_replay.specs.declared.workers.Worker.{Worker}
 use Rattle.xti_replay.specs.Progress.{Of}
@@ -33,6 +34,10 @@ of-changed P Q ws i w each other here = λ k d lt. let within : k < length ws = 
 pub nothing : {X : Type 0} (o : Option X) → is_some o ≡ false → o ≡ None
 nothing None e = refl
 nothing (Some x) e = absurd cc
+
+pub something : {X : Type 0} (o : Option X) → is_some o ≡ true → o ≡ None → ⊥
+something None e n = cc
+something (Some x) e n = none-some x (sym n)
 
 pub part-same : (ws : List Worker) (number : ℕ) (w v : Worker) → number < length ws → w ≡ get_or ws number w → v ≡ get_or ws number v → v.part ≡ None → w.part ≡ None
 part-same ws number w v lt at other none = ap (λ (x : Worker). x.part) (at ∙ get_or_any ws number w v lt ∙ sym other) ∙ none

@@ -2,7 +2,7 @@
 use Rattle.std.proofs.Common.{◌≡◌, ◌≢◌, ℕ, ◌<◌, ◌⊎◌, inl, inr, Bool, true, false, eqb, List, [], ◌∷◌, ◌++◌, length, get_or, set, Option, Some, None, refl, sym, ap, ◌∙◌, subst, arith}
 use Rattle.std.specs.Prelude.{is_none, unwrap_or, option_map, option_and_then, slice_get}
 use Rattle.std.proofs.lemmas.Bool.Decides.{eqb_tells}
-use Rattle.std.proofs.lemmas.List.{length-set, get_or-set_same, set-get_or}
+use Rattle.std.proofs.lemmas.List.{length-set, get_or-set_same, set-get_or, set-set}
 use Rattle.std.proofs.lemmas.Option.{none-some, slice_get_within, get_or_from_slice_get}
 use Rattle.xti_base.specs.declared.kinds.State.{State}
 use Rattle.xti_model.specs.declared.call.Call.{Call}
@@ -278,3 +278,30 @@ found-next lines past ws vs number w next k may lt at whole n items = subst (IsF
     by : (o : Option Call) → IsNext lines past number o → going_of (record w { next = o }) ≡ next_going lines past number
     by None m = ap part_going whole ∙ m
     by (Some c) m = m
+
+-- A worker that begins its next line.
+
+-- the worker's next call is set, and taken again
+pub set-and-taken : (w : Worker) (c : Call) → w.next ≡ None → w ≡ record (record w { next = Some c }) { next = None }
+set-and-taken w c idle = ap (λ (o : Option Call). record w { next = o }) idle
+
+-- the worker made a step of its next line's call, or is blocked before it
+pub asked-begun : (lines : List Line) (number : ℕ) (past : List Entry) (before after : Standing) (ws vs : List Worker) (w new : Worker) (c : Call) (entry : Option Entry) (p : Providers) → AreKept lines past ws → MayAsk lines past number → number < length ws
+    → w ≡ get_or ws number w → w.part ≡ None → IsNext lines past number (Some c) → vs ≡ set ws number new → Makes lines number past before after (record w { next = Some c }) new entry (turn p lines before.cells past number)
+    → Asked lines number past before after vs entry (turn p lines before.cells past number)
+asked-begun lines number past before after ws vs w new c entry p k may lt at whole next items m =
+    let begun : Worker = record w { next = Some c } in
+    let found = found-next lines past ws (set ws number begun) number w (Some c) k may lt at whole next refl in
+    asked-by lines number past before after (set ws number begun) vs begun new entry p found.kept (sym (get_or-set_same ws number begun begun lt)) (items ∙ sym (set-set ws number begun new)) m
+
+-- the worker that begins its next line is ready for its call
+pub begun-ready : (lines : List Line) (past : List Entry) (ws : List Worker) (number : ℕ) (w : Worker) (c : Call) → AreKept lines past ws → MayAsk lines past number → number < length ws → w ≡ get_or ws number w → w.part ≡ None → IsNext lines past number (Some c)
+    → IsReady lines past number (record w { next = Some c })
+begun-ready lines past ws number w c k may lt at whole next =
+    let begun : Worker = record w { next = Some c } in
+    let found = found-next lines past ws (set ws number begun) number w (Some c) k may lt at whole next refl in
+    subst (IsReady lines past number) (get_or-set_same ws number begun begun lt) (found.ready begun)
+
+-- the worker has begun all its lines
+pub asked-none : (lines : List Line) (number : ℕ) (past : List Entry) (before : Standing) (ws : List Worker) (p : Providers) → AreKept lines past ws → IsNext lines past number None → Asked lines number past before before ws None (turn p lines before.cells past number)
+asked-none lines number past before ws p k next = subst (Asked lines number past before before ws None) (ap (option_and_then (turn_going p before.cells number)) next) (refl, refl, k)

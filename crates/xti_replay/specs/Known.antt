@@ -1,9 +1,9 @@
 -- What names stand for: each worker's own table, and that of worker 0, whose lines count as far as they stand before.
 use Rattle.std.specs.Prelude.{ℕ, ◌≡◌, Bool, List, [], ◌∷◌, Vec, Option, Some, None, nat_lt, unwrap_or, if◌then◌else◌}
 use Rattle.std.specs.declared.alloc.Global.{Global}
-use Rattle.std.specs.BTreeMap.{BTreeMap, get_by}
-use Rattle.std.specs.Cmp.Lexicographic.{slice_cmp}
-use Rattle.std.specs.Ordering.{nat_cmp}
+use Rattle.std.specs.HashMap.{HashMap, get_by}
+use Rattle.std.specs.declared.hash.BuildHasherDefault.{BuildHasherDefault}
+use Rattle.std.specs.declared.hash.FoldHasher.{FoldHasher}
 use Rattle.std.specs.Str.{bytes_eq}
 use Rattle.xti_model.specs.declared.entry.Outcome.{Outcome}
 use Rattle.xti_model.specs.declared.entry.Entry.{Entry}
@@ -28,10 +28,10 @@ sequences = record { defines = listens; number = listened_number }
 
 -- what each name of a kind stands for
 abbrev pub Table : Type 0
-Table = BTreeMap (Vec ℕ Global) Known
+Table = HashMap (Vec ℕ Global) Known (BuildHasherDefault FoldHasher)
 
 abbrev pub known_in : Table → List ℕ → Option Known
-known_in table name = get_by (λ k. slice_cmp nat_cmp name k.items) table
+known_in table name = get_by (λ k. bytes_eq name k.items) table
 
 -- what the entry of the line at this place tells of the name, where the line defines it
 abbrev pub told_by : Kind → ℕ → NamedCall → Outcome → List ℕ → Option Known

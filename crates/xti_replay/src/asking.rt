@@ -9,7 +9,7 @@ ghost use Rattle.xti_replay.specs.Progress.{AreKept, MayAsk, IsReady};
 use crate::workers::Worker;
 use std::alloc::{AllocError, Global};
 use xti_core::World;
-use xti_model::{Applied, Entry, Line};
+use xti_model::{Act, Applied, Call, Entry, Go, Line};
 
 /// Keeps the entry of a step. None is kept before, so nothing is let go.
 #[inline(always)]
@@ -23,8 +23,8 @@ fn keep(made: &mut Option<Entry>, entry: Entry)
     }
 }
 
-/// Makes the worker's next step, and the entry of it; none where the worker is finished or blocked.
-#[inline(always)]
+/// Makes the worker's next step, which is known, and the entry of it; none where the worker is finished or blocked.
+#[inline(never)]
 fn make(
     alloc: Global,
     lines: &[Line],
@@ -85,6 +85,48 @@ pub(crate) fn find_next(
     }
 }
 
+/// Makes the first step of this call of the worker's next line, and the entry of it; the call is kept where it is blocked.
+#[inline(always)]
+fn begin(
+    alloc: Global,
+    lines: &[Line],
+    number: u32,
+    worker: &mut Worker,
+    call: Call,
+    world: &mut World,
+    made: &mut Option<Entry>,
+) -> Result<(), AllocError>
+    requires ready { (past : List Entry) × IsReady lines.now past number (record worker.old { next = Some call }) }
+    requires idle { worker.old.next ≡ None }
+    requires none { made.old ≡ None }
+    ensures makes { OnOk result (MakesTurn lines.now number world.old world.new (record worker.old { next = Some call }) worker.new made.new) }
+    ensures providers { world.new.providers ≡ world.old.providers }
+{
+    if world.waits(&call) {
+        worker.set_next(Some(call));
+        return Ok(());
+    }
+    match world.step(&call, Go::Begin) {
+        Err(error) => Err(error),
+        Ok(Applied::Blocked) => {
+            worker.set_next(Some(call));
+            Ok(())
+        }
+        Ok(Applied::Step { outcome, after }) => {
+            let act = Act::Begin(call);
+            worker.advance(alloc, lines, &act, &outcome)?;
+            let entry = Entry {
+                worker: number,
+                act,
+                outcome,
+                after,
+            };
+            keep(made, entry);
+            Ok(())
+        }
+    }
+}
+
 /// Makes the next step of the worker with this number, and the entry of it; none where the worker is finished or blocked.
 #[inline(always)]
 pub(crate) fn ask(
@@ -101,13 +143,28 @@ pub(crate) fn ask(
     ensures asked { OnOk result (TakesTurn lines.now number world.old world.new workers.old workers.new made.new) }
     ensures providers { world.new.providers ≡ world.old.providers }
 {
-    find_next(lines, workers, number)?;
-    make(
-        alloc,
-        lines,
-        number as u32,
-        &mut workers[number],
-        world,
-        made,
-    )
+    let worker = &workers[number];
+    if worker.next.is_some() || worker.part.is_some() {
+        return make(
+            alloc,
+            lines,
+            number as u32,
+            &mut workers[number],
+            world,
+            made,
+        );
+    }
+    match worker.next_call(lines, &workers[0]) {
+        Err(error) => Err(error),
+        Ok(None) => Ok(()),
+        Ok(Some(call)) => begin(
+            alloc,
+            lines,
+            number as u32,
+            &mut workers[number],
+            call,
+            world,
+            made,
+        ),
+    }
 }

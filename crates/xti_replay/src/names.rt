@@ -5,7 +5,7 @@ ghost use Rattle.xti_model.specs.Resolve.{opened_fd, listened_number};
 ghost use Rattle.xti_replay.specs.Known.{known_in, number_before, AddsName, HasLearnt};
 
 use std::alloc::{AllocError, Global};
-use std::collections::BTreeMap;
+use std::collections::HashMap;
 use xti_base::limits::NO_NUMBER;
 use xti_model::{NamedCall, Outcome, Reply};
 
@@ -19,7 +19,7 @@ pub struct Known {
 }
 
 /// What each name of a kind stands for.
-pub type Table = BTreeMap<Vec<u8>, Known>;
+pub type Table = HashMap<Vec<u8>, Known>;
 
 /// What the names that a worker's lines defined stand for.
 #[derive(Drop)]
@@ -34,6 +34,10 @@ pub struct Names {
 pub(crate) fn number_before(place: usize, table: &Table, name: &[u8]) -> Option<u32>
     ensures { result ≡ number_before place (known_in table.now name.now) }
 {
+    // Many workers define no names, and a name costs something to hash.
+    if table.is_empty() {
+        return None;
+    }
     let known = table.get(name)?;
     if known.place < place {
         Some(known.number)

@@ -64,6 +64,7 @@ impl<'a> Scope<'a> {
     }
 
     /// The call that only names an endpoint.
+    #[inline(never)]
     fn plain(&self, call: &NamedCall) -> Call
         requires { IsTrue (names_endpoint call.now) }
         ensures { result ≡ with_numbers (meanings_in self.now) call.now }
@@ -82,6 +83,7 @@ impl<'a> Scope<'a> {
     }
 
     /// The call that names an address, asks for addresses or settles options.
+    #[inline(never)]
     fn address_or_options(&self, call: &NamedCall) -> Result<Call, AllocError>
         requires { IsTrue (is_address_or_options call.now) }
         ensures { IfOk result (λ c. c ≡ with_numbers (meanings_in self.now) call.now) }
@@ -119,6 +121,7 @@ impl<'a> Scope<'a> {
     }
 
     /// The call that asks for a connection, takes one or ends one.
+    #[inline(never)]
     fn connection_request(&self, call: &NamedCall) -> Result<Call, AllocError>
         requires { IsTrue (is_connection_request call.now) }
         ensures { IfOk result (λ c. c ≡ with_numbers (meanings_in self.now) call.now) }
@@ -164,6 +167,7 @@ impl<'a> Scope<'a> {
     }
 
     /// The call that takes what the other side asked or answered about a connection.
+    #[inline(never)]
     fn connection_receipt(&self, call: &NamedCall) -> Call
         requires { IsTrue (is_connection_receipt call.now) }
         ensures { result ≡ with_numbers (meanings_in self.now) call.now }
@@ -201,6 +205,7 @@ impl<'a> Scope<'a> {
     }
 
     /// The call that sends or receives data on a connection.
+    #[inline(never)]
     fn data(&self, call: &NamedCall) -> Result<Call, AllocError>
         requires { IsTrue (moves_data call.now) }
         ensures { IfOk result (λ c. c ≡ with_numbers (meanings_in self.now) call.now) }
@@ -229,6 +234,7 @@ impl<'a> Scope<'a> {
     }
 
     /// The call that sends a datagram.
+    #[inline(never)]
     fn send(&self, call: &NamedCall) -> Result<Call, AllocError>
         requires { IsTrue (sends_datagram call.now) }
         ensures { IfOk result (λ c. c ≡ with_numbers (meanings_in self.now) call.now) }
@@ -261,6 +267,7 @@ impl<'a> Scope<'a> {
     }
 
     /// The call that receives a datagram, or the error of one.
+    #[inline(never)]
     fn receive(&self, call: &NamedCall) -> Result<Call, AllocError>
         requires { IsTrue (receives_datagram call.now) }
         ensures { IfOk result (λ c. c ≡ with_numbers (meanings_in self.now) call.now) }
@@ -298,6 +305,7 @@ impl<'a> Scope<'a> {
     }
 
     /// The call of a line that stands here, with numbers in place of names.
+    #[inline(never)]
     pub fn call(&self, call: &NamedCall) -> Result<Call, AllocError>
         ensures { IfOk result (λ c. c ≡ with_numbers (meanings_in self.now) call.now) }
     {

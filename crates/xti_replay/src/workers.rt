@@ -94,8 +94,10 @@ impl Worker {
                     own: &self.names,
                     setup: &setup.names,
                 };
-                let call = scope.call(&line.call)?;
-                Ok(Some(call))
+                match scope.call(&line.call) {
+                    Err(error) => Err(error),
+                    Ok(call) => Ok(Some(call)),
+                }
             }
         }
     }

@@ -13,6 +13,6 @@ offset_bounds-lines-place c =
 pub returns-in-None : goal.returns-in-None
 returns-in-None c = λ past number told setup. place-none c.args.lines.now past number c.args.self.now told c.requires.whole (sym c.in-None.ensures)
 
-pub returns-in_ok-call-in-Some : goal.returns-in_ok-call-in-Some
-returns-in_ok-call-in-Some c = λ past number told setup.
-    place-next c.args.lines.now past number c.args.self.now c.args.setup.now _ c.index-lines-place.result c.in_ok-call-in-Some.call told setup c.requires.whole (sym c.in-Some.ensures) c.index-lines-place.is c.in_ok-call-in-Some.ensures
+pub returns-in-Ok : goal.returns-in-Ok
+returns-in-Ok c = λ past number told setup.
+    place-next c.args.lines.now past number c.args.self.now c.args.setup.now _ c.index-lines-place.result c.in-Ok.call told setup c.requires.whole (sym c.in-Some.ensures) c.index-lines-place.is c.in-Ok.ensures
