@@ -12,3 +12,4 @@ pub mod TextSets
 pub mod Workers
 pub mod ScriptLaws
 pub mod ByteFields
+pub mod KeyBytes

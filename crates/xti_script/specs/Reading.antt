@@ -94,9 +94,12 @@ small (Some number) = if nat_le number LAST_WORKER then Some number else None
 abbrev pub worker_of : List ℕ → Option ℕ
 worker_of word = small (number_in word)
 
+abbrev pub line_with : ℕ → NamedCall → Line
+line_with worker call = record { worker = worker; call = call }
+
 abbrev pub by_worker : ℕ → Option NamedCall → Option Line
 by_worker worker None = None
-by_worker worker (Some call) = Some (record { worker = worker; call = call })
+by_worker worker (Some call) = Some (line_with worker call)
 
 abbrev pub call_by : List Line → Option ℕ → List (List ℕ) → Option Line
 call_by earlier None words = None

@@ -13,7 +13,6 @@ use Rattle.xti_script.specs.declared.fields.FieldFail.{FieldFail}
 use Rattle.xti_script.specs.declared.fields.FieldFail.TheVariants.{Wrong, OutOfMemory}
 use Rattle.xti_script.specs.Names.{Spot, after}
 use Rattle.xti_words.specs.Values.{onto}
-use Rattle.xti_script.specs.Fields.{kind_of}
 use Rattle.xti_script.specs.Reading.{written_value, fields_of}
 
 abbrev pub usual_is : Usual → Value
@@ -33,10 +32,10 @@ unread fields = fields_of (spot_of fields) fields.keys.now fields.words
 abbrev pub TakesField : Fields → Fields → Key → Option (List ℕ) → Type 0
 TakesField old new key text = unread old ≡ onto (written_value (spot_of new) key text) (unread new)
 
--- the next field is of this kind
-abbrev pub NextIs : Kind → List Key → Type 0
-NextIs kind [] = ⊥
-NextIs kind (key ∷ keys) = kind_of key ≡ kind
+-- the next field has this key
+abbrev pub IsNext : Key → List Key → Type 0
+IsNext key [] = ⊥
+IsNext key (next ∷ keys) = next ≡ key
 
 -- a name is of one of these kinds
 abbrev pub is_naming : Kind → Bool
@@ -45,11 +44,6 @@ is_naming kind.Endpoint = true
 is_naming kind.NewSequence = true
 is_naming kind.Sequence = true
 is_naming other = false
-
--- the next field is a name
-abbrev pub NextIsName : List Key → Type 0
-NextIsName [] = ⊥
-NextIsName (key ∷ keys) = is_naming (kind_of key) ≡ true
 
 -- what is read is the first of the values, which the others follow, or there are none
 abbrev pub Reads : {A : Type 0} → (A → Value) → Option (List Value) → Option (List Value) → Result A FieldFail → Type 0
@@ -68,9 +62,3 @@ abbrev pub Makes : Option NamedCall → Option (List Value) → Result NamedCall
 Makes call others (Ok read) = call ≡ alone read others
 Makes call others (Err Wrong) = call ≡ None
 Makes call others (Err OutOfMemory) = Unit {0}
-
--- what is read is the call, or there is none
-abbrev pub IsReadCall : Option NamedCall → Result NamedCall FieldFail → Type 0
-IsReadCall call (Ok read) = call ≡ Some read
-IsReadCall call (Err Wrong) = call ≡ None
-IsReadCall call (Err OutOfMemory) = Unit {0}

@@ -1,38 +1,21 @@
 //! Reading the words of a line.
 
-ghost use Rattle.std.specs.Prelude.{◌≡◌, ◌≤◌, IfSome};
+ghost use Rattle.std.specs.Prelude.{◌≡◌, ◌≤◌, Ok, IfSome};
+ghost use Rattle.xti_script.specs.declared.draft.Taken.TheVariants as taken;
 ghost use Rattle.xti_words.specs.Texts.{words_of};
 ghost use Rattle.xti_script.specs.Gives.{Takes};
 ghost use Rattle.xti_script.specs.Grammar.{is_passed};
 ghost use Rattle.xti_script.specs.Names.{after};
-ghost use Rattle.xti_script.specs.Reading.{call_of, worker_of, any_line_of, longer, after_text};
-ghost use Rattle.xti_script.specs.Unread.{IsReadCall};
+ghost use Rattle.xti_script.specs.Reading.{call_of, by_worker, worker_of, any_line_of, longer, after_text};
 
 use crate::draft::{Draft, Taken};
-use crate::field_calls::{ReadCall, read_fields};
+use crate::field_calls::read_fields;
 use crate::fields::{FieldFail, Fields};
 use crate::verbs::{form, verb_of};
 use std::alloc::AllocError;
 use xti_base::limits::LAST_WORKER;
-use xti_model::Line;
+use xti_model::NamedCall;
 use xti_words::{Words, is_ascii, number_in};
-
-/// The call of the worker that the words give after the lines so far.
-#[tactic(auto, unfolding(crate::specs::Reading::call_of))]
-fn read_call<'a>(draft: &'a Draft, worker: u32, words: Words<'a>) -> ReadCall
-    ensures { IsReadCall (call_of (after draft.now worker) words.entry) result }
-{
-    let mut words = words;
-    let word = words.next().ok_or(FieldFail::Wrong)?;
-    let verb = verb_of(word).ok_or(FieldFail::Wrong)?;
-    let mut fields = Fields::new(draft, worker, form(verb), words);
-    let call = read_fields(verb, &mut fields)?;
-    if fields.are_read() {
-        Ok(call)
-    } else {
-        Err(FieldFail::Wrong)
-    }
-}
 
 fn worker_of(word: &[u8]) -> Option<u32>
     ensures value { result ≡ worker_of word.now }
@@ -54,6 +37,37 @@ fn is_passed(line: &[u8]) -> bool
     }
 }
 
+// Apart, since calls are seldom refused.
+#[inline(never)]
+fn refused(call: NamedCall) -> Result<Taken, AllocError>
+    ensures { result ≡ Ok taken.Wrong }
+{
+    drop(call);
+    Ok(Taken::Wrong)
+}
+
+/// Adds the call of the worker that the words give after the others.
+#[tactic(auto, unfolding(crate::specs::Reading::call_of))]
+fn read_call(draft: &mut Draft, worker: u32, words: Words) -> Result<Taken, AllocError>
+    requires { worker ≤ LAST_WORKER }
+    ensures { Takes result draft.new (longer draft.old (by_worker worker (call_of (after draft.old worker) words.entry))) }
+{
+    let mut words = words;
+    let Some(word) = words.next() else {
+        return Ok(Taken::Wrong);
+    };
+    let Some(verb) = verb_of(word) else {
+        return Ok(Taken::Wrong);
+    };
+    let mut fields = Fields::new(draft, worker, form(verb), words);
+    match read_fields(verb, &mut fields) {
+        Ok(call) if fields.are_read() => draft.add(worker, call),
+        Ok(call) => refused(call),
+        Err(FieldFail::Wrong) => Ok(Taken::Wrong),
+        Err(FieldFail::OutOfMemory) => Err(AllocError),
+    }
+}
+
 /// Adds the call that the line gives after the others.
 #[tactic(auto, unfolding(crate::specs::Reading::any_line_of))]
 fn read_call_line(draft: &mut Draft, line: &[u8]) -> Result<Taken, AllocError>
@@ -63,13 +77,9 @@ fn read_call_line(draft: &mut Draft, line: &[u8]) -> Result<Taken, AllocError>
     let Some(word) = words.next() else {
         return Ok(Taken::Wrong);
     };
-    let Some(worker) = worker_of(word) else {
-        return Ok(Taken::Wrong);
-    };
-    match read_call(draft, worker, words) {
-        Ok(call) => draft.add(Line { worker, call }),
-        Err(FieldFail::Wrong) => Ok(Taken::Wrong),
-        Err(FieldFail::OutOfMemory) => Err(AllocError),
+    match worker_of(word) {
+        Some(worker) => read_call(draft, worker, words),
+        None => Ok(Taken::Wrong),
     }
 }
 

@@ -6,7 +6,7 @@ ghost use Rattle.xti_model.specs.Work.{argument_bytes};
 ghost use Rattle.xti_model.specs.Resolve.{opens, listens};
 ghost use Rattle.xti_script.specs.Names.{after, is_defined};
 ghost use Rattle.xti_script.specs.Known.{TakesName};
-ghost use Rattle.xti_script.specs.Reading.{less, room_after, extended};
+ghost use Rattle.xti_script.specs.Reading.{less, room_after, line_with, extended};
 
 use crate::names::{TextSet, add_name, empty_sets, is_defined};
 use std::alloc::{AllocError, Global};
@@ -146,21 +146,22 @@ fn shorten(lines: &mut Vec<Line>, count: usize)
     lines.truncate(count);
 }
 
-/// Adds the line, which is moved but once; what is left of so many bytes after it. `None` where a limit is in the way:
+/// Adds the line of the worker with the call; what is left of so many bytes after it. `None` where a limit is in the way:
 /// then, and where memory runs out, nothing is added.
 fn add_line(
     lines: &mut Vec<Line>,
     opened: &mut [TextSet],
     listened: &mut [TextSet],
     left: usize,
-    line: Line,
+    worker: u32,
+    call: NamedCall,
 ) -> Result<Option<usize>, AllocError>
-    requires endpoints { line.worker < length opened.old }
-    requires sequences { line.worker < length listened.old }
-    ensures room { IfOk result (λ room. room ≡ room_after (length lines.old.items) left line.call) }
-    ensures opened { IfOk result (λ room. IfSome room (λ _. TakesName opens line opened.old opened.new)) }
-    ensures listened { IfOk result (λ room. IfSome room (λ _. TakesName listens line listened.old listened.new)) }
-    ensures more { IfOk result (λ room. IfSome room (λ _. lines.new.items ≡ lines.old.items ++ line ∷ [])) }
+    requires endpoints { worker < length opened.old }
+    requires sequences { worker < length listened.old }
+    ensures room { IfOk result (λ room. room ≡ room_after (length lines.old.items) left call) }
+    ensures opened { IfOk result (λ room. IfSome room (λ _. TakesName opens (line_with worker call) opened.old opened.new)) }
+    ensures listened { IfOk result (λ room. IfSome room (λ _. TakesName listens (line_with worker call) listened.old listened.new)) }
+    ensures more { IfOk result (λ room. IfSome room (λ _. lines.new.items ≡ lines.old.items ++ line_with worker call ∷ [])) }
     ensures opened_same { IfOk result (λ room. IfNone room (opened.new ≡ opened.old)) }
     ensures listened_same { IfOk result (λ room. IfNone room (listened.new ≡ listened.old)) }
     ensures same { IfOk result (λ room. IfNone room (lines.new.items ≡ lines.old.items)) }
@@ -170,7 +171,11 @@ fn add_line(
 {
     let alloc = *lines.allocator();
     let count = lines.as_slice().len();
-    lines.push(line)?;
+    if lines.reserve(1).is_err() {
+        drop(call);
+        return Err(AllocError);
+    }
+    lines.push_reserved(Line { worker, call });
     match admit(opened, listened, alloc, count, left, &lines[count]) {
         Ok(Some(left)) => Ok(Some(left)),
         refused => {
@@ -217,15 +222,16 @@ impl Draft {
         })
     }
 
-    /// Adds a line, if no limit is in the way. If one is, and where memory runs out, the lines are as before.
-    pub(crate) fn add(&mut self, line: Line) -> Result<Taken, AllocError>
-        requires { line.worker ≤ LAST_WORKER }
-        ensures ok { IfOk result (λ taken. (taken, self.new) ≡ extended self.old line) }
+    /// Adds the line of the worker with the call, if no limit is in the way. If one is, and where memory runs out, the lines
+    /// are as before.
+    pub(crate) fn add(&mut self, worker: u32, call: NamedCall) -> Result<Taken, AllocError>
+        requires { worker ≤ LAST_WORKER }
+        ensures ok { IfOk result (λ taken. (taken, self.new) ≡ extended self.old (line_with worker call)) }
         ensures err { OnErr result (self.new ≡ self.old) }
     {
         let opened = self.opened.as_mut_slice();
         let listened = self.listened.as_mut_slice();
-        match add_line(&mut self.lines, opened, listened, self.left, line)? {
+        match add_line(&mut self.lines, opened, listened, self.left, worker, call)? {
             Some(left) => {
                 self.left = left;
                 Ok(Taken::Read)

@@ -6,12 +6,12 @@ ghost use Rattle.xti_script.specs.Families.{is_plain, is_local, is_connecting, i
 ghost use Rattle.xti_script.specs.Reading.{with_values};
 ghost use Rattle.xti_script.specs.Unread.{unread, Makes};
 
-use crate::fields::{FieldFail, Fields};
+use crate::fields::{FieldFail, Fields, Key};
 use crate::verbs::Verb;
 use xti_model::NamedCall;
 
 /// A call, or why its fields aren't read.
-pub(crate) type ReadCall = Result<NamedCall, FieldFail>;
+type ReadCall = Result<NamedCall, FieldFail>;
 
 /// A call that says no more than which endpoint.
 #[tactic(auto, unfolding(crate::specs::Fields::field, crate::specs::Calls::form_of, crate::specs::Calls::call_with))]
@@ -22,14 +22,30 @@ fn read_plain(verb: Verb, fields: &mut Fields) -> ReadCall
     ensures keys { IfOk result (λ _. fields.new.keys.now ≡ []) }
 {
     match verb {
-        Verb::Close => Ok(NamedCall::TClose { fd: fields.name()? }),
-        Verb::Unbind => Ok(NamedCall::TUnbind { fd: fields.name()? }),
-        Verb::SndRel => Ok(NamedCall::TSndRel { fd: fields.name()? }),
-        Verb::RcvRel => Ok(NamedCall::TRcvRel { fd: fields.name()? }),
-        Verb::Look => Ok(NamedCall::TLookAt { fd: fields.name()? }),
-        Verb::GetState => Ok(NamedCall::TGetState { fd: fields.name()? }),
-        Verb::Sync => Ok(NamedCall::TSync { fd: fields.name()? }),
-        Verb::GetInfo => Ok(NamedCall::TGetInfo { fd: fields.name()? }),
+        Verb::Close => Ok(NamedCall::TClose {
+            fd: fields.name(Key::Endpoint)?,
+        }),
+        Verb::Unbind => Ok(NamedCall::TUnbind {
+            fd: fields.name(Key::Endpoint)?,
+        }),
+        Verb::SndRel => Ok(NamedCall::TSndRel {
+            fd: fields.name(Key::Endpoint)?,
+        }),
+        Verb::RcvRel => Ok(NamedCall::TRcvRel {
+            fd: fields.name(Key::Endpoint)?,
+        }),
+        Verb::Look => Ok(NamedCall::TLookAt {
+            fd: fields.name(Key::Endpoint)?,
+        }),
+        Verb::GetState => Ok(NamedCall::TGetState {
+            fd: fields.name(Key::Endpoint)?,
+        }),
+        Verb::Sync => Ok(NamedCall::TSync {
+            fd: fields.name(Key::Endpoint)?,
+        }),
+        Verb::GetInfo => Ok(NamedCall::TGetInfo {
+            fd: fields.name(Key::Endpoint)?,
+        }),
         _ => unreachable!(),
     }
 }
@@ -44,30 +60,30 @@ fn read_local(verb: Verb, fields: &mut Fields) -> ReadCall
 {
     match verb {
         Verb::Open => Ok(NamedCall::TOpen {
-            name: fields.name()?,
-            prov: fields.provider()?,
-            nonblock: fields.mode()?,
+            name: fields.name(Key::NewEndpoint)?,
+            prov: fields.provider(Key::Provider)?,
+            nonblock: fields.mode(Key::ModeOrBlock)?,
         }),
         Verb::Bind => Ok(NamedCall::TBind {
-            fd: fields.name()?,
-            addr: fields.bytes()?,
-            qlen: fields.number()?,
-            amax: fields.number()?,
+            fd: fields.name(Key::Endpoint)?,
+            addr: fields.bytes(Key::Addr)?,
+            qlen: fields.number(Key::Qlen)?,
+            amax: fields.number(Key::Amax)?,
         }),
         Verb::SetMode => Ok(NamedCall::SetMode {
-            fd: fields.name()?,
-            nonblock: fields.mode()?,
+            fd: fields.name(Key::Endpoint)?,
+            nonblock: fields.mode(Key::Mode)?,
         }),
         Verb::GetProtAddr => Ok(NamedCall::TGetProtAddr {
-            fd: fields.name()?,
-            amax: fields.number()?,
-            pmax: fields.number()?,
+            fd: fields.name(Key::Endpoint)?,
+            amax: fields.number(Key::Amax)?,
+            pmax: fields.number(Key::Pmax)?,
         }),
         Verb::OptMgmt => Ok(NamedCall::TOptMgmt {
-            fd: fields.name()?,
-            action: fields.action()?,
-            opt: fields.options()?,
-            omax: fields.number()?,
+            fd: fields.name(Key::Endpoint)?,
+            action: fields.action(Key::Action)?,
+            opt: fields.options(Key::Opt)?,
+            omax: fields.number(Key::Omax)?,
         }),
         _ => unreachable!(),
     }
@@ -83,42 +99,42 @@ fn read_connecting(verb: Verb, fields: &mut Fields) -> ReadCall
 {
     match verb {
         Verb::Connect => Ok(NamedCall::TConnect {
-            fd: fields.name()?,
-            addr: fields.bytes()?,
-            opt: fields.options()?,
-            udata: fields.bytes()?,
-            amax: fields.number()?,
-            omax: fields.number()?,
-            umax: fields.number()?,
+            fd: fields.name(Key::Endpoint)?,
+            addr: fields.bytes(Key::Addr)?,
+            opt: fields.options(Key::Opt)?,
+            udata: fields.bytes(Key::UData)?,
+            amax: fields.number(Key::Amax)?,
+            omax: fields.number(Key::Omax)?,
+            umax: fields.number(Key::Umax)?,
         }),
         Verb::RcvConnect => Ok(NamedCall::TRcvConnect {
-            fd: fields.name()?,
-            amax: fields.number()?,
-            omax: fields.number()?,
-            umax: fields.number()?,
+            fd: fields.name(Key::Endpoint)?,
+            amax: fields.number(Key::Amax)?,
+            omax: fields.number(Key::Omax)?,
+            umax: fields.number(Key::Umax)?,
         }),
         Verb::Listen => Ok(NamedCall::TListen {
-            fd: fields.name()?,
-            name: fields.name()?,
-            amax: fields.number()?,
-            omax: fields.number()?,
-            umax: fields.number()?,
+            fd: fields.name(Key::Endpoint)?,
+            name: fields.name(Key::NewSequence)?,
+            amax: fields.number(Key::Amax)?,
+            omax: fields.number(Key::Omax)?,
+            umax: fields.number(Key::Umax)?,
         }),
         Verb::Accept => Ok(NamedCall::TAccept {
-            fd: fields.name()?,
-            resfd: fields.name()?,
-            seq: fields.name()?,
-            opt: fields.options()?,
-            udata: fields.bytes()?,
+            fd: fields.name(Key::Endpoint)?,
+            resfd: fields.name(Key::Endpoint)?,
+            seq: fields.name(Key::Sequence)?,
+            opt: fields.options(Key::Opt)?,
+            udata: fields.bytes(Key::UData)?,
         }),
         Verb::SndDis => Ok(NamedCall::TSndDis {
-            fd: fields.name()?,
-            seq: fields.sequence_or_none()?,
-            udata: fields.bytes()?,
+            fd: fields.name(Key::Endpoint)?,
+            seq: fields.sequence_or_none(Key::SequenceOrNone)?,
+            udata: fields.bytes(Key::UData)?,
         }),
         Verb::RcvDis => Ok(NamedCall::TRcvDis {
-            fd: fields.name()?,
-            umax: fields.number()?,
+            fd: fields.name(Key::Endpoint)?,
+            umax: fields.number(Key::Umax)?,
         }),
         _ => unreachable!(),
     }
@@ -134,22 +150,22 @@ fn read_data(verb: Verb, fields: &mut Fields) -> ReadCall
 {
     match verb {
         Verb::Snd => Ok(NamedCall::TSnd {
-            fd: fields.name()?,
-            bytes: fields.bytes()?,
-            flags: fields.number()?,
+            fd: fields.name(Key::Endpoint)?,
+            bytes: fields.bytes(Key::Data)?,
+            flags: fields.number(Key::Flags)?,
         }),
         Verb::SndV => Ok(NamedCall::TSndV {
-            fd: fields.name()?,
-            parts: fields.parts()?,
-            flags: fields.number()?,
+            fd: fields.name(Key::Endpoint)?,
+            parts: fields.parts(Key::Parts)?,
+            flags: fields.number(Key::Flags)?,
         }),
         Verb::Rcv => Ok(NamedCall::TRcv {
-            fd: fields.name()?,
-            max: fields.number()?,
+            fd: fields.name(Key::Endpoint)?,
+            max: fields.number(Key::Max)?,
         }),
         Verb::RcvV => Ok(NamedCall::TRcvV {
-            fd: fields.name()?,
-            sizes: fields.sizes()?,
+            fd: fields.name(Key::Endpoint)?,
+            sizes: fields.sizes(Key::Sizes)?,
         }),
         _ => unreachable!(),
     }
@@ -165,33 +181,33 @@ fn read_datagram(verb: Verb, fields: &mut Fields) -> ReadCall
 {
     match verb {
         Verb::SndUData => Ok(NamedCall::TSndUData {
-            fd: fields.name()?,
-            addr: fields.bytes()?,
-            opt: fields.options()?,
-            bytes: fields.bytes()?,
+            fd: fields.name(Key::Endpoint)?,
+            addr: fields.bytes(Key::Addr)?,
+            opt: fields.options(Key::Opt)?,
+            bytes: fields.bytes(Key::Data)?,
         }),
         Verb::SndVUData => Ok(NamedCall::TSndVUData {
-            fd: fields.name()?,
-            addr: fields.bytes()?,
-            opt: fields.options()?,
-            parts: fields.parts()?,
+            fd: fields.name(Key::Endpoint)?,
+            addr: fields.bytes(Key::Addr)?,
+            opt: fields.options(Key::Opt)?,
+            parts: fields.parts(Key::Parts)?,
         }),
         Verb::RcvUData => Ok(NamedCall::TRcvUData {
-            fd: fields.name()?,
-            max: fields.number()?,
-            amax: fields.number()?,
-            omax: fields.number()?,
+            fd: fields.name(Key::Endpoint)?,
+            max: fields.number(Key::Max)?,
+            amax: fields.number(Key::Amax)?,
+            omax: fields.number(Key::Omax)?,
         }),
         Verb::RcvVUData => Ok(NamedCall::TRcvVUData {
-            fd: fields.name()?,
-            sizes: fields.sizes()?,
-            amax: fields.number()?,
-            omax: fields.number()?,
+            fd: fields.name(Key::Endpoint)?,
+            sizes: fields.sizes(Key::Sizes)?,
+            amax: fields.number(Key::Amax)?,
+            omax: fields.number(Key::Omax)?,
         }),
         Verb::RcvUDErr => Ok(NamedCall::TRcvUDErr {
-            fd: fields.name()?,
-            amax: fields.number()?,
-            omax: fields.number()?,
+            fd: fields.name(Key::Endpoint)?,
+            amax: fields.number(Key::Amax)?,
+            omax: fields.number(Key::Omax)?,
         }),
         _ => unreachable!(),
     }

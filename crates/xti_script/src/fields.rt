@@ -1,12 +1,12 @@
 //! The fields of calls: words in a fixed order, of which those with a usual value may be left out.
 
-ghost use Rattle.std.specs.Prelude.{◌≡◌, ◌<◌, ◌∷◌, [], Some, None, if◌then◌else◌, option_map, drop, length};
+ghost use Rattle.std.specs.Prelude.{◌≡◌, ◌∷◌, [], true, Some, None, if◌then◌else◌, option_map, drop};
 ghost use Rattle.std.specs.Option.{option_copied};
 ghost use Rattle.xti_script.specs.FieldValue.{Value as value};
 ghost use Rattle.xti_script.specs.Fields.{key_word, kind_of, usual_value};
 ghost use Rattle.xti_script.specs.Names.{Spot, after, can_name};
 ghost use Rattle.xti_script.specs.Reading.{behind_key, written_value, field_value, field_rest, fields_of};
-ghost use Rattle.xti_script.specs.Unread.{usual_is, spot_of, unread, TakesField, NextIs, NextIsName, Reads};
+ghost use Rattle.xti_script.specs.Unread.{usual_is, spot_of, unread, TakesField, IsNext, is_naming, Reads};
 ghost use Rattle.xti_script.specs.Kinds.{Kind as kind};
 ghost use Rattle.xti_script.specs.declared.fields.FieldFail.TheVariants.{OutOfMemory};
 
@@ -80,6 +80,7 @@ enum Usual {
 }
 
 /// The key as it is written, with its sign; empty for a word without a key.
+#[inline(always)]
 #[tactic(auto, unfolding(crate::specs::Fields::field))]
 fn key_word(key: Key) -> &'static [u8]
     ensures { result.now ≡ key_word key }
@@ -111,6 +112,7 @@ fn key_word(key: Key) -> &'static [u8]
 }
 
 /// The value of a field that is left out; `None` where it must stand.
+#[inline(always)]
 #[tactic(auto, unfolding(crate::specs::Fields::field))]
 fn usual_value(key: Key) -> Option<Usual>
     ensures { option_map usual_is result ≡ usual_value key }
@@ -144,16 +146,23 @@ impl From<AllocError> for FieldFail {
 }
 
 /// What is after the key; `None` where the word doesn't begin with it.
+#[inline(always)]
 fn behind_key<'a>(key: &[u8], word: &'a [u8]) -> Option<&'a [u8]>
     ensures { option_copied result ≡ behind_key key.now word.now }
 {
-    if !word.starts_with(key) {
-        return None;
+    let mut rest = word;
+    for k in key {
+        let (c, others) = rest.split_first()?;
+        if c != k {
+            return None;
+        }
+        rest = others;
     }
-    Some(&word[key.len()..])
+    Some(rest)
 }
 
 /// What is after the key of the next word, where this is a field with the key; the word is taken then.
+#[inline(always)]
 fn field_text<'a>(key: Key, words: &mut Words<'a>) -> Option<&'a [u8]>
     ensures text { (s : Spot) → written_value s key (option_copied result) ≡ field_value s key words.old }
     ensures rest { words.new ≡ field_rest key words.old }
@@ -203,29 +212,42 @@ impl<'a> Fields<'a> {
         self.words.is_empty()
     }
 
-    /// Takes the next key, and the word with it where the field is written: what is after the key, or `None`.
+    /// Takes the next key, which is this one, and the word with it where the field is written: what is after the key, or
+    /// `None`.
     #[inline(always)]
-    fn next(&mut self) -> (Key, Option<&'a [u8]>)
-        requires { 0 < length self.old.keys.now }
+    fn next(&mut self, key: Key) -> Option<&'a [u8]>
+        requires { IsNext key self.old.keys.now }
         ensures spot { spot_of self.new ≡ spot_of self.old }
-        ensures keys { self.old.keys.now ≡ result.0 ∷ self.new.keys.now }
-        ensures value { TakesField self.old self.new result.0 (option_copied result.1) }
+        ensures keys { self.old.keys.now ≡ key ∷ self.new.keys.now }
+        ensures value { TakesField self.old self.new key (option_copied result) }
     {
-        let key = self.keys[0];
         self.keys = &self.keys[1..];
-        (key, field_text(key, &mut self.words))
+        field_text(key, &mut self.words)
+    }
+
+    /// Takes the next key, which is this one and written without a key, and the next word; `None` where no word is left.
+    #[inline(always)]
+    fn next_word(&mut self, key: Key) -> Option<&'a [u8]>
+        requires next { IsNext key self.old.keys.now }
+        requires bare { key_word key ≡ [] }
+        ensures spot { spot_of self.new ≡ spot_of self.old }
+        ensures keys { self.old.keys.now ≡ key ∷ self.new.keys.now }
+        ensures value { TakesField self.old self.new key (option_copied result) }
+    {
+        self.keys = &self.keys[1..];
+        self.words.next()
     }
 
     /// The bytes of the next field.
     #[inline(always)]
     #[tactic(auto, unfolding(crate::specs::Fields::field))]
-    pub(crate) fn bytes(&mut self) -> Result<Octets, FieldFail>
-        requires { NextIs kind.Bytes self.old.keys.now }
+    pub(crate) fn bytes(&mut self, key: Key) -> Result<Octets, FieldFail>
+        requires next { IsNext key self.old.keys.now }
+        requires kind { kind_of key ≡ kind.Bytes }
         ensures keys { self.new.keys.now ≡ drop 1 self.old.keys.now }
         ensures value { Reads value.Bytes (unread self.old) (unread self.new) result }
     {
-        let (key, text) = self.next();
-        match text {
+        match self.next(key) {
             Some(text) => bytes_in(self.draft.alloc(), text)?.ok_or(FieldFail::Wrong),
             None => match usual_value(key) {
                 Some(Usual::Empty) => Ok(Octets::new(self.draft.alloc())),
@@ -235,14 +257,15 @@ impl<'a> Fields<'a> {
     }
 
     /// The options of the next field, in bytes.
+    #[inline(always)]
     #[tactic(auto, unfolding(crate::specs::Fields::field))]
-    pub(crate) fn options(&mut self) -> Result<Octets, FieldFail>
-        requires { NextIs kind.Options self.old.keys.now }
+    pub(crate) fn options(&mut self, key: Key) -> Result<Octets, FieldFail>
+        requires next { IsNext key self.old.keys.now }
+        requires kind { kind_of key ≡ kind.Options }
         ensures keys { self.new.keys.now ≡ drop 1 self.old.keys.now }
         ensures value { Reads value.Bytes (unread self.old) (unread self.new) result }
     {
-        let (key, text) = self.next();
-        match text {
+        match self.next(key) {
             Some(text) => options_in(self.draft.alloc(), text)?.ok_or(FieldFail::Wrong),
             None => match usual_value(key) {
                 Some(Usual::Empty) => Ok(Octets::new(self.draft.alloc())),
@@ -254,13 +277,13 @@ impl<'a> Fields<'a> {
     /// The number of the next field.
     #[inline(always)]
     #[tactic(auto, unfolding(crate::specs::Fields::field))]
-    pub(crate) fn number(&mut self) -> Result<u32, FieldFail>
-        requires { NextIs kind.Number self.old.keys.now }
+    pub(crate) fn number(&mut self, key: Key) -> Result<u32, FieldFail>
+        requires next { IsNext key self.old.keys.now }
+        requires kind { kind_of key ≡ kind.Number }
         ensures keys { self.new.keys.now ≡ drop 1 self.old.keys.now }
         ensures value { Reads value.Number (unread self.old) (unread self.new) result }
     {
-        let (key, text) = self.next();
-        match text {
+        match self.next(key) {
             Some(text) => number_in(text).ok_or(FieldFail::Wrong),
             None => match usual_value(key) {
                 Some(Usual::Number(number)) => Ok(number),
@@ -271,27 +294,29 @@ impl<'a> Fields<'a> {
 
     /// The parts of the next field, which has no usual value.
     #[tactic(auto, unfolding(crate::specs::Fields::field))]
-    pub(crate) fn parts(&mut self) -> Result<Parts, FieldFail>
-        requires { NextIs kind.Parts self.old.keys.now }
+    pub(crate) fn parts(&mut self, key: Key) -> Result<Parts, FieldFail>
+        requires next { IsNext key self.old.keys.now }
+        requires kind { kind_of key ≡ kind.Parts }
         ensures keys { self.new.keys.now ≡ drop 1 self.old.keys.now }
         ensures value { Reads value.Parts (unread self.old) (unread self.new) result }
     {
-        match self.next() {
-            (_, Some(text)) => parts_in(self.draft.alloc(), text)?.ok_or(FieldFail::Wrong),
-            (_, None) => Err(FieldFail::Wrong),
+        match self.next(key) {
+            Some(text) => parts_in(self.draft.alloc(), text)?.ok_or(FieldFail::Wrong),
+            None => Err(FieldFail::Wrong),
         }
     }
 
     /// The sizes of the next field, which has no usual value.
     #[tactic(auto, unfolding(crate::specs::Fields::field))]
-    pub(crate) fn sizes(&mut self) -> Result<Sizes, FieldFail>
-        requires { NextIs kind.Sizes self.old.keys.now }
+    pub(crate) fn sizes(&mut self, key: Key) -> Result<Sizes, FieldFail>
+        requires next { IsNext key self.old.keys.now }
+        requires kind { kind_of key ≡ kind.Sizes }
         ensures keys { self.new.keys.now ≡ drop 1 self.old.keys.now }
         ensures value { Reads value.Sizes (unread self.old) (unread self.new) result }
     {
-        match self.next() {
-            (_, Some(text)) => sizes_in(self.draft.alloc(), text)?.ok_or(FieldFail::Wrong),
-            (_, None) => Err(FieldFail::Wrong),
+        match self.next(key) {
+            Some(text) => sizes_in(self.draft.alloc(), text)?.ok_or(FieldFail::Wrong),
+            None => Err(FieldFail::Wrong),
         }
     }
 
@@ -311,30 +336,31 @@ impl<'a> Fields<'a> {
 
     /// The name that the next field is.
     #[tactic(auto, unfolding(crate::specs::Fields::field))]
-    pub(crate) fn name(&mut self) -> Result<Name, FieldFail>
-        requires { NextIsName self.old.keys.now }
+    pub(crate) fn name(&mut self, key: Key) -> Result<Name, FieldFail>
+        requires next { IsNext key self.old.keys.now }
+        requires bare { key_word key ≡ [] }
+        requires kind { is_naming (kind_of key) ≡ true }
         ensures keys { self.new.keys.now ≡ drop 1 self.old.keys.now }
         ensures value { Reads value.Name (unread self.old) (unread self.new) result }
     {
-        match self.next() {
-            (key, Some(text)) if self.can_name(key, text) => Ok(Name::copy_of(
-                self.draft.alloc(),
-                text,
-            )?),
+        match self.next_word(key) {
+            Some(text) if self.can_name(key, text) => Ok(Name::copy_of(self.draft.alloc(), text)?),
             _ => Err(FieldFail::Wrong),
         }
     }
 
     /// The name of a sequence number that the next field is; `None` for `-`.
     #[tactic(auto, unfolding(crate::specs::Fields::field))]
-    pub(crate) fn sequence_or_none(&mut self) -> Result<Option<Name>, FieldFail>
-        requires { NextIs kind.SequenceOrNone self.old.keys.now }
+    pub(crate) fn sequence_or_none(&mut self, key: Key) -> Result<Option<Name>, FieldFail>
+        requires next { IsNext key self.old.keys.now }
+        requires bare { key_word key ≡ [] }
+        requires kind { kind_of key ≡ kind.SequenceOrNone }
         ensures keys { self.new.keys.now ≡ drop 1 self.old.keys.now }
         ensures value { Reads value.NameOrNone (unread self.old) (unread self.new) result }
     {
-        match self.next() {
-            (_, Some(b"-")) => Ok(None),
-            (_, Some(text)) if self.draft.has_sequence(self.worker, text) => Ok(Some(Name::copy_of(
+        match self.next_word(key) {
+            Some(b"-") => Ok(None),
+            Some(text) if self.draft.has_sequence(self.worker, text) => Ok(Some(Name::copy_of(
                 self.draft.alloc(),
                 text,
             )?)),
@@ -344,26 +370,29 @@ impl<'a> Fields<'a> {
 
     /// The provider that the next field is.
     #[tactic(auto, unfolding(crate::specs::Fields::field))]
-    pub(crate) fn provider(&mut self) -> Result<Prov, FieldFail>
-        requires { NextIs kind.Provider self.old.keys.now }
+    pub(crate) fn provider(&mut self, key: Key) -> Result<Prov, FieldFail>
+        requires next { IsNext key self.old.keys.now }
+        requires bare { key_word key ≡ [] }
+        requires kind { kind_of key ≡ kind.Provider }
         ensures keys { self.new.keys.now ≡ drop 1 self.old.keys.now }
         ensures value { Reads value.Provider (unread self.old) (unread self.new) result }
     {
-        match self.next() {
-            (_, Some(text)) => provider_in(text).ok_or(FieldFail::Wrong),
-            (_, None) => Err(FieldFail::Wrong),
+        match self.next_word(key) {
+            Some(text) => provider_in(text).ok_or(FieldFail::Wrong),
+            None => Err(FieldFail::Wrong),
         }
     }
 
     /// Whether the mode that the next field is, is `nonblock`.
     #[tactic(auto, unfolding(crate::specs::Fields::field))]
-    pub(crate) fn mode(&mut self) -> Result<bool, FieldFail>
-        requires { NextIs kind.Mode self.old.keys.now }
+    pub(crate) fn mode(&mut self, key: Key) -> Result<bool, FieldFail>
+        requires next { IsNext key self.old.keys.now }
+        requires bare { key_word key ≡ [] }
+        requires kind { kind_of key ≡ kind.Mode }
         ensures keys { self.new.keys.now ≡ drop 1 self.old.keys.now }
         ensures value { Reads value.Mode (unread self.old) (unread self.new) result }
     {
-        let (key, text) = self.next();
-        match text {
+        match self.next_word(key) {
             Some(text) => mode_in(text).ok_or(FieldFail::Wrong),
             None => match usual_value(key) {
                 Some(Usual::Blocking) => Ok(false),
@@ -374,14 +403,16 @@ impl<'a> Fields<'a> {
 
     /// The action that the next field is.
     #[tactic(auto, unfolding(crate::specs::Fields::field))]
-    pub(crate) fn action(&mut self) -> Result<u32, FieldFail>
-        requires { NextIs kind.Action self.old.keys.now }
+    pub(crate) fn action(&mut self, key: Key) -> Result<u32, FieldFail>
+        requires next { IsNext key self.old.keys.now }
+        requires bare { key_word key ≡ [] }
+        requires kind { kind_of key ≡ kind.Action }
         ensures keys { self.new.keys.now ≡ drop 1 self.old.keys.now }
         ensures value { Reads value.Number (unread self.old) (unread self.new) result }
     {
-        match self.next() {
-            (_, Some(text)) => action_in(text).ok_or(FieldFail::Wrong),
-            (_, None) => Err(FieldFail::Wrong),
+        match self.next_word(key) {
+            Some(text) => action_in(text).ok_or(FieldFail::Wrong),
+            None => Err(FieldFail::Wrong),
         }
     }
 }

@@ -1,7 +1,7 @@
 //! The calls: their words and their fields.
 
-ghost use Rattle.std.specs.Prelude.{◌≡◌, length};
-ghost use Rattle.xti_script.specs.Calls.{verb_word, form};
+ghost use Rattle.std.specs.Prelude.{◌≡◌};
+ghost use Rattle.xti_script.specs.Calls.{form};
 ghost use Rattle.xti_script.specs.Reading.{verbs_of_length, verb_among, verb_of};
 
 use crate::fields::Key;
@@ -39,105 +39,178 @@ pub enum Verb {
     SetMode,
 }
 
-/// The word of the call.
-#[tactic(auto, unfolding(crate::specs::Calls::form_of))]
-fn verb_word(verb: Verb) -> &'static [u8]
-    ensures { result.now ≡ verb_word verb }
+/// The call whose word has these three bytes.
+#[inline(always)]
+#[tactic(auto, unfolding(crate::specs::Calls::form_of, crate::specs::Reading::verbs_of_length))]
+fn verb_of_three(word: &[u8]) -> Option<Verb>
+    ensures { result ≡ verb_among word.now (verbs_of_length 3) }
 {
-    match verb {
-        Verb::Open => b"open",
-        Verb::Close => b"close",
-        Verb::Bind => b"bind",
-        Verb::Unbind => b"unbind",
-        Verb::Connect => b"connect",
-        Verb::RcvConnect => b"rcvconnect",
-        Verb::Listen => b"listen",
-        Verb::Accept => b"accept",
-        Verb::Snd => b"snd",
-        Verb::SndV => b"sndv",
-        Verb::Rcv => b"rcv",
-        Verb::RcvV => b"rcvv",
-        Verb::SndDis => b"snddis",
-        Verb::RcvDis => b"rcvdis",
-        Verb::SndRel => b"sndrel",
-        Verb::RcvRel => b"rcvrel",
-        Verb::SndUData => b"sndudata",
-        Verb::SndVUData => b"sndvudata",
-        Verb::RcvUData => b"rcvudata",
-        Verb::RcvVUData => b"rcvvudata",
-        Verb::RcvUDErr => b"rcvuderr",
-        Verb::Look => b"look",
-        Verb::GetState => b"getstate",
-        Verb::Sync => b"sync",
-        Verb::GetInfo => b"getinfo",
-        Verb::GetProtAddr => b"getprotaddr",
-        Verb::OptMgmt => b"optmgmt",
-        Verb::SetMode => b"mode",
+    if word == b"snd".as_slice() {
+        Some(Verb::Snd)
+    } else if word == b"rcv".as_slice() {
+        Some(Verb::Rcv)
+    } else {
+        None
     }
 }
 
-/// The calls whose words have this length.
-#[tactic(auto, unfolding(crate::specs::Reading::verbs_of_length))]
-fn verbs_of_length(length: usize) -> &'static [Verb]
-    ensures { result.now ≡ verbs_of_length length }
+/// The call whose word has these four bytes.
+#[inline(always)]
+#[tactic(auto, unfolding(crate::specs::Calls::form_of, crate::specs::Reading::verbs_of_length))]
+fn verb_of_four(word: &[u8]) -> Option<Verb>
+    ensures { result ≡ verb_among word.now (verbs_of_length 4) }
 {
-    match length {
-        3 => &[Verb::Snd, Verb::Rcv],
-        4 => &[
-            Verb::Open,
-            Verb::Bind,
-            Verb::SndV,
-            Verb::RcvV,
-            Verb::Look,
-            Verb::Sync,
-            Verb::SetMode,
-        ],
-        5 => &[Verb::Close],
-        6 => &[
-            Verb::Unbind,
-            Verb::Listen,
-            Verb::Accept,
-            Verb::SndDis,
-            Verb::RcvDis,
-            Verb::SndRel,
-            Verb::RcvRel,
-        ],
-        7 => &[Verb::Connect, Verb::GetInfo, Verb::OptMgmt],
-        8 => &[
-            Verb::SndUData,
-            Verb::RcvUData,
-            Verb::RcvUDErr,
-            Verb::GetState,
-        ],
-        9 => &[Verb::SndVUData, Verb::RcvVUData],
-        10 => &[Verb::RcvConnect],
-        11 => &[Verb::GetProtAddr],
-        _ => &[],
+    if word == b"open".as_slice() {
+        Some(Verb::Open)
+    } else if word == b"bind".as_slice() {
+        Some(Verb::Bind)
+    } else if word == b"sndv".as_slice() {
+        Some(Verb::SndV)
+    } else if word == b"rcvv".as_slice() {
+        Some(Verb::RcvV)
+    } else if word == b"look".as_slice() {
+        Some(Verb::Look)
+    } else if word == b"sync".as_slice() {
+        Some(Verb::Sync)
+    } else if word == b"mode".as_slice() {
+        Some(Verb::SetMode)
+    } else {
+        None
     }
 }
 
-/// The first of these calls that has the word.
-fn verb_among(word: &[u8], verbs: &[Verb]) -> Option<Verb>
-    ensures { result ≡ verb_among word.now verbs.now }
+/// The call whose word has these five bytes.
+#[inline(always)]
+#[tactic(auto, unfolding(crate::specs::Calls::form_of, crate::specs::Reading::verbs_of_length))]
+fn verb_of_five(word: &[u8]) -> Option<Verb>
+    ensures { result ≡ verb_among word.now (verbs_of_length 5) }
 {
-    match verbs {
-        [] => None,
-        [verb, others @ ..] => {
-            if word == verb_word(*verb) {
-                Some(*verb)
-            } else {
-                verb_among(word, others)
-            }
-        }
+    if word == b"close".as_slice() {
+        Some(Verb::Close)
+    } else {
+        None
+    }
+}
+
+/// The call whose word has these six bytes.
+#[inline(always)]
+#[tactic(auto, unfolding(crate::specs::Calls::form_of, crate::specs::Reading::verbs_of_length))]
+fn verb_of_six(word: &[u8]) -> Option<Verb>
+    ensures { result ≡ verb_among word.now (verbs_of_length 6) }
+{
+    if word == b"unbind".as_slice() {
+        Some(Verb::Unbind)
+    } else if word == b"listen".as_slice() {
+        Some(Verb::Listen)
+    } else if word == b"accept".as_slice() {
+        Some(Verb::Accept)
+    } else if word == b"snddis".as_slice() {
+        Some(Verb::SndDis)
+    } else if word == b"rcvdis".as_slice() {
+        Some(Verb::RcvDis)
+    } else if word == b"sndrel".as_slice() {
+        Some(Verb::SndRel)
+    } else if word == b"rcvrel".as_slice() {
+        Some(Verb::RcvRel)
+    } else {
+        None
+    }
+}
+
+/// The call whose word has these seven bytes.
+#[inline(always)]
+#[tactic(auto, unfolding(crate::specs::Calls::form_of, crate::specs::Reading::verbs_of_length))]
+fn verb_of_seven(word: &[u8]) -> Option<Verb>
+    ensures { result ≡ verb_among word.now (verbs_of_length 7) }
+{
+    if word == b"connect".as_slice() {
+        Some(Verb::Connect)
+    } else if word == b"getinfo".as_slice() {
+        Some(Verb::GetInfo)
+    } else if word == b"optmgmt".as_slice() {
+        Some(Verb::OptMgmt)
+    } else {
+        None
+    }
+}
+
+/// The call whose word has these eight bytes.
+#[inline(always)]
+#[tactic(auto, unfolding(crate::specs::Calls::form_of, crate::specs::Reading::verbs_of_length))]
+fn verb_of_eight(word: &[u8]) -> Option<Verb>
+    ensures { result ≡ verb_among word.now (verbs_of_length 8) }
+{
+    if word == b"sndudata".as_slice() {
+        Some(Verb::SndUData)
+    } else if word == b"rcvudata".as_slice() {
+        Some(Verb::RcvUData)
+    } else if word == b"rcvuderr".as_slice() {
+        Some(Verb::RcvUDErr)
+    } else if word == b"getstate".as_slice() {
+        Some(Verb::GetState)
+    } else {
+        None
+    }
+}
+
+/// The call whose word has these nine bytes.
+#[inline(always)]
+#[tactic(auto, unfolding(crate::specs::Calls::form_of, crate::specs::Reading::verbs_of_length))]
+fn verb_of_nine(word: &[u8]) -> Option<Verb>
+    ensures { result ≡ verb_among word.now (verbs_of_length 9) }
+{
+    if word == b"sndvudata".as_slice() {
+        Some(Verb::SndVUData)
+    } else if word == b"rcvvudata".as_slice() {
+        Some(Verb::RcvVUData)
+    } else {
+        None
+    }
+}
+
+/// The call whose word has these ten bytes.
+#[inline(always)]
+#[tactic(auto, unfolding(crate::specs::Calls::form_of, crate::specs::Reading::verbs_of_length))]
+fn verb_of_ten(word: &[u8]) -> Option<Verb>
+    ensures { result ≡ verb_among word.now (verbs_of_length 10) }
+{
+    if word == b"rcvconnect".as_slice() {
+        Some(Verb::RcvConnect)
+    } else {
+        None
+    }
+}
+
+/// The call whose word has these eleven bytes.
+#[inline(always)]
+#[tactic(auto, unfolding(crate::specs::Calls::form_of, crate::specs::Reading::verbs_of_length))]
+fn verb_of_eleven(word: &[u8]) -> Option<Verb>
+    ensures { result ≡ verb_among word.now (verbs_of_length 11) }
+{
+    if word == b"getprotaddr".as_slice() {
+        Some(Verb::GetProtAddr)
+    } else {
+        None
     }
 }
 
 /// The call that has the word.
-#[tactic(auto, unfolding(crate::specs::Reading::verb_of))]
+#[tactic(auto, unfolding(crate::specs::Reading::verb_of, crate::specs::Reading::verbs_of_length))]
 pub(crate) fn verb_of(word: &[u8]) -> Option<Verb>
     ensures { result ≡ verb_of word.now }
 {
-    verb_among(word, verbs_of_length(word.len()))
+    match word.len() {
+        3 => verb_of_three(word),
+        4 => verb_of_four(word),
+        5 => verb_of_five(word),
+        6 => verb_of_six(word),
+        7 => verb_of_seven(word),
+        8 => verb_of_eight(word),
+        9 => verb_of_nine(word),
+        10 => verb_of_ten(word),
+        11 => verb_of_eleven(word),
+        _ => None,
+    }
 }
 
 /// The keys of the call's fields, in their order.
