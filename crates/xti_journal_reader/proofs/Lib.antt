@@ -1,3 +1,4 @@
+pub mod HexLaws
 pub mod NumberLaws
 pub mod Splits
 pub mod ValueLaws

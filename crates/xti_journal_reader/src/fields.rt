@@ -79,43 +79,6 @@ pub(crate) enum Key {
     RcvBuf,
 }
 
-/// The key as it is written, with its sign; empty for a word without a key.
-#[tactic(auto, unfolding(crate::specs::Fields::field))]
-fn key_word(key: Key) -> &'static [u8]
-    ensures { result.now ≡ key_word key }
-{
-    match key {
-        Key::Number
-        | Key::Bytes
-        | Key::Provider
-        | Key::Mode
-        | Key::Limit
-        | Key::Service
-        | Key::State
-        | Key::Event
-        | Key::EventOrNone
-        | Key::Errno => b"",
-        Key::Addr => b"addr=",
-        Key::Opt => b"opt=",
-        Key::UData => b"udata=",
-        Key::Data => b"data=",
-        Key::Parts => b"parts=",
-        Key::Sizes => b"sizes=",
-        Key::Qlen => b"qlen=",
-        Key::Flags => b"flags=",
-        Key::Max => b"max=",
-        Key::Amax => b"amax=",
-        Key::Pmax => b"pmax=",
-        Key::Omax => b"omax=",
-        Key::Umax => b"umax=",
-        Key::Tsdu => b"tsdu=",
-        Key::SendZero => b"sendzero=",
-        Key::SameAddr => b"same_addr=",
-        Key::SndBuf => b"sndbuf=",
-        Key::RcvBuf => b"rcvbuf=",
-    }
-}
-
 /// Why words are not read.
 #[derive(Clone, Copy, Debug, PartialEq, Eq)]
 pub(crate) enum FieldFail {
@@ -132,7 +95,8 @@ impl From<AllocError> for FieldFail {
     }
 }
 
-/// What is after the key; `None` where the word doesn't begin with it.
+/// What is after these bytes; `None` where the word doesn't begin with them.
+#[inline(always)]
 fn behind_key<'a>(key: &[u8], word: &'a [u8]) -> Option<&'a [u8]>
     ensures { option_copied result ≡ behind_key key.now word.now }
 {
@@ -140,6 +104,43 @@ fn behind_key<'a>(key: &[u8], word: &'a [u8]) -> Option<&'a [u8]>
         return None;
     }
     Some(&word[key.len()..])
+}
+
+/// What is after the key and its sign; `None` where the word doesn't begin with them.
+#[tactic(auto, unfolding(crate::specs::Fields::field))]
+fn field_text(key: Key, word: &[u8]) -> Option<&[u8]>
+    ensures { option_copied result ≡ behind_key (key_word key) word.now }
+{
+    match key {
+        Key::Number
+        | Key::Bytes
+        | Key::Provider
+        | Key::Mode
+        | Key::Limit
+        | Key::Service
+        | Key::State
+        | Key::Event
+        | Key::EventOrNone
+        | Key::Errno => Some(word),
+        Key::Addr => behind_key(b"addr=", word),
+        Key::Opt => behind_key(b"opt=", word),
+        Key::UData => behind_key(b"udata=", word),
+        Key::Data => behind_key(b"data=", word),
+        Key::Parts => behind_key(b"parts=", word),
+        Key::Sizes => behind_key(b"sizes=", word),
+        Key::Qlen => behind_key(b"qlen=", word),
+        Key::Flags => behind_key(b"flags=", word),
+        Key::Max => behind_key(b"max=", word),
+        Key::Amax => behind_key(b"amax=", word),
+        Key::Pmax => behind_key(b"pmax=", word),
+        Key::Omax => behind_key(b"omax=", word),
+        Key::Umax => behind_key(b"umax=", word),
+        Key::Tsdu => behind_key(b"tsdu=", word),
+        Key::SendZero => behind_key(b"sendzero=", word),
+        Key::SameAddr => behind_key(b"same_addr=", word),
+        Key::SndBuf => behind_key(b"sndbuf=", word),
+        Key::RcvBuf => behind_key(b"rcvbuf=", word),
+    }
 }
 
 /// The words of a line that are not read yet, and the keys of the fields that stand there.
@@ -210,7 +211,7 @@ impl<'a> Fields<'a> {
         let key = self.keys[0];
         self.keys = &self.keys[1..];
         match self.words.next() {
-            Some(word) => (key, behind_key(key_word(key), word)),
+            Some(word) => (key, field_text(key, word)),
             None => (key, None),
         }
     }
