@@ -1,6 +1,6 @@
 -- Facts on each of several workers.
 use Rattle.std.proofs.Common.{◌≡◌, ◌≢◌, ℕ, zero, suc, ◌<◌, true, false, eqb, List, [], ◌∷◌, ◌++◌, length, get_or, set, refl, sym, subst, arith, ◌⊎◌, inl, inr, ap, ◌∙◌, Option, Some, None}
-use Rattle.std.specs.Prelude.{is_some}
+use Rattle.std.specs.Prelude.{is_some, unwrap_or}
 use Rattle.std.proofs.lemmas.Bool.Decides.{eqb_tells}
 use Rattle.std.proofs.lemmas.Option.{none-some}
 use Rattle.std.proofs.lemmas.List.{length-set, get_or-set_same, get_or-set_other}
@@ -38,6 +38,9 @@ nothing (Some x) e = absurd cc
 pub something : {X : Type 0} (o : Option X) → is_some o ≡ true → o ≡ None → ⊥
 something None e n = cc
 something (Some x) e n = none-some x (sym n)
+
+pub one-some : {X : Type 0} (o : Option X) (x y : X) → o ≡ Some x → o ≡ Some y → x ≡ y
+one-some {X = X} o x y a b = ap (λ (p : Option X). unwrap_or p x) (sym a ∙ b)
 
 pub part-same : (ws : List Worker) (number : ℕ) (w v : Worker) → number < length ws → w ≡ get_or ws number w → v ≡ get_or ws number v → v.part ≡ None → w.part ≡ None
 part-same ws number w v lt at other none = ap (λ (x : Worker). x.part) (at ∙ get_or_any ws number w v lt ∙ sym other) ∙ none

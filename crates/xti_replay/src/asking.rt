@@ -113,15 +113,16 @@ fn begin(
             Ok(())
         }
         Ok(Applied::Step { outcome, after }) => {
-            let act = Act::Begin(call);
-            worker.advance(alloc, lines, &act, &outcome)?;
             let entry = Entry {
                 worker: number,
-                act,
+                act: Act::Begin(call),
                 outcome,
                 after,
             };
             keep(made, entry);
+            if let Some(entry) = made {
+                worker.advance(alloc, lines, &entry.act, &entry.outcome)?;
+            }
             Ok(())
         }
     }
