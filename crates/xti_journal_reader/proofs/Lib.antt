@@ -1,4 +1,3 @@
-pub mod HexLaws
 pub mod NumberLaws
 pub mod Splits
 pub mod ValueLaws

@@ -1,109 +1,13 @@
 //! What words stand for: bytes, and several values.
 
-ghost use Rattle.std.specs.Prelude.{◌≡◌, ◌≤◌, ◌/◌, ◌%◌, length, take, IfOk, Some, None, if◌then◌else◌, nat_lt, option_map};
+ghost use Rattle.std.specs.Prelude.{◌≡◌, IfOk};
 ghost use Rattle.xti_words.specs.Texts.{pieces_of, views};
-ghost use Rattle.xti_words.specs.Values.{number_in, hex_digit, hex_bytes, each_in};
+ghost use Rattle.xti_words.specs.Values.{number_in, each_in};
 ghost use Rattle.xti_journal_reader.specs.Values.{octets_in, members_in};
 
 use std::alloc::{AllocError, Global};
 use xti_base::{Octets, Parts, Sizes};
-use xti_words::number_in;
-
-/// So many digits are read at once.
-const DIGITS: usize = 32;
-
-/// So many bytes are read at once. A list of no more takes no memory.
-const BYTES: usize = 16;
-
-/// What the digit is worth, or 16 where it is none.
-#[inline(always)]
-fn worth(c: u8) -> u8
-    ensures { hex_digit c ≡ (if nat_lt result 16 then Some result else None) }
-{
-    match c {
-        b'0'..=b'9' => c - b'0',
-        b'a'..=b'f' => c - b'a' + 10,
-        _ => 16,
-    }
-}
-
-/// The bytes of many digits.
-fn bytes_at_once(digits: &[u8; DIGITS]) -> Option<[u8; BYTES]>
-    ensures { result ≡ hex_bytes digits.now }
-{
-    let mut worths = [0; DIGITS];
-    let mut most = 0;
-    for i in 0..DIGITS {
-        let value = worth(digits[i]);
-        worths[i] = value;
-        most = most.max(value);
-    }
-    if most >= 16 {
-        return None;
-    }
-    let mut bytes = [0; BYTES];
-    for i in 0..BYTES {
-        bytes[i] = worths[2 * i] * 16 + worths[2 * i + 1];
-    }
-    Some(bytes)
-}
-
-/// The bytes of no more digits than are read at once, and zeros behind them.
-fn few_bytes(digits: &[u8]) -> Option<[u8; BYTES]>
-    requires few { length digits.now ≤ DIGITS }
-    requires pairs { length digits.now % 2 ≡ 0 }
-    ensures { hex_bytes digits.now ≡ option_map (take (length digits.now / 2)) result }
-{
-    let mut bytes = [0; BYTES];
-    for i in 0..digits.len() / 2 {
-        let high = worth(digits[2 * i]);
-        let low = worth(digits[2 * i + 1]);
-        if high >= 16 || low >= 16 {
-            return None;
-        }
-        bytes[i] = high * 16 + low;
-    }
-    Some(bytes)
-}
-
-/// The bytes of more digits than are read at once.
-fn many_bytes(alloc: Global, digits: &[u8]) -> Result<Option<Octets>, AllocError>
-    requires { length digits.now % 2 ≡ 0 }
-    ensures { IfOk result (λ bytes. bytes ≡ hex_bytes digits.now) }
-{
-    let mut bytes = Vec::with_capacity(alloc, digits.len() / 2)?;
-    let mut rest = digits;
-    while let Some((first, others)) = rest.split_first_chunk::<DIGITS>() {
-        match bytes_at_once(first) {
-            Some(more) => bytes.extend_from_slice(&more)?,
-            None => return Ok(None),
-        }
-        rest = others;
-    }
-    match few_bytes(rest) {
-        Some(last) => bytes.extend_from_slice(&last[..rest.len() / 2])?,
-        None => return Ok(None),
-    }
-    Ok(Some(Octets::from_vec(bytes)))
-}
-
-fn hex_bytes(alloc: Global, digits: &[u8]) -> Result<Option<Octets>, AllocError>
-    ensures { IfOk result (λ bytes. bytes ≡ hex_bytes digits.now) }
-{
-    if digits.is_empty() {
-        return Ok(Some(Octets::new(alloc)));
-    }
-    if digits.len() % 2 != 0 {
-        return Ok(None);
-    }
-    if digits.len() > DIGITS {
-        return many_bytes(alloc, digits);
-    }
-    match few_bytes(digits) {
-        Some(bytes) => Ok(Some(Octets::copy_of(alloc, &bytes[..digits.len() / 2])?)),
-        None => Ok(None),
-    }
-}
+use xti_words::{hex_bytes, number_in};
 
 /// The bytes of a word: `x:`, and two hexadecimal digits for each.
 #[tactic(auto, unfolding(crate::specs::Values::octets_in))]

@@ -5,4 +5,4 @@ pub mod WordLaws
 pub mod TextBytes
 pub mod WordBytes
 pub mod Counting
-pub mod HexDigits
+pub mod HexLaws

@@ -1,11 +1,11 @@
 -- Reading numbers, bytes and several values from left to right.
 use Rattle.std.proofs.Common.{◌≡◌, ℕ, suc, ◌+◌, ◌-◌, ◌*◌, ◌<◌, ◌≤◌, Bool, true, false, cond, not, ◌&&◌, eqb, ltb, List, [], ◌∷◌, ◌++◌, length, get_or, drop, Option, Some, None, refl, sym, ap, ◌∙◌, append_assoc, drop-cons, arith}
 use Rattle.std.specs.List.{list_all}
-use Rattle.std.proofs.lemmas.Bool.{ltb-true, ltb-false, lt-ltb, eqb-true}
+use Rattle.std.proofs.lemmas.Bool.{ltb-true, ltb-false, lt-ltb}
 use Rattle.std.proofs.lemmas.List.{append-nil, drop_all}
 use Rattle.xti_words.specs.Texts.{is_digit}
-use Rattle.xti_words.specs.Values.{decimal_behind, number_in, hex_digit, hex_pair, hex_bytes, onto}
-use Rattle.xti_words.specs.Numbers.{with_digit, digits_behind, can_begin, first_byte}
+use Rattle.xti_words.specs.Values.{decimal_behind, number_in, onto}
+use Rattle.xti_words.specs.Numbers.{with_digit, digits_behind, can_begin}
 
 -- ---- numbers
 
@@ -94,29 +94,3 @@ before-end xs = ap done (append-nil xs)
 pub before-onto : {A : Type 0} → (xs : List A) (x : A) (o : Option (List A)) → before xs (onto (Some x) o) ≡ before (xs ++ x ∷ []) o
 before-onto xs x None = refl
 before-onto xs x (Some ys) = ap done (sym (append_assoc xs (x ∷ []) ys))
-
--- ---- pairs of digits
-
-pub hex_more : (bytes more rest behind : List ℕ) (byte : ℕ) (o : Option ℕ) (total : Option (List ℕ)) → 2 ≤ length rest → o ≡ first_byte rest → o ≡ Some byte → more ≡ bytes ++ byte ∷ [] → behind ≡ drop 2 rest → before bytes (hex_bytes rest) ≡ total → before more (hex_bytes behind) ≡ total
-hex_more bytes more [] behind byte o total h e s m d so_far = absurd (omega arith)
-hex_more bytes more (c ∷ []) behind byte o total h e s m d so_far = absurd (omega arith)
-hex_more bytes more (c ∷ x ∷ cs) behind byte o total h e s m d so_far =
-    let pair : hex_pair (hex_digit c) (hex_digit x) ≡ Some byte = sym e ∙ s in
-    let step : before bytes (onto (Some byte) (hex_bytes cs)) ≡ total = rw pair at so_far in
-    rw (m, d) (sym (before-onto bytes byte (hex_bytes cs)) ∙ step)
-
-pub hex_none : (bytes rest : List ℕ) (o : Option ℕ) (total : Option (List ℕ)) → 2 ≤ length rest → o ≡ first_byte rest → o ≡ None → before bytes (hex_bytes rest) ≡ total → None ≡ total
-hex_none bytes [] o total h e s so_far = absurd (omega arith)
-hex_none bytes (c ∷ []) o total h e s so_far = absurd (omega arith)
-hex_none bytes (c ∷ x ∷ cs) o total h e s so_far =
-    let pair : hex_pair (hex_digit c) (hex_digit x) ≡ None = sym e ∙ s in
-    rw pair at so_far
-
-pub hex_end : (bytes rest : List ℕ) (total : Option (List ℕ)) (t : Bool) → t ≡ true → t ≡ eqb (length rest) 0 → before bytes (hex_bytes rest) ≡ total → Some bytes ≡ total
-hex_end bytes [] total t e q so_far = sym (before-end bytes) ∙ so_far
-hex_end bytes (c ∷ cs) total t e q so_far = let u : length (c ∷ cs) ≡ 0 = eqb-true _ _ (sym q ∙ e) in absurd (omega arith)
-
-pub hex_odd : (bytes rest : List ℕ) (total : Option (List ℕ)) (t : Bool) → length rest < 2 → t ≡ false → t ≡ eqb (length rest) 0 → before bytes (hex_bytes rest) ≡ total → None ≡ total
-hex_odd bytes [] total t h e q so_far = absurd cc
-hex_odd bytes (c ∷ []) total t h e q so_far = so_far
-hex_odd bytes (c ∷ x ∷ cs) total t h e q so_far = absurd (omega arith)

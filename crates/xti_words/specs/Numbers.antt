@@ -1,7 +1,6 @@
 -- Reading digits from left to right.
 use Rattle.std.specs.Prelude.{ℕ, ◌+◌, ◌-◌, ◌*◌, ◌==◌, Bool, true, false, not, ◌&&◌, nat_lt, List, [], ◌∷◌, Option, Some, None, if◌then◌else◌}
 use Rattle.xti_words.specs.Texts.{is_digit}
-use Rattle.xti_words.specs.Values.{hex_digit, hex_pair}
 
 -- the number with one more digit, where it fits 32 bits
 abbrev pub with_digit : ℕ → ℕ → Option ℕ
@@ -17,9 +16,3 @@ abbrev pub can_begin : List ℕ → Bool
 can_begin [] = false
 can_begin (c ∷ []) = true
 can_begin (c ∷ d ∷ cs) = not (c == 48)
-
--- the byte that the first two digits are
-abbrev pub first_byte : List ℕ → Option ℕ
-first_byte [] = None
-first_byte (c ∷ []) = None
-first_byte (c ∷ d ∷ digits) = hex_pair (hex_digit c) (hex_digit d)

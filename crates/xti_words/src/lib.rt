@@ -1,12 +1,14 @@
 //! Words of scripts: the lines of a text, the words of a line, and what words stand for.
 #![tactic(auto)]
 
+mod hex;
 mod operands;
 mod options;
 mod texts;
 mod values;
 mod words;
 
+pub use hex::hex_bytes;
 pub use operands::{action_in, mode_in, provider_in};
 pub use options::options_in;
 pub use texts::{first_line, is_ascii, is_name};

@@ -2,10 +2,11 @@
 
 ghost use Rattle.std.specs.Prelude.{◌≡◌, ◌==◌, ◌≤◌, ◌∷◌, [], length, IfOk, Some};
 ghost use Rattle.xti_words.specs.Texts.{is_plain_text};
-ghost use Rattle.xti_words.specs.Values.{number_in, hex_digit, hex_bytes, plain_bytes, counted, counted_bytes, bytes_in, each_in, list_in};
-ghost use Rattle.xti_words.specs.Numbers.{with_digit, can_begin, first_byte};
+ghost use Rattle.xti_words.specs.Values.{number_in, plain_bytes, counted, counted_bytes, bytes_in, each_in, list_in};
+ghost use Rattle.xti_words.specs.Numbers.{with_digit, can_begin};
 ghost use Rattle.xti_words.specs.Texts.{views};
 
+use crate::hex::hex_bytes;
 use crate::texts::{is_digit, is_plain_text, pieces_of};
 use std::alloc::{AllocError, Global};
 use xti_base::limits::MOST_SEND;
@@ -70,67 +71,6 @@ pub fn number_in(word: &[u8]) -> Option<u32>
         number = with_digit(number, *c)?;
     }
     Some(number)
-}
-
-/// What stands in `HEX_DIGITS` for a byte that is no digit.
-const NO_DIGIT: u8 = 255;
-
-/// What each byte is as a hexadecimal digit.
-#[rattlefmt::skip]
-static HEX_DIGITS: [u8; 256] = [
-    255, 255, 255, 255, 255, 255, 255, 255, 255, 255, 255, 255, 255, 255, 255, 255,
-    255, 255, 255, 255, 255, 255, 255, 255, 255, 255, 255, 255, 255, 255, 255, 255,
-    255, 255, 255, 255, 255, 255, 255, 255, 255, 255, 255, 255, 255, 255, 255, 255,
-      0,   1,   2,   3,   4,   5,   6,   7,   8,   9, 255, 255, 255, 255, 255, 255,
-    255, 255, 255, 255, 255, 255, 255, 255, 255, 255, 255, 255, 255, 255, 255, 255,
-    255, 255, 255, 255, 255, 255, 255, 255, 255, 255, 255, 255, 255, 255, 255, 255,
-    255,  10,  11,  12,  13,  14,  15, 255, 255, 255, 255, 255, 255, 255, 255, 255,
-    255, 255, 255, 255, 255, 255, 255, 255, 255, 255, 255, 255, 255, 255, 255, 255,
-    255, 255, 255, 255, 255, 255, 255, 255, 255, 255, 255, 255, 255, 255, 255, 255,
-    255, 255, 255, 255, 255, 255, 255, 255, 255, 255, 255, 255, 255, 255, 255, 255,
-    255, 255, 255, 255, 255, 255, 255, 255, 255, 255, 255, 255, 255, 255, 255, 255,
-    255, 255, 255, 255, 255, 255, 255, 255, 255, 255, 255, 255, 255, 255, 255, 255,
-    255, 255, 255, 255, 255, 255, 255, 255, 255, 255, 255, 255, 255, 255, 255, 255,
-    255, 255, 255, 255, 255, 255, 255, 255, 255, 255, 255, 255, 255, 255, 255, 255,
-    255, 255, 255, 255, 255, 255, 255, 255, 255, 255, 255, 255, 255, 255, 255, 255,
-    255, 255, 255, 255, 255, 255, 255, 255, 255, 255, 255, 255, 255, 255, 255, 255,
-];
-
-fn hex_digit(c: u8) -> Option<u8>
-    ensures { result ≡ hex_digit c }
-{
-    let digit = HEX_DIGITS[c as usize];
-    if digit == NO_DIGIT { None } else { Some(digit) }
-}
-
-fn first_byte(digits: &[u8]) -> Option<u8>
-    ensures { result ≡ first_byte digits.now }
-{
-    let [high, low, ..] = digits else {
-        return None;
-    };
-    Some(hex_digit(*high)? * 16 + hex_digit(*low)?)
-}
-
-// Apart, since most bytes are plain text.
-#[inline(never)]
-fn hex_bytes(alloc: Global, digits: &[u8]) -> Result<Option<Octets>, AllocError>
-    ensures { IfOk result (λ bytes. bytes ≡ hex_bytes digits.now) }
-{
-    let mut bytes = Octets::new(alloc);
-    let mut rest = digits;
-    while rest.len() >= 2 {
-        match first_byte(rest) {
-            Some(byte) => bytes.push(byte)?,
-            None => return Ok(None),
-        }
-        rest = &rest[2..];
-    }
-    if rest.is_empty() {
-        Ok(Some(bytes))
-    } else {
-        Ok(None)
-    }
 }
 
 fn plain_bytes(alloc: Global, text: &[u8]) -> Result<Option<Octets>, AllocError>

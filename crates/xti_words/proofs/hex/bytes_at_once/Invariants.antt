@@ -1,5 +1,5 @@
-use Rattle.xti_journal_reader.proofs.HexLaws.{AreWorths, AreBytesOf}
-use Rattle.xti_journal_reader.proofs.values.bytes_at_once.Given as goal
+use Rattle.xti_words.proofs.HexLaws.{AreWorths, AreBytesOf}
+use Rattle.xti_words.proofs.hex.bytes_at_once.Given as goal
 
 abbrev pub invariant-loop-i : goal.invariant-loop-i
 invariant-loop-i l = AreWorths l.digits l.worths l.i l.most

@@ -1,6 +1,6 @@
 use Rattle.std.proofs.Common.{refl, arith}
-use Rattle.xti_journal_reader.proofs.HexLaws.{no_bytes, one_more, few_of}
-use Rattle.xti_journal_reader.proofs.values.few_bytes.Goals as goal
+use Rattle.xti_words.proofs.HexLaws.{no_bytes, one_more, few_of}
+use Rattle.xti_words.proofs.hex.few_bytes.Goals as goal
 
 pub loop-i-init : goal.loop-i-init
 loop-i-init c = no_bytes _ _ refl

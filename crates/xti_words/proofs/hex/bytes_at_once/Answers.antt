@@ -1,6 +1,6 @@
 use Rattle.std.proofs.Common.{refl, arith}
-use Rattle.xti_journal_reader.proofs.HexLaws.{no_worths, larger, worths_more, no_bytes, bytes_more, all_bytes}
-use Rattle.xti_journal_reader.proofs.values.bytes_at_once.Goals as goal
+use Rattle.xti_words.proofs.HexLaws.{no_worths, larger, worths_more, no_bytes, bytes_more, all_bytes}
+use Rattle.xti_words.proofs.hex.bytes_at_once.Goals as goal
 
 pub loop-i-init : goal.loop-i-init
 loop-i-init c = no_worths _ _ refl

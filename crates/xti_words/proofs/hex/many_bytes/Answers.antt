@@ -1,6 +1,6 @@
 use Rattle.std.proofs.Common.{◌≡◌, ◌++◌, drop, length, sym, ap, ◌∙◌, take-append-drop, length-take-le, arith}
-use Rattle.xti_journal_reader.proofs.HexLaws.{many_more, many_none}
-use Rattle.xti_journal_reader.proofs.values.many_bytes.Goals as goal
+use Rattle.xti_words.proofs.HexLaws.{many_more, many_none}
+use Rattle.xti_words.proofs.hex.many_bytes.Goals as goal
 
 pub loop-first-preserved : goal.loop-first-preserved
 loop-first-preserved c =

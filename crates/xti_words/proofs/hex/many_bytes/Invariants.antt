@@ -1,7 +1,7 @@
 use Rattle.std.proofs.Common.{◌≡◌, ◌%◌, length}
 use Rattle.xti_words.specs.Values.{hex_bytes}
 use Rattle.xti_words.proofs.WordLaws.{before}
-use Rattle.xti_journal_reader.proofs.values.many_bytes.Given as goal
+use Rattle.xti_words.proofs.hex.many_bytes.Given as goal
 
 abbrev pub invariant-loop-first : goal.invariant-loop-first
 invariant-loop-first l = record {
