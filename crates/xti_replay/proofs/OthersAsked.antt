@@ -1,6 +1,6 @@
 -- Workers other than 0 are asked one after the other.
 use Rattle.std.proofs.Common.{◌≡◌, ◌≢◌, ℕ, suc, ◌+◌, ◌-◌, ◌<◌, ◌≤◌, ◌⊎◌, inl, inr, Bool, true, false, ◌&&◌, eqb, List, [], ◌∷◌, ◌++◌, length, get_or, Option, Some, None, refl, sym, ap, ◌∙◌, subst, arith}
-use Rattle.std.specs.Prelude.{if◌then◌else◌, is_some, is_none, nat_le, option_map, option_and_then, slice_get}
+use Rattle.std.specs.Prelude.{if◌then◌else◌, is_none, nat_le, option_map, option_and_then, slice_get}
 use Rattle.std.specs.List.{AllByRecursion}
 use Rattle.std.proofs.lemmas.Bool.Decides.{eqb_tells, nat_tests}
 use Rattle.std.proofs.lemmas.List.{append-nil, append_assoc}
@@ -290,18 +290,10 @@ asked-all past base r many i k through a le = by a.firsts refl
 
 -- The entry that was made, beside the run.
 
-pub some-made : (o : Option Entry) → is_some o ≡ true → (e : Entry) × (o ≡ Some e)
-some-made None h = absurd cc
-some-made (Some e) h = (e, refl)
+pub stands-with : (past : List Entry) (r : Run) (e : Entry) (m : Bool) → StandsAfter past r → StandsAfter past (record r { entry = e; made = m })
+stands-with past r e m k = record { kept = k.kept; turns = k.turns; last = k.last; setup = k.setup }
 
-pub none-made : (o : Option Entry) → is_some o ≡ false → o ≡ None
-none-made None h = refl
-none-made (Some e) h = absurd cc
-
-pub stands-with : (past : List Entry) (r : Run) (m : Option Entry) → StandsAfter past r → StandsAfter past (record r { made = m })
-stands-with past r m k = record { kept = k.kept; turns = k.turns; last = k.last; setup = k.setup }
-
--- the entry is handed out
-pub goes-out : (past : List Entry) (old mid : Run) (m n : Option Entry) (o : Option Turn) → GoesOn past (record old { made = n }) mid mid.made o → GoesOn past old (record mid { made = m }) mid.made o
-goes-out past old mid m n None g = (g.0, g.1, stands-with past mid m g.2)
-goes-out past old mid m n (Some t) g = (g.0, g.1, stands-with (past ++ t.entry ∷ []) mid m g.2)
+-- the entry is kept, or handed out
+pub goes-out : (past : List Entry) (old mid : Run) (e f : Entry) (m n : Bool) (entry : Option Entry) (o : Option Turn) → GoesOn past (record old { entry = f; made = n }) mid entry o → GoesOn past old (record mid { entry = e; made = m }) entry o
+goes-out past old mid e f m n entry None g = (g.0, g.1, stands-with past mid e m g.2)
+goes-out past old mid e f m n entry (Some t) g = (g.0, g.1, stands-with (past ++ t.entry ∷ []) mid e m g.2)

@@ -25,7 +25,7 @@ use Rattle.xti_replay.specs.declared.workers.Part.{Part}
 use Rattle.xti_replay.specs.declared.workers.Worker.{Worker}
 use Rattle.xti_replay.specs.Spots.{Spot}
 use Rattle.xti_replay.specs.Known.{HasLearnt, meanings_before}
-use Rattle.xti_replay.specs.Progress.{Told, IsNext, MayAsk, IsKnown, IsKept, AreKept, IsReady, IsFound, MayTake, IsAdvance, Makes, Asked, part_going, going_of, call_of, so_far_of, next_act}
+use Rattle.xti_replay.specs.Progress.{Told, IsNext, MayAsk, IsKnown, IsKept, AreKept, IsReady, IsFound, MayTake, IsAdvance, Makes, Asked, part_going, going_of, call_of, so_far_of, next_act, act_by, begun_call}
 use Rattle.xti_replay.proofs.Lines.{beginning, HasNext, next-at, through-at, next-by, next-call, own-other, told-other, next-other, told-begun, told-more}
 use Rattle.xti_replay.proofs.Each.{at-worker, get_or_any, of-changed}
 
@@ -155,6 +155,19 @@ makes-made p lines number past before after w v new a outcome state r made acts 
         finished (beginning c) (act.Begin c) goes (acts ∙ acted) refl
         (advance-begun lines past _ number c (record w { next = None }) new h.0 (idle-told lines past number w r.kept.told) h2 refl refl (subst (λ (y : Act). IsAdvance lines (record w { next = None }) new y outcome) acted from))
 
+-- the entry is of the step that the worker made
+pub fills : (p : Providers) (lines : List Line) (number : ℕ) (past : List Entry) (before after : Standing) (w v new : Worker) (e : Entry) (a : Act) (outcome : Outcome) (state : State) → IsReady lines past number w
+    → e ≡ record { worker = number; act = a; outcome = outcome; after = state } → Some (record { outcome = outcome; after = state; world = after.cells }) ≡ option_and_then (step_going p before.cells) (going_of w)
+    → a ≡ next_act w → v ≡ record w { next = None } → new.next ≡ v.next → IsAdvance lines v new e.act e.outcome → Makes lines number past before after w new (Some e) (turn p lines before.cells past number)
+fills p lines number past before after w v new e a outcome state r is made acts taken idle advance =
+    subst (λ (x : Entry). Makes lines number past before after w new (Some x) (turn p lines before.cells past number)) (sym is)
+    (makes-made p lines number past before after w v new a outcome state r made acts taken idle (subst (λ (x : Entry). IsAdvance lines v new x.act x.outcome) is advance))
+
+-- how an entry shows the call that it begins
+pub begun-act : (a : Act) → a ≡ act_by (begun_call a)
+begun-act (act.Begin c) = refl
+begun-act act.More = refl
+
 -- the step of a worker's call, as far as that has come
 pub step-going : (p : Providers) (before : World) (o : Option Going) (c : Call) (g : Go) → Some c ≡ call_of o → g ≡ so_far_of o → step p before c g ≡ option_and_then (step_going p before) o
 step-going p before None c g h i = absurd (none-some c (sym h))
@@ -175,6 +188,11 @@ makes-none p lines number past before after w r blocked still = subst (λ (o : O
 
     none : turn p lines before.cells past number ≡ None
     none = by (next_going lines past number) (blocked ∙ ap (option_and_then (step_going p before.cells)) r.going)
+
+-- the worker has begun all its lines
+pub begins-none : (p : Providers) (lines : List Line) (number : ℕ) (past : List Entry) (world : Standing) (w : Worker) → IsReady lines past number w → w.next ≡ None → w.part ≡ None → Makes lines number past world world w w None (turn p lines world.cells past number)
+begins-none p lines number past world w r next whole =
+    makes-none p lines number past world world w r (sym (ap (λ (o : Option Call). option_and_then (step_going p world.cells) (going_of (record w { next = o }))) next ∙ ap (λ (o : Option Part). option_and_then (step_going p world.cells) (part_going o)) whole)) refl
 
 -- All workers.
 
@@ -281,27 +299,23 @@ found-next lines past ws vs number w next k may lt at whole n items = subst (IsF
 
 -- A worker that begins its next line.
 
--- the worker's next call is set, and taken again
-pub set-and-taken : (w : Worker) (c : Call) → w.next ≡ None → w ≡ record (record w { next = Some c }) { next = None }
-set-and-taken w c idle = ap (λ (o : Option Call). record w { next = o }) idle
+-- the worker has no next call that is kept
+pub set-idle : (w : Worker) (next : Option Call) → w.next ≡ None → w ≡ record (record w { next = next }) { next = None }
+set-idle w next idle = ap (λ (o : Option Call). record w { next = o }) idle
 
--- the worker made a step of its next line's call, or is blocked before it
-pub asked-begun : (lines : List Line) (number : ℕ) (past : List Entry) (before after : Standing) (ws vs : List Worker) (w new : Worker) (c : Call) (entry : Option Entry) (p : Providers) → AreKept lines past ws → MayAsk lines past number → number < length ws
-    → w ≡ get_or ws number w → w.part ≡ None → IsNext lines past number (Some c) → vs ≡ set ws number new → Makes lines number past before after (record w { next = Some c }) new entry (turn p lines before.cells past number)
+-- the worker made a step of its next line's call, or is blocked before it, or has begun all its lines
+pub asked-begun : (lines : List Line) (number : ℕ) (past : List Entry) (before after : Standing) (ws vs : List Worker) (w new : Worker) (next : Option Call) (entry : Option Entry) (p : Providers) → AreKept lines past ws → MayAsk lines past number → number < length ws
+    → w ≡ get_or ws number w → w.part ≡ None → IsNext lines past number next → vs ≡ set ws number new → Makes lines number past before after (record w { next = next }) new entry (turn p lines before.cells past number)
     → Asked lines number past before after vs entry (turn p lines before.cells past number)
-asked-begun lines number past before after ws vs w new c entry p k may lt at whole next items m =
-    let begun : Worker = record w { next = Some c } in
-    let found = found-next lines past ws (set ws number begun) number w (Some c) k may lt at whole next refl in
+asked-begun lines number past before after ws vs w new next entry p k may lt at whole is items m =
+    let begun : Worker = record w { next = next } in
+    let found = found-next lines past ws (set ws number begun) number w next k may lt at whole is refl in
     asked-by lines number past before after (set ws number begun) vs begun new entry p found.kept (sym (get_or-set_same ws number begun begun lt)) (items ∙ sym (set-set ws number begun new)) m
 
 -- the worker that begins its next line is ready for its call
-pub begun-ready : (lines : List Line) (past : List Entry) (ws : List Worker) (number : ℕ) (w : Worker) (c : Call) → AreKept lines past ws → MayAsk lines past number → number < length ws → w ≡ get_or ws number w → w.part ≡ None → IsNext lines past number (Some c)
-    → IsReady lines past number (record w { next = Some c })
-begun-ready lines past ws number w c k may lt at whole next =
-    let begun : Worker = record w { next = Some c } in
-    let found = found-next lines past ws (set ws number begun) number w (Some c) k may lt at whole next refl in
+pub begun-ready : (lines : List Line) (past : List Entry) (ws : List Worker) (number : ℕ) (w : Worker) (next : Option Call) → AreKept lines past ws → MayAsk lines past number → number < length ws → w ≡ get_or ws number w → w.part ≡ None → IsNext lines past number next
+    → IsReady lines past number (record w { next = next })
+begun-ready lines past ws number w next k may lt at whole is =
+    let begun : Worker = record w { next = next } in
+    let found = found-next lines past ws (set ws number begun) number w next k may lt at whole is refl in
     subst (IsReady lines past number) (get_or-set_same ws number begun begun lt) (found.ready begun)
-
--- the worker has begun all its lines
-pub asked-none : (lines : List Line) (number : ℕ) (past : List Entry) (before : Standing) (ws : List Worker) (p : Providers) → AreKept lines past ws → IsNext lines past number None → Asked lines number past before before ws None (turn p lines before.cells past number)
-asked-none lines number past before ws p k next = subst (Asked lines number past before before ws None) (ap (option_and_then (turn_going p before.cells number)) next) (refl, refl, k)

@@ -71,6 +71,15 @@ act_by None = act.More
 abbrev pub next_act : Worker → Act
 next_act w = act_by w.next
 
+-- the call that an entry begins
+abbrev pub begun_call : Act → Option Call
+begun_call (act.Begin c) = Some c
+begun_call act.More = None
+
+-- the entry of a step, where one was made
+abbrev pub made_by : Bool → Entry → Option Entry
+made_by made e = if made then Some e else None
+
 -- the worker's lines, how many of them it has begun, what its names stand for, and its call that is part way
 pub record Told (lines : List Line) (past : List Entry) (number : ℕ) (w : Worker) : Type 0 where
   pub places : w.places.items ≡ places_of lines number

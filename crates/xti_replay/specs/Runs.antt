@@ -9,9 +9,13 @@ use Rattle.xti_model.specs.declared.script.StallLine.{StallLine}
 use Rattle.xti_model.specs.History.{after}
 use Rattle.xti_model.specs.Robin.{is_through, last_worker, robin_from, most_steps, Turn, turn, next_turn}
 use Rattle.xti_replay.specs.declared.run.Run.{Run}
-use Rattle.xti_replay.specs.Progress.{AreKept}
+use Rattle.xti_replay.specs.Progress.{AreKept, made_by}
 use Rattle.xti_replay.specs.Stalls.{stalls_after}
 use Rattle.xti_replay.specs.Turns.{AreTurns}
+
+-- the entry that is kept of the run's last step
+abbrev pub made_of : Run → Option Entry
+made_of r = made_by r.made r.entry
 
 -- the run stands where its lines have come by these entries
 pub record StandsAfter (past : List Entry) (r : Run) : Type 0 where

@@ -1,26 +1,39 @@
 //! A worker is asked for its next step.
 
-ghost use Rattle.std.specs.Prelude.{◌≡◌, ◌<◌, List, None, Some, OnOk};
+ghost use Rattle.std.specs.Prelude.{◌≡◌, ◌<◌, List, None, false, IfOk, OnOk};
 ghost use Rattle.xti_base.specs.declared.limits.TheConstants.{WORKERS};
+ghost use Rattle.xti_model.specs.declared.entry.Act.TheVariants.{More};
 ghost use Rattle.xti_model.specs.declared.entry.Entry.{Entry};
 ghost use Rattle.xti_replay.specs.Asking.{FindsNext, MakesTurn, TakesTurn};
-ghost use Rattle.xti_replay.specs.Progress.{AreKept, MayAsk, IsReady};
+ghost use Rattle.xti_replay.specs.Progress.{AreKept, MayAsk, IsReady, begun_call, made_by};
 
 use crate::workers::Worker;
 use std::alloc::{AllocError, Global};
+use std::mem;
+use xti_base::State;
 use xti_core::World;
-use xti_model::{Act, Applied, Call, Entry, Go, Line};
+use xti_model::{Act, Applied, Entry, Go, Line, Outcome};
 
-/// Keeps the entry of a step. None is kept before, so nothing is let go.
-#[inline(always)]
-fn keep(made: &mut Option<Entry>, entry: Entry)
-    requires { made.old ≡ None }
-    ensures { made.new ≡ Some entry }
+/// The call that the entry begins is blocked: its worker keeps it until it is asked again.
+fn hold(worker: &mut Worker, act: &mut Act)
+    requires idle { worker.old.next ≡ None }
+    ensures held { worker.new ≡ record worker.old { next = begun_call act.old } }
+    ensures left { act.new ≡ More }
 {
-    match made {
-        None => *made = Some(entry),
-        Some(_) => unreachable!(),
+    match mem::replace(act, Act::More) {
+        Act::Begin(call) => worker.set_next(Some(call)),
+        Act::More => {}
     }
+}
+
+/// The entry tells of a step of the worker with this number, and of what it answered.
+#[inline(always)]
+fn fill(entry: &mut Entry, number: u32, outcome: Outcome, after: State)
+    ensures { entry.new ≡ record entry.old { worker = number; outcome = outcome; after = after } }
+{
+    entry.worker = number;
+    entry.outcome = outcome;
+    entry.after = after;
 }
 
 /// Makes the worker's next step, which is known, and the entry of it; none where the worker is finished or blocked.
@@ -31,32 +44,28 @@ fn make(
     number: u32,
     worker: &mut Worker,
     world: &mut World,
-    made: &mut Option<Entry>,
-) -> Result<(), AllocError>
+    entry: &mut Entry,
+) -> Result<bool, AllocError>
     requires ready { (past : List Entry) × IsReady lines.now past number worker.old }
-    requires none { made.old ≡ None }
-    ensures makes { OnOk result (MakesTurn lines.now number world.old world.new worker.old worker.new made.new) }
+    requires none { entry.old.act ≡ More }
+    ensures makes { IfOk result (λ made. MakesTurn lines.now number world.old world.new worker.old worker.new (made_by made entry.new)) }
+    ensures left { IfOk result (λ made. made ≡ false → entry.new.act ≡ More) }
     ensures providers { world.new.providers ≡ world.old.providers }
 {
     let Some(call) = worker.call() else {
-        return Ok(());
+        return Ok(false);
     };
     if world.waits(call) {
-        return Ok(());
+        return Ok(false);
     }
-    match world.step(call, worker.so_far())? {
-        Applied::Blocked => Ok(()),
-        Applied::Step { outcome, after } => {
-            let act = worker.take_act();
-            worker.advance(alloc, lines, &act, &outcome)?;
-            let entry = Entry {
-                worker: number,
-                act,
-                outcome,
-                after,
-            };
-            keep(made, entry);
-            Ok(())
+    match world.step(call, worker.so_far()) {
+        Err(error) => Err(error),
+        Ok(Applied::Blocked) => Ok(false),
+        Ok(Applied::Step { outcome, after }) => {
+            drop(mem::replace(&mut entry.act, worker.take_act()));
+            fill(entry, number, outcome, after);
+            worker.advance(alloc, lines, &entry.act, &entry.outcome)?;
+            Ok(true)
         }
     }
 }
@@ -85,45 +94,40 @@ pub(crate) fn find_next(
     }
 }
 
-/// Makes the first step of this call of the worker's next line, and the entry of it; the call is kept where it is blocked.
+/// Makes the first step of the call that the entry begins, and the rest of the entry; the call is kept where it is blocked.
 #[inline(always)]
 fn begin(
     alloc: Global,
     lines: &[Line],
     number: u32,
     worker: &mut Worker,
-    call: Call,
     world: &mut World,
-    made: &mut Option<Entry>,
-) -> Result<(), AllocError>
-    requires ready { (past : List Entry) × IsReady lines.now past number (record worker.old { next = Some call }) }
+    entry: &mut Entry,
+) -> Result<bool, AllocError>
+    requires ready { (past : List Entry) × IsReady lines.now past number (record worker.old { next = begun_call entry.old.act }) }
     requires idle { worker.old.next ≡ None }
-    requires none { made.old ≡ None }
-    ensures makes { OnOk result (MakesTurn lines.now number world.old world.new (record worker.old { next = Some call }) worker.new made.new) }
+    requires whole { worker.old.part ≡ None }
+    ensures makes { IfOk result (λ made. MakesTurn lines.now number world.old world.new (record worker.old { next = begun_call entry.old.act }) worker.new (made_by made entry.new)) }
+    ensures left { IfOk result (λ made. made ≡ false → entry.new.act ≡ More) }
     ensures providers { world.new.providers ≡ world.old.providers }
 {
-    if world.waits(&call) {
-        worker.set_next(Some(call));
-        return Ok(());
+    let Act::Begin(call) = &entry.act else {
+        return Ok(false);
+    };
+    if world.waits(call) {
+        hold(worker, &mut entry.act);
+        return Ok(false);
     }
-    match world.step(&call, Go::Begin) {
+    match world.step(call, Go::Begin) {
         Err(error) => Err(error),
         Ok(Applied::Blocked) => {
-            worker.set_next(Some(call));
-            Ok(())
+            hold(worker, &mut entry.act);
+            Ok(false)
         }
         Ok(Applied::Step { outcome, after }) => {
-            let entry = Entry {
-                worker: number,
-                act: Act::Begin(call),
-                outcome,
-                after,
-            };
-            keep(made, entry);
-            if let Some(entry) = made {
-                worker.advance(alloc, lines, &entry.act, &entry.outcome)?;
-            }
-            Ok(())
+            fill(entry, number, outcome, after);
+            worker.advance(alloc, lines, &entry.act, &entry.outcome)?;
+            Ok(true)
         }
     }
 }
@@ -136,12 +140,13 @@ pub(crate) fn ask(
     workers: &mut Vec<Worker>,
     world: &mut World,
     number: usize,
-    made: &mut Option<Entry>,
-) -> Result<(), AllocError>
+    entry: &mut Entry,
+) -> Result<bool, AllocError>
     requires kept { (past : List Entry) × AreKept lines.now past workers.old.items × MayAsk lines.now past number }
     requires number { number < WORKERS }
-    requires none { made.old ≡ None }
-    ensures asked { OnOk result (TakesTurn lines.now number world.old world.new workers.old workers.new made.new) }
+    requires none { entry.old.act ≡ More }
+    ensures asked { IfOk result (λ made. TakesTurn lines.now number world.old world.new workers.old workers.new (made_by made entry.new)) }
+    ensures left { IfOk result (λ made. made ≡ false → entry.new.act ≡ More) }
     ensures providers { world.new.providers ≡ world.old.providers }
 {
     let worker = &workers[number];
@@ -152,20 +157,16 @@ pub(crate) fn ask(
             number as u32,
             &mut workers[number],
             world,
-            made,
+            entry,
         );
     }
-    match worker.next_call(lines, &workers[0]) {
-        Err(error) => Err(error),
-        Ok(None) => Ok(()),
-        Ok(Some(call)) => begin(
-            alloc,
-            lines,
-            number as u32,
-            &mut workers[number],
-            call,
-            world,
-            made,
-        ),
-    }
+    worker.begin_next(lines, &workers[0], &mut entry.act)?;
+    begin(
+        alloc,
+        lines,
+        number as u32,
+        &mut workers[number],
+        world,
+        entry,
+    )
 }

@@ -13,6 +13,5 @@ mod workers;
 pub use beginning::fresh_workers;
 pub use names::{Known, Names, Table};
 pub use replaying::{go_on, replay};
-pub use resolving::Scope;
 pub use run::Run;
 pub use workers::{Part, Worker};

@@ -1,6 +1,7 @@
 //! The calls of a script's lines, with numbers in place of names.
 
-ghost use Rattle.std.specs.Prelude.{◌≡◌, IsTrue, IfOk, Option};
+ghost use Rattle.std.specs.Prelude.{◌≡◌, IsTrue, OnOk, Option};
+ghost use Rattle.xti_model.specs.declared.entry.Act.TheVariants.{Begin, More};
 ghost use Rattle.xti_model.specs.Resolve.{seq_or_none, with_numbers};
 ghost use Rattle.xti_replay.specs.Families.{names_endpoint, is_address_or_options, is_connection_request, is_connection_receipt, moves_data, sends_datagram, receives_datagram};
 ghost use Rattle.xti_replay.specs.Known.{first_number, meanings_in};
@@ -9,17 +10,29 @@ use crate::names::{Names, Table, number_before};
 use std::alloc::AllocError;
 use xti_base::limits::NO_NUMBER;
 use xti_base::{Fd, Seq};
-use xti_model::{Call, Name, NamedCall};
+use xti_model::{Act, Call, Name, NamedCall};
+
+/// Writes the call of an entry in its place, where none stands yet, so that it isn't moved any more.
+#[inline(always)]
+fn set(act: &mut Act, call: Call)
+    requires { act.old ≡ More }
+    ensures { act.new ≡ Begin call }
+{
+    match act {
+        Act::More => *act = Act::Begin(call),
+        Act::Begin(_) => unreachable!(),
+    }
+}
 
 /// Where a line stands: its place in the script, the names of its worker, and those of worker 0.
 #[derive(Clone, Copy)]
-pub struct Scope<'a> {
+pub(crate) struct Scope<'a> {
     /// Lines before this place alone define names.
-    pub place: usize,
+    pub(crate) place: usize,
     /// The worker's own names, which count first.
-    pub own: &'a Names,
+    pub(crate) own: &'a Names,
     /// The names of worker 0.
-    pub setup: &'a Names,
+    pub(crate) setup: &'a Names,
 }
 
 /// The number of a name of a line at this place, by one table and then by another.
@@ -65,28 +78,30 @@ impl<'a> Scope<'a> {
 
     /// The call that only names an endpoint.
     #[inline(never)]
-    fn plain(&self, call: &NamedCall) -> Call
-        requires { IsTrue (names_endpoint call.now) }
-        ensures { result ≡ with_numbers (meanings_in self.now) call.now }
+    fn plain(&self, call: &NamedCall, act: &mut Act)
+        requires kind { IsTrue (names_endpoint call.now) }
+        requires none { act.old ≡ More }
+        ensures { act.new ≡ Begin (with_numbers (meanings_in self.now) call.now) }
     {
         match call {
-            NamedCall::TClose { fd } => Call::TClose { fd: self.fd(fd) },
-            NamedCall::TUnbind { fd } => Call::TUnbind { fd: self.fd(fd) },
-            NamedCall::TSndRel { fd } => Call::TSndRel { fd: self.fd(fd) },
-            NamedCall::TRcvRel { fd } => Call::TRcvRel { fd: self.fd(fd) },
-            NamedCall::TLookAt { fd } => Call::TLookAt { fd: self.fd(fd) },
-            NamedCall::TGetState { fd } => Call::TGetState { fd: self.fd(fd) },
-            NamedCall::TSync { fd } => Call::TSync { fd: self.fd(fd) },
-            NamedCall::TGetInfo { fd } => Call::TGetInfo { fd: self.fd(fd) },
+            NamedCall::TClose { fd } => set(act, Call::TClose { fd: self.fd(fd) }),
+            NamedCall::TUnbind { fd } => set(act, Call::TUnbind { fd: self.fd(fd) }),
+            NamedCall::TSndRel { fd } => set(act, Call::TSndRel { fd: self.fd(fd) }),
+            NamedCall::TRcvRel { fd } => set(act, Call::TRcvRel { fd: self.fd(fd) }),
+            NamedCall::TLookAt { fd } => set(act, Call::TLookAt { fd: self.fd(fd) }),
+            NamedCall::TGetState { fd } => set(act, Call::TGetState { fd: self.fd(fd) }),
+            NamedCall::TSync { fd } => set(act, Call::TSync { fd: self.fd(fd) }),
+            NamedCall::TGetInfo { fd } => set(act, Call::TGetInfo { fd: self.fd(fd) }),
             _ => unreachable!(),
         }
     }
 
     /// The call that names an address, asks for addresses or settles options.
     #[inline(never)]
-    fn address_or_options(&self, call: &NamedCall) -> Result<Call, AllocError>
-        requires { IsTrue (is_address_or_options call.now) }
-        ensures { IfOk result (λ c. c ≡ with_numbers (meanings_in self.now) call.now) }
+    fn address_or_options(&self, call: &NamedCall, act: &mut Act) -> Result<(), AllocError>
+        requires kind { IsTrue (is_address_or_options call.now) }
+        requires none { act.old ≡ More }
+        ensures { OnOk result (act.new ≡ Begin (with_numbers (meanings_in self.now) call.now)) }
     {
         match call {
             NamedCall::TBind {
@@ -94,37 +109,56 @@ impl<'a> Scope<'a> {
                 addr,
                 qlen,
                 amax,
-            } => Ok(Call::TBind {
-                fd: self.fd(fd),
-                addr: addr.copy()?,
-                qlen: *qlen,
-                amax: *amax,
-            }),
-            NamedCall::TGetProtAddr { fd, amax, pmax } => Ok(Call::TGetProtAddr {
-                fd: self.fd(fd),
-                amax: *amax,
-                pmax: *pmax,
-            }),
+            } => {
+                set(
+                    act,
+                    Call::TBind {
+                        fd: self.fd(fd),
+                        addr: addr.copy()?,
+                        qlen: *qlen,
+                        amax: *amax,
+                    },
+                );
+                Ok(())
+            }
+            NamedCall::TGetProtAddr { fd, amax, pmax } => {
+                set(
+                    act,
+                    Call::TGetProtAddr {
+                        fd: self.fd(fd),
+                        amax: *amax,
+                        pmax: *pmax,
+                    },
+                );
+                Ok(())
+            }
             NamedCall::TOptMgmt {
                 fd,
                 action,
                 opt,
                 omax,
-            } => Ok(Call::TOptMgmt {
-                fd: self.fd(fd),
-                action: *action,
-                opt: opt.copy()?,
-                omax: *omax,
-            }),
+            } => {
+                set(
+                    act,
+                    Call::TOptMgmt {
+                        fd: self.fd(fd),
+                        action: *action,
+                        opt: opt.copy()?,
+                        omax: *omax,
+                    },
+                );
+                Ok(())
+            }
             _ => unreachable!(),
         }
     }
 
     /// The call that asks for a connection, takes one or ends one.
     #[inline(never)]
-    fn connection_request(&self, call: &NamedCall) -> Result<Call, AllocError>
-        requires { IsTrue (is_connection_request call.now) }
-        ensures { IfOk result (λ c. c ≡ with_numbers (meanings_in self.now) call.now) }
+    fn connection_request(&self, call: &NamedCall, act: &mut Act) -> Result<(), AllocError>
+        requires kind { IsTrue (is_connection_request call.now) }
+        requires none { act.old ≡ More }
+        ensures { OnOk result (act.new ≡ Begin (with_numbers (meanings_in self.now) call.now)) }
     {
         match call {
             NamedCall::TConnect {
@@ -135,42 +169,61 @@ impl<'a> Scope<'a> {
                 amax,
                 omax,
                 umax,
-            } => Ok(Call::TConnect {
-                fd: self.fd(fd),
-                addr: addr.copy()?,
-                opt: opt.copy()?,
-                udata: udata.copy()?,
-                amax: *amax,
-                omax: *omax,
-                umax: *umax,
-            }),
+            } => {
+                set(
+                    act,
+                    Call::TConnect {
+                        fd: self.fd(fd),
+                        addr: addr.copy()?,
+                        opt: opt.copy()?,
+                        udata: udata.copy()?,
+                        amax: *amax,
+                        omax: *omax,
+                        umax: *umax,
+                    },
+                );
+                Ok(())
+            }
             NamedCall::TAccept {
                 fd,
                 resfd,
                 seq,
                 opt,
                 udata,
-            } => Ok(Call::TAccept {
-                fd: self.fd(fd),
-                resfd: self.fd(resfd),
-                seq: self.seq(seq),
-                opt: opt.copy()?,
-                udata: udata.copy()?,
-            }),
-            NamedCall::TSndDis { fd, seq, udata } => Ok(Call::TSndDis {
-                fd: self.fd(fd),
-                seq: self.seq_or_none(seq),
-                udata: udata.copy()?,
-            }),
+            } => {
+                set(
+                    act,
+                    Call::TAccept {
+                        fd: self.fd(fd),
+                        resfd: self.fd(resfd),
+                        seq: self.seq(seq),
+                        opt: opt.copy()?,
+                        udata: udata.copy()?,
+                    },
+                );
+                Ok(())
+            }
+            NamedCall::TSndDis { fd, seq, udata } => {
+                set(
+                    act,
+                    Call::TSndDis {
+                        fd: self.fd(fd),
+                        seq: self.seq_or_none(seq),
+                        udata: udata.copy()?,
+                    },
+                );
+                Ok(())
+            }
             _ => unreachable!(),
         }
     }
 
     /// The call that takes what the other side asked or answered about a connection.
     #[inline(never)]
-    fn connection_receipt(&self, call: &NamedCall) -> Call
-        requires { IsTrue (is_connection_receipt call.now) }
-        ensures { result ≡ with_numbers (meanings_in self.now) call.now }
+    fn connection_receipt(&self, call: &NamedCall, act: &mut Act)
+        requires kind { IsTrue (is_connection_receipt call.now) }
+        requires none { act.old ≡ More }
+        ensures { act.new ≡ Begin (with_numbers (meanings_in self.now) call.now) }
     {
         match call {
             NamedCall::TRcvConnect {
@@ -178,66 +231,101 @@ impl<'a> Scope<'a> {
                 amax,
                 omax,
                 umax,
-            } => Call::TRcvConnect {
-                fd: self.fd(fd),
-                amax: *amax,
-                omax: *omax,
-                umax: *umax,
-            },
+            } => set(
+                act,
+                Call::TRcvConnect {
+                    fd: self.fd(fd),
+                    amax: *amax,
+                    omax: *omax,
+                    umax: *umax,
+                },
+            ),
             NamedCall::TListen {
                 fd,
                 amax,
                 omax,
                 umax,
                 ..
-            } => Call::TListen {
-                fd: self.fd(fd),
-                amax: *amax,
-                omax: *omax,
-                umax: *umax,
-            },
-            NamedCall::TRcvDis { fd, umax } => Call::TRcvDis {
-                fd: self.fd(fd),
-                umax: *umax,
-            },
+            } => set(
+                act,
+                Call::TListen {
+                    fd: self.fd(fd),
+                    amax: *amax,
+                    omax: *omax,
+                    umax: *umax,
+                },
+            ),
+            NamedCall::TRcvDis { fd, umax } => set(
+                act,
+                Call::TRcvDis {
+                    fd: self.fd(fd),
+                    umax: *umax,
+                },
+            ),
             _ => unreachable!(),
         }
     }
 
     /// The call that sends or receives data on a connection.
     #[inline(never)]
-    fn data(&self, call: &NamedCall) -> Result<Call, AllocError>
-        requires { IsTrue (moves_data call.now) }
-        ensures { IfOk result (λ c. c ≡ with_numbers (meanings_in self.now) call.now) }
+    fn data(&self, call: &NamedCall, act: &mut Act) -> Result<(), AllocError>
+        requires kind { IsTrue (moves_data call.now) }
+        requires none { act.old ≡ More }
+        ensures { OnOk result (act.new ≡ Begin (with_numbers (meanings_in self.now) call.now)) }
     {
         match call {
-            NamedCall::TSnd { fd, bytes, flags } => Ok(Call::TSnd {
-                fd: self.fd(fd),
-                bytes: bytes.copy()?,
-                flags: *flags,
-            }),
-            NamedCall::TSndV { fd, parts, flags } => Ok(Call::TSndV {
-                fd: self.fd(fd),
-                parts: parts.copy()?,
-                flags: *flags,
-            }),
-            NamedCall::TRcv { fd, max } => Ok(Call::TRcv {
-                fd: self.fd(fd),
-                max: *max,
-            }),
-            NamedCall::TRcvV { fd, sizes } => Ok(Call::TRcvV {
-                fd: self.fd(fd),
-                sizes: sizes.copy()?,
-            }),
+            NamedCall::TSnd { fd, bytes, flags } => {
+                set(
+                    act,
+                    Call::TSnd {
+                        fd: self.fd(fd),
+                        bytes: bytes.copy()?,
+                        flags: *flags,
+                    },
+                );
+                Ok(())
+            }
+            NamedCall::TSndV { fd, parts, flags } => {
+                set(
+                    act,
+                    Call::TSndV {
+                        fd: self.fd(fd),
+                        parts: parts.copy()?,
+                        flags: *flags,
+                    },
+                );
+                Ok(())
+            }
+            NamedCall::TRcv { fd, max } => {
+                set(
+                    act,
+                    Call::TRcv {
+                        fd: self.fd(fd),
+                        max: *max,
+                    },
+                );
+                Ok(())
+            }
+            NamedCall::TRcvV { fd, sizes } => {
+                set(
+                    act,
+                    Call::TRcvV {
+                        fd: self.fd(fd),
+                        sizes: sizes.copy()?,
+                    },
+                );
+                Ok(())
+            }
             _ => unreachable!(),
         }
     }
 
     /// The call that sends a datagram.
     #[inline(never)]
-    fn send(&self, call: &NamedCall) -> Result<Call, AllocError>
-        requires { IsTrue (sends_datagram call.now) }
-        ensures { IfOk result (λ c. c ≡ with_numbers (meanings_in self.now) call.now) }
+    fn send(&self, call: &NamedCall, act: &mut Act) -> Result<(), AllocError>
+        requires kind { IsTrue (sends_datagram call.now) }
+        requires none { act.old ≡ More }
+        ensures { OnOk result (act.new ≡ Begin (with_numbers (meanings_in self.now) call.now)) }
     {
         match call {
             NamedCall::TSndUData {
@@ -245,32 +333,45 @@ impl<'a> Scope<'a> {
                 addr,
                 opt,
                 bytes,
-            } => Ok(Call::TSndUData {
-                fd: self.fd(fd),
-                addr: addr.copy()?,
-                opt: opt.copy()?,
-                bytes: bytes.copy()?,
-            }),
+            } => {
+                set(
+                    act,
+                    Call::TSndUData {
+                        fd: self.fd(fd),
+                        addr: addr.copy()?,
+                        opt: opt.copy()?,
+                        bytes: bytes.copy()?,
+                    },
+                );
+                Ok(())
+            }
             NamedCall::TSndVUData {
                 fd,
                 addr,
                 opt,
                 parts,
-            } => Ok(Call::TSndVUData {
-                fd: self.fd(fd),
-                addr: addr.copy()?,
-                opt: opt.copy()?,
-                parts: parts.copy()?,
-            }),
+            } => {
+                set(
+                    act,
+                    Call::TSndVUData {
+                        fd: self.fd(fd),
+                        addr: addr.copy()?,
+                        opt: opt.copy()?,
+                        parts: parts.copy()?,
+                    },
+                );
+                Ok(())
+            }
             _ => unreachable!(),
         }
     }
 
     /// The call that receives a datagram, or the error of one.
     #[inline(never)]
-    fn receive(&self, call: &NamedCall) -> Result<Call, AllocError>
-        requires { IsTrue (receives_datagram call.now) }
-        ensures { IfOk result (λ c. c ≡ with_numbers (meanings_in self.now) call.now) }
+    fn receive(&self, call: &NamedCall, act: &mut Act) -> Result<(), AllocError>
+        requires kind { IsTrue (receives_datagram call.now) }
+        requires none { act.old ≡ More }
+        ensures { OnOk result (act.new ≡ Begin (with_numbers (meanings_in self.now) call.now)) }
     {
         match call {
             NamedCall::TRcvUData {
@@ -278,61 +379,98 @@ impl<'a> Scope<'a> {
                 max,
                 amax,
                 omax,
-            } => Ok(Call::TRcvUData {
-                fd: self.fd(fd),
-                max: *max,
-                amax: *amax,
-                omax: *omax,
-            }),
+            } => {
+                set(
+                    act,
+                    Call::TRcvUData {
+                        fd: self.fd(fd),
+                        max: *max,
+                        amax: *amax,
+                        omax: *omax,
+                    },
+                );
+                Ok(())
+            }
             NamedCall::TRcvVUData {
                 fd,
                 sizes,
                 amax,
                 omax,
-            } => Ok(Call::TRcvVUData {
-                fd: self.fd(fd),
-                sizes: sizes.copy()?,
-                amax: *amax,
-                omax: *omax,
-            }),
-            NamedCall::TRcvUDErr { fd, amax, omax } => Ok(Call::TRcvUDErr {
-                fd: self.fd(fd),
-                amax: *amax,
-                omax: *omax,
-            }),
+            } => {
+                set(
+                    act,
+                    Call::TRcvVUData {
+                        fd: self.fd(fd),
+                        sizes: sizes.copy()?,
+                        amax: *amax,
+                        omax: *omax,
+                    },
+                );
+                Ok(())
+            }
+            NamedCall::TRcvUDErr { fd, amax, omax } => {
+                set(
+                    act,
+                    Call::TRcvUDErr {
+                        fd: self.fd(fd),
+                        amax: *amax,
+                        omax: *omax,
+                    },
+                );
+                Ok(())
+            }
             _ => unreachable!(),
         }
     }
 
     /// The call of a line that stands here, with numbers in place of names.
     #[inline(never)]
-    pub fn call(&self, call: &NamedCall) -> Result<Call, AllocError>
-        ensures { IfOk result (λ c. c ≡ with_numbers (meanings_in self.now) call.now) }
+    pub(crate) fn call(&self, call: &NamedCall, act: &mut Act) -> Result<(), AllocError>
+        requires { act.old ≡ More }
+        ensures { OnOk result (act.new ≡ Begin (with_numbers (meanings_in self.now) call.now)) }
     {
         match call {
-            NamedCall::TOpen { prov, nonblock, .. } => Ok(Call::TOpen {
-                prov: *prov,
-                nonblock: *nonblock,
-            }),
-            NamedCall::SetMode { fd, nonblock } => Ok(Call::SetMode {
-                fd: self.fd(fd),
-                nonblock: *nonblock,
-            }),
+            NamedCall::TOpen { prov, nonblock, .. } => {
+                set(
+                    act,
+                    Call::TOpen {
+                        prov: *prov,
+                        nonblock: *nonblock,
+                    },
+                );
+                Ok(())
+            }
+            NamedCall::SetMode { fd, nonblock } => {
+                set(
+                    act,
+                    Call::SetMode {
+                        fd: self.fd(fd),
+                        nonblock: *nonblock,
+                    },
+                );
+                Ok(())
+            }
             NamedCall::TBind { .. } | NamedCall::TGetProtAddr { .. } | NamedCall::TOptMgmt { .. } =>
-                self.address_or_options(call),
+                self.address_or_options(call, act),
             NamedCall::TConnect { .. } | NamedCall::TAccept { .. } | NamedCall::TSndDis { .. } =>
-                self.connection_request(call),
+                self.connection_request(call, act),
             NamedCall::TRcvConnect { .. } | NamedCall::TListen { .. } | NamedCall::TRcvDis { .. } =>
-                Ok(self.connection_receipt(call)),
+                {
+                    self.connection_receipt(call, act);
+                    Ok(())
+                }
             NamedCall::TSnd { .. }
             | NamedCall::TSndV { .. }
             | NamedCall::TRcv { .. }
-            | NamedCall::TRcvV { .. } => self.data(call),
-            NamedCall::TSndUData { .. } | NamedCall::TSndVUData { .. } => self.send(call),
+            | NamedCall::TRcvV { .. } => self.data(call, act),
+            NamedCall::TSndUData { .. } | NamedCall::TSndVUData { .. } => self.send(call, act),
             NamedCall::TRcvUData { .. }
             | NamedCall::TRcvVUData { .. }
-            | NamedCall::TRcvUDErr { .. } => self.receive(call),
-            _ => Ok(self.plain(call)),
+            | NamedCall::TRcvUDErr { .. } => self.receive(call, act),
+            _ => {
+                self.plain(call, act);
+                Ok(())
+            }
         }
     }
 }

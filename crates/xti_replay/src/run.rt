@@ -1,11 +1,13 @@
 //! A run of a script in which the workers take turns.
 
-ghost use Rattle.std.specs.Prelude.{◌≡◌, List, None, IfOk, OnOk, true};
+ghost use Rattle.std.specs.Prelude.{◌≡◌, List, IfOk, OnOk, true, false};
 ghost use Rattle.std.specs.Option.{option_copied};
+ghost use Rattle.xti_model.specs.declared.entry.Act.TheVariants.{More};
 ghost use Rattle.xti_model.specs.declared.entry.Entry.{Entry};
 ghost use Rattle.xti_model.specs.Complete.{IsHistoryOf};
 ghost use Rattle.xti_replay.specs.Playable.{IsPlayable};
-ghost use Rattle.xti_replay.specs.Runs.{gone_on, IsRunOf, StandsAfter, StandsPastSetup, AsksOthers, AsksFirst, TakesNextTurn, TakesTurnOfOthers, AreStallsOf};
+ghost use Rattle.xti_replay.specs.Runs.{gone_on, IsRunOf, StandsAfter, StandsPastSetup, AsksOthers, AsksFirst, TakesNextTurn, TakesTurnOfOthers, AreStallsOf, made_of};
+ghost use Rattle.xti_replay.specs.Progress.{made_by};
 
 use crate::asking::ask;
 use crate::beginning::{go_through, turns_after};
@@ -13,8 +15,20 @@ use crate::stalling::stall_lines;
 use crate::workers::{Worker, put_back};
 use std::alloc::{AllocError, Global};
 use std::collections::VecDeque;
+use std::mem;
+use xti_base::State;
 use xti_core::World;
-use xti_model::{Entry, Line, Script, Stalls};
+use xti_model::{Act, Entry, Line, Outcome, Script, Stalls};
+
+/// An entry that says nothing.
+fn blank() -> Entry {
+    Entry {
+        worker: 0,
+        act: Act::More,
+        outcome: Outcome::Part { taken: 0 },
+        after: State::T_UNINIT,
+    }
+}
 
 /// A run of a script's lines that has come so far, and is asked for its next entry.
 #[derive(Drop)]
@@ -25,8 +39,10 @@ pub struct Run<'a> {
     workers: Vec<Worker>,
     /// The workers but 0 that are not finished, in the order of their turns.
     turns: VecDeque<usize>,
-    /// The entry of the last step, until it is handed out.
-    made: Option<Entry>,
+    /// The entry of the last step, if one was made. It stays in its place, where the next one is written.
+    entry: Entry,
+    /// Whether the last step was made.
+    made: bool,
 }
 
 impl<'a> Run<'a> {
@@ -46,55 +62,57 @@ impl<'a> Run<'a> {
             world,
             workers,
             turns,
-            made: None,
+            entry: blank(),
+            made: false,
         })
     }
 
     /// Asks the worker whose turn it is; then it comes last, where it isn't finished.
     #[inline(always)]
-    fn ask_first(&mut self) -> Result<(), AllocError>
+    fn ask_first(&mut self) -> Result<bool, AllocError>
         requires asks { (past : List Entry) × AsksOthers past self.old }
-        requires none { self.old.made ≡ None }
-        ensures asked { OnOk result (AsksFirst self.old self.new self.new.made) }
+        requires none { self.old.entry.act ≡ More }
+        ensures asked { IfOk result (λ made. AsksFirst self.old self.new (made_by made self.new.entry)) }
+        ensures left { IfOk result (λ made. made ≡ false → self.new.entry.act ≡ More) }
         ensures providers { self.new.world.providers ≡ self.old.world.providers }
         ensures lines { self.new.lines.now ≡ self.old.lines.now }
     {
         let Some(number) = self.turns.pop_front() else {
-            return Ok(());
+            return Ok(false);
         };
-        ask(
+        let made = ask(
             self.alloc,
             self.lines,
             &mut self.workers,
             &mut self.world,
             number,
-            &mut self.made,
+            &mut self.entry,
         )?;
-        put_back(&mut self.turns, &self.workers[number], number)
+        put_back(&mut self.turns, &self.workers[number], number)?;
+        Ok(made)
     }
 
     /// The next step of the workers but 0, and the entry of it.
-    fn ask_others(&mut self) -> Result<(), AllocError>
+    fn ask_others(&mut self) -> Result<bool, AllocError>
         requires stands { StandsPastSetup self.old }
-        requires none { self.old.made ≡ None }
-        ensures goes_on { OnOk result (TakesTurnOfOthers self.old self.new self.new.made) }
+        requires none { self.old.entry.act ≡ More }
+        ensures goes_on { IfOk result (λ made. TakesTurnOfOthers self.old self.new (made_by made self.new.entry)) }
         ensures providers { self.new.world.providers ≡ self.old.world.providers }
         ensures lines { self.new.lines.now ≡ self.old.lines.now }
     {
         for _asked in 0..self.turns.len() {
-            self.ask_first()?;
-            if self.made.is_some() {
-                return Ok(());
+            if self.ask_first()? {
+                return Ok(true);
             }
         }
-        Ok(())
+        Ok(false)
     }
 
     /// The next step of the run, and the entry of it.
-    fn make(&mut self) -> Result<(), AllocError>
+    fn make(&mut self) -> Result<bool, AllocError>
         requires stands { (past : List Entry) × StandsAfter past self.old }
-        requires none { self.old.made ≡ None }
-        ensures goes_on { OnOk result (TakesNextTurn self.old self.new self.new.made) }
+        requires none { self.old.entry.act ≡ More }
+        ensures goes_on { IfOk result (λ made. TakesNextTurn self.old self.new (made_by made self.new.entry)) }
         ensures providers { self.new.world.providers ≡ self.old.world.providers }
         ensures lines { self.new.lines.now ≡ self.old.lines.now }
     {
@@ -107,27 +125,29 @@ impl<'a> Run<'a> {
             &mut self.workers,
             &mut self.world,
             0,
-            &mut self.made,
+            &mut self.entry,
         )
     }
 
     /// Makes the next step of the run, and keeps the entry of it; none where nobody can make a step.
     pub fn step(&mut self) -> Result<(), AllocError>
         requires { (past : List Entry) × StandsAfter past self.old }
-        ensures goes_on { OnOk result (TakesNextTurn self.old self.new self.new.made) }
+        ensures goes_on { OnOk result (TakesNextTurn self.old self.new (made_of self.new)) }
         ensures providers { self.new.world.providers ≡ self.old.world.providers }
         ensures lines { self.new.lines.now ≡ self.old.lines.now }
     {
-        self.made = None;
-        self.make()
+        self.made = false;
+        self.entry.act = Act::More;
+        self.made = self.make()?;
+        Ok(())
     }
 
     /// The entry that is kept of the last step.
     #[inline(always)]
     pub fn made(&self) -> Option<&Entry>
-        ensures { option_copied result ≡ self.now.made }
+        ensures { option_copied result ≡ made_of self.now }
     {
-        self.made.as_ref()
+        if self.made { Some(&self.entry) } else { None }
     }
 
     /// The next entry of the run; `None` where nobody can make a step.
@@ -138,7 +158,11 @@ impl<'a> Run<'a> {
         ensures lines { self.new.lines.now ≡ self.old.lines.now }
     {
         self.step()?;
-        Ok(self.made.take())
+        if self.made {
+            self.made = false;
+            return Ok(Some(mem::replace(&mut self.entry, blank())));
+        }
+        Ok(None)
     }
 
     /// The stall lines of the run as it stands: the next step of worker 0 where it isn't finished, else that of each worker

@@ -2,9 +2,11 @@
 
 ghost use Rattle.std.specs.Prelude.{◌≡◌, ◌+◌, ◌<◌, ◌++◌, ◌∷◌, [], List, ℕ, None, Some, slice_get, length, IfOk, OnOk};
 ghost use Rattle.std.specs.Option.{option_copied};
+ghost use Rattle.xti_model.specs.declared.entry.Act.TheVariants.{More};
+ghost use Rattle.xti_model.specs.declared.entry.Go.TheVariants as go;
 ghost use Rattle.xti_model.specs.History.{going_after};
 ghost use Rattle.xti_replay.specs.Known.{known_in};
-ghost use Rattle.xti_replay.specs.Progress.{is_finished, turns_with, next_place, HaveHistory, IsNextCall, MayTake, KeepsAllButLines, KeepsLinesAndCalls, KeepsAllButPart, LearnsNextLine, LearnsEntry, begun_by, left_after, next_act, part_call, part_going, going_of, call_of, so_far_of};
+ghost use Rattle.xti_replay.specs.Progress.{is_finished, turns_with, next_place, HaveHistory, IsNextCall, MayTake, KeepsAllButLines, KeepsLinesAndCalls, KeepsAllButPart, LearnsNextLine, LearnsEntry, begun_by, left_after, next_act, part_call, part_going, going_of, call_of, so_far_of, begun_call};
 
 use crate::names::Names;
 use crate::resolving::Scope;
@@ -79,14 +81,21 @@ impl Worker {
         self.places.get(self.begun).copied()
     }
 
-    /// The call of its next line, with numbers in place of names; `None` where it has begun them all.
-    pub fn next_call(&self, lines: &[Line], setup: &Worker) -> Result<Option<Call>, AllocError>
+    /// Begins the call of its next line, with numbers in place of names, unless it has begun them all.
+    #[inline(always)]
+    pub(crate) fn begin_next(
+        &self,
+        lines: &[Line],
+        setup: &Worker,
+        act: &mut Act,
+    ) -> Result<(), AllocError>
         requires told { HaveHistory lines.now self.now setup.now }
         requires whole { self.now.part ≡ None }
-        ensures { IfOk result (λ next. IsNextCall lines.now self.now setup.now next) }
+        requires none { act.old ≡ More }
+        ensures { OnOk result (IsNextCall lines.now self.now setup.now (begun_call act.new)) }
     {
         match self.place() {
-            None => Ok(None),
+            None => Ok(()),
             Some(place) => {
                 let line = &lines[place];
                 let scope = Scope {
@@ -94,11 +103,22 @@ impl Worker {
                     own: &self.names,
                     setup: &setup.names,
                 };
-                match scope.call(&line.call) {
-                    Err(error) => Err(error),
-                    Ok(call) => Ok(Some(call)),
-                }
+                scope.call(&line.call, act)
             }
+        }
+    }
+
+    /// The call of its next line, with numbers in place of names; `None` where it has begun them all.
+    pub fn next_call(&self, lines: &[Line], setup: &Worker) -> Result<Option<Call>, AllocError>
+        requires told { HaveHistory lines.now self.now setup.now }
+        requires whole { self.now.part ≡ None }
+        ensures { IfOk result (λ next. IsNextCall lines.now self.now setup.now next) }
+    {
+        let mut act = Act::More;
+        self.begin_next(lines, setup, &mut act)?;
+        match act {
+            Act::Begin(call) => Ok(Some(call)),
+            Act::More => Ok(None),
         }
     }
 
@@ -176,6 +196,17 @@ impl Worker {
         }
     }
 
+    /// A call of it is part way. Apart, since most are done in one step.
+    #[inline(never)]
+    fn keep_part(&mut self, call: &Call, taken: u32) -> Result<(), AllocError>
+        ensures part { OnOk result (part_going self.new.part ≡ Some (record { call = call.now; so_far = go.More taken })) }
+        ensures others { KeepsAllButPart self.old self.new }
+    {
+        let call = call.copy()?;
+        self.part = Some(Part { call, taken });
+        Ok(())
+    }
+
     /// What is left of its call after its first step.
     #[inline(always)]
     fn begin_part(&mut self, call: &Call, outcome: &Outcome) -> Result<(), AllocError>
@@ -183,14 +214,12 @@ impl Worker {
         ensures others { KeepsAllButPart self.old self.new }
     {
         match outcome {
-            Outcome::Done(_) => self.end_part(),
-            Outcome::Part { taken } => {
-                let call = call.copy()?;
-                let taken = *taken;
-                self.part = Some(Part { call, taken });
+            Outcome::Done(_) => {
+                self.end_part();
+                Ok(())
             }
+            Outcome::Part { taken } => self.keep_part(call, *taken),
         }
-        Ok(())
     }
 
     /// What is left of its call after a further step.

@@ -1,25 +1,35 @@
-use Rattle.std.proofs.Common.{◌∙◌, Option, Some, refl, sym, subst}
-use Rattle.xti_model.specs.declared.entry.Act.TheVariants as act
+use Rattle.std.proofs.Common.{◌≡◌, ◌∙◌, Option, None, Some, ap, sym, subst}
+use Rattle.std.specs.Prelude.{option_and_then}
+use Rattle.xti_model.specs.declared.entry.Act.{Act}
 use Rattle.xti_model.specs.declared.entry.Entry.{Entry}
+use Rattle.xti_model.specs.declared.entry.Go.TheVariants as go
+use Rattle.xti_model.specs.History.{step_going}
 use Rattle.xti_model.specs.Robin.{turn}
+use Rattle.xti_model.specs.declared.call.Call.{Call}
 use Rattle.xti_replay.specs.declared.workers.Worker.{Worker}
-use Rattle.xti_replay.specs.Progress.{IsAdvance, Makes, MayTake}
-use Rattle.xti_replay.proofs.Each.{one-some}
-use Rattle.xti_replay.proofs.Steps.{can-take, makes-made, set-and-taken}
+use Rattle.xti_replay.specs.Progress.{Makes, MayTake, begun_call, going_of}
+use Rattle.xti_replay.proofs.Steps.{can-take, fills, begun-act, begins-none, set-idle}
 use Rattle.xti_replay.proofs.asking.begin.Goals as goal
+
+pub returns-in_default-clause-makes : goal.returns-in_default-clause-makes
+returns-in_default-clause-makes c = λ past ready.
+    let begun : Worker = record c.args.worker.now { next = begun_call c.args.entry.now.act } in
+    let none : begun_call c.args.entry.now.act ≡ None = ap begun_call c.in_default.is in
+    let same : begun ≡ c.args.worker.now = ap (λ (o : Option Call). let w : Worker = record c.args.worker.now { next = o } in w) (none ∙ sym c.requires.idle) in
+    subst (λ (w : Worker). Makes c.args.lines.now c.args.number past c.args.world.now c.args.world.now begun w None (turn c.args.world.now.providers c.args.lines.now c.args.world.now.cells past c.args.number)) same
+    (begins-none c.args.world.now.providers c.args.lines.now c.args.number past c.args.world.now begun ready none c.requires.whole)
 
 pub advance-requires : goal.advance-requires
 advance-requires c =
-    let made : Entry = record { worker = c.args.number; act = act.Begin c.args.call; outcome = c.in-Ok-Step.outcome; after = c.in-Ok-Step.after } in
-    subst (λ (e : Entry). MayTake c.args.lines.now c.args.worker.now e.act) (one-some c.keep.new.made made c.in-Some.entry c.keep.ensures c.in-Some.is)
-    (can-take c.args.lines.now c.requires.ready.0 c.args.number (record c.args.worker.now { next = Some c.args.call }) c.args.worker.now c.requires.ready.1 (set-and-taken c.args.worker.now c.args.call c.requires.idle))
+    subst (λ (a : Act). MayTake c.args.lines.now c.args.worker.now a) (sym (ap (λ (e : Entry). e.act) c.fill.ensures ∙ begun-act c.args.entry.now.act))
+    (can-take c.args.lines.now c.requires.ready.0 c.args.number (record c.args.worker.now { next = begun_call c.args.entry.now.act }) c.args.worker.now c.requires.ready.1 (set-idle c.args.worker.now (begun_call c.args.entry.now.act) c.requires.idle))
 
 pub returns-in_ok-advance-in-Ok-Step-clause-makes : goal.returns-in_ok-advance-in-Ok-Step-clause-makes
 returns-in_ok-advance-in-Ok-Step-clause-makes c = λ past ready.
-    let begun : Worker = record c.args.worker.now { next = Some c.args.call } in
-    let made : Entry = record { worker = c.args.number; act = act.Begin c.args.call; outcome = c.in-Ok-Step.outcome; after = c.in-Ok-Step.after } in
-    let advanced : IsAdvance c.args.lines.now c.args.worker.now c.advance.new.self c.in-Some.entry.act c.in-Some.entry.outcome = record { places = c.advance.ensures.places; count = c.in_ok-advance-in-Ok-Step.ensures.count; part = c.in_ok-advance-in-Ok-Step.ensures.part; names = c.in_ok-advance-in-Ok-Step.ensures.names } in
-    subst (λ (o : Option Entry). Makes c.args.lines.now c.args.number past c.args.world.now c.step.new.self begun c.advance.new.self o (turn c.args.world.now.providers c.args.lines.now c.args.world.now.cells past c.args.number)) (sym c.keep.ensures ∙ c.in-Some.is)
-    (makes-made c.args.world.now.providers c.args.lines.now c.args.number past c.args.world.now c.step.new.self begun c.args.worker.now c.advance.new.self (act.Begin c.args.call) c.in-Ok-Step.outcome c.in-Ok-Step.after ready
-    (rw c.in-Ok-Step.field-0-is at c.in-Ok-Step.ensures.step) refl (set-and-taken c.args.worker.now c.args.call c.requires.idle) c.advance.ensures.next
-    (subst (λ (e : Entry). IsAdvance c.args.lines.now c.args.worker.now c.advance.new.self e.act e.outcome) (one-some c.keep.new.made c.in-Some.entry made c.in-Some.is c.keep.ensures) advanced))
+    let begun : Worker = record c.args.worker.now { next = begun_call c.args.entry.now.act } in
+    let begins : begun_call c.args.entry.now.act ≡ Some c.in-Begin.call = ap begun_call c.in-Begin.is in
+    let going : step_going c.args.world.now.providers c.args.world.now.cells (record { call = c.in-Begin.call; so_far = go.Begin }) ≡ option_and_then (step_going c.args.world.now.providers c.args.world.now.cells) (going_of begun) =
+    ap (λ (o : Option Call). option_and_then (step_going c.args.world.now.providers c.args.world.now.cells) (going_of (record c.args.worker.now { next = o }))) (sym begins) in
+    fills c.args.world.now.providers c.args.lines.now c.args.number past c.args.world.now c.step.new.self begun c.args.worker.now c.advance.new.self c.fill.new.entry c.args.entry.now.act c.in-Ok-Step.outcome c.in-Ok-Step.after ready c.fill.ensures
+    ((rw c.in-Ok-Step.field-0-is at c.in-Ok-Step.ensures.step) ∙ going) (begun-act c.args.entry.now.act) (set-idle c.args.worker.now (begun_call c.args.entry.now.act) c.requires.idle) c.advance.ensures.next
+    (record { places = c.advance.ensures.places; count = c.in_ok-advance-in-Ok-Step.ensures.count; part = c.in_ok-advance-in-Ok-Step.ensures.part; names = c.in_ok-advance-in-Ok-Step.ensures.names })

@@ -3,6 +3,7 @@ use Rattle.xti_model.specs.declared.entry.Entry.{Entry}
 use Rattle.xti_model.specs.Robin.{most_steps}
 use Rattle.xti_run.specs.Entries.{Reports}
 use Rattle.xti_run.proofs.Answered.{last-added}
+use Rattle.xti_replay.specs.Runs.{made_of}
 use Rattle.xti_replay.proofs.WholeRuns.{leads-step, leads-end, leads-stop}
 use Rattle.xti_run.proofs.top.report_entries.Goals as goal
 
@@ -16,14 +17,14 @@ pub add-requires : goal.add-requires
 add-requires c =
     let i = c.loop-step.invariant c.requires.0 c.requires.1 c.requires.2 c.requires.3 in
     let pos : 0 < most_steps - c.loop-step._step = omega arith in
-    let l = leads-step c.requires.0 c.requires.1 (most_steps - c.loop-step._step) _ i.0 c.loop-step.run c.step.new.self c.step.new.self.made c.in-Some.entry.now i.2 pos refl (c.in_ok-step.ensures.goes_on i.0 i.2.stands) c.step.ensures.providers c.step.ensures.lines (sym c.in-Some.ensures) in
+    let l = leads-step c.requires.0 c.requires.1 (most_steps - c.loop-step._step) _ i.0 c.loop-step.run c.step.new.self (made_of c.step.new.self) c.in-Some.entry.now i.2 pos refl (c.in_ok-step.ensures.goes_on i.0 i.2.stands) c.step.ensures.providers c.step.ensures.lines (sym c.in-Some.ensures) in
     omega (arith, l.stands.last, last-added 0 i.0 c.in-Some.entry.now)
 
 pub returns-in-None : goal.returns-in-None
 returns-in-None c = λ s all past k.
     let i = c.loop-step.invariant s all past k in
     let pos : 0 < most_steps - c.loop-step._step = omega arith in
-    let e = leads-end s all (most_steps - c.loop-step._step) i.0 c.loop-step.run c.step.new.self c.step.new.self.made i.2 pos (c.in_ok-step.ensures.goes_on i.0 i.2.stands) c.step.ensures.lines (sym c.in-None.ensures) in
+    let e = leads-end s all (most_steps - c.loop-step._step) i.0 c.loop-step.run c.step.new.self (made_of c.step.new.self) i.2 pos (c.in_ok-step.ensures.goes_on i.0 i.2.stands) c.step.ensures.lines (sym c.in-None.ensures) in
     (λ summary p reported. subst (λ (es : List Entry). Reports summary p es c.loop-step.report) e.0 (i.1 summary p reported), e.1)
 
 pub loop-step-preserved : goal.loop-step-preserved
@@ -33,7 +34,7 @@ loop-step-preserved c = λ s all past k.
     let less : most_steps - (c.loop-step._step + 1) ≡ most_steps - c.loop-step._step - 1 = omega arith in (
       i.0 ++ c.in-Some.entry.now ∷ [],
       λ summary p reported. c.in_ok-add-in-Some.ensures summary p i.0 (i.1 summary p reported),
-      leads-step s all (most_steps - c.loop-step._step) _ i.0 c.loop-step.run c.step.new.self c.step.new.self.made c.in-Some.entry.now i.2 pos less (c.in_ok-step.ensures.goes_on i.0 i.2.stands) c.step.ensures.providers c.step.ensures.lines (sym c.in-Some.ensures),
+      leads-step s all (most_steps - c.loop-step._step) _ i.0 c.loop-step.run c.step.new.self (made_of c.step.new.self) c.in-Some.entry.now i.2 pos less (c.in_ok-step.ensures.goes_on i.0 i.2.stands) c.step.ensures.providers c.step.ensures.lines (sym c.in-Some.ensures),
     )
 
 pub returns : goal.returns

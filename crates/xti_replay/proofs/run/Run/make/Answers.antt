@@ -1,5 +1,6 @@
 use Rattle.std.proofs.Common.{refl, sym, inl, ◌∙◌}
-use Rattle.std.proofs.lemmas.Result.{on_ok_weaker}
+use Rattle.std.proofs.lemmas.Result.{IfOk-weaker}
+use Rattle.xti_replay.specs.Progress.{made_by}
 use Rattle.xti_replay.proofs.SetupAsked.{first-through, setup-asked}
 use Rattle.xti_replay.proofs.run.Run.make.Goals as goal
 
@@ -8,11 +9,11 @@ ask_others-requires-clause-stands c =
     (c.requires.stands.0, c.requires.stands.1, sym (first-through c.requires.stands.0 c.args.self.now c.index.result.now c.requires.stands.1 c.index.ensures) ∙ sym c.is_finished.ensures ∙ c.if-is_finished.true)
 
 pub returns-then-is_finished-clause-goes_on : goal.returns-then-is_finished-clause-goes_on
-returns-then-is_finished-clause-goes_on c = on_ok_weaker c.ask_others.result (λ goes past k.
+returns-then-is_finished-clause-goes_on c = IfOk-weaker c.ask_others.result _ _ (λ made goes past k.
     goes past k (sym (first-through past c.args.self.now c.index.result.now k c.index.ensures) ∙ sym c.is_finished.ensures ∙ c.if-is_finished.true)) c.ask_others.ensures.goes_on
 
 pub returns-clause-goes_on : goal.returns-clause-goes_on
-returns-clause-goes_on c = on_ok_weaker c.ask.result (λ asked past k.
-    setup-asked past c.args.self.now (record { alloc = c.args.self.now.alloc; lines = c.args.self.now.lines; world = c.ask.new.world; workers = c.ask.new.workers; turns = c.args.self.now.turns; made = c.ask.new.made }) c.ask.new.made k
+returns-clause-goes_on c = IfOk-weaker c.ask.result _ _ (λ made asked past k.
+    setup-asked past c.args.self.now (record { alloc = c.args.self.now.alloc; lines = c.args.self.now.lines; world = c.ask.new.world; workers = c.ask.new.workers; turns = c.args.self.now.turns; entry = c.ask.new.entry; made = c.args.self.now.made }) (made_by made c.ask.new.entry) k
     (sym (first-through past c.args.self.now c.index.result.now k c.index.ensures) ∙ sym c.is_finished.ensures ∙ c.if-is_finished.false)
     (asked past k.kept (inl refl)) refl refl) c.ask.ensures.asked
