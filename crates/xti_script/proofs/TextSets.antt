@@ -1,67 +1,52 @@
 -- A set of texts, and one more text.
-use Rattle.std.proofs.Common.{◌≡◌, ℕ, Bool, true, false, ◌||◌, List, [], ◌∷◌, refl, sym, ap, ◌∙◌}
+use Rattle.std.proofs.Common.{◌≡◌, ℕ, Bool, true, false, ◌||◌, List, refl, sym, ap, ◌∙◌}
 use Rattle.std.specs.Prelude.{Vec}
 use Rattle.std.specs.declared.alloc.Global.{Global}
-use Rattle.std.specs.declared.cmp.Ordering.{Ordering}
-use Rattle.std.specs.declared.cmp.Ordering.TheVariants.{Less, Equal, Greater}
-use Rattle.std.specs.Ordering.{is_eq, nat_cmp, match_ordering}
-use Rattle.std.specs.Cmp.Lexicographic.{slice_cmp}
-use Rattle.std.specs.BTreeSet.{insert_key}
+use Rattle.std.specs.HashSet.{Updates}
 use Rattle.std.specs.List.{list_any}
+use Rattle.std.specs.Map.{IsKeyTest, AreApart}
+use Rattle.std.specs.Set.{KeepsOthers}
 use Rattle.std.specs.Str.{bytes_eq}
-use Rattle.std.proofs.lemmas.Map.Lookups.{exact_bytes}
-use Rattle.std.proofs.lemmas.Map.Text.{is_eq-slice_cmp}
 use Rattle.std.proofs.lemmas.Slice.Eq.{bytes_eq-Decides}
-use Rattle.xti_script.specs.TextSets.{TextSet, has}
+use Rattle.xti_script.specs.TextSets.{TextSet, has, HasMore, HasSame}
 
-abbrev pub vec_cmp : Vec ℕ Global → Vec ℕ Global → Ordering
-vec_cmp x y = slice_cmp nat_cmp x.items y.items
+abbrev Key : Type 0
+Key = Vec ℕ Global
 
-abbrev pub is_text : List ℕ → Vec ℕ Global → Bool
-is_text bytes k = is_eq (slice_cmp nat_cmp bytes k.items)
+abbrev pub keys_eq : Key → Key → Bool
+keys_eq x y = bytes_eq x.items y.items
 
-or_or : (a b c : Bool) → (a || (b || c)) ≡ ((a || b) || c)
-or_or true b c = refl
-or_or false b c = refl
+same : (xs ys : List ℕ) → bytes_eq xs ys ≡ true → xs ≡ ys
+same xs ys = (bytes_eq-Decides xs ys).0
 
-or_twice : (a b : Bool) → (a || b) ≡ ((a || b) || a)
-or_twice true b = refl
-or_twice false true = refl
-or_twice false false = refl
+-- a text is a test of keys
+is_test : (text : List ℕ) → IsKeyTest keys_eq (λ (k : Key). bytes_eq text k.items)
+is_test text x y t = ap (λ (l : List ℕ). bytes_eq l y.items) (same text x.items t)
 
-or_false : (a : Bool) → (a || false) ≡ a
+apart : (text other : List ℕ) → bytes_eq text other ≡ false → AreApart (λ (k : Key). bytes_eq text k.items) (λ (k : Key). bytes_eq other k.items)
+apart text other differ k t = by (bytes_eq other k.items) refl
+  where
+    by : (b : Bool) → bytes_eq other k.items ≡ b → b ≡ false
+    by false e = refl
+    by true e = absurd (let yes : bytes_eq text other ≡ true = (bytes_eq-Decides text other).1 (same text k.items t ∙ sym (same other k.items e)) in let f : false ≡ true = sym differ ∙ yes in cc)
+
+or_false : (a : Bool) → a ≡ (a || false)
 or_false true = refl
 or_false false = refl
 
-or_swap : (a b : Bool) → (a || b) ≡ (b || a)
-or_swap true true = refl
-or_swap true false = refl
-or_swap false true = refl
-or_swap false false = refl
-
-placed : (bytes : List ℕ) (k x : Vec ℕ Global) (xs : List (Vec ℕ Global)) (o : Ordering) → vec_cmp k x ≡ o → list_any (is_text bytes) (insert_key vec_cmp xs k) ≡ (list_any (is_text bytes) xs || is_text bytes k)
-    → list_any (is_text bytes) (match_ordering o (k ∷ x ∷ xs) (x ∷ xs) (x ∷ insert_key vec_cmp xs k)) ≡ (list_any (is_text bytes) (x ∷ xs) || is_text bytes k)
-placed bytes k x xs Less e later = or_swap (is_text bytes k) (is_text bytes x || list_any (is_text bytes) xs)
-placed bytes k x xs Equal e later =
-    let same : k.items ≡ x.items = exact_bytes k.items x.items e in
-    rw same (or_twice (is_text bytes x) (list_any (is_text bytes) xs))
-placed bytes k x xs Greater e later = ap (λ (b : Bool). is_text bytes x || b) later ∙ or_or (is_text bytes x) (list_any (is_text bytes) xs) (is_text bytes k)
+or_true : (a : Bool) → true ≡ (a || true)
+or_true true = refl
+or_true false = refl
 
 -- a set with one more text has what it had, and that text
-pub has-insert_key : (bytes : List ℕ) (ks : List (Vec ℕ Global)) (k : Vec ℕ Global) → list_any (is_text bytes) (insert_key vec_cmp ks k) ≡ (list_any (is_text bytes) ks || is_text bytes k)
-has-insert_key bytes [] k = or_swap (is_text bytes k) false
-has-insert_key bytes (x ∷ xs) k = placed bytes k x xs (vec_cmp k x) refl (has-insert_key bytes xs k)
+pub has_more : (old new : TextSet) (k : Key) (text : List ℕ) → k.items ≡ text → Updates keys_eq old new k true → HasMore text old new
+unfolding KeepsOthers
+has_more old new k text e updates other = by (bytes_eq text other) refl
+  where
+    by : (b : Bool) → bytes_eq text other ≡ b → has new other ≡ (has old other || b)
+    by true t = ap (has new) (sym (same text other t) ∙ sym e) ∙ updates.1 ∙ or_true (has old other)
+    by false f = updates.3 (λ (x : Key). bytes_eq other x.items) (is_test other) (apart k.items other (ap (λ (l : List ℕ). bytes_eq l other) e ∙ f)) ∙ or_false (has old other)
 
-both_ways : (a b : Bool) → (a ≡ true → b ≡ true) → (b ≡ true → a ≡ true) → a ≡ b
-both_ways true b h k = sym (h refl)
-both_ways false true h k = k refl
-both_ways false false h k = refl
-
-bytes_eq-swap : (xs ys : List ℕ) → bytes_eq xs ys ≡ bytes_eq ys xs
-bytes_eq-swap xs ys =
-    both_ways _ _ (λ e. (bytes_eq-Decides ys xs).1 (sym ((bytes_eq-Decides xs ys).0 e))) (λ e. (bytes_eq-Decides xs ys).1 (sym ((bytes_eq-Decides ys xs).0 e)))
-
-pub has_more : (old new : TextSet) (k : Vec ℕ Global) (text : List ℕ) → k.items ≡ text → new.keys ≡ insert_key vec_cmp old.keys k → (other : List ℕ) → has new other ≡ (has old other || bytes_eq text other)
-has_more old new k text e keys other =
-    let at_k : is_text other k ≡ bytes_eq text other = is_eq-slice_cmp other k.items ∙ bytes_eq-swap other k.items ∙ ap (λ (t : List ℕ). bytes_eq t other) e in
-    ap (list_any (is_text other)) keys ∙ has-insert_key other old.keys k ∙ ap (λ (b : Bool). has old other || b) at_k
+-- a set with the same keys has the same texts
+pub has_same : (old new : TextSet) → new.keys ≡ old.keys → HasSame old new
+has_same old new e other = ap (list_any (λ (k : Key). bytes_eq other k.items)) e

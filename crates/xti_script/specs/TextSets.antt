@@ -1,17 +1,17 @@
 -- Sets of texts, and lists of them.
 use Rattle.std.specs.Prelude.{◌≡◌, ℕ, ◌==◌, Bool, false, ◌&&◌, ◌||◌, List, Vec, slice_get, Option, Some, None}
 use Rattle.std.specs.declared.alloc.Global.{Global}
-use Rattle.std.specs.BTreeSet.{BTreeSet, contains_by}
-use Rattle.std.specs.Cmp.Lexicographic.{slice_cmp}
-use Rattle.std.specs.Ordering.{nat_cmp}
+use Rattle.std.specs.HashSet.{HashSet, contains_by}
+use Rattle.std.specs.declared.hash.BuildHasherDefault.{BuildHasherDefault}
+use Rattle.std.specs.declared.hash.FoldHasher.{FoldHasher}
 use Rattle.std.specs.Str.{bytes_eq}
 
 -- a set of texts
 abbrev pub TextSet : Type 0
-TextSet = BTreeSet (Vec ℕ Global)
+TextSet = HashSet (Vec ℕ Global) (BuildHasherDefault FoldHasher)
 
 abbrev pub has : TextSet → List ℕ → Bool
-has texts bytes = contains_by (λ k. slice_cmp nat_cmp bytes k.items) texts
+has texts bytes = contains_by (λ k. bytes_eq bytes k.items) texts
 
 -- whether a set that may be there has the text
 abbrev pub has_in : Option TextSet → List ℕ → Bool
@@ -29,3 +29,11 @@ HasMore text old new = (other : List ℕ) → has new other ≡ (has old other |
 -- the set at this place has one more text, and the others are the same
 abbrev pub HasMoreAt : ℕ → List ℕ → List TextSet → List TextSet → Type 0
 HasMoreAt place text old new = (at : ℕ) (other : List ℕ) → has_at new at other ≡ (has_at old at other || ((place == at) && bytes_eq text other))
+
+-- the set has the same texts
+abbrev pub HasSame : TextSet → TextSet → Type 0
+HasSame old new = (other : List ℕ) → has new other ≡ has old other
+
+-- each of the sets has the same texts
+abbrev pub HaveSame : List TextSet → List TextSet → Type 0
+HaveSame old new = (at : ℕ) (other : List ℕ) → has_at new at other ≡ has_at old at other

@@ -6,6 +6,7 @@ ghost use Rattle.xti_model.specs.Work.{argument_bytes};
 ghost use Rattle.xti_model.specs.Resolve.{opens, listens};
 ghost use Rattle.xti_script.specs.Names.{after, is_defined};
 ghost use Rattle.xti_script.specs.Known.{TakesName};
+ghost use Rattle.xti_script.specs.TextSets.{HaveSame};
 ghost use Rattle.xti_script.specs.Reading.{less, room_after, line_with, extended};
 
 use crate::names::{TextSet, add_name, empty_sets, is_defined};
@@ -128,8 +129,8 @@ fn admit(
     ensures listened { IfOk result (λ room. IfSome room (λ _. TakesName listens line.now listened.old listened.new)) }
     ensures opened_same { IfOk result (λ room. IfNone room (opened.new ≡ opened.old)) }
     ensures listened_same { IfOk result (λ room. IfNone room (listened.new ≡ listened.old)) }
-    ensures opened_kept { OnErr result (opened.new ≡ opened.old) }
-    ensures listened_kept { OnErr result (listened.new ≡ listened.old) }
+    ensures opened_kept { OnErr result (HaveSame opened.old opened.new) }
+    ensures listened_kept { OnErr result (HaveSame listened.old listened.new) }
 {
     let Some(left) = room_after(count, left, &line.call) else {
         return Ok(None);
@@ -165,8 +166,8 @@ fn add_line(
     ensures opened_same { IfOk result (λ room. IfNone room (opened.new ≡ opened.old)) }
     ensures listened_same { IfOk result (λ room. IfNone room (listened.new ≡ listened.old)) }
     ensures same { IfOk result (λ room. IfNone room (lines.new.items ≡ lines.old.items)) }
-    ensures opened_kept { OnErr result (opened.new ≡ opened.old) }
-    ensures listened_kept { OnErr result (listened.new ≡ listened.old) }
+    ensures opened_kept { OnErr result (HaveSame opened.old opened.new) }
+    ensures listened_kept { OnErr result (HaveSame listened.old listened.new) }
     ensures kept { OnErr result (lines.new.items ≡ lines.old.items) }
 {
     let alloc = *lines.allocator();

@@ -2,30 +2,40 @@
 
 ghost use Rattle.std.specs.Prelude.{◌≡◌, ◌<◌, ◌||◌, ℕ, false, List, length, IfOk, OnOk, OnErr};
 ghost use Rattle.xti_model.specs.Resolve.{opens, listens};
-ghost use Rattle.xti_script.specs.TextSets.{has_at, HasMore, HasMoreAt};
+ghost use Rattle.xti_script.specs.TextSets.{has, has_at, HasMore, HasMoreAt, HasSame, HaveSame};
 ghost use Rattle.xti_script.specs.Known.{TakesName};
 
 use std::alloc::{AllocError, Global};
-use std::collections::BTreeSet;
+use std::collections::HashSet;
 use xti_base::limits::WORKERS;
 use xti_model::{Line, NamedCall};
 
 /// A set of names.
-pub(crate) type TextSet = BTreeSet<Vec<u8>>;
+pub(crate) type TextSet = HashSet<Vec<u8>>;
 
 fn add_text(alloc: Global, texts: &mut TextSet, text: &[u8]) -> Result<(), AllocError>
     ensures ok { OnOk result (HasMore text.now texts.old texts.new) }
-    ensures err { OnErr result (texts.new ≡ texts.old) }
+    ensures err { OnErr result (HasSame texts.old texts.new) }
 {
     texts.insert(Vec::from_slice(alloc, text)?)?;
     Ok(())
+}
+
+fn has(texts: &TextSet, bytes: &[u8]) -> bool
+    ensures { result ≡ has texts.now bytes.now }
+{
+    // Most workers define no names, and a name costs something to hash.
+    if texts.is_empty() {
+        return false;
+    }
+    texts.contains(bytes)
 }
 
 fn has_at(sets: &[TextSet], place: usize, bytes: &[u8]) -> bool
     ensures { result ≡ has_at sets.now place bytes.now }
 {
     match sets.get(place) {
-        Some(texts) => texts.contains(bytes),
+        Some(texts) => has(texts, bytes),
         None => false,
     }
 }
@@ -40,7 +50,7 @@ pub(crate) fn is_defined(sets: &[TextSet], worker: u32, name: &[u8]) -> bool
 fn add_at(alloc: Global, sets: &mut [TextSet], place: usize, text: &[u8]) -> Result<(), AllocError>
     requires { place < length sets.old }
     ensures ok { OnOk result (HasMoreAt place text.now sets.old sets.new) }
-    ensures err { OnErr result (sets.new ≡ sets.old) }
+    ensures err { OnErr result (HaveSame sets.old sets.new) }
 {
     add_text(alloc, &mut sets[place], text)
 }
@@ -52,7 +62,7 @@ pub(crate) fn empty_sets(alloc: Global) -> Result<Vec<TextSet>, AllocError>
 {
     let mut sets = Vec::with_capacity(alloc, WORKERS)?;
     for _worker in 0..WORKERS {
-        sets.push(BTreeSet::new(alloc))?;
+        sets.push(HashSet::new(alloc))?;
     }
     Ok(sets)
 }
@@ -69,8 +79,8 @@ pub(crate) fn add_name(
     requires sequences { line.now.worker < length listened.old }
     ensures opened { OnOk result (TakesName opens line.now opened.old opened.new) }
     ensures listened { OnOk result (TakesName listens line.now listened.old listened.new) }
-    ensures opened_kept { OnErr result (opened.new ≡ opened.old) }
-    ensures listened_kept { OnErr result (listened.new ≡ listened.old) }
+    ensures opened_kept { OnErr result (HaveSame opened.old opened.new) }
+    ensures listened_kept { OnErr result (HaveSame listened.old listened.new) }
 {
     let worker = line.worker as usize;
     match &line.call {
