@@ -1,6 +1,7 @@
 //! What the names of a script stand for.
 
 ghost use Rattle.std.specs.Prelude.{◌≡◌, List, ℕ, [], Some, None, OnOk};
+ghost use Rattle.std.specs.Option.{option_copied};
 ghost use Rattle.xti_model.specs.Resolve.{opened_fd, listened_number};
 ghost use Rattle.xti_replay.specs.Known.{known_in, number_before, AddsName, HasLearnt};
 
@@ -30,15 +31,29 @@ pub struct Names {
     pub sequences: Table,
 }
 
+/// So few names are compared one by one, which costs less than a hash.
+const FEW: usize = 4;
+
+/// What the name stands for.
+fn known_in<'a>(table: &'a Table, name: &[u8]) -> Option<&'a Known>
+    ensures { option_copied result ≡ known_in table.now name.now }
+{
+    if table.len() > FEW {
+        return table.get(name);
+    }
+    for (text, known) in table.iter() {
+        if name == text.as_slice() {
+            return Some(known);
+        }
+    }
+    None
+}
+
 /// The number of the name, where the line that defined it stands before the place.
 pub(crate) fn number_before(place: usize, table: &Table, name: &[u8]) -> Option<u32>
     ensures { result ≡ number_before place (known_in table.now name.now) }
 {
-    // Many workers define no names, and a name costs something to hash.
-    if table.is_empty() {
-        return None;
-    }
-    let known = table.get(name)?;
+    let known = known_in(table, name)?;
     if known.place < place {
         Some(known.number)
     } else {

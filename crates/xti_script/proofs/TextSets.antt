@@ -3,12 +3,11 @@ use Rattle.std.proofs.Common.{◌≡◌, ℕ, Bool, true, false, ◌||◌, List,
 use Rattle.std.specs.Prelude.{Vec}
 use Rattle.std.specs.declared.alloc.Global.{Global}
 use Rattle.std.specs.HashSet.{Updates}
-use Rattle.std.specs.List.{list_any}
 use Rattle.std.specs.Map.{IsKeyTest, AreApart}
 use Rattle.std.specs.Set.{KeepsOthers}
 use Rattle.std.specs.Str.{bytes_eq}
 use Rattle.std.proofs.lemmas.Slice.Eq.{bytes_eq-Decides}
-use Rattle.xti_script.specs.TextSets.{TextSet, has, HasMore, HasSame}
+use Rattle.xti_script.specs.TextSets.{TextSet, has, HasMore}
 
 abbrev Key : Type 0
 Key = Vec ℕ Global
@@ -46,7 +45,3 @@ has_more old new k text e updates other = by (bytes_eq text other) refl
     by : (b : Bool) → bytes_eq text other ≡ b → has new other ≡ (has old other || b)
     by true t = ap (has new) (sym (same text other t) ∙ sym e) ∙ updates.1 ∙ or_true (has old other)
     by false f = updates.3 (λ (x : Key). bytes_eq other x.items) (is_test other) (apart k.items other (ap (λ (l : List ℕ). bytes_eq l other) e ∙ f)) ∙ or_false (has old other)
-
--- a set with the same keys has the same texts
-pub has_same : (old new : TextSet) → new.keys ≡ old.keys → HasSame old new
-has_same old new e other = ap (list_any (λ (k : Key). bytes_eq other k.items)) e

@@ -13,6 +13,9 @@ use xti_model::{Line, NamedCall};
 /// A set of names.
 pub(crate) type TextSet = HashSet<Vec<u8>>;
 
+/// So few names are compared one by one, which costs less than a hash.
+const FEW: usize = 4;
+
 fn add_text(alloc: Global, texts: &mut TextSet, text: &[u8]) -> Result<(), AllocError>
     ensures ok { OnOk result (HasMore text.now texts.old texts.new) }
     ensures err { OnErr result (HasSame texts.old texts.new) }
@@ -24,9 +27,8 @@ fn add_text(alloc: Global, texts: &mut TextSet, text: &[u8]) -> Result<(), Alloc
 fn has(texts: &TextSet, bytes: &[u8]) -> bool
     ensures { result ≡ has texts.now bytes.now }
 {
-    // Most workers define no names, and a name costs something to hash.
-    if texts.is_empty() {
-        return false;
+    if texts.len() <= FEW {
+        return texts.iter().any(|text| text.as_slice() == bytes);
     }
     texts.contains(bytes)
 }

@@ -1,4 +1,4 @@
-use Rattle.xti_script.proofs.TextSets.{has_more, has_same}
+use Rattle.xti_script.proofs.TextSets.{has_more}
 use Rattle.xti_script.proofs.names.add_text.Goals as goal
 
 pub returns-clause-ok : goal.returns-clause-ok
