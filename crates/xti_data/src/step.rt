@@ -16,6 +16,7 @@ use xti_model::{Applied, Call, Go};
 
 /// One step of t_snd, t_sndv or t_sndrel: what it answers, and the state of its endpoint afterwards. The cells of the call must be
 /// lent. Where it is blocked, and where memory runs out, all is as before.
+#[inline(always)]
 #[tactic(auto, unfolding(xti_model::specs::Step::step, xti_model::specs::Step::plan))]
 pub fn data_step(lent: &mut Lent, call: &Call, go: Go) -> Result<Applied, AllocError>
     requires call { IsData call.now }

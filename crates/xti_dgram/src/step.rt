@@ -16,6 +16,7 @@ use xti_model::{Applied, Call};
 
 /// One step of t_sndudata or t_sndvudata: what it answers, and the state of its endpoint afterwards. The cells of the call must be
 /// lent. Where it is blocked, and where memory runs out, all is as before.
+#[inline(always)]
 #[tactic(auto, unfolding(xti_model::specs::Step::step, xti_model::specs::Step::plan))]
 pub fn dgram_step(lent: &mut Lent, call: &Call) -> Result<Applied, AllocError>
     requires call { IsSend call.now }

@@ -13,6 +13,7 @@ use xti_model::{Applied, Call, Go, Providers};
 impl Endpoint {
     /// One step of a call that touches this cell alone, as t_connect does once it has asked: what it answers, and the state of
     /// its endpoint afterwards. Where it is blocked, and where memory runs out, all is as before.
+    #[inline(always)]
     #[tactic(auto, unfolding(xti_model::specs::Step::step, xti_model::specs::Step::plan))]
     pub fn local(&mut self, call: &Call, _go: Go, p: &Providers) -> Result<Applied, AllocError>
         requires { IsAt p.now self.old.place call.now _go }
@@ -22,13 +23,13 @@ impl Endpoint {
         ensures err { OnErr result (self.new ≡ self.old) }
         ensures sure { may_run_out p.now (alone self.old) call.now _go ≡ false → IsOk result }
     {
-        match call {
+        let shown = match call {
             Call::TListen {
                 fd,
                 amax,
                 omax,
                 umax,
-            } => self.listen(p, *fd, *amax, *omax, *umax),
+            } => return self.listen(p, *fd, *amax, *omax, *umax),
             Call::TRcvConnect {
                 fd,
                 amax,
@@ -41,36 +42,36 @@ impl Endpoint {
                 omax,
                 umax,
                 ..
-            } => self.rcvconnect(p, *fd, *amax, *omax, *umax),
-            Call::TRcv { fd, max } => self.rcv(p, *fd, 1, *max as usize),
-            Call::TRcvV { fd, sizes } => self.rcvv(p, *fd, sizes.as_slice()),
-            Call::TRcvDis { fd, umax } => self.rcvdis(p, *fd, *umax),
-            Call::TRcvRel { fd } => Ok(self.rcvrel(p, *fd)),
+            } => return self.rcvconnect(p, *fd, *amax, *omax, *umax),
+            Call::TRcv { fd, max } => return self.rcv(p, *fd, 1, *max as usize),
+            Call::TRcvV { fd, sizes } => return self.rcvv(p, *fd, sizes.as_slice()),
+            Call::TRcvDis { fd, umax } => return self.rcvdis(p, *fd, *umax),
+            Call::TRcvRel { fd } => self.rcvrel(p, *fd),
             Call::TRcvUData {
                 fd,
                 max,
                 amax,
                 omax,
-            } => self.rcvudata(p, *fd, 1, *max as usize, *amax, *omax),
+            } => return self.rcvudata(p, *fd, 1, *max as usize, *amax, *omax),
             Call::TRcvVUData {
                 fd,
                 sizes,
                 amax,
                 omax,
-            } => self.rcvvudata(p, *fd, sizes.as_slice(), *amax, *omax),
-            Call::TRcvUDErr { fd, amax, omax } => self.rcvuderr(p, *fd, *amax, *omax),
-            Call::TGetState { fd } => Ok(self.getstate(p, *fd)),
-            Call::TSync { fd } => Ok(self.getstate(p, *fd)),
-            Call::TGetInfo { fd } => Ok(self.getinfo(p, *fd)),
-            Call::TGetProtAddr { fd, amax, pmax } => self.getprotaddr(p, *fd, *amax, *pmax),
+            } => return self.rcvvudata(p, *fd, sizes.as_slice(), *amax, *omax),
+            Call::TRcvUDErr { fd, amax, omax } => return self.rcvuderr(p, *fd, *amax, *omax),
+            Call::TGetState { fd } | Call::TSync { fd } => self.getstate(p, *fd),
+            Call::TGetInfo { fd } => self.getinfo(p, *fd),
+            Call::TGetProtAddr { fd, amax, pmax } => return self.getprotaddr(p, *fd, *amax, *pmax),
             Call::TOptMgmt {
                 fd,
                 action,
                 opt,
                 omax,
-            } => self.optmgmt(p, *fd, *action, opt.as_slice(), *omax),
-            Call::SetMode { fd, nonblock } => Ok(self.set_mode(p, *fd, *nonblock)),
+            } => return self.optmgmt(p, *fd, *action, opt.as_slice(), *omax),
+            Call::SetMode { fd, nonblock } => self.set_mode(p, *fd, *nonblock),
             _ => unreachable!(),
-        }
+        };
+        Ok(shown)
     }
 }

@@ -22,6 +22,7 @@ use xti_model::{Applied, Call};
 /// One step of t_open, t_close, t_bind, t_unbind, t_accept or t_snddis, or the first step of t_connect, on the cells that the call
 /// touches: what it answers, and the state of its endpoint afterwards. None of them is ever blocked. Where memory runs out the cells are as before,
 /// and room for more may have been taken.
+#[inline(always)]
 #[tactic(auto, unfolding(xti_model::specs::Step::step, xti_model::specs::Step::plan))]
 pub fn switch_step(lent: &mut Lent, call: &Call) -> Result<Applied, AllocError>
     requires call { goes_through_switch call.now Go.Begin ≡ true }
