@@ -9,3 +9,4 @@ pub mod AllLent
 pub mod Standing
 pub mod OpeningWorld
 pub mod Shown
+pub mod Written

@@ -2,3 +2,4 @@ pub mod Looks
 pub mod Standing
 pub mod Touches
 pub mod Waits
+pub mod Written

@@ -7,14 +7,16 @@ ghost use Rattle.xti_model.specs.Profile.{valid};
 ghost use Rattle.xti_model.specs.Step.{step};
 ghost use Rattle.xti_model.specs.World.{opening};
 ghost use Rattle.xti_end.specs.Taken.{taken};
+ghost use Rattle.xti_core.specs.Written.{answer, StayUnmade};
 
-use crate::applying::apply;
+use crate::applying::{apply, apply_into};
 use crate::waiting::waits;
 use std::alloc::{AllocError, Global};
 use std::marker::Model;
+use xti_base::State;
 use xti_end::Endpoint;
 use xti_lent::Lent;
-use xti_model::{Applied, Call, Go, Providers};
+use xti_model::{Applied, Call, Go, Outcome, Providers};
 use xti_registry::Registry;
 
 /// All cells, for one thread: contracts see the providers, and the cells by rising number.
@@ -67,6 +69,26 @@ impl World {
         ensures sure { may_run_out self.old.providers self.old.cells call.now go ≡ false → IsOk result }
     {
         apply(&mut self.lent, call, go)
+    }
+
+    /// The same step, whose outcome and state are written where the caller keeps them, which costs less than to move them there.
+    /// Whether a step was made; where it is blocked, and where it runs out of memory, both are as before too.
+    #[inline(always)]
+    pub fn step_into(
+        &mut self,
+        call: &Call,
+        go: Go,
+        outcome: &mut Outcome,
+        after: &mut State,
+    ) -> Result<bool, AllocError>
+        ensures step { IfOk result (λ made. taken (answer made outcome.new after.new) self.new.cells ≡ step self.old.providers self.old.cells call.now go) }
+        ensures still { IfOk result (λ made. made ≡ false → self.new ≡ self.old) }
+        ensures places { StayUnmade result outcome.old outcome.new after.old after.new }
+        ensures providers { self.new.providers ≡ self.old.providers }
+        ensures err { OnErr result (self.new ≡ self.old) }
+        ensures sure { may_run_out self.old.providers self.old.cells call.now go ≡ false → IsOk result }
+    {
+        apply_into(&mut self.lent, call, go, outcome, after)
     }
 
     /// Whether the call is seen to be blocked, for less than its step costs: only t_rcvudata is. `false` says nothing.

@@ -10,9 +10,8 @@ ghost use Rattle.xti_replay.specs.Progress.{AreKept, MayAsk, IsReady, begun_call
 use crate::workers::Worker;
 use std::alloc::{AllocError, Global};
 use std::mem;
-use xti_base::State;
 use xti_core::World;
-use xti_model::{Act, Applied, Entry, Go, Line, Outcome};
+use xti_model::{Act, Entry, Go, Line};
 
 /// The call that the entry begins is blocked: its worker keeps it until it is asked again.
 fn hold(worker: &mut Worker, act: &mut Act)
@@ -24,16 +23,6 @@ fn hold(worker: &mut Worker, act: &mut Act)
         Act::Begin(call) => worker.set_next(Some(call)),
         Act::More => {}
     }
-}
-
-/// The entry tells of a step of the worker with this number, and of what it answered.
-#[inline(always)]
-fn fill(entry: &mut Entry, number: u32, outcome: Outcome, after: State)
-    ensures { entry.new ≡ record entry.old { worker = number; outcome = outcome; after = after } }
-{
-    entry.worker = number;
-    entry.outcome = outcome;
-    entry.after = after;
 }
 
 /// Makes the worker's next step, which is known, and the entry of it; none where the worker is finished or blocked.
@@ -58,16 +47,13 @@ fn make(
     if world.waits(call) {
         return Ok(false);
     }
-    match world.step(call, worker.so_far()) {
-        Err(error) => Err(error),
-        Ok(Applied::Blocked) => Ok(false),
-        Ok(Applied::Step { outcome, after }) => {
-            drop(mem::replace(&mut entry.act, worker.take_act()));
-            fill(entry, number, outcome, after);
-            worker.advance(alloc, lines, &entry.act, &entry.outcome)?;
-            Ok(true)
-        }
+    if !world.step_into(call, worker.so_far(), &mut entry.outcome, &mut entry.after)? {
+        return Ok(false);
     }
+    drop(mem::replace(&mut entry.act, worker.take_act()));
+    entry.worker = number;
+    worker.advance(alloc, lines, &entry.act, &entry.outcome)?;
+    Ok(true)
 }
 
 /// Finds the call of the worker's next line, where it isn't known.
@@ -118,18 +104,13 @@ fn begin(
         hold(worker, &mut entry.act);
         return Ok(false);
     }
-    match world.step(call, Go::Begin) {
-        Err(error) => Err(error),
-        Ok(Applied::Blocked) => {
-            hold(worker, &mut entry.act);
-            Ok(false)
-        }
-        Ok(Applied::Step { outcome, after }) => {
-            fill(entry, number, outcome, after);
-            worker.advance(alloc, lines, &entry.act, &entry.outcome)?;
-            Ok(true)
-        }
+    if !world.step_into(call, Go::Begin, &mut entry.outcome, &mut entry.after)? {
+        hold(worker, &mut entry.act);
+        return Ok(false);
     }
+    entry.worker = number;
+    worker.advance(alloc, lines, &entry.act, &entry.outcome)?;
+    Ok(true)
 }
 
 /// Makes the next step of the worker with this number, and the entry of it; none where the worker is finished or blocked.

@@ -1,7 +1,6 @@
-use Rattle.std.proofs.Common.{◌≡◌, ◌∙◌, Option, None, Some, ap, sym, subst}
+use Rattle.std.proofs.Common.{◌≡◌, ◌∙◌, Option, None, Some, refl, ap, sym, subst}
 use Rattle.std.specs.Prelude.{option_and_then}
 use Rattle.xti_model.specs.declared.entry.Act.{Act}
-use Rattle.xti_model.specs.declared.entry.Entry.{Entry}
 use Rattle.xti_model.specs.declared.entry.Go.TheVariants as go
 use Rattle.xti_model.specs.History.{step_going}
 use Rattle.xti_model.specs.Robin.{turn}
@@ -21,15 +20,15 @@ returns-in_default-clause-makes c = λ past ready.
 
 pub advance-requires : goal.advance-requires
 advance-requires c =
-    subst (λ (a : Act). MayTake c.args.lines.now c.args.worker.now a) (sym (ap (λ (e : Entry). e.act) c.fill.ensures ∙ begun-act c.args.entry.now.act))
+    subst (λ (a : Act). MayTake c.args.lines.now c.args.worker.now a) (sym (begun-act c.args.entry.now.act))
     (can-take c.args.lines.now c.requires.ready.0 c.args.number (record c.args.worker.now { next = begun_call c.args.entry.now.act }) c.args.worker.now c.requires.ready.1 (set-idle c.args.worker.now (begun_call c.args.entry.now.act) c.requires.idle))
 
-pub returns-in_ok-advance-in-Ok-Step-clause-makes : goal.returns-in_ok-advance-in-Ok-Step-clause-makes
-returns-in_ok-advance-in-Ok-Step-clause-makes c = λ past ready.
+pub returns-clause-makes : goal.returns-clause-makes
+returns-clause-makes c = λ past ready.
     let begun : Worker = record c.args.worker.now { next = begun_call c.args.entry.now.act } in
     let begins : begun_call c.args.entry.now.act ≡ Some c.in-Begin.call = ap begun_call c.in-Begin.is in
     let going : step_going c.args.world.now.providers c.args.world.now.cells (record { call = c.in-Begin.call; so_far = go.Begin }) ≡ option_and_then (step_going c.args.world.now.providers c.args.world.now.cells) (going_of begun) =
     ap (λ (o : Option Call). option_and_then (step_going c.args.world.now.providers c.args.world.now.cells) (going_of (record c.args.worker.now { next = o }))) (sym begins) in
-    fills c.args.world.now.providers c.args.lines.now c.args.number past c.args.world.now c.step.new.self begun c.args.worker.now c.advance.new.self c.fill.new.entry c.args.entry.now.act c.in-Ok-Step.outcome c.in-Ok-Step.after ready c.fill.ensures
-    ((rw c.in-Ok-Step.field-0-is at c.in-Ok-Step.ensures.step) ∙ going) (begun-act c.args.entry.now.act) (set-idle c.args.worker.now (begun_call c.args.entry.now.act) c.requires.idle) c.advance.ensures.next
-    (record { places = c.advance.ensures.places; count = c.in_ok-advance-in-Ok-Step.ensures.count; part = c.in_ok-advance-in-Ok-Step.ensures.part; names = c.in_ok-advance-in-Ok-Step.ensures.names })
+    fills c.args.world.now.providers c.args.lines.now c.args.number past c.args.world.now c.step_into.new.self begun c.args.worker.now c.advance.new.self _ c.args.entry.now.act c.step_into.new.outcome c.step_into.new.after ready refl
+    ((rw c.if-not-branch.false at c.in_ok-step_into.ensures.step) ∙ going) (begun-act c.args.entry.now.act) (set-idle c.args.worker.now (begun_call c.args.entry.now.act) c.requires.idle) c.advance.ensures.next
+    (record { places = c.advance.ensures.places; count = c.in_ok-advance.ensures.count; part = c.in_ok-advance.ensures.part; names = c.in_ok-advance.ensures.names })
