@@ -45,5 +45,5 @@ known_more old new k v name e absent here others other = by (bytes_eq name other
         let apart_too : bytes_eq k.items other ≡ false = ap (λ (l : List ℕ). bytes_eq l other) e ∙ f in
         others (λ (x : Key). bytes_eq other x.items) (is_test other) (apart k.items other apart_too) ∙ or_none (known_in old other)
 
-pub known-empty : (table : Table) → table.entries ≡ [] → (name : List ℕ) → known_in table name ≡ None
-known-empty table e name = ap (lookup (λ (k : Key). bytes_eq name k.items)) e
+pub known_empty : (table : Table) → table.entries ≡ [] → (name : List ℕ) → known_in table name ≡ None
+known_empty table e name = ap (lookup (λ (k : Key). bytes_eq name k.items)) e

@@ -22,12 +22,16 @@ is_address_or_options (named.TGetProtAddr fd amax pmax) = true
 is_address_or_options (named.TOptMgmt fd action opt omax) = true
 is_address_or_options other = false
 
--- asks for a connection, takes one or ends one
-abbrev pub is_connection_request : NamedCall → Bool
-is_connection_request (named.TConnect fd addr opt udata amax omax umax) = true
-is_connection_request (named.TAccept fd resfd seq opt udata) = true
-is_connection_request (named.TSndDis fd seq udata) = true
-is_connection_request other = false
+-- asks for a connection
+abbrev pub is_connect : NamedCall → Bool
+is_connect (named.TConnect fd addr opt udata amax omax umax) = true
+is_connect other = false
+
+-- accepts a connection, refuses or breaks one
+abbrev pub is_connection_answer : NamedCall → Bool
+is_connection_answer (named.TAccept fd resfd seq opt udata) = true
+is_connection_answer (named.TSndDis fd seq udata) = true
+is_connection_answer other = false
 
 -- takes what the other side asked or answered about a connection
 abbrev pub is_connection_receipt : NamedCall → Bool

@@ -34,8 +34,9 @@ pub struct Names {
 /// So few names are compared one by one, which costs less than a hash.
 const FEW: usize = 4;
 
-/// What the name stands for.
-fn known_in<'a>(table: &'a Table, name: &[u8]) -> Option<&'a Known>
+// What the name stands for. Apart, since most workers define no names, which is soon told.
+#[inline(never)]
+fn known_among<'a>(table: &'a Table, name: &[u8]) -> Option<&'a Known>
     ensures { option_copied result ≡ known_in table.now name.now }
 {
     if table.len() > FEW {
@@ -49,7 +50,20 @@ fn known_in<'a>(table: &'a Table, name: &[u8]) -> Option<&'a Known>
     None
 }
 
+/// What the name stands for.
+#[inline(always)]
+#[tactic(auto, using(crate::proofs::Tables::known_empty))]
+fn known_in<'a>(table: &'a Table, name: &[u8]) -> Option<&'a Known>
+    ensures { option_copied result ≡ known_in table.now name.now }
+{
+    if table.len() == 0 {
+        return None;
+    }
+    known_among(table, name)
+}
+
 /// The number of the name, where the line that defined it stands before the place.
+#[inline(always)]
 pub(crate) fn number_before(place: usize, table: &Table, name: &[u8]) -> Option<u32>
     ensures { result ≡ number_before place (known_in table.now name.now) }
 {

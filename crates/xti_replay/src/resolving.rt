@@ -3,7 +3,7 @@
 ghost use Rattle.std.specs.Prelude.{◌≡◌, IsTrue, OnOk, Option};
 ghost use Rattle.xti_model.specs.declared.entry.Act.TheVariants.{Begin, More};
 ghost use Rattle.xti_model.specs.Resolve.{seq_or_none, with_numbers};
-ghost use Rattle.xti_replay.specs.Families.{names_endpoint, is_address_or_options, is_connection_request, is_connection_receipt, moves_data, sends_datagram, receives_datagram};
+ghost use Rattle.xti_replay.specs.Families.{names_endpoint, is_address_or_options, is_connect, is_connection_answer, is_connection_receipt, moves_data, sends_datagram, receives_datagram};
 ghost use Rattle.xti_replay.specs.Known.{first_number, meanings_in};
 
 use crate::names::{Names, Table, number_before};
@@ -153,10 +153,10 @@ impl<'a> Scope<'a> {
         }
     }
 
-    /// The call that asks for a connection, takes one or ends one.
+    /// The call that asks for a connection.
     #[inline(never)]
-    fn connection_request(&self, call: &NamedCall, act: &mut Act) -> Result<(), AllocError>
-        requires kind { IsTrue (is_connection_request call.now) }
+    fn connect(&self, call: &NamedCall, act: &mut Act) -> Result<(), AllocError>
+        requires kind { IsTrue (is_connect call.now) }
         requires none { act.old ≡ More }
         ensures { OnOk result (act.new ≡ Begin (with_numbers (meanings_in self.now) call.now)) }
     {
@@ -184,6 +184,18 @@ impl<'a> Scope<'a> {
                 );
                 Ok(())
             }
+            _ => unreachable!(),
+        }
+    }
+
+    /// The call that accepts a connection, refuses or breaks one.
+    #[inline(never)]
+    fn connection_answer(&self, call: &NamedCall, act: &mut Act) -> Result<(), AllocError>
+        requires kind { IsTrue (is_connection_answer call.now) }
+        requires none { act.old ≡ More }
+        ensures { OnOk result (act.new ≡ Begin (with_numbers (meanings_in self.now) call.now)) }
+    {
+        match call {
             NamedCall::TAccept {
                 fd,
                 resfd,
@@ -452,8 +464,10 @@ impl<'a> Scope<'a> {
             }
             NamedCall::TBind { .. } | NamedCall::TGetProtAddr { .. } | NamedCall::TOptMgmt { .. } =>
                 self.address_or_options(call, act),
-            NamedCall::TConnect { .. } | NamedCall::TAccept { .. } | NamedCall::TSndDis { .. } =>
-                self.connection_request(call, act),
+            NamedCall::TConnect { .. } => self.connect(call, act),
+            NamedCall::TAccept { .. } | NamedCall::TSndDis { .. } => self.connection_answer(
+                call, act,
+            ),
             NamedCall::TRcvConnect { .. } | NamedCall::TListen { .. } | NamedCall::TRcvDis { .. } =>
                 {
                     self.connection_receipt(call, act);

@@ -154,6 +154,7 @@ impl<'a> Run<'a> {
     pub fn next(&mut self) -> Result<Option<Entry>, AllocError>
         requires { (past : List Entry) × StandsAfter past self.old }
         ensures goes_on { IfOk result (λ entry. TakesNextTurn self.old self.new entry) }
+        ensures handed_out { IfOk result (λ _. made_of self.new ≡ None) }
         ensures providers { self.new.world.providers ≡ self.old.world.providers }
         ensures lines { self.new.lines.now ≡ self.old.lines.now }
     {

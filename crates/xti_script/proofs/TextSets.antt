@@ -1,10 +1,11 @@
 -- A set of texts, and one more text.
-use Rattle.std.proofs.Common.{◌≡◌, ℕ, Bool, true, false, ◌||◌, List, refl, sym, ap, ◌∙◌}
+use Rattle.std.proofs.Common.{◌≡◌, ℕ, Bool, true, false, ◌||◌, List, [], ◌∷◌, length, refl, arith, sym, ap, ◌∙◌}
 use Rattle.std.specs.Prelude.{Vec}
 use Rattle.std.specs.declared.alloc.Global.{Global}
 use Rattle.std.specs.HashSet.{Updates}
 use Rattle.std.specs.Map.{IsKeyTest, AreApart}
 use Rattle.std.specs.Set.{KeepsOthers}
+use Rattle.std.specs.List.{list_any}
 use Rattle.std.specs.Str.{bytes_eq}
 use Rattle.std.proofs.lemmas.Slice.Eq.{bytes_eq-Decides}
 use Rattle.xti_script.specs.TextSets.{TextSet, has, HasMore}
@@ -28,6 +29,14 @@ apart text other differ k t = by (bytes_eq other k.items) refl
     by : (b : Bool) → bytes_eq other k.items ≡ b → b ≡ false
     by false e = refl
     by true e = absurd (let yes : bytes_eq text other ≡ true = (bytes_eq-Decides text other).1 (same text k.items t ∙ sym (same other k.items e)) in let f : false ≡ true = sym differ ∙ yes in cc)
+
+-- a set without texts has none
+pub has_none : (texts : TextSet) (bytes : List ℕ) → length texts.keys ≡ 0 → has texts bytes ≡ false
+has_none texts bytes e = by texts.keys e
+  where
+    by : (keys : List Key) → length keys ≡ 0 → list_any (λ (k : Key). bytes_eq bytes k.items) keys ≡ false
+    by [] e = refl
+    by (k ∷ keys) e = absurd (omega arith)
 
 or_false : (a : Bool) → a ≡ (a || false)
 or_false true = refl

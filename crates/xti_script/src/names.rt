@@ -24,7 +24,9 @@ fn add_text(alloc: Global, texts: &mut TextSet, text: &[u8]) -> Result<(), Alloc
     Ok(())
 }
 
-fn has(texts: &TextSet, bytes: &[u8]) -> bool
+// Apart, since most workers define no names, which is soon told.
+#[inline(never)]
+fn has_among(texts: &TextSet, bytes: &[u8]) -> bool
     ensures { result ≡ has texts.now bytes.now }
 {
     if texts.len() <= FEW {
@@ -33,6 +35,18 @@ fn has(texts: &TextSet, bytes: &[u8]) -> bool
     texts.contains(bytes)
 }
 
+#[inline(always)]
+#[tactic(auto, using(crate::proofs::TextSets::has_none))]
+fn has(texts: &TextSet, bytes: &[u8]) -> bool
+    ensures { result ≡ has texts.now bytes.now }
+{
+    if texts.len() == 0 {
+        return false;
+    }
+    has_among(texts, bytes)
+}
+
+#[inline(always)]
 fn has_at(sets: &[TextSet], place: usize, bytes: &[u8]) -> bool
     ensures { result ≡ has_at sets.now place bytes.now }
 {

@@ -46,8 +46,9 @@ fn parts_of_a_vector_send(rt: HostRuntime) -> Result<(), Fail> {
     gather.add(b"ab")?;
     gather.add(b"c")?;
     let parts = gather.parts().as_slice();
-    assert_eq!(rt; parts.len(), 2);
-    assert_eq!(rt; parts[0].as_slice(), b"ab".as_slice());
-    assert_eq!(rt; parts[1].as_slice(), b"c".as_slice());
+    assert_eq!(rt;
+        (parts.len(), parts[0].as_slice(), parts[1].as_slice()),
+        (2, b"ab".as_slice(), b"c".as_slice())
+    );
     Ok(())
 }

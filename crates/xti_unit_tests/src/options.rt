@@ -266,23 +266,27 @@ fn in_bytes(alloc: Global, action: u32, request: &[u8]) -> Result<(Octets, u32, 
     Ok((bytes, overall, after))
 }
 
+/// The same of the request as a list.
+fn as_list(alloc: Global, action: u32, request: &[u8]) -> Result<(Octets, u32, Settings), Fail> {
+    let mut after = settings();
+    let list = read_options(alloc, request)?;
+    let (answers, overall) = negotiate(alloc, &mut after, action, &list)?;
+    Ok((write_options(alloc, &answers)?, overall, after))
+}
+
+/// Whether this is what the case is to be answered.
+fn is_told(case: &Case, expected: &[u8], told: &(Octets, u32, Settings)) -> bool {
+    let (bytes, overall, after) = told;
+    bytes.as_slice() == expected && (*overall, (after.sndbuf, after.rcvbuf)) == (case.2, case.3)
+}
+
 /// Whether the case is answered as it is to be, as a list and in bytes.
 fn holds(alloc: Global, case: &Case) -> Result<bool, Fail> {
-    let (action, rows, overall, sizes) = case;
-    let request = asked(alloc, rows)?;
-    let expected = told(alloc, rows)?;
-
-    let mut after = settings();
-    let list = read_options(alloc, request.as_slice())?;
-    let (answers, result) = negotiate(alloc, &mut after, *action, &list)?;
-    let bytes = write_options(alloc, &answers)?;
-    let as_list = bytes.as_slice() == expected.as_slice()
-        && (result, (after.sndbuf, after.rcvbuf)) == (*overall, *sizes);
-
-    let (bytes, result, after) = in_bytes(alloc, *action, request.as_slice())?;
-    let in_bytes = bytes.as_slice() == expected.as_slice()
-        && (result, (after.sndbuf, after.rcvbuf)) == (*overall, *sizes);
-    Ok(as_list && in_bytes)
+    let request = asked(alloc, case.1)?;
+    let expected = told(alloc, case.1)?;
+    let listed = as_list(alloc, case.0, request.as_slice())?;
+    let written = in_bytes(alloc, case.0, request.as_slice())?;
+    Ok(is_told(case, expected.as_slice(), &listed) && is_told(case, expected.as_slice(), &written))
 }
 
 /// The first case that doesn't hold.

@@ -99,8 +99,7 @@ fn takes(rt: HostRuntime) -> Result<(), Fail> {
         }
         for (max, wanted, closes) in *takes {
             let Piece { bytes, ended } = queue.take(*max)?;
-            assert_eq!(rt; bytes.as_slice(), *wanted);
-            assert_eq!(rt; ended, *closes);
+            assert_eq!(rt; (bytes.as_slice(), ended), (*wanted, *closes));
         }
         assert_eq!(rt; queue.frames_len(), 0);
     }
