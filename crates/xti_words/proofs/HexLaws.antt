@@ -1,5 +1,5 @@
 -- Hexadecimal digits that are read many at once.
-use Rattle.std.proofs.Common.{◌≡◌, ◌≢◌, ℕ, zero, suc, ◌+◌, ◌*◌, ◌/◌, ◌%◌, ◌<◌, ◌≤◌, Bool, true, false, cond, eqb, ltb, List, [], ◌∷◌, ◌++◌, length, take, drop, get_or, set, Option, Some, None, refl, sym, ap, ◌∙◌, append_assoc, take_all, drop-cons, length-set, arith}
+use Rattle.std.proofs.Common.{◌≡◌, ◌≢◌, ℕ, zero, suc, ◌+◌, ◌-◌, ◌*◌, ◌/◌, ◌%◌, ◌<◌, ◌≤◌, Bool, true, false, cond, eqb, ltb, List, [], ◌∷◌, ◌++◌, length, take, drop, get_or, set, Option, Some, None, refl, sym, ap, ◌∙◌, append_assoc, take_all, take-append-drop, drop-cons, drop-drop, length-drop, length-take-le, length-set, arith}
 use Rattle.std.specs.Prelude.{option_map}
 use Rattle.std.specs.declared.cmp.Ordering.TheVariants.{Less, Equal, Greater}
 use Rattle.std.specs.Ordering.{ord_max, nat_cmp, is_lt}
@@ -219,3 +219,65 @@ odd_digits ds h = go (hex_bytes ds) refl
     go : (q : Option (List ℕ)) → hex_bytes ds ≡ q → hex_bytes ds ≡ None
     go None e = e
     go (Some bs) e = let l = hex_length ds bs e in absurd (h (omega (arith, l)))
+
+-- ---- the last digits, of which some were read before
+
+after_one : (o : Option ℕ) (q : Option (List ℕ)) (bs : List ℕ) → onto o q ≡ Some bs → q ≡ Some (drop 1 bs)
+after_one None q bs e = absurd cc
+after_one (Some x) None bs e = absurd cc
+after_one (Some x) (Some qs) bs e = let same : x ∷ qs ≡ bs = cc in ap (λ (z : List ℕ). Some (drop 1 z)) same
+
+-- the bytes of the digits after these
+after_some : (n : ℕ) (xs ys bs : List ℕ) → length xs ≡ 2 * n → hex_bytes (xs ++ ys) ≡ Some bs → hex_bytes ys ≡ Some (drop n bs)
+after_some zero [] ys bs l e = e
+after_some (suc n) [] ys bs l e = absurd (omega (arith, l))
+after_some n (c ∷ []) ys bs l e = absurd (omega (arith, l))
+after_some zero (c ∷ d ∷ cs) ys bs l e = absurd (omega (arith, l))
+after_some (suc n) (c ∷ d ∷ cs) ys bs l e =
+    after_some n cs ys (drop 1 bs) (omega (arith, l)) (after_one (hex_pair (hex_digit c) (hex_digit d)) (hex_bytes (cs ++ ys)) bs e) ∙ ap (λ (z : List ℕ). Some z) (drop-drop n 1 bs) ∙ ap (λ (k : ℕ). Some (drop k bs)) one
+  where
+    one : 1 + n ≡ suc n
+    one = omega arith
+
+after_none : (n : ℕ) (xs ys : List ℕ) → length xs ≡ 2 * n → hex_bytes ys ≡ None → hex_bytes (xs ++ ys) ≡ None
+after_none n [] ys l e = e
+after_none n (c ∷ []) ys l e = absurd (omega (arith, l))
+after_none zero (c ∷ d ∷ cs) ys l e = absurd (omega (arith, l))
+after_none (suc n) (c ∷ d ∷ cs) ys l e = ap (λ (t : Option (List ℕ)). onto (hex_pair (hex_digit c) (hex_digit d)) t) (after_none n cs ys (omega (arith, l)) e) ∙ onto_none (hex_pair (hex_digit c) (hex_digit d))
+
+-- the rest of the digits is the end of the last 32 of them
+module _ (digits rest last : List ℕ) (end : rest ≡ drop (length digits - length rest) digits) (few : length rest < 32) (even : length rest % 2 ≡ 0) (is_last : last ≡ drop (length digits - 32) digits) (whole : length last ≡ 32) where
+  long : 32 ≤ length digits
+  long = let a : length (drop (length digits - 32) digits) ≡ length digits - (length digits - 32) = length-drop (length digits - 32) digits in let b : length last ≡ length (drop (length digits - 32) digits) = ap length is_last in omega (arith, a, b, whole)
+
+  cut : take (2 * (16 - length rest / 2)) last ++ rest ≡ last
+  cut =
+      let n : length digits - 32 + 2 * (16 - length rest / 2) ≡ length digits - length rest = let h = long in omega (arith, h, few, even) in
+      let a : drop (2 * (16 - length rest / 2)) last ≡ rest = ap (drop (2 * (16 - length rest / 2))) is_last ∙ drop-drop (2 * (16 - length rest / 2)) (length digits - 32) digits ∙ ap (λ (k : ℕ). drop k digits) n ∙ sym end in
+      ap (λ (zs : List ℕ). take (2 * (16 - length rest / 2)) last ++ zs) (sym a) ∙ take-append-drop (2 * (16 - length rest / 2)) last
+
+  pub last_some : (bytes more out : List ℕ) → before bytes (hex_bytes rest) ≡ hex_bytes digits → hex_bytes last ≡ Some more → out ≡ bytes ++ take (16 - (16 - length rest / 2)) (drop (16 - length rest / 2) more) → Some out ≡ hex_bytes digits
+  last_some bytes more out so_far e o =
+      let l : length (take (2 * (16 - length rest / 2)) last) ≡ 2 * (16 - length rest / 2) = length-take-le (2 * (16 - length rest / 2)) last (omega (arith, whole)) in
+      let r : hex_bytes rest ≡ Some (drop (16 - length rest / 2) more) = after_some (16 - length rest / 2) (take (2 * (16 - length rest / 2)) last) rest more l (ap hex_bytes cut ∙ e) in
+      let n : length last ≡ 2 * length more = hex_length last more e in
+      let whole_end : take (16 - (16 - length rest / 2)) (drop (16 - length rest / 2) more) ≡ drop (16 - length rest / 2) more = take_all (16 - (16 - length rest / 2)) (drop (16 - length rest / 2) more) (let d = length-drop (16 - length rest / 2) more in omega (arith, d, n, whole)) in
+      ap (λ (z : List ℕ). Some z) o ∙ ap (λ (z : List ℕ). Some (bytes ++ z)) whole_end ∙ ap (λ (t : Option (List ℕ)). before bytes t) (sym r) ∙ so_far
+
+  pub last_none : length digits % 2 ≡ 0 → hex_bytes last ≡ None → None ≡ hex_bytes digits
+  last_none pairs e =
+      let h = long in
+      let l : length (take (length digits - 32) digits) ≡ 2 * ((length digits - 32) / 2) = length-take-le (length digits - 32) digits (omega arith) ∙ omega (arith, h, pairs) in
+      sym (after_none ((length digits - 32) / 2) (take (length digits - 32) digits) last l e) ∙ ap (λ (zs : List ℕ). hex_bytes (take (length digits - 32) digits ++ zs)) is_last ∙ ap hex_bytes (take-append-drop (length digits - 32) digits)
+
+-- all digits are the end of all
+pub end_first : (digits : List ℕ) → digits ≡ drop (length digits - length digits) digits
+end_first digits = let z : 0 ≡ length digits - length digits = omega arith in ap (λ (k : ℕ). drop k digits) z
+
+-- what is left of the rest after 32 digits is the end of all as well
+pub end_more : (digits rest others : List ℕ) → rest ≡ drop (length digits - length rest) digits → others ≡ drop 32 rest → 32 ≤ length rest → others ≡ drop (length digits - length others) digits
+end_more digits rest others end o h =
+    let few : length rest ≡ length digits - (length digits - length rest) = ap length end ∙ length-drop (length digits - length rest) digits in
+    let l : length others ≡ length rest - 32 = ap length o ∙ length-drop 32 rest in
+    let n : length digits - length rest + 32 ≡ length digits - length others = omega (arith, l, h, few) in
+    o ∙ ap (drop 32) end ∙ drop-drop 32 (length digits - length rest) digits ∙ ap (λ (k : ℕ). drop k digits) n

@@ -1,6 +1,6 @@
 //! Bytes that are written as hexadecimal digits.
 
-ghost use Rattle.std.specs.Prelude.{◌≡◌, ◌≤◌, ◌/◌, ◌%◌, length, take, IfOk, Some, None, if◌then◌else◌, nat_lt, option_map};
+ghost use Rattle.std.specs.Prelude.{◌≡◌, ◌≤◌, ◌-◌, ◌/◌, ◌%◌, length, take, drop, IfOk, Some, None, if◌then◌else◌, nat_lt, option_map};
 ghost use Rattle.xti_words.specs.Values.{hex_digit, hex_bytes};
 
 use std::alloc::{AllocError, Global};
@@ -25,6 +25,7 @@ fn worth(c: u8) -> u8
 }
 
 /// The bytes of many digits.
+#[inline(always)]
 fn bytes_at_once(digits: &[u8; DIGITS]) -> Option<[u8; BYTES]>
     ensures { result ≡ hex_bytes digits.now }
 {
@@ -45,7 +46,7 @@ fn bytes_at_once(digits: &[u8; DIGITS]) -> Option<[u8; BYTES]>
     Some(bytes)
 }
 
-/// The bytes of no more digits than are read at once, and zeros behind them.
+/// The bytes of no more digits than are read at once, and zeros after them.
 fn few_bytes(digits: &[u8]) -> Option<[u8; BYTES]>
     requires few { length digits.now ≤ DIGITS }
     requires pairs { length digits.now % 2 ≡ 0 }
@@ -63,9 +64,14 @@ fn few_bytes(digits: &[u8]) -> Option<[u8; BYTES]>
     Some(bytes)
 }
 
-/// The bytes of more digits than are read at once.
-fn many_bytes(alloc: Global, digits: &[u8]) -> Result<Option<Octets>, AllocError>
-    requires { length digits.now % 2 ≡ 0 }
+/// The bytes of more digits than are read at once. The last so many are read whole, also where some of them were read before.
+fn many_bytes(
+    alloc: Global,
+    digits: &[u8],
+    last: &[u8; DIGITS],
+) -> Result<Option<Octets>, AllocError>
+    requires pairs { length digits.now % 2 ≡ 0 }
+    requires last { last.now ≡ drop (length digits.now - DIGITS) digits.now }
     ensures { IfOk result (λ bytes. bytes ≡ hex_bytes digits.now) }
 {
     let mut bytes = Vec::with_capacity(alloc, digits.len() / 2)?;
@@ -77,8 +83,8 @@ fn many_bytes(alloc: Global, digits: &[u8]) -> Result<Option<Octets>, AllocError
         }
         rest = others;
     }
-    match few_bytes(rest) {
-        Some(last) => bytes.extend_from_slice(&last[..rest.len() / 2])?,
+    match bytes_at_once(last) {
+        Some(more) => bytes.extend_from_slice(&more[BYTES - rest.len() / 2..])?,
         None => return Ok(None),
     }
     Ok(Some(Octets::from_vec(bytes)))
@@ -96,11 +102,11 @@ pub fn hex_bytes(alloc: Global, digits: &[u8]) -> Result<Option<Octets>, AllocEr
     if digits.len() % 2 != 0 {
         return Ok(None);
     }
-    if digits.len() > DIGITS {
-        return many_bytes(alloc, digits);
-    }
-    match few_bytes(digits) {
-        Some(bytes) => Ok(Some(Octets::copy_of(alloc, &bytes[..digits.len() / 2])?)),
-        None => Ok(None),
+    match digits.split_last_chunk::<DIGITS>() {
+        Some((others, last)) if !others.is_empty() => many_bytes(alloc, digits, last),
+        _ => match few_bytes(digits) {
+            Some(bytes) => Ok(Some(Octets::copy_of(alloc, &bytes[..digits.len() / 2])?)),
+            None => Ok(None),
+        },
     }
 }
