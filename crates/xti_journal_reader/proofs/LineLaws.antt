@@ -37,7 +37,7 @@ use Rattle.xti_journal_reader.specs.Grammar.{verb_after, last_verb, IsAct, IsAns
 use Rattle.xti_journal_reader.specs.declared.fields.FieldFail.{FieldFail}
 use Rattle.xti_journal_reader.specs.declared.fields.FieldFail.TheVariants.{Wrong, OutOfMemory}
 use Rattle.xti_journal_reader.specs.Unread.{IsRead}
-use Rattle.xti_journal_reader.specs.Reading.{behind_read, Found, fields_of, verbs_of_length, verb_among, verb_in, ActRead, Begins, Goes, act_read, begun, call_in, act_in, verb_after_read, AnswerRead, outcome_read, error_in, answer_in, answered, with_answer, outcome_in, small, worker_in, StepRead, worker_does, by_worker, step_in, EntryRead, entry_read, last_state, state_at_end, with_state, with_outcome, behind_arrow, whole_entry, with_step, entry_in, stall_read, is_whole, stall_verb, with_stall, stall_in}
+use Rattle.xti_journal_reader.specs.Reading.{Found, fields_of, verbs_of_length, verb_among, verb_in, ActRead, Begins, Goes, act_read, begun, call_in, act_in, verb_after_read, AnswerRead, outcome_read, error_in, answer_in, answered, with_answer, outcome_in, small, worker_in, StepRead, worker_does, by_worker, step_in, EntryRead, entry_read, last_state, state_at_end, with_state, with_outcome, behind_arrow, whole_entry, with_step, entry_in, stall_read, is_whole, stall_verb, with_stall, stall_in}
 use Rattle.xti_journal_reader.proofs.NumberLaws.{Above, number_sound, number_complete, decimal_above}
 use Rattle.xti_journal_reader.proofs.Splits.{join-append, above_less}
 use Rattle.xti_journal_reader.proofs.ValueLaws.{is_word, some_is, none_is, known, state_above}
@@ -712,7 +712,7 @@ pub entry_ok : (n : ℕ) (verbs : ℕ → Option Verb) (word : List ℕ) (words 
 entry_ok n verbs word words left worker act verb o s t p v b = entry_by n verbs word words left worker act verb t p v ∙ ap (whole_entry (step_of worker act)) b
 
 pub entry_err : (n : ℕ) (verbs : ℕ → Option Verb) (word : List ℕ) (words left : List (List ℕ)) (worker : ℕ) (act : Act) (verb : Option Verb) (fail : FieldFail) → bytes_eq word (decimal n) ≡ true → step_in words ≡ Some (step_of worker act, left) → verb ≡ verb_after (verbs worker) act
-    → IsRead behind_read (behind_arrow verb left) (Err fail) → IsRead entry_read (entry_in n verbs word words) (Err fail)
+    → IsRead (λ (r : AnswerRead × State). r) (behind_arrow verb left) (Err fail) → IsRead entry_read (entry_in n verbs word words) (Err fail)
 entry_err n verbs word words left worker act verb Wrong t p v b = entry_by n verbs word words left worker act verb t p v ∙ ap (whole_entry (step_of worker act)) b
 entry_err n verbs word words left worker act verb OutOfMemory t p v b = tt
 

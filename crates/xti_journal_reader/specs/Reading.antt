@@ -19,7 +19,6 @@ use Rattle.xti_journal_reader.specs.declared.verbs.Verb.{Verb}
 use Rattle.xti_journal_reader.specs.declared.verbs.Verb.TheVariants.{Open, Close, Bind, Unbind, Connect, RcvConnect, Listen, Accept, Snd, SndV, Rcv, RcvV, SndDis, RcvDis, SndRel, RcvRel, SndUData, SndVUData, RcvUData, RcvVUData, RcvUDErr, Look, GetState, Sync, GetInfo, GetProtAddr, OptMgmt, SetMode}
 use Rattle.xti_journal_reader.specs.declared.verbs.Answer.{Answer}
 use Rattle.xti_journal_reader.specs.declared.verbs.Answer.TheVariants as answer
-use Rattle.xti_journal_reader.specs.declared.lines.Step.{Step}
 use Rattle.xti_journal_reader.specs.declared.body.Line.{Line}
 use Rattle.xti_journal_reader.specs.declared.body.Line.TheVariants as line
 use Rattle.xti_journal_reader.specs.Grammar.{last_verb}
@@ -157,8 +156,8 @@ abbrev pub worker_in : List ℕ → Option ℕ
 worker_in word = small (number_in word)
 
 -- what is read of an outcome and a state
-abbrev pub behind_read : Outcome × State → AnswerRead × State
-behind_read (outcome, state) = (outcome_read outcome, state)
+abbrev pub behind_read : Outcome → State → AnswerRead × State
+behind_read outcome state = (outcome_read outcome, state)
 
 -- which worker stands there, and what it does
 pub record StepRead : Type 0 where
@@ -177,9 +176,9 @@ unfoldable pub step_in : List (List ℕ) → Found StepRead
 step_in [] = None
 step_in (word ∷ words) = by_worker (worker_in word) words
 
--- what is read of a step
-abbrev pub step_read : Step → StepRead
-step_read step = record { worker = step.worker; act = act_read step.act }
+-- what is read of an act and its worker
+abbrev pub step_read : Act → ℕ → StepRead
+step_read act worker = record { worker = worker; act = act_read act }
 
 -- ---- entries
 
@@ -269,11 +268,11 @@ pub data LineRead : Type 0 where
   Stalled : StepRead → LineRead
   Ended : LineRead
 
--- what is read of a line
-abbrev pub line_read : Line → LineRead
-line_read (line.Entry e) = Entered (entry_read e)
-line_read (line.Stall s) = Stalled (stall_read s)
-line_read line.End = Ended
+-- what is read of a line, where this entry was written if it is one
+abbrev pub line_read : Entry → Line → LineRead
+line_read e line.Entry = Entered (entry_read e)
+line_read e (line.Stall s) = Stalled (stall_read s)
+line_read e line.End = Ended
 
 abbrev pub entered : Option EntryRead → Option LineRead
 entered None = None

@@ -1,17 +1,12 @@
 -- Fields that are read one after the other, and what readers give.
 use Rattle.std.specs.Prelude.{◌≡◌, ℕ, List, [], ◌∷◌, Option, Some, None, Result, Ok, Err}
-use Rattle.xti_model.specs.declared.call.Call.{Call}
-use Rattle.xti_model.specs.declared.entry.Outcome.{Outcome}
 use Rattle.xti_journal_reader.specs.Kinds.{Kind}
 use Rattle.xti_journal_reader.specs.FieldValue.{Value}
 use Rattle.xti_journal_reader.specs.declared.fields.Key.{Key}
 use Rattle.xti_journal_reader.specs.declared.fields.Fields.{Fields}
 use Rattle.xti_journal_reader.specs.declared.fields.FieldFail.{FieldFail}
 use Rattle.xti_journal_reader.specs.declared.fields.FieldFail.TheVariants.{Wrong, OutOfMemory}
-use Rattle.xti_journal_reader.specs.declared.verbs.Verb.{Verb}
-use Rattle.xti_journal_reader.specs.declared.verbs.Answer.{Answer}
 use Rattle.xti_journal_reader.specs.Fields.{kind_of}
-use Rattle.xti_journal_reader.specs.Calls.{verb_of, call_values, answer_to, answer_values}
 use Rattle.xti_journal_reader.specs.Reading.{Found, text_value, before, fields_of}
 
 -- the values that the words give the fields that are not read yet
@@ -38,18 +33,6 @@ abbrev pub Gives : {A B : Type 0} → (A → B) → Found B → List (List ℕ) 
 Gives is_read found left (Ok read) = found ≡ Some (is_read read, left)
 Gives is_read found left (Err Wrong) = found ≡ None
 Gives is_read found left (Err OutOfMemory) = Unit {0}
-
--- the call with this word that has the values, where these words are left; or there are no values
-abbrev pub ReadsCall : Verb → Found (List Value) → List (List ℕ) → Result Call FieldFail → Type 0
-ReadsCall verb values left (Ok call) = (verb_of call ≡ verb) × (values ≡ Some (call_values call, left))
-ReadsCall verb values left (Err Wrong) = values ≡ None
-ReadsCall verb values left (Err OutOfMemory) = Unit {0}
-
--- the same of an answer
-abbrev pub ReadsAnswer : Answer → Found (List Value) → List (List ℕ) → Result Outcome FieldFail → Type 0
-ReadsAnswer answer values left (Ok outcome) = (answer_to outcome ≡ answer) × (values ≡ Some (answer_values outcome, left))
-ReadsAnswer answer values left (Err Wrong) = values ≡ None
-ReadsAnswer answer values left (Err OutOfMemory) = Unit {0}
 
 -- what a whole line gives is this, or it gives nothing
 abbrev pub IsRead : {A B : Type 0} → (A → B) → Option B → Result A FieldFail → Type 0

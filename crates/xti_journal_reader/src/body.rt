@@ -2,7 +2,7 @@
 
 ghost use Rattle.std.specs.Prelude.{◌≡◌};
 ghost use Rattle.xti_words.specs.Texts.{words_of};
-ghost use Rattle.xti_journal_reader.specs.Reading.{ended, may_follow, line_read, line_in, profile_values, profile_in};
+ghost use Rattle.xti_journal_reader.specs.Reading.{ended, Ended, may_follow, line_read, line_in, profile_values, profile_in};
 ghost use Rattle.xti_journal_reader.specs.Unread.{IsRead};
 
 use crate::draft::Draft;
@@ -14,7 +14,8 @@ use xti_model::{Entry, Profile, StallLine};
 /// A line after the head.
 #[derive(Drop)]
 pub(crate) enum Line {
-    Entry(Entry),
+    /// An entry, which is written where the caller has it.
+    Entry,
     Stall(StallLine),
     /// The last line.
     End,
@@ -29,46 +30,52 @@ fn may_follow(before: Option<u32>, worker: u32) -> bool
     }
 }
 
-/// The line that the words are after those that were read.
+/// The line that the words are after those that were read; an entry is written.
 #[tactic(auto, unfolding(crate::specs::Reading::line_in))]
-fn read_words(draft: &Draft, fields: &mut Fields) -> Result<Line, FieldFail>
-    ensures { IsRead line_read (line_in draft.now.entries draft.now.stalls fields.old.words) result }
+fn read_words(draft: &Draft, fields: &mut Fields, entry: &mut Entry) -> Result<Line, FieldFail>
+    ensures { IsRead (line_read entry.new) (line_in draft.now.entries draft.now.stalls fields.old.words) result }
 {
     match fields.word().ok_or(FieldFail::Wrong)? {
-        b"end" => read_end(draft.count(), fields),
+        b"end" => {
+            read_end(draft.count(), fields)?;
+            Ok(Line::End)
+        }
         b"stall" => {
-            let stall = read_stall(draft, fields)?;
+            let stall = read_stall(draft, fields, &mut entry.act)?;
             if may_follow(draft.last_worker(), stall.worker) {
                 Ok(Line::Stall(stall))
             } else {
                 Err(FieldFail::Wrong)
             }
         }
-        word if draft.last_worker().is_none() => Ok(Line::Entry(read_entry(
-            draft.count() as u64 + 1,
-            draft,
-            word,
-            fields,
-        )?)),
+        word if draft.last_worker().is_none() => {
+            read_entry(draft.count() as u64 + 1, draft, word, fields, entry)?;
+            Ok(Line::Entry)
+        }
         _ => Err(FieldFail::Wrong),
     }
 }
 
-/// The last line, whose first word was taken.
-fn read_end(count: usize, fields: &mut Fields) -> Result<Line, FieldFail>
-    ensures { IsRead line_read (ended count fields.old.words) result }
+/// Reads the last line, whose first word was taken.
+fn read_end(count: usize, fields: &mut Fields) -> Result<(), FieldFail>
+    ensures { IsRead (λ _. Ended) (ended count fields.old.words) result }
 {
     match fields.word() {
-        Some(word) if is_number(word, count as u64) && fields.are_read() => Ok(Line::End),
+        Some(word) if is_number(word, count as u64) && fields.are_read() => Ok(()),
         _ => Err(FieldFail::Wrong),
     }
 }
 
-/// The line that the text is after those that were read.
-pub(crate) fn read_line(alloc: Global, draft: &Draft, text: &[u8]) -> Result<Line, FieldFail>
-    ensures { IsRead line_read (line_in draft.now.entries draft.now.stalls (words_of text.now)) result }
+/// The line that the text is after those that were read; an entry is written.
+pub(crate) fn read_line(
+    alloc: Global,
+    draft: &Draft,
+    text: &[u8],
+    entry: &mut Entry,
+) -> Result<Line, FieldFail>
+    ensures { IsRead (line_read entry.new) (line_in draft.now.entries draft.now.stalls (words_of text.now)) result }
 {
-    read_words(draft, &mut Fields::of(alloc, text))
+    read_words(draft, &mut Fields::of(alloc, text), entry)
 }
 
 /// The values of the provider with this name.

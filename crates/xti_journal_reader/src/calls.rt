@@ -1,100 +1,103 @@
-//! Reading calls from their fields.
+//! Reading calls from their fields. A call is written where the caller has it.
 
 ghost use Rattle.std.specs.Prelude.{◌≡◌, true};
 ghost use Rattle.xti_journal_reader.specs.Calls.{form};
 ghost use Rattle.xti_journal_reader.specs.Families.{is_plain, is_local, is_connecting, is_data, is_datagram};
-ghost use Rattle.xti_journal_reader.specs.Unread.{unread, ReadsCall};
+ghost use Rattle.xti_journal_reader.specs.Reading.{act_read, begun};
+ghost use Rattle.xti_journal_reader.specs.Unread.{unread, Gives};
 
 use crate::fields::{FieldFail, Fields};
 use crate::verbs::Verb;
+use crate::writing::write_over;
 use xti_base::{Fd, Seq};
-use xti_model::Call;
-
-/// A call, or why its fields aren't read.
-type ReadCall = Result<Call, FieldFail>;
+use xti_model::{Act, Call};
 
 /// A call that says no more than which endpoint.
 #[tactic(auto, unfolding(crate::specs::Fields::field, crate::specs::Calls::form_of))]
-fn read_plain(verb: Verb, fields: &mut Fields) -> ReadCall
+fn read_plain(verb: Verb, fields: &mut Fields, act: &mut Act) -> Result<(), FieldFail>
     requires family { is_plain verb ≡ true }
     requires keys { fields.old.keys.now ≡ form verb }
-    ensures { ReadsCall verb (unread fields.old) fields.new.words result }
+    ensures { Gives (λ _. act_read act.new) (begun verb (unread fields.old)) fields.new.words result }
 {
-    match verb {
-        Verb::Close => Ok(Call::TClose {
+    let call = match verb {
+        Verb::Close => Call::TClose {
             fd: Fd(fields.number()?),
-        }),
-        Verb::Unbind => Ok(Call::TUnbind {
+        },
+        Verb::Unbind => Call::TUnbind {
             fd: Fd(fields.number()?),
-        }),
-        Verb::SndRel => Ok(Call::TSndRel {
+        },
+        Verb::SndRel => Call::TSndRel {
             fd: Fd(fields.number()?),
-        }),
-        Verb::RcvRel => Ok(Call::TRcvRel {
+        },
+        Verb::RcvRel => Call::TRcvRel {
             fd: Fd(fields.number()?),
-        }),
-        Verb::Look => Ok(Call::TLookAt {
+        },
+        Verb::Look => Call::TLookAt {
             fd: Fd(fields.number()?),
-        }),
-        Verb::GetState => Ok(Call::TGetState {
+        },
+        Verb::GetState => Call::TGetState {
             fd: Fd(fields.number()?),
-        }),
-        Verb::Sync => Ok(Call::TSync {
+        },
+        Verb::Sync => Call::TSync {
             fd: Fd(fields.number()?),
-        }),
-        Verb::GetInfo => Ok(Call::TGetInfo {
+        },
+        Verb::GetInfo => Call::TGetInfo {
             fd: Fd(fields.number()?),
-        }),
+        },
         _ => unreachable!(),
-    }
+    };
+    write_over(act, Act::Begin(call));
+    Ok(())
 }
 
 /// A call that opens an endpoint, or sets or asks what belongs to it.
 #[tactic(auto, unfolding(crate::specs::Fields::field, crate::specs::Calls::form_of))]
-fn read_local(verb: Verb, fields: &mut Fields) -> ReadCall
+fn read_local(verb: Verb, fields: &mut Fields, act: &mut Act) -> Result<(), FieldFail>
     requires family { is_local verb ≡ true }
     requires keys { fields.old.keys.now ≡ form verb }
-    ensures { ReadsCall verb (unread fields.old) fields.new.words result }
+    ensures { Gives (λ _. act_read act.new) (begun verb (unread fields.old)) fields.new.words result }
 {
-    match verb {
-        Verb::Open => Ok(Call::TOpen {
+    let call = match verb {
+        Verb::Open => Call::TOpen {
             prov: fields.provider()?,
             nonblock: fields.mode()?,
-        }),
-        Verb::Bind => Ok(Call::TBind {
+        },
+        Verb::Bind => Call::TBind {
             fd: Fd(fields.number()?),
             addr: fields.bytes()?,
             qlen: fields.number()?,
             amax: fields.number()?,
-        }),
-        Verb::SetMode => Ok(Call::SetMode {
+        },
+        Verb::SetMode => Call::SetMode {
             fd: Fd(fields.number()?),
             nonblock: fields.mode()?,
-        }),
-        Verb::GetProtAddr => Ok(Call::TGetProtAddr {
+        },
+        Verb::GetProtAddr => Call::TGetProtAddr {
             fd: Fd(fields.number()?),
             amax: fields.number()?,
             pmax: fields.number()?,
-        }),
-        Verb::OptMgmt => Ok(Call::TOptMgmt {
+        },
+        Verb::OptMgmt => Call::TOptMgmt {
             fd: Fd(fields.number()?),
             action: fields.number()?,
             opt: fields.bytes()?,
             omax: fields.number()?,
-        }),
+        },
         _ => unreachable!(),
-    }
+    };
+    write_over(act, Act::Begin(call));
+    Ok(())
 }
 
 /// A call that makes a connection or breaks it.
 #[tactic(auto, unfolding(crate::specs::Fields::field, crate::specs::Calls::form_of))]
-fn read_connecting(verb: Verb, fields: &mut Fields) -> ReadCall
+fn read_connecting(verb: Verb, fields: &mut Fields, act: &mut Act) -> Result<(), FieldFail>
     requires family { is_connecting verb ≡ true }
     requires keys { fields.old.keys.now ≡ form verb }
-    ensures { ReadsCall verb (unread fields.old) fields.new.words result }
+    ensures { Gives (λ _. act_read act.new) (begun verb (unread fields.old)) fields.new.words result }
 {
-    match verb {
-        Verb::Connect => Ok(Call::TConnect {
+    let call = match verb {
+        Verb::Connect => Call::TConnect {
             fd: Fd(fields.number()?),
             addr: fields.bytes()?,
             opt: fields.bytes()?,
@@ -102,114 +105,120 @@ fn read_connecting(verb: Verb, fields: &mut Fields) -> ReadCall
             amax: fields.number()?,
             omax: fields.number()?,
             umax: fields.number()?,
-        }),
-        Verb::RcvConnect => Ok(Call::TRcvConnect {
+        },
+        Verb::RcvConnect => Call::TRcvConnect {
             fd: Fd(fields.number()?),
             amax: fields.number()?,
             omax: fields.number()?,
             umax: fields.number()?,
-        }),
-        Verb::Listen => Ok(Call::TListen {
+        },
+        Verb::Listen => Call::TListen {
             fd: Fd(fields.number()?),
             amax: fields.number()?,
             omax: fields.number()?,
             umax: fields.number()?,
-        }),
-        Verb::Accept => Ok(Call::TAccept {
+        },
+        Verb::Accept => Call::TAccept {
             fd: Fd(fields.number()?),
             resfd: Fd(fields.number()?),
             seq: Seq(fields.number()?),
             opt: fields.bytes()?,
             udata: fields.bytes()?,
-        }),
-        Verb::SndDis => Ok(Call::TSndDis {
+        },
+        Verb::SndDis => Call::TSndDis {
             fd: Fd(fields.number()?),
             seq: Seq(fields.number()?),
             udata: fields.bytes()?,
-        }),
-        Verb::RcvDis => Ok(Call::TRcvDis {
+        },
+        Verb::RcvDis => Call::TRcvDis {
             fd: Fd(fields.number()?),
             umax: fields.number()?,
-        }),
+        },
         _ => unreachable!(),
-    }
+    };
+    write_over(act, Act::Begin(call));
+    Ok(())
 }
 
 /// A call that sends or receives on a connection.
 #[tactic(auto, unfolding(crate::specs::Fields::field, crate::specs::Calls::form_of))]
-fn read_data(verb: Verb, fields: &mut Fields) -> ReadCall
+fn read_data(verb: Verb, fields: &mut Fields, act: &mut Act) -> Result<(), FieldFail>
     requires family { is_data verb ≡ true }
     requires keys { fields.old.keys.now ≡ form verb }
-    ensures { ReadsCall verb (unread fields.old) fields.new.words result }
+    ensures { Gives (λ _. act_read act.new) (begun verb (unread fields.old)) fields.new.words result }
 {
-    match verb {
-        Verb::Snd => Ok(Call::TSnd {
+    let call = match verb {
+        Verb::Snd => Call::TSnd {
             fd: Fd(fields.number()?),
             bytes: fields.bytes()?,
             flags: fields.number()?,
-        }),
-        Verb::SndV => Ok(Call::TSndV {
+        },
+        Verb::SndV => Call::TSndV {
             fd: Fd(fields.number()?),
             parts: fields.parts()?,
             flags: fields.number()?,
-        }),
-        Verb::Rcv => Ok(Call::TRcv {
+        },
+        Verb::Rcv => Call::TRcv {
             fd: Fd(fields.number()?),
             max: fields.number()?,
-        }),
-        Verb::RcvV => Ok(Call::TRcvV {
+        },
+        Verb::RcvV => Call::TRcvV {
             fd: Fd(fields.number()?),
             sizes: fields.sizes()?,
-        }),
+        },
         _ => unreachable!(),
-    }
+    };
+    write_over(act, Act::Begin(call));
+    Ok(())
 }
 
 /// A call that sends or receives a datagram, or the error of one.
 #[tactic(auto, unfolding(crate::specs::Fields::field, crate::specs::Calls::form_of))]
-fn read_datagram(verb: Verb, fields: &mut Fields) -> ReadCall
+fn read_datagram(verb: Verb, fields: &mut Fields, act: &mut Act) -> Result<(), FieldFail>
     requires family { is_datagram verb ≡ true }
     requires keys { fields.old.keys.now ≡ form verb }
-    ensures { ReadsCall verb (unread fields.old) fields.new.words result }
+    ensures { Gives (λ _. act_read act.new) (begun verb (unread fields.old)) fields.new.words result }
 {
-    match verb {
-        Verb::SndUData => Ok(Call::TSndUData {
+    let call = match verb {
+        Verb::SndUData => Call::TSndUData {
             fd: Fd(fields.number()?),
             addr: fields.bytes()?,
             opt: fields.bytes()?,
             bytes: fields.bytes()?,
-        }),
-        Verb::SndVUData => Ok(Call::TSndVUData {
+        },
+        Verb::SndVUData => Call::TSndVUData {
             fd: Fd(fields.number()?),
             addr: fields.bytes()?,
             opt: fields.bytes()?,
             parts: fields.parts()?,
-        }),
-        Verb::RcvUData => Ok(Call::TRcvUData {
+        },
+        Verb::RcvUData => Call::TRcvUData {
             fd: Fd(fields.number()?),
             max: fields.number()?,
             amax: fields.number()?,
             omax: fields.number()?,
-        }),
-        Verb::RcvVUData => Ok(Call::TRcvVUData {
+        },
+        Verb::RcvVUData => Call::TRcvVUData {
             fd: Fd(fields.number()?),
             sizes: fields.sizes()?,
             amax: fields.number()?,
             omax: fields.number()?,
-        }),
-        Verb::RcvUDErr => Ok(Call::TRcvUDErr {
+        },
+        Verb::RcvUDErr => Call::TRcvUDErr {
             fd: Fd(fields.number()?),
             amax: fields.number()?,
             omax: fields.number()?,
-        }),
+        },
         _ => unreachable!(),
-    }
+    };
+    write_over(act, Act::Begin(call));
+    Ok(())
 }
 
-/// The call whose fields these are.
-pub(crate) fn read_call(verb: Verb, fields: &mut Fields) -> ReadCall
+/// Writes the call whose fields these are.
+pub(crate) fn read_call(verb: Verb, fields: &mut Fields, act: &mut Act) -> Result<(), FieldFail>
     requires { fields.old.keys.now ≡ form verb }
-    ensures { ReadsCall verb (unread fields.old) fields.new.words result }
+    ensures { Gives (λ _. act_read act.new) (begun verb (unread fields.old)) fields.new.words result }
 {
     match verb {
         Verb::Close
@@ -219,18 +228,18 @@ pub(crate) fn read_call(verb: Verb, fields: &mut Fields) -> ReadCall
         | Verb::Look
         | Verb::GetState
         | Verb::Sync
-        | Verb::GetInfo => read_plain(verb, fields),
-        Verb::Open | Verb::Bind | Verb::SetMode | Verb::GetProtAddr | Verb::OptMgmt => read_local(
-            verb, fields,
-        ),
+        | Verb::GetInfo => read_plain(verb, fields, act),
+        Verb::Open | Verb::Bind | Verb::SetMode | Verb::GetProtAddr | Verb::OptMgmt => {
+            read_local(verb, fields, act)
+        },
         Verb::Connect
         | Verb::RcvConnect
         | Verb::Listen
         | Verb::Accept
         | Verb::SndDis
-        | Verb::RcvDis => read_connecting(verb, fields),
-        Verb::Snd | Verb::SndV | Verb::Rcv | Verb::RcvV => read_data(verb, fields),
+        | Verb::RcvDis => read_connecting(verb, fields, act),
+        Verb::Snd | Verb::SndV | Verb::Rcv | Verb::RcvV => read_data(verb, fields, act),
         Verb::SndUData | Verb::SndVUData | Verb::RcvUData | Verb::RcvVUData | Verb::RcvUDErr =>
-            read_datagram(verb, fields),
+            read_datagram(verb, fields, act),
     }
 }

@@ -16,8 +16,10 @@ use crate::draft::Draft;
 use crate::fields::FieldFail;
 use memchr::memchr;
 use std::alloc::{AllocError, Global};
+use std::mem;
 use thiserror::Error;
-use xti_model::{Journal, Profile, Providers};
+use xti_base::State;
+use xti_model::{Act, Entry, Journal, Outcome, Profile, Providers, Reply};
 
 /// Why a text was not read.
 #[derive(Clone, Copy, Debug, PartialEq, Eq, Error)]
@@ -49,13 +51,33 @@ fn take_line(text: &[u8]) -> Option<(&[u8], &[u8])>
     }
 }
 
-/// Reads a line after the head, and adds it; false where it is the last line.
-fn read_next(alloc: Global, draft: &mut Draft, line: &[u8]) -> Result<bool, FieldFail>
+/// An entry to be written over.
+fn blank_entry() -> Entry {
+    Entry {
+        worker: 0,
+        act: Act::More,
+        outcome: Outcome::Done(Reply::Plain),
+        after: State::T_UNINIT,
+    }
+}
+
+/// The place in which each entry is written. A local of its own would be let go part by part on each way out.
+fn entry_place(alloc: Global) -> Result<Box<Entry>, AllocError> {
+    Ok(Box::new(alloc, blank_entry())?)
+}
+
+/// Reads a line after the head, and adds it; false where it is the last line. An entry is written in `next` first.
+fn read_next(
+    alloc: Global,
+    draft: &mut Draft,
+    next: &mut Entry,
+    line: &[u8],
+) -> Result<bool, FieldFail>
     ensures { ReadsNext draft.old (words_of line.now) draft.new result }
 {
-    match read_line(alloc, draft, line) {
-        Ok(Line::Entry(entry)) => {
-            draft.add_entry(entry)?;
+    match read_line(alloc, draft, line, next) {
+        Ok(Line::Entry) => {
+            draft.add_entry(mem::replace(next, blank_entry()))?;
             Ok(true)
         }
         Ok(Line::Stall(stall)) => {
@@ -73,13 +95,14 @@ fn read_body(alloc: Global, providers: Providers, text: &[u8]) -> Result<Journal
     ensures { ReadsText (head_text providers ++ text.now) result }
 {
     let mut draft = Draft::new(alloc, providers);
+    let mut next = entry_place(alloc)?;
     let mut rest = text;
     let mut number = 5u64;
     while !rest.is_empty() {
         let Some((line, behind)) = take_line(rest) else {
             return Err(JournalFail::Bad { line: number });
         };
-        match read_next(alloc, &mut draft, line) {
+        match read_next(alloc, &mut draft, &mut next, line) {
             Ok(true) => {}
             Ok(false) if behind.is_empty() => return Ok(draft.finish()),
             Ok(false) => return Err(JournalFail::Bad { line: number + 1 }),

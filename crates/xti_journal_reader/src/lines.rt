@@ -12,7 +12,9 @@ use crate::calls::read_call;
 use crate::draft::Draft;
 use crate::fields::{FieldFail, Fields, Key};
 use crate::verbs::{Answer, Verb, answer_form, answer_of, form, verb_after, verb_in};
+use crate::writing::write_over;
 use itoa::Buffer;
+use std::mem;
 use xti_base::State;
 use xti_base::limits::LAST_WORKER;
 use xti_model::{Act, Entry, Outcome, StallLine};
@@ -28,18 +30,19 @@ fn worker_in(word: &[u8]) -> Option<u32>
     }
 }
 
-/// The call that the next words are, or `more`.
+/// Writes the call that the next words are, or `more`.
 #[tactic(auto, unfolding(crate::specs::Reading::act_in))]
-fn read_act(fields: &mut Fields) -> Result<Act, FieldFail>
-    ensures { Gives act_read (act_in fields.old.words) fields.new.words result }
+fn read_act(fields: &mut Fields, act: &mut Act) -> Result<(), FieldFail>
+    ensures { Gives (λ _. act_read act.new) (act_in fields.old.words) fields.new.words result }
 {
     let word = fields.word().ok_or(FieldFail::Wrong)?;
     if word == b"more".as_slice() {
-        return Ok(Act::More);
+        write_over(act, Act::More);
+        return Ok(());
     }
     let verb = verb_in(word).ok_or(FieldFail::Wrong)?;
     fields.expect(form(verb));
-    Ok(Act::Begin(read_call(verb, fields)?))
+    read_call(verb, fields, act)
 }
 
 /// Which error stands next; its word is left where the error stands alone.
@@ -68,35 +71,26 @@ fn read_answer_word(verb: Verb, fields: &mut Fields) -> Result<Answer, FieldFail
     }
 }
 
-/// What the call answered.
+/// Writes what the call answered.
 #[tactic(auto, unfolding(crate::specs::Reading::outcome_in))]
-fn read_outcome(verb: Verb, fields: &mut Fields) -> Result<Outcome, FieldFail>
-    ensures { Gives outcome_read (outcome_in verb fields.old.words) fields.new.words result }
+fn read_outcome(verb: Verb, fields: &mut Fields, outcome: &mut Outcome) -> Result<(), FieldFail>
+    ensures { Gives (λ _. outcome_read outcome.new) (outcome_in verb fields.old.words) fields.new.words result }
 {
     let answer = read_answer_word(verb, fields)?;
     fields.expect(answer_form(answer));
-    read_answer(answer, fields)
+    read_answer(answer, fields, outcome)
 }
 
-/// A worker and what it does: the words that entries and stall lines have in common.
-#[derive(Drop)]
-pub(crate) struct Step {
-    pub(crate) worker: u32,
-    pub(crate) act: Act,
-}
-
-/// The worker, and what it does.
+/// The worker; what it does is written. Entries and stall lines have these words in common.
 #[tactic(auto, unfolding(crate::specs::Reading::step_in))]
-fn read_step(fields: &mut Fields) -> Result<Step, FieldFail>
-    ensures value { Gives step_read (step_in fields.old.words) fields.new.words result }
-    ensures worker { IfOk result (λ step. step.worker ≤ LAST_WORKER) }
+fn read_step(fields: &mut Fields, act: &mut Act) -> Result<u32, FieldFail>
+    ensures value { Gives (step_read act.new) (step_in fields.old.words) fields.new.words result }
+    ensures worker { IfOk result (λ worker. worker ≤ LAST_WORKER) }
 {
     let word = fields.word().ok_or(FieldFail::Wrong)?;
     let worker = worker_in(word).ok_or(FieldFail::Wrong)?;
-    Ok(Step {
-        worker,
-        act: read_act(fields)?,
-    })
+    read_act(fields, act)?;
+    Ok(worker)
 }
 
 /// The state that the last word is.
@@ -113,15 +107,19 @@ fn read_state(fields: &mut Fields) -> Result<State, FieldFail>
     }
 }
 
-/// What stands behind the arrow of an entry: what the call answered, and the state of its endpoint.
-fn read_behind_arrow(verb: Option<Verb>, fields: &mut Fields) -> Result<(Outcome, State), FieldFail>
-    ensures { IsRead behind_read (behind_arrow verb fields.old.words) result }
+/// The state of the endpoint after an entry; what its call answered, the words after the arrow, is written.
+fn read_behind_arrow(
+    verb: Option<Verb>,
+    fields: &mut Fields,
+    outcome: &mut Outcome,
+) -> Result<State, FieldFail>
+    ensures { IsRead (behind_read outcome.new) (behind_arrow verb fields.old.words) result }
 {
     let verb = verb.ok_or(FieldFail::Wrong)?;
     match fields.word() {
         Some(b"=>") => {
-            let outcome = read_outcome(verb, fields)?;
-            Ok((outcome, read_state(fields)?))
+            read_outcome(verb, fields, outcome)?;
+            read_state(fields)
         }
         _ => Err(FieldFail::Wrong),
     }
@@ -134,28 +132,29 @@ pub(crate) fn is_number(word: &[u8], n: u64) -> bool
     word == Buffer::new().format(n).as_bytes()
 }
 
-/// The entry with this number, of whose line this word was taken.
+/// Writes the entry with this number, of whose line this word was taken, part by part where the caller has it: what is put
+/// together of parts that may have to be let go is moved piece by piece.
+#[inline(never)]
 #[tactic(auto, unfolding(crate::specs::Reading::entry_in))]
 pub(crate) fn read_entry(
     n: u64,
     draft: &Draft,
     word: &[u8],
     fields: &mut Fields,
-) -> Result<Entry, FieldFail>
-    ensures { IsRead entry_read (entry_in n (last_verb draft.now.entries) word.now fields.old.words) result }
+    entry: &mut Entry,
+) -> Result<(), FieldFail>
+    ensures read { IsRead (λ _. entry_read entry.new) (entry_in n (last_verb draft.now.entries) word.now fields.old.words) result }
 {
     if !is_number(word, n) {
         return Err(FieldFail::Wrong);
     }
-    let step = read_step(fields)?;
-    let verb = verb_after(draft.verb(step.worker), &step.act);
-    match read_behind_arrow(verb, fields) {
-        Ok((outcome, after)) => Ok(Entry {
-            worker: step.worker,
-            act: step.act,
-            outcome,
-            after,
-        }),
+    entry.worker = read_step(fields, &mut entry.act)?;
+    let verb = verb_after(draft.verb(entry.worker), &entry.act);
+    match read_behind_arrow(verb, fields, &mut entry.outcome) {
+        Ok(after) => {
+            entry.after = after;
+            Ok(())
+        }
         Err(fail) => Err(fail),
     }
 }
@@ -167,17 +166,21 @@ fn is_whole(verb: Option<Verb>, fields: &Fields) -> bool
     verb.is_some() && fields.are_read()
 }
 
-/// The stall line, whose first word was taken.
+/// The stall line, whose first word was taken. Its act is written in this place first.
 #[tactic(auto, unfolding(crate::specs::Reading::stall_in))]
-pub(crate) fn read_stall(draft: &Draft, fields: &mut Fields) -> Result<StallLine, FieldFail>
+pub(crate) fn read_stall(
+    draft: &Draft,
+    fields: &mut Fields,
+    act: &mut Act,
+) -> Result<StallLine, FieldFail>
     ensures { IsRead stall_read (stall_in (last_verb draft.now.entries) fields.old.words) result }
 {
-    let step = read_step(fields)?;
-    let verb = verb_after(draft.verb(step.worker), &step.act);
+    let worker = read_step(fields, act)?;
+    let verb = verb_after(draft.verb(worker), act);
     if is_whole(verb, fields) {
         Ok(StallLine {
-            worker: step.worker,
-            act: step.act,
+            worker,
+            act: mem::replace(act, Act::More),
         })
     } else {
         Err(FieldFail::Wrong)
