@@ -8,6 +8,7 @@ use xti_rule::{Held, Ruled, Setting, Stands, View};
 
 mod cells;
 mod journal;
+mod lingering;
 mod making;
 mod pens;
 mod seats;

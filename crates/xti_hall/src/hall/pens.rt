@@ -11,7 +11,6 @@ ghost use Rattle.xti_hall.specs.Words.{IsOf, IsSame, setting_of};
 
 use super::Hall;
 use std::sync::Wait;
-use std::thread;
 use xti_model::Entry;
 use xti_rule::{Begin, Commit, Held, Journal, Pass, Return, ReturnUnseen, Stands};
 
@@ -40,7 +39,7 @@ impl<C: Stands> Hall<C> {
             if self.try_pen(pass) {
                 return;
             }
-            thread::yield_now();
+            self.linger_for_turn(self.cells);
         }
         unreachable!()
     }

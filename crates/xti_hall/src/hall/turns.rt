@@ -13,7 +13,6 @@ ghost use Rattle.xti_hall.specs.Words.{IsOf, IsSame, setting_of};
 
 use super::Hall;
 use std::sync::Wait;
-use std::thread;
 use xti_rule::{Held, Leave, Pass, Reopen, Settle, Stands, Take};
 
 impl<C: Stands> Hall<C> {
@@ -43,7 +42,7 @@ impl<C: Stands> Hall<C> {
             if self.try_take(pass, cell) {
                 return;
             }
-            thread::yield_now();
+            self.linger_for_turn(cell);
         }
         unreachable!()
     }

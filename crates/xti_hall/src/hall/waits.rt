@@ -126,6 +126,7 @@ impl<C: Stands> Hall<C> {
         ensures waited { WaitedFor seat.new.view want at result }
         ensures looks { Looks seat.old.view seat.new.view }
     {
+        self.linger_for_entry(at);
         match self.look_once(rt, seat, want, at, false) {
             Sight::Again => return Waited::Again,
             Sight::Stalls(stall) => return Waited::Stalled(stall),
