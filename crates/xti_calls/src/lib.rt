@@ -10,7 +10,7 @@ mod shared;
 
 pub use answers::{Fail, Max, TCall};
 pub use calling::{Halt, call, resume};
-pub use library::Seat;
+pub use library::{Ended, Seat};
 pub use shared::Xti;
 pub use xti_hall::{NoSeat, Stall};
 pub use xti_step::{Gate, NoGate};

@@ -6,7 +6,7 @@ ghost use Rattle.xti_model.specs.History.{unfinished_from};
 ghost use Rattle.xti_model.specs.Profile.{valid};
 ghost use Rattle.xti_rule.specs.Rule.{newcomer};
 ghost use Rattle.xti_rule.specs.declared.view.Mark.TheVariants.{Resting};
-ghost use Rattle.xti_hall.specs.Seats.{CutsOff, HasNoneToSpare, Looks, Meets, IsStanding, unfinished_bytes};
+ghost use Rattle.xti_hall.specs.Seats.{AreOfOneHall, CutsOff, HasNoneToSpare, Looks, Meets, IsStanding, unfinished_bytes};
 ghost use Rattle.xti_hall.specs.Words.{IsSameSeat};
 ghost use Rattle.xti_gather.specs.Cells.{whole};
 ghost use Rattle.xti_step.specs.Steps.{Later, MayGo, Tells};
@@ -19,7 +19,7 @@ use std::alloc::{AllocError, Global};
 use std::marker::Model;
 use std::sync::Wait;
 use xti_gather::{Cell, nothing_lent, open_hall};
-use xti_hall::{NoSeat, Seat as HallSeat};
+use xti_hall::{Ended as EndedHall, NoSeat, Seat as HallSeat};
 use xti_lent::Lent;
 use xti_model::{Applied, Call, Entries, Go, Providers, Reply};
 use xti_step::{Gate, step};
@@ -64,6 +64,41 @@ impl Seat {
         ensures { result ≡ unfinished_bytes self.now.view.mine }
     {
         self.seat.unfinished()
+    }
+}
+
+/// A library at its end, and the seat that took its history. Contracts see the seat, which has seen the whole history.
+#[derive(Drop)]
+pub struct Ended {
+    hall: EndedHall<Cell>,
+}
+
+impl Model for Ended {
+    ghost use Rattle.xti_hall.specs.Seats.{SeatView};
+
+    ghost Value = { SeatView };
+
+    ghost view = { λ e. e.hall };
+}
+
+impl Ended {
+    /// Another seat of the library, which has then seen the whole history. Takes no memory, and waits for nobody.
+    pub fn meet(&mut self, other: Seat) -> Seat
+        requires { AreOfOneHall other self.old }
+        ensures seat { IsSameSeat other result × (self.new ≡ self.old) }
+        ensures met { Meets other.view self.old.view result.view }
+    {
+        let Seat { seat, lent } = other;
+        let seat = self.hall.meet(seat);
+        Seat { seat, lent }
+    }
+
+    /// The history. Takes no memory.
+    pub fn into_history(self) -> Entries
+        ensures { result ≡ self.view.seen }
+    {
+        let Ended { hall } = self;
+        hall.into_history()
     }
 }
 
@@ -198,6 +233,21 @@ impl Xti {
         let Seat { seat, lent } = seat;
         let seat = self.hall.meet(seat, &mut other.seat);
         Seat { seat, lent }
+    }
+
+    /// Ends the library: its history is handed out and not copied, all of which the seat has then seen, and no further call can be
+    /// made. Takes no memory.
+    pub fn end<R: Wait>(self, rt: &R, seat: Seat) -> Ended
+        requires { IsOf self seat }
+        ensures seat { IsSameSeat seat result }
+        ensures looks { Looks seat.view result.view }
+        ensures standing { IsStanding result.view }
+    {
+        let Xti { hall } = self;
+        let Seat { seat, .. } = seat;
+        Ended {
+            hall: hall.end(rt, seat),
+        }
     }
 
     /// A copy of the history at this point, which is what the seat has then seen.

@@ -75,22 +75,6 @@ fn put_entries(alloc: Global, log: &mut Log, entries: &[Entry]) -> Result<(), Al
     Ok(())
 }
 
-/// Writes down the history.
-fn put_history<R: Wait>(
-    rt: &R,
-    alloc: Global,
-    xti: &Xti,
-    seat: &mut Seat,
-    log: &mut Log,
-) -> Result<(), AllocError>
-    requires { IsOf xti.now seat.old }
-{
-    let history = xti.history(rt, alloc, seat)?;
-    let put = put_entries(alloc, log, history.as_slice());
-    drop(history);
-    put
-}
-
 /// How many entries the seat tells.
 fn entries<R: Wait>(rt: &R, alloc: Global, xti: &Xti, seat: &mut Seat) -> Result<usize, Stop>
     requires { IsOf xti.now seat.old }
@@ -163,24 +147,26 @@ fn datagram<R: Wait + Sync>(
     make_all(rt, alloc, xti, second, log, datagrams::TWO_PARTS)
 }
 
-/// Writes down what two seats are answered that have a datagram between them, and the history that the first seat tells
-/// when it has met the second.
+/// Writes down what two seats are answered that have a datagram between them, and the history that the first seat takes
+/// from the library at its end.
 fn talk<R: Wait + Sync>(
     rt: &R,
     alloc: Global,
-    xti: &Xti,
+    xti: Xti,
     mut first: Seat,
-    second: &mut Seat,
+    mut second: Seat,
     log: &mut Log,
 ) -> Result<(), Stop>
-    requires first { IsOf xti.now first × (unfinished_from None None first.view.mine ≡ None) }
-    requires second { IsOf xti.now second.old × (unfinished_from None None second.old.view.mine ≡ None) }
+    requires first { IsOf xti first × (unfinished_from None None first.view.mine ≡ None) }
+    requires second { IsOf xti second × (unfinished_from None None second.view.mine ≡ None) }
 {
-    let talked = datagram(rt, alloc, xti, &mut first, second, log);
-    xti.rest(rt, second);
-    let mut first = xti.meet(first, second);
-    let told = put_history(rt, alloc, xti, &mut first, log);
-    drop(first);
+    let talked = datagram(rt, alloc, &xti, &mut first, &mut second, log);
+    xti.rest(rt, &mut second);
+    let mut ended = xti.end(rt, first);
+    drop(ended.meet(second));
+    let history = ended.into_history();
+    let told = put_entries(alloc, log, history.as_slice());
+    drop(history);
     talked?;
     Ok(told?)
 }
@@ -189,21 +175,18 @@ fn talk<R: Wait + Sync>(
 fn talk_of<R: Wait + Sync>(
     rt: &R,
     alloc: Global,
-    xti: &Xti,
+    xti: Xti,
     mut first: Seat,
     log: &mut Log,
 ) -> Result<(), Stop>
-    requires seat { IsOf xti.now first }
+    requires seat { IsOf xti first }
     requires none { unfinished_from None None first.view.mine ≡ None }
 {
-    match another_seat(rt, alloc, xti, &mut first) {
-        Ok(mut second) => {
-            let talked = talk(rt, alloc, xti, first, &mut second, log);
-            drop(second);
-            talked
-        }
+    match another_seat(rt, alloc, &xti, &mut first) {
+        Ok(second) => talk(rt, alloc, xti, first, second, log),
         Err(stop) => {
             drop(first);
+            drop(xti);
             Err(stop)
         }
     }
@@ -212,9 +195,7 @@ fn talk_of<R: Wait + Sync>(
 /// The same in a library of its own.
 fn talked<R: Wait + Sync>(rt: &R, alloc: Global, log: &mut Log) -> Result<(), Stop> {
     let (xti, first) = library(alloc)?;
-    let talked = talk_of(rt, alloc, &xti, first, log);
-    drop(xti);
-    talked
+    talk_of(rt, alloc, xti, first, log)
 }
 
 #[test]

@@ -140,6 +140,14 @@ pub record Looks (v v' : View) : Type 0 where
   pub journal : v'.journal ≡ v.journal
   pub seen : IsPrefix v.seen v'.seen
 
+-- the same seat, whose journal counts as given back
+abbrev pub shut : SeatView → SeatView
+shut s = record s { view = record s.view { journal = false } }
+
+-- one hall made both seats
+abbrev pub AreOfOneHall : SeatView → SeatView → Type 0
+AreOfOneHall s t = (s.hall ≡ t.hall) × (s.view.setting ≡ t.view.setting)
+
 -- the first seat, which has now seen what both had seen
 pub record Meets (v w v' : View) : Type 0 where
   pub setting : v'.setting ≡ v.setting

@@ -1,12 +1,14 @@
 //! The hall, where threads meet: cells with turns, one history in a journal, and seats that take turns.
 #![tactic(auto)]
 
+mod ended;
 mod hall;
 mod marks;
 mod pen;
 mod seat;
 mod stall;
 
+pub use ended::Ended;
 pub use hall::{Hall, NoSeat};
 pub use pen::Pen;
 pub use seat::Seat;

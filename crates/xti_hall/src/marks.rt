@@ -42,9 +42,13 @@ pub(crate) fn all_settled(marks: &[Mark], at: u64) -> bool
     marks.iter().all(|mark| is_settled(mark, at))
 }
 
-/// Whether a seat waits.
+/// Whether a seat waits. Each mark is looked at, as that costs less than a branch for each.
 pub(crate) fn anyone_waits(marks: &[Mark]) -> bool {
-    marks.iter().any(|mark| waits(mark))
+    let mut found = false;
+    for mark in marks {
+        found |= waits(mark);
+    }
+    found
 }
 
 /// How many seats wait.

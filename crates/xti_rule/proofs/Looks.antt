@@ -132,6 +132,7 @@ module _ {C : Type 0} (stands : C → List (ℕ × MCell) → Type 0) (p : Setti
         mine = h.mine;
         spare = λ x k le. over 33 k (own k r.log ≡ []) (λ lt. ((ok.numbers x).spare k le lt).1) (λ big. r.workers k big);
         parts = λ i m e. (ok.cells.held i m e).1 ∙ ap (λ (z : Setting). part i (after z r.log)) (sym h.setting);
+        recorded = λ e. sym (ok.journal.held e).1;
       },
     ),
   )

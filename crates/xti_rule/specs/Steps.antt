@@ -154,6 +154,7 @@ with_seen v h = record v { seen = h }
 
 -- The number found is the length of a legal history, which begins with all that was seen and heard. The seat's own entries in
 -- it are `mine`, its spare numbers and those over 32 have none, and the recorded values are their parts of the world after it.
+-- While the seat holds the journal, it is the history that its view records.
 pub record Looked (v : View) (n : ℕ) (h : List Entry) : Type 0 where
   pub length_is : n ≡ length h
   pub heard : IsPrefix v.heard h
@@ -162,6 +163,7 @@ pub record Looked (v : View) (n : ℕ) (h : List Entry) : Type 0 where
   pub mine : v.numbered ≡ true → own v.number h ≡ v.mine
   pub spare : v.numbered ≡ true → (k : ℕ) → v.next ≤ k → own k h ≡ []
   pub parts : (i : ℕ) (m : MCell) → get_elem? v.held i ≡ some (Some m) → m ≡ part i (after v.setting h)
+  pub recorded : v.journal ≡ true → h ≡ v.history
 
 abbrev pub looked : {C : Type 0} → Seated C → ℕ → Seated C → Type 0
 looked m r m' = (h : List Entry) × (m' ≡ (with_seen m.0 h, m.1)) × Looked m.0 r h

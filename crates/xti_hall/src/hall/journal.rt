@@ -3,10 +3,11 @@ ghost use Rattle.xti_rule.specs.declared.view.Mark.TheVariants.{Free};
 ghost use Rattle.xti_rule.specs.Rule.{mark_of};
 ghost use Rattle.xti_rule.specs.Steps.{with_pen, without_pen, Holds, Commits};
 ghost use Rattle.xti_hall.specs.Pens.{IsPenOf};
-ghost use Rattle.xti_hall.specs.Seats.{LookedAt, Looks, MayGoBack, wrote_entry, taken_in};
+ghost use Rattle.xti_hall.specs.Seats.{IsStanding, LookedAt, Looks, MayGoBack, wrote_entry, taken_in};
 ghost use Rattle.xti_hall.specs.Words.{IsSeatOf, IsSameSeat};
 
 use super::Hall;
+use crate::ended::Ended;
 use crate::marks::anyone_waits;
 use crate::pen::Pen;
 use crate::seat::Seat;
@@ -102,6 +103,25 @@ impl<C: Stands> Hall<C> {
         self.write(&mut seat.pass, journal, entry);
         seat.steps += 1;
         seat.unfinished = unfinished;
+    }
+
+    /// Ends the hall: its history is handed out as it is, all of which the seat has then seen, and nobody steps any more. Takes no
+    /// memory.
+    pub fn end<R: Wait>(self, rt: &R, mut seat: Seat<C>) -> Ended<C>
+        requires hall { IsSeatOf self seat }
+        requires free { seat.view.journal ≡ false }
+        ensures hall { IsSameSeat seat result }
+        ensures looks { Looks seat.view result.view }
+        ensures standing { IsStanding result.view }
+    {
+        let journal = self.look(rt, &mut seat);
+        let _length = self.length(&mut seat);
+        let history = Entries::from_vec(journal.entries);
+        Ended {
+            hall: self,
+            seat,
+            history,
+        }
     }
 
     /// A copy of the history at this point, which is what the seat has then seen.

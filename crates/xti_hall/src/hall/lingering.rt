@@ -7,17 +7,17 @@ use super::Hall;
 use std::thread;
 use xti_rule::Stands;
 
-/// So often the word of a turn is read before another thread is let run: for some microseconds, as long as most turns are held.
-const LOOKS_AT_TURN: u32 = 4000;
+/// So often the word of a turn is read before another thread is let run.
+const LOOKS_AT_TURN: u32 = 4_000;
 
-/// So often other threads are let run before a seat that waits parks. Most waits are over by then.
+/// So often other threads are let run before a seat that waits parks.
 const LOOKS_AT_LENGTH: u32 = 64;
 
 impl<C: Stands> Hall<C> {
     /// Looks for a while whether this turn is given back; if it isn't, another thread is let run. The turn of the journal comes
     /// after those of the cells.
     pub(super) fn linger_for_turn(&self, turn: u32)
-        requires { turn ≤ (setting_of self.now).cells }
+        requires turn { turn ≤ (setting_of self.now).cells }
     {
         for _ in 0..LOOKS_AT_TURN {
             if self.table.shared.peek(turn as usize + 1) == 0 {

@@ -1,0 +1,51 @@
+//! A hall at its end.
+
+ghost use Rattle.std.specs.Prelude.{◌≡◌};
+ghost use Rattle.xti_hall.specs.Seats.{AreOfOneHall, Meets};
+ghost use Rattle.xti_hall.specs.Words.{IsSameSeat};
+
+use crate::hall::Hall;
+use crate::seat::Seat;
+use std::marker::Model;
+use xti_model::Entries;
+use xti_rule::Stands;
+
+/// A hall whose history was taken out, so that nobody steps any more, and the seat that took it. Contracts see the seat, which has
+/// seen the whole history.
+#[derive(Drop)]
+pub struct Ended<C: Stands> {
+    pub(crate) hall: Hall<C>,
+    pub(crate) seat: Seat<C>,
+    pub(crate) history: Entries,
+}
+
+impl<C: Stands> Model for Ended<C> {
+    ghost use Rattle.std.specs.Prelude.{◌≡◌};
+    ghost use Rattle.xti_hall.specs.Seats.{SeatView, shut};
+    ghost use Rattle.xti_hall.specs.Words.{IsSeatOf};
+
+    ghost Value = { SeatView };
+
+    ghost view = { λ e. shut e.seat };
+
+    ghost invariant = { λ e. IsSeatOf e.hall e.seat × (e.history ≡ e.seat.view.seen) };
+}
+
+impl<C: Stands> Ended<C> {
+    /// Another seat of the hall, which has then seen the whole history. Takes no memory, and waits for nobody.
+    pub fn meet(&mut self, other: Seat<C>) -> Seat<C>
+        requires { AreOfOneHall other self.old }
+        ensures hall { IsSameSeat other result × (self.new ≡ self.old) }
+        ensures met { Meets other.view self.old.view result.view }
+    {
+        self.hall.meet(other, &mut self.seat)
+    }
+
+    /// The history. Takes no memory.
+    pub fn into_history(self) -> Entries
+        ensures { result ≡ self.view.seen }
+    {
+        let Ended { history, .. } = self;
+        history
+    }
+}
