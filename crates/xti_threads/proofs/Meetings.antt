@@ -52,6 +52,14 @@ leads-looks {x} {setup} {next} s s' l same m standing = record {
   standing = standing;
 }
 
+-- and after it ended the library, beside the seats that it had met
+pub leads-end : {x : Xti} (lines : List Line) {setup : List Entry} (n many : ℕ) (s s' : SeatView) (seats : List SeatView) → n ≡ many → Leads x setup (many + 1) s → AllMet x lines setup s.view.seen seats → IsSameSeat s s' → Looks s.view s'.view → IsStanding s'.view
+    → Leads x setup (n + 1) s' × AllMet x lines setup s'.view.seen seats
+leads-end {x} lines {setup} n many s s' seats same_count l met same looks standing = (
+  subst (λ (k : ℕ). Leads x setup (k + 1) s') (sym same_count) (leads-looks s s' l same looks standing),
+  met-grown x lines setup s.view.seen s'.view.seen seats looks.seen met,
+)
+
 -- worker 0's entries are those of the setup
 pub leads-own : {x : Xti} {setup : List Entry} {next : ℕ} (s : SeatView) → Leads x setup next s → own 0 s.view.seen ≡ own 0 setup
 leads-own s l = subst (λ n. own n s.view.seen ≡ s.view.mine) l.number_is l.standing.mine ∙ l.mine

@@ -1,16 +1,11 @@
 -- Worker 0's calls by main's seat are those of its lines.
-use Rattle.std.proofs.Common.{◌≡◌, ℕ, List, [], ◌++◌, Option, Some, None, refl, sym, ap, ◌∙◌, arith, inl}
-use Rattle.std.specs.Prelude.{false, is_some, option_map}
-use Rattle.std.proofs.lemmas.Bool.{false≢true}
-use Rattle.std.proofs.lemmas.Option.{none-some}
+use Rattle.std.proofs.Common.{◌≡◌, List, [], ◌++◌, Some, None, refl, ◌∙◌, arith, inl}
 use Rattle.xti_model.specs.declared.call.Call.{Call}
 use Rattle.xti_model.specs.declared.entry.Go.TheVariants as go
 use Rattle.xti_model.specs.declared.entry.Entry.{Entry}
 use Rattle.xti_model.specs.declared.entry.Reply.{Reply}
 use Rattle.xti_model.specs.declared.script.Line.{Line}
-use Rattle.xti_model.specs.History.{Going, unfinished_from}
-use Rattle.xti_model.specs.Wants.{taken_before}
-use Rattle.xti_hall.specs.Seats.{SeatView, IsStanding, unfinished_bytes}
+use Rattle.xti_hall.specs.Seats.{SeatView, IsStanding}
 use Rattle.xti_hall.specs.Words.{IsSameSeat}
 use Rattle.xti_step.specs.Steps.{Later}
 use Rattle.xti_calls.specs.declared.shared.Xti.{Xti}
@@ -21,8 +16,7 @@ use Rattle.xti_replay.specs.declared.workers.Worker.{Worker}
 use Rattle.xti_replay.specs.Progress.{IsNext}
 use Rattle.xti_threads.specs.Working.{HasBegun}
 use Rattle.xti_threads.specs.Setting.{HasSetUp, SetsUp}
-use Rattle.xti_threads.proofs.OwnEntries.{own-after}
-use Rattle.xti_threads.proofs.Between.{Between, between-follows, between-told, no-part}
+use Rattle.xti_threads.proofs.Between.{Between, between-follows, between-told}
 use Rattle.xti_threads.proofs.Works.{of-later}
 
 -- worker 0 between two of its lines

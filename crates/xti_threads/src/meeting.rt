@@ -4,13 +4,14 @@ ghost use Rattle.std.specs.Prelude.{◌≡◌, ◌+◌, ◌<◌, List, IfOk, vec
 ghost use Rattle.xti_base.specs.declared.limits.TheConstants.{WORKERS};
 ghost use Rattle.xti_model.specs.declared.entry.Entry.{Entry};
 ghost use Rattle.xti_model.specs.Complete.{IsHistoryOf};
+ghost use Rattle.xti_calls.specs.declared.shared.Xti.{Xti as TheXti};
 ghost use Rattle.xti_calls.specs.Library.{providers_of};
 ghost use Rattle.xti_threads.specs.Starting.{AllBack};
 ghost use Rattle.xti_threads.specs.Meeting.{IsSetUp, Leads, AllMet};
 
 use std::alloc::{AllocError, Global};
 use std::sync::Wait;
-use xti_calls::{Seat, Xti};
+use xti_calls::{Ended, Seat, Xti};
 use xti_model::{Entries, Line};
 
 /// Main's seat, once it has met every other: it has seen what all of them have seen and made. And the others.
@@ -35,13 +36,14 @@ fn meet_others(
 }
 
 /// Every other seat meets main's: none has made a call that main's has not seen.
-fn meet_main(xti: &Xti, _lines: &[Line], main: &mut Seat, seats: Vec<Seat>)
+fn meet_main(ended: &mut Ended, _lines: &[Line], seats: Vec<Seat>)
     requires many { vec_len seats < WORKERS }
-    requires met { (past : List Entry) × IsSetUp _lines.now past × Leads xti.now past (vec_len seats + 1) main.old × AllMet xti.now _lines.now past main.old.view.seen seats.items }
-    ensures { IsHistoryOf (providers_of xti.now) _lines.now main.old.view.seen }
+    requires met { (xti : TheXti) × (past : List Entry) × IsSetUp _lines.now past × Leads xti past (vec_len seats + 1) ended.old × AllMet xti _lines.now past ended.old.view.seen seats.items }
+    ensures same { ended.new ≡ ended.old }
+    ensures history { (xti : TheXti) (past : List Entry) → IsSetUp _lines.now past → Leads xti past (vec_len seats + 1) ended.old → AllMet xti _lines.now past ended.old.view.seen seats.items → IsHistoryOf (providers_of xti) _lines.now ended.old.view.seen }
 {
     for seat in seats {
-        let seat = xti.meet(seat, main);
+        let seat = ended.meet(seat);
         let _number = seat.number();
     }
 }
@@ -50,18 +52,17 @@ fn meet_main(xti: &Xti, _lines: &[Line], main: &mut Seat, seats: Vec<Seat>)
 pub(crate) fn meet_all<R: Wait>(
     rt: &R,
     alloc: Global,
-    xti: &Xti,
+    xti: Xti,
     lines: &[Line],
     main: Seat,
     seats: Vec<Seat>,
 ) -> Result<Entries, AllocError>
     requires many { vec_len seats < WORKERS }
-    requires back { (past : List Entry) × IsSetUp lines.now past × Leads xti.now past (vec_len seats + 1) main × AllBack xti.now lines.now past seats.items }
-    ensures { IfOk result (IsHistoryOf (providers_of xti.now) lines.now) }
+    requires back { (past : List Entry) × IsSetUp lines.now past × Leads xti past (vec_len seats + 1) main × AllBack xti lines.now past seats.items }
+    ensures { IfOk result (IsHistoryOf (providers_of xti) lines.now) }
 {
-    let (mut main, met) = meet_others(alloc, xti, lines, main, seats)?;
-    let history = xti.history(rt, alloc, &mut main);
-    let _number = main.number();
-    meet_main(xti, lines, &mut main, met);
-    history
+    let (main, met) = meet_others(alloc, &xti, lines, main, seats)?;
+    let mut ended = xti.end(rt, main);
+    meet_main(&mut ended, lines, met);
+    Ok(ended.into_history())
 }

@@ -54,7 +54,7 @@ fn seat_all<R: Wait>(
 fn play_jobs<G: Gate, R: Threads + Wait + Sync>(
     rt: &R,
     alloc: Global,
-    xti: &Xti,
+    xti: Xti,
     lines: &[Line],
     setup: &Worker,
     gate: &G,
@@ -63,12 +63,12 @@ fn play_jobs<G: Gate, R: Threads + Wait + Sync>(
 ) -> Result<Entries, AllocError>
     requires many { vec_len jobs < WORKERS }
     requires lines { are_playable lines.now ≡ true }
-    requires setup { (past : List Entry) × AfterSetup lines.now past setup.now × IsSetUp lines.now past × Before xti.now past (vec_len jobs + 1) main × AllJobs xti.now lines.now past jobs.items }
-    ensures { IfOk result (IsHistoryOf (providers_of xti.now) lines.now) }
+    requires setup { (past : List Entry) × AfterSetup lines.now past setup.now × IsSetUp lines.now past × Before xti past (vec_len jobs + 1) main × AllJobs xti lines.now past jobs.items }
+    ensures { IfOk result (IsHistoryOf (providers_of xti) lines.now) }
 {
     xti.rest(rt, &mut main);
     let _number = main.number();
-    let seats = run_all(rt, alloc, xti, lines, setup, gate, jobs)?;
+    let seats = run_all(rt, alloc, &xti, lines, setup, gate, jobs)?;
     meet_all(rt, alloc, xti, lines, main, seats)
 }
 
@@ -76,7 +76,7 @@ fn play_jobs<G: Gate, R: Threads + Wait + Sync>(
 fn play_others<G: Gate, R: Threads + Wait + Sync>(
     rt: &R,
     alloc: Global,
-    xti: &Xti,
+    xti: Xti,
     lines: &[Line],
     setup: &Worker,
     gate: &G,
@@ -85,63 +85,55 @@ fn play_others<G: Gate, R: Threads + Wait + Sync>(
 ) -> Result<Entries, AllocError>
     requires many { vec_len workers < WORKERS }
     requires lines { are_playable lines.now ≡ true }
-    requires setup { (past : List Entry) × AfterSetup lines.now past setup.now × IsSetUp lines.now past × Before xti.now past 1 main × AllTold lines.now past workers.items }
-    ensures { IfOk result (IsHistoryOf (providers_of xti.now) lines.now) }
+    requires setup { (past : List Entry) × AfterSetup lines.now past setup.now × IsSetUp lines.now past × Before xti past 1 main × AllTold lines.now past workers.items }
+    ensures { IfOk result (IsHistoryOf (providers_of xti) lines.now) }
 {
-    let jobs = seat_all(rt, alloc, xti, lines, &mut main, workers)?;
+    let jobs = seat_all(rt, alloc, &xti, lines, &mut main, workers)?;
     play_jobs(rt, alloc, xti, lines, setup, gate, main, jobs)
 }
 
 /// The history that main's seat alone has made.
-fn read_alone<R: Wait>(
-    rt: &R,
-    alloc: Global,
-    xti: &Xti,
-    _lines: &[Line],
-    mut main: Seat,
-) -> Result<Entries, AllocError>
-    requires { HasSetUp xti.now _lines.now main }
-    ensures { IfOk result (IsHistoryOf (providers_of xti.now) _lines.now) }
+fn read_alone<R: Wait>(rt: &R, xti: Xti, _lines: &[Line], main: Seat) -> Entries
+    requires { HasSetUp xti _lines.now main }
+    ensures { IsHistoryOf (providers_of xti) _lines.now result }
 {
-    let history = xti.history(rt, alloc, &mut main);
-    let _number = main.number();
-    history
+    xti.end(rt, main).into_history()
 }
 
 /// Plays worker 0, and once it is finished the others: the history that all have made.
 fn play_workers<G: Gate, R: Threads + Wait + Sync>(
     rt: &R,
     alloc: Global,
-    xti: &Xti,
+    xti: Xti,
     lines: &[Line],
     gate: &G,
     mut main: Seat,
     mut workers: Vec<Worker>,
 ) -> Result<Entries, AllocError>
     requires lines { are_playable lines.now ≡ true }
-    requires main { IsOf xti.now main × (main.view ≡ newcomer (whole (providers_of xti.now))) }
+    requires main { IsOf xti main × (main.view ≡ newcomer (whole (providers_of xti))) }
     requires workers { AreFresh lines.now workers.items }
-    ensures { IfOk result (IsHistoryOf (providers_of xti.now) lines.now) }
+    ensures { IfOk result (IsHistoryOf (providers_of xti) lines.now) }
 {
     let mut setup = workers.remove(0);
-    if set_up(rt, alloc, xti, lines, gate, &mut main, &mut setup) {
+    if set_up(rt, alloc, &xti, lines, gate, &mut main, &mut setup) {
         return play_others(rt, alloc, xti, lines, &setup, gate, main, workers);
     }
-    read_alone(rt, alloc, xti, lines, main)
+    Ok(read_alone(rt, xti, lines, main))
 }
 
 /// Plays the workers of these lines by the library and its first seat: the history that all have made.
 fn play_lines<G: Gate, R: Threads + Wait + Sync>(
     rt: &R,
     alloc: Global,
-    xti: &Xti,
+    xti: Xti,
     lines: &[Line],
     gate: &G,
     main: Seat,
 ) -> Result<Entries, AllocError>
     requires lines { are_playable lines.now ≡ true }
-    requires main { IsOf xti.now main × (main.view ≡ newcomer (whole (providers_of xti.now))) }
-    ensures { IfOk result (IsHistoryOf (providers_of xti.now) lines.now) }
+    requires main { IsOf xti main × (main.view ≡ newcomer (whole (providers_of xti))) }
+    ensures { IfOk result (IsHistoryOf (providers_of xti) lines.now) }
 {
     let workers = fresh_workers(alloc, lines)?;
     play_workers(rt, alloc, xti, lines, gate, main, workers)
@@ -162,5 +154,5 @@ pub fn play<G: Gate, R: Threads + Wait + Sync>(
     ensures { IfOk result (IsHistoryOf s.now.providers s.now.lines) }
 {
     let (xti, main) = Xti::new(alloc, &s.providers)?;
-    play_lines(rt, alloc, &xti, s.lines.as_slice(), gate, main)
+    play_lines(rt, alloc, xti, s.lines.as_slice(), gate, main)
 }

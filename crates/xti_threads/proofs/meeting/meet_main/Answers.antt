@@ -1,6 +1,5 @@
 use Rattle.std.proofs.Common.{arith, ap, sym, subst, refl, ◌∙◌, ◌≡◌, ◌+◌, vec_len}
-use Rattle.xti_hall.specs.Seats.{SeatView}
-use Rattle.xti_calls.specs.Library.{IsOf}
+use Rattle.xti_hall.specs.Seats.{SeatView, AreOfOneHall}
 use Rattle.xti_threads.specs.Starting.{EachFrom}
 use Rattle.xti_threads.specs.Meeting.{HasMet, AllMet}
 use Rattle.xti_threads.proofs.Meetings.{leads-own, back-follows, leads-history, follow-more}
@@ -8,12 +7,12 @@ use Rattle.xti_threads.proofs.meeting.meet_main.Goals as goal
 
 pub loop-seat-init : goal.loop-seat-init
 loop-seat-init c = record {
-  main = refl;
+  ended = refl;
   known = (
     0,
     omega (arith, c.into_iter-seat-iterator.ensures.into_iter_gives.1),
-    λ past u l met. (
-      subst (AllMet c.args.xti.now c.args._lines.now past c.args.main.now.view.seen) (sym c.into_iter-seat-iterator.ensures.into_iter_gives.0) met,
+    λ x past u l met. (
+      subst (AllMet x c.args._lines.now past c.args.ended.now.view.seen) (sym c.into_iter-seat-iterator.ensures.into_iter_gives.0) met,
       λ k lt le. absurd (omega arith),
     ),
   );
@@ -23,24 +22,24 @@ pub meet-seat-requires : goal.meet-seat-requires
 meet-seat-requires c =
     let b = c.requires.met in
     let i = c.loop-seat.invariant in
-    let k = i.known.2 b.0 b.1 b.2 b.3 in
-    let s = (subst (EachFrom (HasMet c.args.xti.now c.args._lines.now b.0 c.args.main.now.view.seen) (i.known.0 + 1)) c.in-Some.ensures.steps.0 k.0).0.0 in
-    (s.of_x, subst (IsOf c.args.xti.now) (sym i.main) b.2.of_x)
+    let k = i.known.2 b.0 b.1 b.2 b.3 b.4 in
+    let s = (subst (EachFrom (HasMet b.0 c.args._lines.now b.1 c.args.ended.now.view.seen) (i.known.0 + 1)) c.in-Some.ensures.steps.0 k.0).0.0 in
+    subst (AreOfOneHall c.in-Some.seat) (sym i.ended) (s.of_x.0 ∙ sym b.3.of_x.0, s.of_x.1 ∙ sym b.3.of_x.1)
 
 pub loop-seat-preserved : goal.loop-seat-preserved
 loop-seat-preserved c =
     let i = c.loop-seat.invariant in
     let n = i.known.0 in
-    let main = c.args.main.now in record {
-      main = c.meet-seat.ensures.seat.1 ∙ i.main;
+    let ended = c.args.ended.now in record {
+      ended = c.meet-seat.ensures.seat.1 ∙ i.ended;
       known = (
         n + 1,
         omega (arith, i.known.1, c.in-Some.ensures.steps.1),
-        λ past u l met.
-            let k = i.known.2 past u l met in
-            let h = subst (EachFrom (HasMet c.args.xti.now c.args._lines.now past main.view.seen) (n + 1)) c.in-Some.ensures.steps.0 k.0 in
-            let new = back-follows (n + 1) c.in-Some.seat c.loop-seat.main.view c.meet-seat.result.view main.view.seen u (omega arith) h.0.0 (leads-own main l) h.0.1 (ap (λ (s : SeatView). s.view.seen) i.main) c.meet-seat.ensures.met c.number-number.ensures.standing in
-            (h.1, follow-more c.args._lines.now main.view.seen n k.1 new),
+        λ x past u l met.
+            let k = i.known.2 x past u l met in
+            let h = subst (EachFrom (HasMet x c.args._lines.now past ended.view.seen) (n + 1)) c.in-Some.ensures.steps.0 k.0 in
+            let new = back-follows (n + 1) c.in-Some.seat c.loop-seat.ended.view c.meet-seat.result.view ended.view.seen u (omega arith) h.0.0 (leads-own ended l) h.0.1 (ap (λ (s : SeatView). s.view.seen) i.ended) c.meet-seat.ensures.met c.number-number.ensures.standing in
+            (h.1, follow-more c.args._lines.now ended.view.seen n k.1 new),
       );
     }
 
@@ -48,23 +47,25 @@ pub loop-seat-preserved-in-Some : goal.loop-seat-preserved-in-Some
 loop-seat-preserved-in-Some c =
     let i = c.loop-seat.invariant in
     let n = i.known.0 in
-    let main = c.args.main.now in record {
-      main = c.meet-seat.ensures.seat.1 ∙ i.main;
+    let ended = c.args.ended.now in record {
+      ended = c.meet-seat.ensures.seat.1 ∙ i.ended;
       known = (
         n + 1,
         omega (arith, i.known.1, c.in-Some.ensures.steps.1),
-        λ past u l met.
-            let k = i.known.2 past u l met in
-            let h = subst (EachFrom (HasMet c.args.xti.now c.args._lines.now past main.view.seen) (n + 1)) c.in-Some.ensures.steps.0 k.0 in
-            let new = back-follows (n + 1) c.in-Some.seat c.loop-seat.main.view c.meet-seat.result.view main.view.seen u (omega arith) h.0.0 (leads-own main l) h.0.1 (ap (λ (s : SeatView). s.view.seen) i.main) c.meet-seat.ensures.met c.number-number.ensures.standing in
-            (h.1, follow-more c.args._lines.now main.view.seen n k.1 new),
+        λ x past u l met.
+            let k = i.known.2 x past u l met in
+            let h = subst (EachFrom (HasMet x c.args._lines.now past ended.view.seen) (n + 1)) c.in-Some.ensures.steps.0 k.0 in
+            let new = back-follows (n + 1) c.in-Some.seat c.loop-seat.ended.view c.meet-seat.result.view ended.view.seen u (omega arith) h.0.0 (leads-own ended l) h.0.1 (ap (λ (s : SeatView). s.view.seen) i.ended) c.meet-seat.ensures.met c.number-number.ensures.standing in
+            (h.1, follow-more c.args._lines.now ended.view.seen n k.1 new),
       );
     }
 
-pub returns : goal.returns
-returns c =
-    let b = c.requires.met in
+pub returns-clause-same : goal.returns-clause-same
+returns-clause-same c = c.loop-seat.invariant.ended
+
+pub returns-clause-history : goal.returns-clause-history
+returns-clause-history c = λ x past u l met.
     let i = c.loop-seat.invariant in
-    let k = i.known.2 b.0 b.1 b.2 b.3 in
+    let k = i.known.2 x past u l met in
     let full : i.known.0 ≡ vec_len c.args.seats = omega (arith, i.known.1, c.in-None.ensures.steps.0) in
-    leads-history c.args.main.now b.1 b.2 (omega (arith, c.requires.many)) (λ n lt le. k.1 n lt (omega (arith, le, full)))
+    leads-history c.args.ended.now u l (omega (arith, c.requires.many)) (λ n lt le. k.1 n lt (omega (arith, le, full)))

@@ -1,5 +1,6 @@
 use Rattle.std.proofs.Common.{◌≡◌, ◌+◌, ℕ, List, vec_len}
 use Rattle.xti_model.specs.declared.entry.Entry.{Entry}
+use Rattle.xti_calls.specs.declared.shared.Xti.{Xti}
 use Rattle.xti_threads.specs.Starting.{EachFrom}
 use Rattle.xti_threads.specs.Meeting.{IsSetUp, Leads, HasMet, AllMet}
 use Rattle.xti_threads.proofs.Meetings.{AllFollow}
@@ -7,8 +8,8 @@ use Rattle.xti_threads.proofs.meeting.meet_main.Given as goal
 
 abbrev pub invariant-loop-seat : goal.invariant-loop-seat
 invariant-loop-seat l = record {
-  main : l.main ≡ l.initial.main;
+  ended : l.ended ≡ l.initial.ended;
   known : (n : ℕ) × (n + l.seat-iterator.rest.len ≡ vec_len l.fn.seats)
-      × ((past : List Entry) → IsSetUp l.fn._lines past → Leads l.fn.xti past (vec_len l.fn.seats + 1) l.initial.main → AllMet l.fn.xti l.fn._lines past l.initial.main.view.seen l.fn.seats.items
-      → EachFrom (HasMet l.fn.xti l.fn._lines past l.initial.main.view.seen) (n + 1) l.seat-iterator.rest.items × AllFollow l.fn._lines l.initial.main.view.seen n);
+      × ((x : Xti) (past : List Entry) → IsSetUp l.fn._lines past → Leads x past (vec_len l.fn.seats + 1) l.initial.ended → AllMet x l.fn._lines past l.initial.ended.view.seen l.fn.seats.items
+      → EachFrom (HasMet x l.fn._lines past l.initial.ended.view.seen) (n + 1) l.seat-iterator.rest.items × AllFollow l.fn._lines l.initial.ended.view.seen n);
 }
