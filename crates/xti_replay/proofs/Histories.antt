@@ -24,9 +24,9 @@ use Rattle.xti_core.specs.Standing.{Standing}
 use Rattle.xti_replay.specs.declared.workers.Part.{Part}
 use Rattle.xti_replay.specs.declared.workers.Worker.{Worker}
 use Rattle.xti_replay.specs.Spots.{Spot, spots_of}
-use Rattle.xti_replay.specs.Progress.{Told, Of, AreKept, AreFresh, MayTake, IsAdvance, IsKnown, Repeats, part_going, going_in}
+use Rattle.xti_replay.specs.Progress.{Told, Of, AreFresh, MayTake, IsAdvance, Repeats, part_going, going_in, left_after}
 use Rattle.xti_replay.proofs.Each.{at-worker, of-changed}
-use Rattle.xti_replay.proofs.Lines.{has-next, next_spot, placed_by, placed-spots, told-other}
+use Rattle.xti_replay.proofs.Lines.{has-next, next_spot, placed_by, placed-spots, told-other, unfinished-other, unfinished-begun, unfinished-more}
 use Rattle.xti_replay.proofs.Steps.{advance-begun, advance-more}
 
 last-by : (x : Entry) (past : List Entry) (n : ℕ) (e : Entry) → length past ≡ n → slice_get (x ∷ past) n ≡ Some e → last_worker x.worker past ≡ e.worker
@@ -125,14 +125,18 @@ entry-begins p lines past e rest c h begins = record { spot = spot.0; next = spo
     by None q = q
     by (Some g) q = absurd (doing_it (ap (made_by (unfinished past number)) begins ∙ ap (λ (o : Option Going). made_by o (act.Begin c)) q))
 
-entry-goes : (p : Providers) (lines : List Line) (past : List Entry) (e : Entry) (rest : List Entry) (w : Worker) → IsHistoryOf p lines (past ++ e ∷ rest) → e.act ≡ act.More → Told lines past e.worker w → (part : Part) × (w.part ≡ Some part)
+-- the worker's call that is part way is the one that the entries leave
+abbrev pub HasPart : List Entry → ℕ → Worker → Type 0
+HasPart past number w = part_going w.part ≡ unfinished past number
+
+entry-goes : (p : Providers) (lines : List Line) (past : List Entry) (e : Entry) (rest : List Entry) (w : Worker) → IsHistoryOf p lines (past ++ e ∷ rest) → e.act ≡ act.More → HasPart past e.worker w → (part : Part) × (w.part ≡ Some part)
 entry-goes p lines past e rest w h goes t = by w.part refl
   where
     doing_it : doing past e ≡ None → ⊥
     doing_it = let l = legal-at p (opening p) [] past e rest h.legal in doing-some p l.0 past e l.1
 
     by : (o : Option Part) → w.part ≡ o → (part : Part) × (w.part ≡ Some part)
-    by None q = absurd (doing_it (ap (made_by (unfinished past e.worker)) goes ∙ sym t.part ∙ ap part_going q))
+    by None q = absurd (doing_it (ap (made_by (unfinished past e.worker)) goes ∙ sym t ∙ ap part_going q))
     by (Some x) q = (x, q)
 
 -- Each worker, after the entries so far.
@@ -148,8 +152,13 @@ pub record AreTold (lines : List Line) (past : List Entry) (ws : List Worker) : 
 pub fresh-told : (lines : List Line) (ws : List Worker) → AreFresh lines ws → AreTold lines [] ws
 fresh-told lines ws f = record { many = f.many; each = λ k d lt. let h = f.each k d lt in record { told = h.told; idle = h.idle } }
 
-pub told-kept : (lines : List Line) (past : List Entry) (ws : List Worker) → AreTold lines past ws → AreKept lines past ws
-told-kept lines past ws f = record { many = f.many; each = λ k d lt. let h = f.each k d lt in record { told = h.told; known = subst (IsKnown lines past k) (sym h.idle) tt } }
+-- each worker's call that is part way is the one that the entries leave
+pub record HaveParts (past : List Entry) (ws : List Worker) : Type 0 where
+  pub many : length ws ≡ WORKERS
+  pub each : Of (HasPart past) ws
+
+pub fresh-parts : (lines : List Line) (ws : List Worker) → AreFresh lines ws → HaveParts [] ws
+fresh-parts lines ws f = record { many = f.many; each = λ k d lt. (f.each k d lt).told.part }
 
 pub split-at : (xs : List Entry) (i : ℕ) (d : Entry) → i < length xs → xs ≡ take i xs ++ get_or xs i d ∷ drop (suc i) xs
 split-at [] i d lt = absurd (omega arith)
@@ -185,11 +194,11 @@ module _ {p : Providers} {lines : List Line} {history : List Entry} (h : IsHisto
           (slice_get_within w.places.items w.begun b.spot.place n.place, subst (λ (k : ℕ). k < length lines) (sym place) (slice_get_within lines b.spot.place b.spot.line n.line))
 
   -- its step is that of the worker's call
-  entry-going : (w : Worker) → Told lines past e.worker w → going_in w.part e.act ≡ doing past e
+  entry-going : (w : Worker) → HasPart past e.worker w → going_in w.part e.act ≡ doing past e
   entry-going w t = by e.act refl
     where
       by : (a : Act) → e.act ≡ a → going_in w.part e.act ≡ doing past e
-      by act.More q = ap (going_in w.part) q ∙ t.part ∙ sym (ap (made_by (unfinished past e.worker)) q)
+      by act.More q = ap (going_in w.part) q ∙ t ∙ sym (ap (made_by (unfinished past e.worker)) q)
       by (act.Begin c) q =
           let b = entry-begins p lines past e (drop (suc i) history) c here q in
           ap (going_in w.part) q ∙ sym (ap (made_by (unfinished past e.worker)) q ∙ ap (λ (o : Option Going). made_by o (act.Begin c)) b.whole)
@@ -197,7 +206,7 @@ module _ {p : Providers} {lines : List Line} {history : List Entry} (h : IsHisto
   grown : take (i + 1) history ≡ past ++ e ∷ []
   grown = take_more history i e lt ∙ ap (λ (x : Entry). past ++ x ∷ []) (sym at)
 
-  pub world-step : (w : Worker) (old new : Standing) → Told lines (take i history) e.worker w → old.providers ≡ p → old.cells ≡ after p (take i history) → Repeats w.part e.act old new → new.cells ≡ after p (take (i + 1) history)
+  pub world-step : (w : Worker) (old new : Standing) → HasPart (take i history) e.worker w → old.providers ≡ p → old.cells ≡ after p (take i history) → Repeats w.part e.act old new → new.cells ≡ after p (take (i + 1) history)
   world-step w old new t providers cells r =
       r.cells
       ∙ ap (λ (q : Providers). left_by old.cells (option_and_then (step_going q old.cells) (going_in w.part e.act))) providers
@@ -206,11 +215,29 @@ module _ {p : Providers} {lines : List Line} {history : List Entry} (h : IsHisto
       ∙ sym (after-snoc p (opening p) [] past e)
       ∙ ap (after p) (sym grown)
 
+  -- and it leaves what is left of that call
+  entry-left : (w new : Worker) → HasPart past e.worker w → part_going new.part ≡ left_after w.part e.act e.outcome → HasPart (past ++ e ∷ []) e.worker new
+  entry-left w new t left = by e.act refl
+    where
+      by : (a : Act) → e.act ≡ a → HasPart (past ++ e ∷ []) e.worker new
+      by act.More q =
+          let g = entry-goes p lines past e (drop (suc i) history) w here q t in
+          left ∙ ap (λ (a : Act). left_after w.part a e.outcome) q ∙ sym (unfinished-more past e e.worker g.0 w t g.1 refl q)
+      by (act.Begin c) q = left ∙ ap (λ (a : Act). left_after w.part a e.outcome) q ∙ sym (unfinished-begun past e e.worker c refl q)
+
+  pub parts-step : (ws : List Worker) (w new : Worker) → HaveParts (take i history) ws → w ≡ get_or ws e.worker w → part_going new.part ≡ left_after w.part e.act e.outcome → HaveParts (take (i + 1) history) (set ws e.worker new)
+  parts-step ws w new f is left = subst (λ (es : List Entry). HaveParts es (set ws e.worker new)) (sym grown) (record {
+    many = length-set ws e.worker new ∙ f.many;
+    each = of-changed (HasPart past) (HasPart (past ++ e ∷ [])) ws e.worker new f.each
+        (λ k v ne l t. t ∙ sym (unfinished-other past e k (λ same. ne (sym same))))
+        (λ l. entry-left w new (at-worker (HasPart past) ws e.worker w f.each l is) left);
+  })
+
   entry-told : (w new : Worker) → Told lines (take i history) e.worker w → IsAdvance lines w new e.act e.outcome → Told lines (past ++ e ∷ []) e.worker new
   entry-told w new t a = by e.act refl
     where
       by : (x : Act) → e.act ≡ x → Told lines (past ++ e ∷ []) e.worker new
-      by act.More q = let g = entry-goes p lines past e (drop (suc i) history) w here q t in advance-more lines past e e.worker g.0 w new t g.1 refl q (subst (λ (x : Act). IsAdvance lines w new x e.outcome) q a)
+      by act.More q = let g = entry-goes p lines past e (drop (suc i) history) w here q t.part in advance-more lines past e e.worker g.0 w new t g.1 refl q (subst (λ (x : Act). IsAdvance lines w new x e.outcome) q a)
       by (act.Begin c) q =
           let b = entry-begins p lines past e (drop (suc i) history) c here q in
           advance-begun lines past e e.worker c w new b.spot t (has-next lines past e.worker w b.spot t b.whole b.next) refl q (subst (λ (x : Act). IsAdvance lines w new x e.outcome) q a)

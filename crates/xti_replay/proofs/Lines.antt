@@ -183,13 +183,17 @@ own-same past e worker same =
 begun-other : (past : List Entry) (e : Entry) (worker : ℕ) → e.worker ≢ worker → begun (past ++ e ∷ []) worker ≡ begun past worker
 begun-other past e worker ne = ap (filter (λ (e : Entry). is_begin e.act)) (own-other past e worker ne)
 
+-- another worker's entry leaves the call as it is that is part way
+pub unfinished-other : (past : List Entry) (e : Entry) (worker : ℕ) → e.worker ≢ worker → unfinished (past ++ e ∷ []) worker ≡ unfinished past worker
+unfinished-other past e worker ne = ap (unfinished_from None None) (own-other past e worker ne)
+
 -- another worker's entry changes nothing that is told of a worker
 pub told-other : (lines : List Line) (past : List Entry) (e : Entry) (number : ℕ) (w : Worker) → e.worker ≢ number → Told lines past number w → Told lines (past ++ e ∷ []) number w
 told-other lines past e number w ne t = record {
   places = t.places;
   count = t.count ∙ ap length (sym (begun-other past e number ne));
   names = knows-still lines past (past ++ e ∷ []) number w.names (begun-other past e number ne) t.names;
-  part = t.part ∙ sym (ap (unfinished_from None None) (own-other past e number ne));
+  part = t.part ∙ sym (unfinished-other past e number ne);
 }
 
 -- the worker's next call by its own entries and those of worker 0
@@ -208,7 +212,7 @@ pub next-other : (lines : List Line) (past : List Entry) (e : Entry) (number : �
 next-other lines past e number ne nz = by (unfinished past number) refl
   where
     same : unfinished (past ++ e ∷ []) number ≡ unfinished past number
-    same = ap (unfinished_from None None) (own-other past e number ne)
+    same = unfinished-other past e number ne
 
     by : (u : Option Going) → unfinished past number ≡ u → next_going lines (past ++ e ∷ []) number ≡ next_going lines past number
     by None h =
@@ -227,6 +231,17 @@ begun-same past e worker same begins =
 unfinished-same : (past : List Entry) (e : Entry) (worker : ℕ) → e.worker ≡ worker → unfinished (past ++ e ∷ []) worker ≡ going_after (call_after (call_from None (own past worker)) e.act) e.outcome
 unfinished-same past e worker same = ap (unfinished_from None None) (own-same past e worker same) ∙ unfinished_from-snoc None None (own past worker) e
 
+-- its own entry leaves the rest of the call that it begins
+pub unfinished-begun : (past : List Entry) (e : Entry) (worker : ℕ) (c : Call) → e.worker ≡ worker → e.act ≡ act.Begin c → unfinished (past ++ e ∷ []) worker ≡ going_after (Some c) e.outcome
+unfinished-begun past e worker c same begins = unfinished-same past e worker same ∙ ap (λ (a : Act). going_after (call_after (call_from None (own past worker)) a) e.outcome) begins
+
+-- or of the one that was part way
+pub unfinished-more : (past : List Entry) (e : Entry) (worker : ℕ) (p : Part) (w : Worker) → part_going w.part ≡ unfinished past worker → w.part ≡ Some p → e.worker ≡ worker → e.act ≡ act.More → unfinished (past ++ e ∷ []) worker ≡ going_after (part_call w.part) e.outcome
+unfinished-more past e worker p w t is same goes =
+    let going : unfinished past worker ≡ Some (record { call = p.call; so_far = go.More p.taken }) = sym t ∙ ap part_going is in
+    let call : call_from None (own past worker) ≡ Some p.call = subst (IsCallOf (call_from None (own past worker))) going (call_of-from None None (own past worker) tt) in
+    unfinished-same past e worker same ∙ ap (λ (a : Act). going_after (call_after (call_from None (own past worker)) a) e.outcome) goes ∙ ap (λ (c : Option Call). going_after c e.outcome) (call ∙ sym (ap part_call is))
+
 -- its own entry begins its next line
 pub told-begun : (lines : List Line) (past : List Entry) (e : Entry) (number : ℕ) (c : Call) (w new : Worker) (s : Spot) → Told lines past number w → HasNext lines past number w s
     → e.worker ≡ number → e.act ≡ act.Begin c → new.places ≡ w.places → new.begun ≡ w.begun + 1 → part_going new.part ≡ going_after (Some c) e.outcome
@@ -238,7 +253,7 @@ told-begun lines past e number c w new s t h same begins places count part names
       places = ap (λ (v : Vec ℕ Global). v.items) places ∙ t.places;
       count = count ∙ ap (λ (k : ℕ). k + 1) t.count ∙ sym (length_push (begun past number) e) ∙ ap length (sym grown);
       names = knows-more lines past (past ++ e ∷ []) number s e w.names new.names h.spot grown t.names names;
-      part = part ∙ sym (unfinished-same past e number same ∙ ap (λ (a : Act). going_after (call_after (call_from None (own past number)) a) e.outcome) begins);
+      part = part ∙ sym (unfinished-begun past e number c same begins);
     }
 
 begun-quiet : (past : List Entry) (e : Entry) (worker : ℕ) → e.worker ≡ worker → is_begin e.act ≡ false → begun (past ++ e ∷ []) worker ≡ begun past worker
@@ -253,12 +268,9 @@ pub told-more : (lines : List Line) (past : List Entry) (e : Entry) (number : �
     → Told lines (past ++ e ∷ []) number new
 told-more lines past e number p w new t is same goes places count names part =
     let quiet = begun-quiet past e number same (ap is_begin goes) in
-    let going : unfinished past number ≡ Some (record { call = p.call; so_far = go.More p.taken }) = sym t.part ∙ ap part_going is in
-    let call : call_from None (own past number) ≡ Some p.call = subst (IsCallOf (call_from None (own past number))) going (call_of-from None None (own past number) tt) in
-    let left : part_going new.part ≡ going_after (Some p.call) e.outcome = part ∙ ap (λ (o : Option Part). going_after (part_call o) e.outcome) is in
     record {
       places = ap (λ (v : Vec ℕ Global). v.items) places ∙ t.places;
       count = count ∙ t.count ∙ ap length (sym quiet);
       names = subst (Knows lines (past ++ e ∷ []) number) (sym names) (knows-still lines past (past ++ e ∷ []) number w.names quiet t.names);
-      part = left ∙ sym (unfinished-same past e number same ∙ ap (λ (a : Act). going_after (call_after (call_from None (own past number)) a) e.outcome) goes ∙ ap (λ (c : Option Call). going_after c e.outcome) call);
+      part = part ∙ sym (unfinished-more past e number p w t.part is same goes);
     }

@@ -146,6 +146,10 @@ idle-turn p lines w past k = by (next_going lines past k)
     by None h = refl
     by (Some g) h = absurd cc
 
+-- where all of these are finished, none of them has a turn
+pub no-turn : (p : Providers) (lines : List Line) (w : World) (past : List Entry) (xs : List ℕ) → LeavesOutFinished lines past xs [] → first_turn (turn p lines w past) xs ≡ None
+no-turn p lines w past xs h = ap (first_turn (turn p lines w past)) (sym (append-nil xs)) ∙ first-finished lines past (turn p lines w past) xs [] (idle-turn p lines w past) h
+
 put-append : (b : Bool) (rest lasts : List ℕ) (k : ℕ) → (if b then rest ++ lasts else (rest ++ lasts) ++ k ∷ []) ≡ rest ++ (lasts ++ (if b then [] else k ∷ []))
 put-append true rest lasts k = ap (λ (l : List ℕ). rest ++ l) (sym (append-nil lasts))
 put-append false rest lasts k = append_assoc rest lasts (k ∷ [])
@@ -272,8 +276,7 @@ asked-all past base r many i k through a le = by a.firsts refl
     by : (firsts : List ℕ) → a.firsts ≡ firsts → GoesOn past base r None (next_in past base)
     by (x ∷ rest) e = absurd (let long : length a.firsts ≡ suc (length rest) = ap length e in omega (arith, a.count, le, long))
     by [] e =
-        let none : first_turn (turn_in past base) a.after ≡ None =
-        ap (first_turn (turn_in past base)) (sym (append-nil a.after)) ∙ first-finished base.lines.now past (turn_in past base) a.after [] (λ j h. idle-turn base.world.providers base.lines.now base.world.cells past j h) (subst (LeavesOutFinished base.lines.now past a.after) e a.to_ask) in
+        let none : first_turn (turn_in past base) a.after ≡ None = no-turn base.world.providers base.lines.now base.world.cells past a.after (subst (LeavesOutFinished base.lines.now past a.after) e a.to_ask) in
         let items : r.turns.items ≡ a.lasts ++ a.firsts = a.turns ∙ ap (λ (l : List ℕ). l ++ a.lasts) e ∙ sym (append-nil a.lasts) ∙ ap (λ (l : List ℕ). a.lasts ++ l) (sym e) in
         let turns : AreTurns base.lines.now past r.turns.items =
         subst (λ (l : List ℕ). LeavesOutFinished base.lines.now past l r.turns.items) (sym a.order) (subst (LeavesOutFinished base.lines.now past (a.before ++ a.after)) (sym items) (leaves-append base.lines.now past a.before a.after a.lasts a.firsts a.asked a.to_ask)) in

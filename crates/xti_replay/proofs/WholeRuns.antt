@@ -1,6 +1,6 @@
 -- Turns, one after the other, are the run of the definition.
-use Rattle.std.proofs.Common.{◌≡◌, ℕ, zero, suc, ◌-◌, ◌<◌, ◌⊎◌, inl, inr, true, false, List, [], ◌∷◌, ◌++◌, Option, Some, None, refl, sym, ap, ◌∙◌, subst, arith}
-use Rattle.std.specs.Prelude.{◌↔◌}
+use Rattle.std.proofs.Common.{◌≡◌, ℕ, zero, suc, ◌-◌, ◌<◌, ◌⊎◌, inl, inr, Bool, true, false, List, [], ◌∷◌, ◌++◌, Option, Some, None, refl, sym, ap, ◌∙◌, subst, arith}
+use Rattle.std.specs.Prelude.{◌↔◌, if◌then◌else◌}
 use Rattle.std.specs.List.{list_all}
 use Rattle.std.proofs.lemmas.Bool.{and_parts, eqb-true}
 use Rattle.std.proofs.lemmas.Option.{none-some, same_Some}
@@ -12,12 +12,14 @@ use Rattle.xti_model.specs.declared.script.StallLine.{StallLine}
 use Rattle.xti_model.specs.declared.profile.Providers.{Providers}
 use Rattle.xti_model.specs.World.{World, opening}
 use Rattle.xti_model.specs.History.{after}
-use Rattle.xti_model.specs.Robin.{is_through, last_worker, Turn, next_turn, robin_from, robin, most_steps}
+use Rattle.xti_model.specs.Robin.{is_through, last_worker, order_after, whose_turn, Turn, turn, first_turn, next_turn, robin_from, robin, most_steps}
 use Rattle.xti_model.specs.Complete.{is_setup, setup_first, IsHistoryOf}
 use Rattle.xti_model.proofs.Completing.{last-within}
 use Rattle.xti_replay.specs.declared.run.Run.{Run}
 use Rattle.xti_replay.specs.Runs.{StandsAfter, GoesOn, Leads, IsWhole, gone_on}
 use Rattle.xti_replay.specs.Stalls.{stalls_after, are_through}
+use Rattle.xti_replay.specs.Turns.{AreTurns}
+use Rattle.xti_replay.proofs.OthersAsked.{no-turn}
 use Rattle.xti_replay.proofs.StallLines.{stalls-through}
 
 -- The beginning.
@@ -49,6 +51,22 @@ turned p lines m w past = by (next_turn p lines w past)
     by : (o : Option Turn) → ◌≡◌ {A = List Entry} (elim o [ None ↦ past | Some t ↦ robin_from p lines m t.world (past ++ t.entry ∷ []) ]) (runs_on p lines m past o)
     by None = refl
     by (Some t) = refl
+
+-- where nobody is left no entry follows, whatever the world
+none-follow : (p : Providers) (lines : List Line) (more : ℕ) (w : World) (past : List Entry) → is_through lines past 0 ≡ true → AreTurns lines past [] → robin_from p lines more w past ≡ past
+unfolding runs_on
+none-follow p lines zero w past through turns = refl
+none-follow p lines (suc m) w past through turns =
+    let order : whose_turn lines past ≡ order_after (last_worker 0 past) = ap (λ (b : Bool). if b then order_after (last_worker 0 past) else 0 ∷ []) through in
+    let none : next_turn p lines w past ≡ None = ap (first_turn (turn p lines w past)) order ∙ no-turn p lines w past (order_after (last_worker 0 past)) turns in
+    turned p lines m w past ∙ ap (runs_on p lines m past) none
+
+-- so it is all the same from which world the run goes on
+pub same-end : (p : Providers) (lines : List Line) (more : ℕ) (v w : World) (past : List Entry) (r : Run) → StandsAfter past r → r.lines.now ≡ lines → is_through r.lines.now past 0 ≡ true → r.turns.items ≡ [] → robin_from p lines more v past ≡ robin_from p lines more w past
+same-end p lines more v w past r k is through none =
+    let through_all : is_through lines past 0 ≡ true = subst (λ (ls : List Line). is_through ls past 0 ≡ true) is through in
+    let turns : AreTurns lines past [] = subst (λ (ls : List Line). AreTurns ls past []) is (subst (AreTurns r.lines.now past) none k.turns) in
+    none-follow p lines more v past through_all turns ∙ sym (none-follow p lines more w past through_all turns)
 
 abbrev pub turn_of_run : List Entry → Run → Option Turn
 turn_of_run past r = next_turn r.world.providers r.lines.now r.world.cells past

@@ -3,6 +3,8 @@
 ghost use Rattle.std.specs.Prelude.{◌≡◌, ◌+◌, ◌-◌, ◌++◌, ◌≤◌, ◌<◌, ℕ, List, [], length, take, IfOk, OnOk, true};
 ghost use Rattle.xti_base.specs.declared.limits.TheConstants.{WORKERS};
 ghost use Rattle.xti_model.specs.declared.entry.Entry.{Entry};
+ghost use Rattle.xti_model.specs.declared.profile.Providers.{Providers};
+ghost use Rattle.xti_model.specs.declared.script.Line.{Line};
 ghost use Rattle.xti_model.specs.Complete.{IsHistoryOf};
 ghost use Rattle.xti_model.specs.History.{after, left_by};
 ghost use Rattle.xti_model.specs.Robin.{is_through, last_worker, numbers, order_after};
@@ -10,7 +12,7 @@ ghost use Rattle.xti_model.specs.Step.{step};
 ghost use Rattle.xti_model.specs.World.{opening};
 ghost use Rattle.xti_core.specs.Standing.{Standing};
 ghost use Rattle.xti_replay.specs.Playable.{are_playable};
-ghost use Rattle.xti_replay.specs.Progress.{AreKept, AreFresh, IsAdvance, MayTake, Repeats};
+ghost use Rattle.xti_replay.specs.Progress.{AreKept, AreFresh, Repeats};
 ghost use Rattle.xti_replay.specs.Turns.{AddsTurns, AreTurnsOf};
 
 use crate::workers::{Worker, put_back};
@@ -66,43 +68,43 @@ fn repeat(world: &mut World, worker: &Worker, act: &Act) -> Result<(), AllocErro
     }
 }
 
-/// The worker's next entry is one of the history: the world and the worker come to stand after it.
-fn pass(
+/// The workers after the history.
+pub(crate) fn workers_after(
     alloc: Global,
     lines: &[Line],
-    world: &mut World,
-    worker: &mut Worker,
-    entry: &Entry,
-) -> Result<(), AllocError>
-    requires { MayTake lines.now worker.old entry.now.act }
-    ensures next { worker.new.next ≡ worker.old.next }
-    ensures advance { OnOk result (IsAdvance lines.now worker.old worker.new entry.now.act entry.now.outcome) }
-    ensures world { OnOk result (Repeats worker.old.part entry.now.act world.old world.new) }
-{
-    repeat(world, worker, &entry.act)?;
-    worker.advance(alloc, lines, &entry.act, &entry.outcome)
-}
-
-/// The workers after the history, through which the world goes from the opening one on.
-pub(crate) fn go_through(
-    alloc: Global,
-    lines: &[Line],
-    world: &mut World,
     history: &[Entry],
 ) -> Result<Vec<Worker>, AllocError>
     requires lines { are_playable lines.now ≡ true }
-    requires history { IsHistoryOf world.old.providers lines.now history.now }
-    requires opening { world.old.cells ≡ opening world.old.providers }
-    ensures workers { IfOk result (λ ws. AreKept lines.now history.now ws.items) }
-    ensures cells { OnOk result (world.new.cells ≡ after world.old.providers history.now) }
-    ensures providers { OnOk result (world.new.providers ≡ world.old.providers) }
+    requires history { (p : Providers) × IsHistoryOf p lines.now history.now }
+    ensures { IfOk result (λ ws. AreKept lines.now history.now ws.items) }
 {
     let mut workers = fresh_workers(alloc, lines)?;
     for entry in history {
         let worker = &mut workers[entry.worker as usize];
-        pass(alloc, lines, world, worker, entry)?;
+        worker.advance(alloc, lines, &entry.act, &entry.outcome)?;
     }
     Ok(workers)
+}
+
+/// The world goes through the history, from the opening one on.
+pub(crate) fn go_through(
+    alloc: Global,
+    world: &mut World,
+    history: &[Entry],
+) -> Result<(), AllocError>
+    requires history { (lines : List Line) × IsHistoryOf world.old.providers lines history.now }
+    requires opening { world.old.cells ≡ opening world.old.providers }
+    ensures cells { OnOk result (world.new.cells ≡ after world.old.providers history.now) }
+    ensures providers { OnOk result (world.new.providers ≡ world.old.providers) }
+{
+    // Of these no more is kept than their calls that are part way.
+    let mut workers = idle_workers(alloc)?;
+    for entry in history {
+        let worker = &mut workers[entry.worker as usize];
+        repeat(world, worker, &entry.act)?;
+        worker.keep_left(&entry.act, &entry.outcome)?;
+    }
+    Ok(())
 }
 
 /// The worker of the last entry; 0 where there is none.

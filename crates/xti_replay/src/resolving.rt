@@ -160,32 +160,31 @@ impl<'a> Scope<'a> {
         requires none { act.old ≡ More }
         ensures { OnOk result (act.new ≡ Begin (with_numbers (meanings_in self.now) call.now)) }
     {
-        match call {
-            NamedCall::TConnect {
-                fd,
-                addr,
-                opt,
-                udata,
-                amax,
-                omax,
-                umax,
-            } => {
-                set(
-                    act,
-                    Call::TConnect {
-                        fd: self.fd(fd),
-                        addr: addr.copy()?,
-                        opt: opt.copy()?,
-                        udata: udata.copy()?,
-                        amax: *amax,
-                        omax: *omax,
-                        umax: *umax,
-                    },
-                );
-                Ok(())
-            }
-            _ => unreachable!(),
-        }
+        let NamedCall::TConnect {
+            fd,
+            addr,
+            opt,
+            udata,
+            amax,
+            omax,
+            umax,
+        } = call
+        else {
+            unreachable!()
+        };
+        set(
+            act,
+            Call::TConnect {
+                fd: self.fd(fd),
+                addr: addr.copy()?,
+                opt: opt.copy()?,
+                udata: udata.copy()?,
+                amax: *amax,
+                omax: *omax,
+                umax: *umax,
+            },
+        );
+        Ok(())
     }
 
     /// The call that accepts a connection, refuses or breaks one.

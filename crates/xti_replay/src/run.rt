@@ -10,7 +10,7 @@ ghost use Rattle.xti_replay.specs.Runs.{gone_on, IsRunOf, StandsAfter, StandsPas
 ghost use Rattle.xti_replay.specs.Progress.{made_by};
 
 use crate::asking::ask;
-use crate::beginning::{go_through, turns_after};
+use crate::beginning::{go_through, turns_after, workers_after};
 use crate::stalling::stall_lines;
 use crate::workers::{Worker, put_back};
 use std::alloc::{AllocError, Global};
@@ -53,9 +53,14 @@ impl<'a> Run<'a> {
         ensures { IfOk result (λ run. IsRunOf s.now (gone_on s.now history.now) history.now run) }
     {
         let lines = s.lines.as_slice();
-        let mut world = World::fresh(alloc, &s.providers)?;
-        let workers = go_through(alloc, lines, &mut world, history)?;
+        let workers = workers_after(alloc, lines, history)?;
         let turns = turns_after(alloc, workers.as_slice(), history)?;
+        let mut world = World::fresh(alloc, &s.providers)?;
+        let done = workers[0].is_finished() && turns.is_empty();
+        if !done {
+            // Where nobody is left no step is made in the world any more.
+            go_through(alloc, &mut world, history)?;
+        }
         Ok(Run {
             alloc,
             lines,

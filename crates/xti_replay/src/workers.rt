@@ -238,6 +238,21 @@ impl Worker {
         }
     }
 
+    /// Keeps what is left of its call after an entry of it.
+    #[inline(always)]
+    pub(crate) fn keep_left(&mut self, act: &Act, outcome: &Outcome) -> Result<(), AllocError>
+        ensures part { OnOk result (part_going self.new.part ≡ left_after self.old.part act.now outcome.now) }
+        ensures others { KeepsAllButPart self.old self.new }
+    {
+        match act {
+            Act::Begin(call) => self.begin_part(call, outcome),
+            Act::More => {
+                self.go_on(outcome);
+                Ok(())
+            }
+        }
+    }
+
     /// An entry of the worker is made: its next line is begun, or its call goes on.
     #[inline(always)]
     pub fn advance(
@@ -254,16 +269,10 @@ impl Worker {
         ensures part { OnOk result (part_going self.new.part ≡ left_after self.old.part act.now outcome.now) }
         ensures names { OnOk result (LearnsEntry lines.now act.now outcome.now self.old self.new) }
     {
-        match act {
-            Act::Begin(call) => {
-                self.begin(alloc, lines, outcome)?;
-                self.begin_part(call, outcome)
-            }
-            Act::More => {
-                self.go_on(outcome);
-                Ok(())
-            }
+        if let Act::Begin(_) = act {
+            self.begin(alloc, lines, outcome)?;
         }
+        self.keep_left(act, outcome)
     }
 }
 
