@@ -1,7 +1,7 @@
 //! A plain program in Rust for comparison, with nothing proved: it replays scripts whose one worker opens, binds, sends and
 //! receives datagrams, in the stages of `xti replay`, and prints the same journal. `tools/measure-steps` measures either.
 //!
-//! usage: rustc -O -o /tmp/plain-replay tools/plain-replay.rs && tools/measure-steps /tmp/plain-replay
+//! usage: rustc --edition 2021 -O -o /tmp/plain-replay tools/plain-replay.rs && tools/measure-steps /tmp/plain-replay
 
 use std::collections::{BTreeMap, BTreeSet, VecDeque};
 use std::io::{self, Read, Write};
