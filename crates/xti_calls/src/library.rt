@@ -1,6 +1,7 @@
 //! The library: a hall and its seats.
 
 ghost use Rattle.std.specs.Prelude.{◌≡◌, None, length, true, IfOk, OnErr, MatchResult};
+ghost use mathlib.Core.List.{IsPrefix};
 ghost use Rattle.xti_model.specs.declared.entry.Go.TheVariants.{Begin};
 ghost use Rattle.xti_model.specs.History.{unfinished_from};
 ghost use Rattle.xti_model.specs.Profile.{valid};
@@ -82,11 +83,13 @@ impl Model for Ended {
 }
 
 impl Ended {
-    /// Another seat of the library, which has then seen the whole history. Takes no memory, and waits for nobody.
+    /// Another seat of the library, which has then seen the whole history. `whole`: it hadn't seen more. Takes no memory, and waits
+    /// for nobody.
     pub fn meet(&mut self, other: Seat) -> Seat
         requires { AreOfOneHall other self.old }
         ensures seat { IsSameSeat other result × (self.new ≡ self.old) }
         ensures met { Meets other.view self.old.view result.view }
+        ensures whole { IsPrefix other.view.seen self.old.view.seen }
     {
         let Seat { seat, lent } = other;
         let seat = self.hall.meet(seat);

@@ -140,9 +140,15 @@ pub record Looks (v v' : View) : Type 0 where
   pub journal : v'.journal ≡ v.journal
   pub seen : IsPrefix v.seen v'.seen
 
--- the same seat, whose journal counts as given back
+-- the seat has taken the journal out, and has seen all of the history in it, which is this one
+pub record HasTaken (v : View) (history : List Entry) : Type 0 where
+  pub taken : v.journal ≡ true
+  pub found : v.history ≡ history
+  pub seen : v.seen ≡ history
+
+-- the same seat, whose journal counts as given back, and which counts as told nothing
 abbrev pub shut : SeatView → SeatView
-shut s = record s { view = record s.view { journal = false } }
+shut s = record s { view = record s.view { journal = false; heard = [] } }
 
 -- one hall made both seats
 abbrev pub AreOfOneHall : SeatView → SeatView → Type 0

@@ -1,6 +1,7 @@
 //! A hall at its end.
 
 ghost use Rattle.std.specs.Prelude.{◌≡◌};
+ghost use mathlib.Core.List.{IsPrefix};
 ghost use Rattle.xti_hall.specs.Seats.{AreOfOneHall, Meets};
 ghost use Rattle.xti_hall.specs.Words.{IsSameSeat};
 
@@ -20,24 +21,28 @@ pub struct Ended<C: Stands> {
 }
 
 impl<C: Stands> Model for Ended<C> {
-    ghost use Rattle.std.specs.Prelude.{◌≡◌};
-    ghost use Rattle.xti_hall.specs.Seats.{SeatView, shut};
+    ghost use Rattle.xti_hall.specs.Seats.{SeatView, shut, HasTaken};
     ghost use Rattle.xti_hall.specs.Words.{IsSeatOf};
 
     ghost Value = { SeatView };
 
     ghost view = { λ e. shut e.seat };
 
-    ghost invariant = { λ e. IsSeatOf e.hall e.seat × (e.history ≡ e.seat.view.seen) };
+    ghost invariant = { λ e. IsSeatOf e.hall e.seat × HasTaken e.seat.view e.history };
 }
 
 impl<C: Stands> Ended<C> {
-    /// Another seat of the hall, which has then seen the whole history. Takes no memory, and waits for nobody.
+    /// Another seat of the hall, which has then seen the whole history. `whole`: it hadn't seen more. Takes no memory, and waits
+    /// for nobody.
     pub fn meet(&mut self, other: Seat<C>) -> Seat<C>
         requires { AreOfOneHall other self.old }
         ensures hall { IsSameSeat other result × (self.new ≡ self.old) }
         ensures met { Meets other.view self.old.view result.view }
+        ensures whole { IsPrefix other.view.seen self.old.view.seen }
     {
+        let mut other = other;
+        self.hall.tell(&mut self.seat, &mut other);
+        let _length = self.hall.length(&mut self.seat);
         self.hall.meet(other, &mut self.seat)
     }
 

@@ -61,21 +61,20 @@ impl<C: Stands> Hall<C> {
         ensures hall { (result.hall ≡ seat.hall) × (result.id ≡ seat.id) × (other.new ≡ other.old) }
         ensures met { Meets seat.view other.old.view result.view }
     {
-        let mut first = self.tell(seat, other);
+        let mut first = seat;
+        self.tell(&mut first, other);
         let _length = self.length(&mut first);
         first
     }
 
     /// The first seat is told what the second has seen.
-    fn tell(&self, seat: Seat<C>, other: &mut Seat<C>) -> Seat<C>
-        requires hall { IsSeatOf self.now seat × IsSeatOf self.now other.old }
-        ensures hall { (result.hall ≡ seat.hall) × (result.id ≡ seat.id) × (other.new ≡ other.old) }
-        ensures told { result.view ≡ told seat.view other.old.view }
+    pub(crate) fn tell(&self, seat: &mut Seat<C>, other: &mut Seat<C>)
+        requires hall { IsSeatOf self.now seat.old × IsSeatOf self.now other.old }
+        ensures hall { IsSameSeat seat.old seat.new × (other.new ≡ other.old) }
+        ensures told { seat.new.view ≡ told seat.old.view other.old.view }
     {
-        let mut first = seat;
         let note = self.table.shared.split_seat::<Note>(&mut other.pass);
-        self.table.shared.join_seat::<Note>(&mut first.pass, note);
-        first
+        self.table.shared.join_seat::<Note>(&mut seat.pass, note);
     }
 
     /// The length of the history, all of which the seat has then seen. Takes no memory, and waits for nobody.

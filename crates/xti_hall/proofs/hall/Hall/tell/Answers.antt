@@ -12,9 +12,9 @@ split_seat-note-requires g c = let sized = c.args.self.now.sized in let is = ap 
 
 pub join_seat-requires : goal.join_seat-requires
 join_seat-requires g c = let sized = c.args.self.now.sized in let e = c.split_seat-note.ensures in (
-  ap (λ s. s.hall) c.first.view_is ∙ c.requires.hall.0.0,
+  ap (λ s. s.hall) c.seat.view_is ∙ c.requires.hall.0.0,
   e.3 ∙ (ap (λ s. s.hall) c.other.view_is ∙ c.requires.hall.1.0),
   ap (λ m. m.1) e.4,
   omega arith,
-  joins_note (g.C.Stands.stands c.args.self.now.table.shared.key) c.args.self.now.table.shared.key _ _ _ c.other.inside.pass.me.0 c.split_seat-note.result.me.0 c.first.invariant.1.live c.other.invariant.1.live (ap (λ m. m.0) e.4),
+  joins_note (g.C.Stands.stands c.args.self.now.table.shared.key) c.args.self.now.table.shared.key _ _ _ c.other.inside.pass.me.0 c.split_seat-note.result.me.0 c.seat.invariant.1.live c.other.invariant.1.live (ap (λ m. m.0) e.4),
 )
