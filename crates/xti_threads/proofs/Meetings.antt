@@ -1,4 +1,4 @@
--- Main's seat meets the seats that came back, and they meet main's.
+-- The seats that came back meet main's, which has ended the library.
 use Rattle.std.specs.Prelude.{ℕ, ◌+◌, ◌<◌, ◌≤◌, nat_lt, Bool, true, false, List, [], ◌++◌, ◌≡◌}
 use Rattle.std.proofs.Common.{refl, sym, ap, subst, ◌∙◌, arith, append_assoc}
 use Rattle.std.proofs.lemmas.Bool.Decides.{nat_tests}
@@ -19,29 +19,13 @@ use Rattle.xti_hall.specs.Words.{IsSameSeat}
 use Rattle.xti_calls.specs.declared.shared.Xti.{Xti}
 use Rattle.xti_calls.specs.Library.{providers_of}
 use Rattle.xti_threads.specs.Working.{CameBack}
-use Rattle.xti_threads.specs.Meeting.{IsSetUp, Leads, HasMet, AllMet}
+use Rattle.xti_threads.specs.Meeting.{IsSetUp, Leads}
 use Rattle.xti_threads.proofs.Owned.{follows-same, own-again, own-another, history-whole}
-use Rattle.xti_threads.proofs.Threads.{from_map}
 
 pub prefix-then : (xs ys zs : List Entry) → IsPrefix xs ys → IsPrefix ys zs → IsPrefix xs zs
 prefix-then xs ys zs a b = (a.0 ++ b.0, sym (append_assoc xs a.0 b.0) ∙ (ap (λ l. l ++ b.0) a.1 ∙ b.1))
 
--- what main's seat has seen has grown
-pub met-grown : (x : Xti) (lines : List Line) (setup h g : List Entry) (seats : List SeatView) → IsPrefix h g → AllMet x lines setup h seats → AllMet x lines setup g seats
-met-grown x lines setup h g seats p = from_map (HasMet x lines setup h) (HasMet x lines setup g) 1 seats (λ n s le m. (m.0, prefix-then s.view.seen h g m.1 p))
-
--- main's seat after it met another
-pub leads-meets : {x : Xti} {setup : List Entry} {next : ℕ} (s s' : SeatView) (w : View) → Leads x setup next s → IsSameSeat s s' → Meets s.view w s'.view → IsStanding s'.view → Leads x setup next s'
-leads-meets {x} {setup} {next} s s' w l same m standing = record {
-  of_x = (same.0 ∙ l.of_x.0, m.setting ∙ l.of_x.1);
-  next_is = m.next ∙ l.next_is;
-  number_is = m.number ∙ l.number_is;
-  mine = m.mine ∙ l.mine;
-  begins = prefix-then setup s.view.seen s'.view.seen l.begins m.first;
-  standing = standing;
-}
-
--- and after it read the history
+-- main's seat after it ended the library
 pub leads-looks : {x : Xti} {setup : List Entry} {next : ℕ} (s s' : SeatView) → Leads x setup next s → IsSameSeat s s' → Looks s.view s'.view → IsStanding s'.view → Leads x setup next s'
 leads-looks {x} {setup} {next} s s' l same m standing = record {
   of_x = (same.0 ∙ l.of_x.0, m.setting ∙ l.of_x.1);
@@ -51,14 +35,6 @@ leads-looks {x} {setup} {next} s s' l same m standing = record {
   begins = prefix-then setup s.view.seen s'.view.seen l.begins m.seen;
   standing = standing;
 }
-
--- and after it ended the library, beside the seats that it had met
-pub leads-end : {x : Xti} (lines : List Line) {setup : List Entry} (n many : ℕ) (s s' : SeatView) (seats : List SeatView) → n ≡ many → Leads x setup (many + 1) s → AllMet x lines setup s.view.seen seats → IsSameSeat s s' → Looks s.view s'.view → IsStanding s'.view
-    → Leads x setup (n + 1) s' × AllMet x lines setup s'.view.seen seats
-leads-end {x} lines {setup} n many s s' seats same_count l met same looks standing = (
-  subst (λ (k : ℕ). Leads x setup (k + 1) s') (sym same_count) (leads-looks s s' l same looks standing),
-  met-grown x lines setup s.view.seen s'.view.seen seats looks.seen met,
-)
 
 -- worker 0's entries are those of the setup
 pub leads-own : {x : Xti} {setup : List Entry} {next : ℕ} (s : SeatView) → Leads x setup next s → own 0 s.view.seen ≡ own 0 setup

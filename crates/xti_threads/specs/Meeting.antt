@@ -10,8 +10,6 @@ use Rattle.xti_rule.specs.Histories.{own}
 use Rattle.xti_hall.specs.Seats.{SeatView, IsStanding}
 use Rattle.xti_calls.specs.declared.shared.Xti.{Xti}
 use Rattle.xti_calls.specs.Library.{IsOf}
-use Rattle.xti_threads.specs.Working.{CameBack}
-use Rattle.xti_threads.specs.Starting.{EachFrom}
 
 -- worker 0 alone has made calls, those of its lines, and is finished
 pub record IsSetUp (lines : List Line) (past : List Entry) : Type 0 where
@@ -36,10 +34,3 @@ pub record Before (x : Xti) (setup : List Entry) (next : ℕ) (s : SeatView) : T
   pub mine : s.view.mine ≡ own 0 setup
   pub seen : s.view.seen ≡ setup
   pub standing : IsStanding s.view
-
--- a seat that came back, all of whose history was seen
-abbrev pub HasMet : Xti → List Line → List Entry → List Entry → ℕ → SeatView → Type 0
-HasMet x lines setup history number s = CameBack x lines setup number s × IsPrefix s.view.seen history
-
-abbrev pub AllMet : Xti → List Line → List Entry → List Entry → List SeatView → Type 0
-AllMet x lines setup history seats = EachFrom (HasMet x lines setup history) 1 seats

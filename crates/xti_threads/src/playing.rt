@@ -69,7 +69,7 @@ fn play_jobs<G: Gate, R: Threads + Wait + Sync>(
     xti.rest(rt, &mut main);
     let _number = main.number();
     let seats = run_all(rt, alloc, &xti, lines, setup, gate, jobs)?;
-    meet_all(rt, alloc, xti, lines, main, seats)
+    Ok(meet_all(rt, xti, lines, main, seats))
 }
 
 /// Plays the workers but 0 after the setup, each on a thread: the history that all have made.

@@ -1,7 +1,8 @@
 use Rattle.std.proofs.Common.{arith, ap, sym, subst, refl, ◌∙◌, ◌≡◌, ◌+◌, vec_len}
+use mathlib.Core.List.{IsPrefix}
 use Rattle.xti_hall.specs.Seats.{SeatView, AreOfOneHall}
+use Rattle.xti_threads.specs.Working.{CameBack}
 use Rattle.xti_threads.specs.Starting.{EachFrom}
-use Rattle.xti_threads.specs.Meeting.{HasMet, AllMet}
 use Rattle.xti_threads.proofs.Meetings.{leads-own, back-follows, leads-history, follow-more}
 use Rattle.xti_threads.proofs.meeting.meet_main.Goals as goal
 
@@ -11,8 +12,8 @@ loop-seat-init c = record {
   known = (
     0,
     omega (arith, c.into_iter-seat-iterator.ensures.into_iter_gives.1),
-    λ x past u l met. (
-      subst (AllMet x c.args._lines.now past c.args.ended.now.view.seen) (sym c.into_iter-seat-iterator.ensures.into_iter_gives.0) met,
+    λ x past u l all. (
+      subst (EachFrom (CameBack x c.args._lines.now past) 1) (sym c.into_iter-seat-iterator.ensures.into_iter_gives.0) all,
       λ k lt le. absurd (omega arith),
     ),
   );
@@ -20,10 +21,10 @@ loop-seat-init c = record {
 
 pub meet-seat-requires : goal.meet-seat-requires
 meet-seat-requires c =
-    let b = c.requires.met in
+    let b = c.requires.back in
     let i = c.loop-seat.invariant in
     let k = i.known.2 b.0 b.1 b.2 b.3 b.4 in
-    let s = (subst (EachFrom (HasMet b.0 c.args._lines.now b.1 c.args.ended.now.view.seen) (i.known.0 + 1)) c.in-Some.ensures.steps.0 k.0).0.0 in
+    let s = (subst (EachFrom (CameBack b.0 c.args._lines.now b.1) (i.known.0 + 1)) c.in-Some.ensures.steps.0 k.0).0 in
     subst (AreOfOneHall c.in-Some.seat) (sym i.ended) (s.of_x.0 ∙ sym b.3.of_x.0, s.of_x.1 ∙ sym b.3.of_x.1)
 
 pub loop-seat-preserved : goal.loop-seat-preserved
@@ -35,10 +36,11 @@ loop-seat-preserved c =
       known = (
         n + 1,
         omega (arith, i.known.1, c.in-Some.ensures.steps.1),
-        λ x past u l met.
-            let k = i.known.2 x past u l met in
-            let h = subst (EachFrom (HasMet x c.args._lines.now past ended.view.seen) (n + 1)) c.in-Some.ensures.steps.0 k.0 in
-            let new = back-follows (n + 1) c.in-Some.seat c.loop-seat.ended.view c.meet-seat.result.view ended.view.seen u (omega arith) h.0.0 (leads-own ended l) h.0.1 (ap (λ (s : SeatView). s.view.seen) i.ended) c.meet-seat.ensures.met c.number-number.ensures.standing in
+        λ x past u l all.
+            let k = i.known.2 x past u l all in
+            let h = subst (EachFrom (CameBack x c.args._lines.now past) (n + 1)) c.in-Some.ensures.steps.0 k.0 in
+            let whole = subst (λ (s : SeatView). IsPrefix c.in-Some.seat.view.seen s.view.seen) i.ended c.meet-seat.ensures.whole in
+            let new = back-follows (n + 1) c.in-Some.seat c.loop-seat.ended.view c.meet-seat.result.view ended.view.seen u (omega arith) h.0 (leads-own ended l) whole (ap (λ (s : SeatView). s.view.seen) i.ended) c.meet-seat.ensures.met c.number-number.ensures.standing in
             (h.1, follow-more c.args._lines.now ended.view.seen n k.1 new),
       );
     }
@@ -52,10 +54,11 @@ loop-seat-preserved-in-Some c =
       known = (
         n + 1,
         omega (arith, i.known.1, c.in-Some.ensures.steps.1),
-        λ x past u l met.
-            let k = i.known.2 x past u l met in
-            let h = subst (EachFrom (HasMet x c.args._lines.now past ended.view.seen) (n + 1)) c.in-Some.ensures.steps.0 k.0 in
-            let new = back-follows (n + 1) c.in-Some.seat c.loop-seat.ended.view c.meet-seat.result.view ended.view.seen u (omega arith) h.0.0 (leads-own ended l) h.0.1 (ap (λ (s : SeatView). s.view.seen) i.ended) c.meet-seat.ensures.met c.number-number.ensures.standing in
+        λ x past u l all.
+            let k = i.known.2 x past u l all in
+            let h = subst (EachFrom (CameBack x c.args._lines.now past) (n + 1)) c.in-Some.ensures.steps.0 k.0 in
+            let whole = subst (λ (s : SeatView). IsPrefix c.in-Some.seat.view.seen s.view.seen) i.ended c.meet-seat.ensures.whole in
+            let new = back-follows (n + 1) c.in-Some.seat c.loop-seat.ended.view c.meet-seat.result.view ended.view.seen u (omega arith) h.0 (leads-own ended l) whole (ap (λ (s : SeatView). s.view.seen) i.ended) c.meet-seat.ensures.met c.number-number.ensures.standing in
             (h.1, follow-more c.args._lines.now ended.view.seen n k.1 new),
       );
     }
@@ -64,8 +67,8 @@ pub returns-clause-same : goal.returns-clause-same
 returns-clause-same c = c.loop-seat.invariant.ended
 
 pub returns-clause-history : goal.returns-clause-history
-returns-clause-history c = λ x past u l met.
+returns-clause-history c = λ x past u l all.
     let i = c.loop-seat.invariant in
-    let k = i.known.2 x past u l met in
+    let k = i.known.2 x past u l all in
     let full : i.known.0 ≡ vec_len c.args.seats = omega (arith, i.known.1, c.in-None.ensures.steps.0) in
     leads-history c.args.ended.now u l (omega (arith, c.requires.many)) (λ n lt le. k.1 n lt (omega (arith, le, full)))
