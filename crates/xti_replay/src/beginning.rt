@@ -97,6 +97,9 @@ pub(crate) fn go_through(
     ensures cells { OnOk result (world.new.cells ≡ after world.old.providers history.now) }
     ensures providers { OnOk result (world.new.providers ≡ world.old.providers) }
 {
+    if history.is_empty() {
+        return Ok(());
+    }
     // Of these no more is kept than their calls that are part way.
     let mut workers = idle_workers(alloc)?;
     for entry in history {
