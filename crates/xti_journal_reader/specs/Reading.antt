@@ -268,7 +268,7 @@ pub data LineRead : Type 0 where
   Stalled : StepRead → LineRead
   Ended : LineRead
 
--- what is read of a line, where this entry was written if it is one
+-- what a line that was read says; an entry was written in its place, and is this one
 abbrev pub line_read : Entry → Line → LineRead
 line_read e line.Entry = Entered (entry_read e)
 line_read e (line.Stall s) = Stalled (stall_read s)

@@ -12,7 +12,7 @@ use crate::writing::write_over;
 use xti_base::{Fd, Info, Seq};
 use xti_model::{Outcome, Reply};
 
-/// An answer that tells of an endpoint or of a provider.
+/// Writes an answer that tells of an endpoint or of a provider.
 #[tactic(auto, unfolding(crate::specs::Fields::field, crate::specs::Calls::answer_form))]
 fn read_report(answer: Answer, fields: &mut Fields, outcome: &mut Outcome) -> Result<(), FieldFail>
     requires family { is_report answer ≡ true }
@@ -59,7 +59,7 @@ fn read_report(answer: Answer, fields: &mut Fields, outcome: &mut Outcome) -> Re
     Ok(())
 }
 
-/// An answer that tells of a connection, of data or of a datagram.
+/// Writes an answer that tells of a connection, of data or of a datagram.
 #[tactic(auto, unfolding(crate::specs::Fields::field, crate::specs::Calls::answer_form))]
 fn read_news(answer: Answer, fields: &mut Fields, outcome: &mut Outcome) -> Result<(), FieldFail>
     requires family { is_news answer ≡ true }
@@ -107,7 +107,7 @@ fn read_news(answer: Answer, fields: &mut Fields, outcome: &mut Outcome) -> Resu
     Ok(())
 }
 
-/// An error.
+/// Writes an error.
 #[tactic(auto, unfolding(crate::specs::Fields::field, crate::specs::Calls::answer_form))]
 fn read_error(answer: Answer, fields: &mut Fields, outcome: &mut Outcome) -> Result<(), FieldFail>
     requires family { is_error answer ≡ true }

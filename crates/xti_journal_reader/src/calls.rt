@@ -12,7 +12,7 @@ use crate::writing::write_over;
 use xti_base::{Fd, Seq};
 use xti_model::{Act, Call};
 
-/// A call that says no more than which endpoint.
+/// Writes a call that says no more than which endpoint.
 #[tactic(auto, unfolding(crate::specs::Fields::field, crate::specs::Calls::form_of))]
 fn read_plain(verb: Verb, fields: &mut Fields, act: &mut Act) -> Result<(), FieldFail>
     requires family { is_plain verb ≡ true }
@@ -50,7 +50,7 @@ fn read_plain(verb: Verb, fields: &mut Fields, act: &mut Act) -> Result<(), Fiel
     Ok(())
 }
 
-/// A call that opens an endpoint, or sets or asks what belongs to it.
+/// Writes a call that opens an endpoint, or sets or asks what belongs to it.
 #[tactic(auto, unfolding(crate::specs::Fields::field, crate::specs::Calls::form_of))]
 fn read_local(verb: Verb, fields: &mut Fields, act: &mut Act) -> Result<(), FieldFail>
     requires family { is_local verb ≡ true }
@@ -89,7 +89,7 @@ fn read_local(verb: Verb, fields: &mut Fields, act: &mut Act) -> Result<(), Fiel
     Ok(())
 }
 
-/// A call that makes a connection or breaks it.
+/// Writes a call that makes a connection or breaks it.
 #[tactic(auto, unfolding(crate::specs::Fields::field, crate::specs::Calls::form_of))]
 fn read_connecting(verb: Verb, fields: &mut Fields, act: &mut Act) -> Result<(), FieldFail>
     requires family { is_connecting verb ≡ true }
@@ -140,7 +140,7 @@ fn read_connecting(verb: Verb, fields: &mut Fields, act: &mut Act) -> Result<(),
     Ok(())
 }
 
-/// A call that sends or receives on a connection.
+/// Writes a call that sends or receives on a connection.
 #[tactic(auto, unfolding(crate::specs::Fields::field, crate::specs::Calls::form_of))]
 fn read_data(verb: Verb, fields: &mut Fields, act: &mut Act) -> Result<(), FieldFail>
     requires family { is_data verb ≡ true }
@@ -172,7 +172,7 @@ fn read_data(verb: Verb, fields: &mut Fields, act: &mut Act) -> Result<(), Field
     Ok(())
 }
 
-/// A call that sends or receives a datagram, or the error of one.
+/// Writes a call that sends or receives a datagram, or the error of one.
 #[tactic(auto, unfolding(crate::specs::Fields::field, crate::specs::Calls::form_of))]
 fn read_datagram(verb: Verb, fields: &mut Fields, act: &mut Act) -> Result<(), FieldFail>
     requires family { is_datagram verb ≡ true }

@@ -108,7 +108,7 @@ fn read_state(fields: &mut Fields) -> Result<State, FieldFail>
 }
 
 /// The state of the endpoint after an entry; what its call answered, the words after the arrow, is written.
-fn read_behind_arrow(
+fn read_after_arrow(
     verb: Option<Verb>,
     fields: &mut Fields,
     outcome: &mut Outcome,
@@ -150,7 +150,7 @@ pub(crate) fn read_entry(
     }
     entry.worker = read_step(fields, &mut entry.act)?;
     let verb = verb_after(draft.verb(entry.worker), &entry.act);
-    match read_behind_arrow(verb, fields, &mut entry.outcome) {
+    match read_after_arrow(verb, fields, &mut entry.outcome) {
         Ok(after) => {
             entry.after = after;
             Ok(())
