@@ -15,6 +15,29 @@ use bytes::Bytes;
 use std::alloc::{AllocError, Global};
 use tpi_grammar::{Kind, Measure, measure_frame};
 
+/// Makes a primitive out of parts that are copied in this order. Where one can't be copied, those before it are let go, each by a
+/// call, and the function ends with that error. Numbers stand first, as in a struct expression, and end in a semicolon.
+macro_rules! build_or_drop {
+    (@ $made:ident::$kind:ident [$($parts:tt)*] [$($owned:ident)*]) => {
+        $made::$kind { $($parts)* }
+    };
+    (@ $made:ident::$kind:ident [$($parts:tt)*] [$($owned:ident)*] $part:ident: $result:expr $(, $($rest:tt)*)?) => {
+        match $result {
+            Ok($part) => build_or_drop!(@ $made::$kind [$($parts)* $part,] [$($owned)* $part] $($($rest)*)?),
+            Err(fail) => {
+                $(drop($owned);)*
+                return Err(fail);
+            }
+        }
+    };
+    ($made:ident::$kind:ident { $($part:ident: $value:expr),+; $($rest:tt)* }) => {
+        build_or_drop!(@ $made::$kind [$($part: $value,)+] [] $($rest)*)
+    };
+    ($made:ident::$kind:ident { $($rest:tt)* }) => {
+        build_or_drop!(@ $made::$kind [] [] $($rest)*)
+    };
+}
+
 /// What stands at the start of an input.
 #[derive(Debug, Drop)]
 pub enum Decoded {
@@ -59,17 +82,17 @@ fn read_as(alloc: Global, kind: Kind, bytes: &[u8]) -> Result<Prim, AllocError>
     ensures { IfOk result (λ prim. prim ≡ read_as kind bytes.now) }
 {
     match kind {
-        Kind::T_CONN_REQ => Ok(Prim::T_CONN_REQ {
-            dest: copy_part(alloc, bytes, 12)?,
-            opt: copy_part(alloc, bytes, 20)?,
-            user: copy_user(alloc, bytes)?,
-        }),
-        Kind::T_CONN_RES => Ok(Prim::T_CONN_RES {
+        Kind::T_CONN_REQ => Ok(build_or_drop!(Prim::T_CONN_REQ {
+            dest: copy_part(alloc, bytes, 12),
+            opt: copy_part(alloc, bytes, 20),
+            user: copy_user(alloc, bytes),
+        })),
+        Kind::T_CONN_RES => Ok(build_or_drop!(Prim::T_CONN_RES {
             acceptor_id: word_at(bytes, 12),
-            opt: copy_part(alloc, bytes, 16)?,
-            seq_number: word_at(bytes, 24),
-            user: copy_user(alloc, bytes)?,
-        }),
+            seq_number: word_at(bytes, 24);
+            opt: copy_part(alloc, bytes, 16),
+            user: copy_user(alloc, bytes),
+        })),
         Kind::T_DISCON_REQ => Ok(Prim::T_DISCON_REQ {
             seq_number: word_at(bytes, 12),
             user: copy_user(alloc, bytes)?,
@@ -87,23 +110,23 @@ fn read_as(alloc: Global, kind: Kind, bytes: &[u8]) -> Result<Prim, AllocError>
             conind_number: word_at(bytes, 20),
         }),
         Kind::T_UNBIND_REQ => Ok(Prim::T_UNBIND_REQ),
-        Kind::T_UNITDATA_REQ => Ok(Prim::T_UNITDATA_REQ {
-            dest: copy_part(alloc, bytes, 12)?,
-            opt: copy_part(alloc, bytes, 20)?,
-            user: copy_user(alloc, bytes)?,
-        }),
+        Kind::T_UNITDATA_REQ => Ok(build_or_drop!(Prim::T_UNITDATA_REQ {
+            dest: copy_part(alloc, bytes, 12),
+            opt: copy_part(alloc, bytes, 20),
+            user: copy_user(alloc, bytes),
+        })),
         Kind::T_ORDREL_REQ => Ok(Prim::T_ORDREL_REQ),
-        Kind::T_CONN_IND => Ok(Prim::T_CONN_IND {
-            src: copy_part(alloc, bytes, 12)?,
-            opt: copy_part(alloc, bytes, 20)?,
-            seq_number: word_at(bytes, 28),
-            user: copy_user(alloc, bytes)?,
-        }),
-        Kind::T_CONN_CON => Ok(Prim::T_CONN_CON {
-            res: copy_part(alloc, bytes, 12)?,
-            opt: copy_part(alloc, bytes, 20)?,
-            user: copy_user(alloc, bytes)?,
-        }),
+        Kind::T_CONN_IND => Ok(build_or_drop!(Prim::T_CONN_IND {
+            seq_number: word_at(bytes, 28);
+            src: copy_part(alloc, bytes, 12),
+            opt: copy_part(alloc, bytes, 20),
+            user: copy_user(alloc, bytes),
+        })),
+        Kind::T_CONN_CON => Ok(build_or_drop!(Prim::T_CONN_CON {
+            res: copy_part(alloc, bytes, 12),
+            opt: copy_part(alloc, bytes, 20),
+            user: copy_user(alloc, bytes),
+        })),
         Kind::T_DISCON_IND => Ok(Prim::T_DISCON_IND {
             reason: word_at(bytes, 12),
             seq_number: word_at(bytes, 16),
@@ -129,16 +152,16 @@ fn read_as(alloc: Global, kind: Kind, bytes: &[u8]) -> Result<Prim, AllocError>
         Kind::T_OK_ACK => Ok(Prim::T_OK_ACK {
             correct_prim: word_at(bytes, 12),
         }),
-        Kind::T_UNITDATA_IND => Ok(Prim::T_UNITDATA_IND {
-            src: copy_part(alloc, bytes, 12)?,
-            opt: copy_part(alloc, bytes, 20)?,
-            user: copy_user(alloc, bytes)?,
-        }),
-        Kind::T_UDERROR_IND => Ok(Prim::T_UDERROR_IND {
-            dest: copy_part(alloc, bytes, 12)?,
-            opt: copy_part(alloc, bytes, 20)?,
-            error_type: word_at(bytes, 28),
-        }),
+        Kind::T_UNITDATA_IND => Ok(build_or_drop!(Prim::T_UNITDATA_IND {
+            src: copy_part(alloc, bytes, 12),
+            opt: copy_part(alloc, bytes, 20),
+            user: copy_user(alloc, bytes),
+        })),
+        Kind::T_UDERROR_IND => Ok(build_or_drop!(Prim::T_UDERROR_IND {
+            error_type: word_at(bytes, 28);
+            dest: copy_part(alloc, bytes, 12),
+            opt: copy_part(alloc, bytes, 20),
+        })),
         Kind::T_ORDREL_IND => Ok(Prim::T_ORDREL_IND),
     }
 }

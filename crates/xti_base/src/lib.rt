@@ -1,6 +1,7 @@
 //! Names, numbers and small lists of the X/Open Transport Interface.
 #![tactic(auto)]
 
+mod building;
 mod errno;
 mod items;
 mod kinds;
@@ -11,6 +12,7 @@ mod options;
 pub mod reasons;
 mod room;
 
+pub use building::{let_go, write_over};
 pub use errno::Errno;
 pub use items::{Calls, Items, Numbers, Parts, Sizes};
 pub use kinds::{Event, Fd, Prov, Seq, ServType, State};

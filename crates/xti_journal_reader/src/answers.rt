@@ -8,8 +8,7 @@ ghost use Rattle.xti_journal_reader.specs.Unread.{unread, Gives};
 
 use crate::fields::{FieldFail, Fields};
 use crate::verbs::Answer;
-use crate::writing::write_over;
-use xti_base::{Fd, Info, Seq};
+use xti_base::{Fd, Info, Seq, build_or_drop, write_over};
 use xti_model::{Outcome, Reply};
 
 /// Writes an answer that tells of an endpoint or of a provider.
@@ -23,10 +22,10 @@ fn read_report(answer: Answer, fields: &mut Fields, outcome: &mut Outcome) -> Re
         Answer::Opened => Reply::Opened {
             fd: Fd(fields.number()?),
         },
-        Answer::Bound => Reply::Bound {
-            addr: fields.bytes()?,
-            qlen: fields.number()?,
-        },
+        Answer::Bound => build_or_drop!(Reply::Bound {
+            addr: fields.bytes(),
+            qlen = fields.number(),
+        }),
         Answer::Seen => Reply::Seen {
             event: fields.event_or_none()?,
         },
@@ -45,10 +44,10 @@ fn read_report(answer: Answer, fields: &mut Fields, outcome: &mut Outcome) -> Re
                 flags: fields.number()?,
             },
         },
-        Answer::Addresses => Reply::Addresses {
-            local: fields.bytes()?,
-            peer: fields.bytes()?,
-        },
+        Answer::Addresses => build_or_drop!(Reply::Addresses {
+            local: fields.bytes(),
+            peer: fields.bytes(),
+        }),
         Answer::Options => Reply::Options {
             result: fields.number()?,
             opt: fields.bytes()?,
@@ -67,40 +66,43 @@ fn read_news(answer: Answer, fields: &mut Fields, outcome: &mut Outcome) -> Resu
     ensures { Gives (λ _. outcome_read outcome.new) (answered answer (unread fields.old)) fields.new.words result }
 {
     let reply = match answer {
-        Answer::Connected => Reply::Connected {
-            addr: fields.bytes()?,
-            opt: fields.bytes()?,
-            udata: fields.bytes()?,
-        },
-        Answer::Listened => Reply::Listened {
-            seq: Seq(fields.number()?),
-            addr: fields.bytes()?,
-            opt: fields.bytes()?,
-            udata: fields.bytes()?,
-        },
+        Answer::Connected => build_or_drop!(Reply::Connected {
+            addr: fields.bytes(),
+            opt: fields.bytes(),
+            udata: fields.bytes(),
+        }),
+        Answer::Listened => {
+            let seq = Seq(fields.number()?);
+            build_or_drop!(Reply::Listened {
+                seq;
+                addr: fields.bytes(),
+                opt: fields.bytes(),
+                udata: fields.bytes(),
+            })
+        }
         Answer::Sent => Reply::Sent {
             n: fields.number()?,
         },
-        Answer::Got => Reply::Got {
-            bytes: fields.bytes()?,
-            flags: fields.number()?,
-        },
+        Answer::Got => build_or_drop!(Reply::Got {
+            bytes: fields.bytes(),
+            flags = fields.number(),
+        }),
         Answer::Discon => Reply::Discon {
             reason: fields.number()?,
             seq: Seq(fields.number()?),
             udata: fields.bytes()?,
         },
-        Answer::UData => Reply::UData {
-            addr: fields.bytes()?,
-            opt: fields.bytes()?,
-            bytes: fields.bytes()?,
-            flags: fields.number()?,
-        },
-        Answer::UDErr => Reply::UDErr {
-            addr: fields.bytes()?,
-            opt: fields.bytes()?,
-            code: fields.number()?,
-        },
+        Answer::UData => build_or_drop!(Reply::UData {
+            addr: fields.bytes(),
+            opt: fields.bytes(),
+            bytes: fields.bytes(),
+            flags = fields.number(),
+        }),
+        Answer::UDErr => build_or_drop!(Reply::UDErr {
+            addr: fields.bytes(),
+            opt: fields.bytes(),
+            code = fields.number(),
+        }),
         _ => unreachable!(),
     };
     write_over(outcome, Outcome::Done(reply));

@@ -8,8 +8,7 @@ ghost use Rattle.xti_journal_reader.specs.Unread.{unread, Gives};
 
 use crate::fields::{FieldFail, Fields};
 use crate::verbs::Verb;
-use crate::writing::write_over;
-use xti_base::{Fd, Seq};
+use xti_base::{Fd, Seq, build_or_drop, write_over};
 use xti_model::{Act, Call};
 
 /// Writes a call that says no more than which endpoint.
@@ -62,12 +61,15 @@ fn read_local(verb: Verb, fields: &mut Fields, act: &mut Act) -> Result<(), Fiel
             prov: fields.provider()?,
             nonblock: fields.mode()?,
         },
-        Verb::Bind => Call::TBind {
-            fd: Fd(fields.number()?),
-            addr: fields.bytes()?,
-            qlen: fields.number()?,
-            amax: fields.number()?,
-        },
+        Verb::Bind => {
+            let fd = Fd(fields.number()?);
+            build_or_drop!(Call::TBind {
+                fd;
+                addr: fields.bytes(),
+                qlen = fields.number(),
+                amax = fields.number(),
+            })
+        }
         Verb::SetMode => Call::SetMode {
             fd: Fd(fields.number()?),
             nonblock: fields.mode()?,
@@ -77,12 +79,15 @@ fn read_local(verb: Verb, fields: &mut Fields, act: &mut Act) -> Result<(), Fiel
             amax: fields.number()?,
             pmax: fields.number()?,
         },
-        Verb::OptMgmt => Call::TOptMgmt {
-            fd: Fd(fields.number()?),
-            action: fields.number()?,
-            opt: fields.bytes()?,
-            omax: fields.number()?,
-        },
+        Verb::OptMgmt => {
+            let fd = Fd(fields.number()?);
+            build_or_drop!(Call::TOptMgmt {
+                fd;
+                action = fields.number(),
+                opt: fields.bytes(),
+                omax = fields.number(),
+            })
+        }
         _ => unreachable!(),
     };
     write_over(act, Act::Begin(call));
@@ -97,15 +102,18 @@ fn read_connecting(verb: Verb, fields: &mut Fields, act: &mut Act) -> Result<(),
     ensures { Gives (λ _. act_read act.new) (begun verb (unread fields.old)) fields.new.words result }
 {
     let call = match verb {
-        Verb::Connect => Call::TConnect {
-            fd: Fd(fields.number()?),
-            addr: fields.bytes()?,
-            opt: fields.bytes()?,
-            udata: fields.bytes()?,
-            amax: fields.number()?,
-            omax: fields.number()?,
-            umax: fields.number()?,
-        },
+        Verb::Connect => {
+            let fd = Fd(fields.number()?);
+            build_or_drop!(Call::TConnect {
+                fd;
+                addr: fields.bytes(),
+                opt: fields.bytes(),
+                udata: fields.bytes(),
+                amax = fields.number(),
+                omax = fields.number(),
+                umax = fields.number(),
+            })
+        }
         Verb::RcvConnect => Call::TRcvConnect {
             fd: Fd(fields.number()?),
             amax: fields.number()?,
@@ -118,13 +126,16 @@ fn read_connecting(verb: Verb, fields: &mut Fields, act: &mut Act) -> Result<(),
             omax: fields.number()?,
             umax: fields.number()?,
         },
-        Verb::Accept => Call::TAccept {
-            fd: Fd(fields.number()?),
-            resfd: Fd(fields.number()?),
-            seq: Seq(fields.number()?),
-            opt: fields.bytes()?,
-            udata: fields.bytes()?,
-        },
+        Verb::Accept => {
+            let fd = Fd(fields.number()?);
+            let resfd = Fd(fields.number()?);
+            let seq = Seq(fields.number()?);
+            build_or_drop!(Call::TAccept {
+                fd, resfd, seq;
+                opt: fields.bytes(),
+                udata: fields.bytes(),
+            })
+        }
         Verb::SndDis => Call::TSndDis {
             fd: Fd(fields.number()?),
             seq: Seq(fields.number()?),
@@ -148,16 +159,22 @@ fn read_data(verb: Verb, fields: &mut Fields, act: &mut Act) -> Result<(), Field
     ensures { Gives (λ _. act_read act.new) (begun verb (unread fields.old)) fields.new.words result }
 {
     let call = match verb {
-        Verb::Snd => Call::TSnd {
-            fd: Fd(fields.number()?),
-            bytes: fields.bytes()?,
-            flags: fields.number()?,
-        },
-        Verb::SndV => Call::TSndV {
-            fd: Fd(fields.number()?),
-            parts: fields.parts()?,
-            flags: fields.number()?,
-        },
+        Verb::Snd => {
+            let fd = Fd(fields.number()?);
+            build_or_drop!(Call::TSnd {
+                fd;
+                bytes: fields.bytes(),
+                flags = fields.number(),
+            })
+        }
+        Verb::SndV => {
+            let fd = Fd(fields.number()?);
+            build_or_drop!(Call::TSndV {
+                fd;
+                parts: fields.parts(),
+                flags = fields.number(),
+            })
+        }
         Verb::Rcv => Call::TRcv {
             fd: Fd(fields.number()?),
             max: fields.number()?,
@@ -180,30 +197,39 @@ fn read_datagram(verb: Verb, fields: &mut Fields, act: &mut Act) -> Result<(), F
     ensures { Gives (λ _. act_read act.new) (begun verb (unread fields.old)) fields.new.words result }
 {
     let call = match verb {
-        Verb::SndUData => Call::TSndUData {
-            fd: Fd(fields.number()?),
-            addr: fields.bytes()?,
-            opt: fields.bytes()?,
-            bytes: fields.bytes()?,
-        },
-        Verb::SndVUData => Call::TSndVUData {
-            fd: Fd(fields.number()?),
-            addr: fields.bytes()?,
-            opt: fields.bytes()?,
-            parts: fields.parts()?,
-        },
+        Verb::SndUData => {
+            let fd = Fd(fields.number()?);
+            build_or_drop!(Call::TSndUData {
+                fd;
+                addr: fields.bytes(),
+                opt: fields.bytes(),
+                bytes: fields.bytes(),
+            })
+        }
+        Verb::SndVUData => {
+            let fd = Fd(fields.number()?);
+            build_or_drop!(Call::TSndVUData {
+                fd;
+                addr: fields.bytes(),
+                opt: fields.bytes(),
+                parts: fields.parts(),
+            })
+        }
         Verb::RcvUData => Call::TRcvUData {
             fd: Fd(fields.number()?),
             max: fields.number()?,
             amax: fields.number()?,
             omax: fields.number()?,
         },
-        Verb::RcvVUData => Call::TRcvVUData {
-            fd: Fd(fields.number()?),
-            sizes: fields.sizes()?,
-            amax: fields.number()?,
-            omax: fields.number()?,
-        },
+        Verb::RcvVUData => {
+            let fd = Fd(fields.number()?);
+            build_or_drop!(Call::TRcvVUData {
+                fd;
+                sizes: fields.sizes(),
+                amax = fields.number(),
+                omax = fields.number(),
+            })
+        }
         Verb::RcvUDErr => Call::TRcvUDErr {
             fd: Fd(fields.number()?),
             amax: fields.number()?,

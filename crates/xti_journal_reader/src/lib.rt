@@ -12,7 +12,6 @@ mod lines;
 mod names;
 mod values;
 mod verbs;
-mod writing;
 
 pub use journal_text::{JournalFail, read_journal};
 pub use laws::{never_both, one_journal, written_journals_are_read};

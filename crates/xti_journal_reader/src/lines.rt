@@ -12,11 +12,10 @@ use crate::calls::read_call;
 use crate::draft::Draft;
 use crate::fields::{FieldFail, Fields, Key};
 use crate::verbs::{Answer, Verb, answer_form, answer_of, form, verb_after, verb_in};
-use crate::writing::write_over;
 use itoa::Buffer;
 use std::mem;
-use xti_base::State;
 use xti_base::limits::LAST_WORKER;
+use xti_base::{State, write_over};
 use xti_model::{Act, Entry, Outcome, StallLine};
 use xti_words::number_in;
 

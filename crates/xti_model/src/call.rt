@@ -4,7 +4,7 @@ ghost use Rattle.std.specs.Prelude.{◌≡◌, IfOk, IsTrue};
 ghost use Rattle.xti_model.specs.Families.{is_address_or_options, is_connection_request, is_connection_receipt, is_send, is_receive};
 
 use std::alloc::AllocError;
-use xti_base::{Fd, Octets, Parts, Prov, Seq, Sizes};
+use xti_base::{Fd, Octets, Parts, Prov, Seq, Sizes, build_or_drop};
 
 /// A call (XNS, one variant a function). A limit of 0 for a returned field means that the caller doesn't take it.
 #[derive(Drop)]
@@ -223,28 +223,28 @@ fn copy_connection_request(call: &Call) -> Result<Call, AllocError>
             amax,
             omax,
             umax,
-        } => Ok(Call::TConnect {
+        } => Ok(build_or_drop!(Call::TConnect {
             fd: *fd,
-            addr: addr.copy()?,
-            opt: opt.copy()?,
-            udata: udata.copy()?,
             amax: *amax,
             omax: *omax,
-            umax: *umax,
-        }),
+            umax: *umax;
+            addr: addr.copy(),
+            opt: opt.copy(),
+            udata: udata.copy(),
+        })),
         Call::TAccept {
             fd,
             resfd,
             seq,
             opt,
             udata,
-        } => Ok(Call::TAccept {
+        } => Ok(build_or_drop!(Call::TAccept {
             fd: *fd,
             resfd: *resfd,
-            seq: *seq,
-            opt: opt.copy()?,
-            udata: udata.copy()?,
-        }),
+            seq: *seq;
+            opt: opt.copy(),
+            udata: udata.copy(),
+        })),
         Call::TSndDis { fd, seq, udata } => Ok(Call::TSndDis {
             fd: *fd,
             seq: *seq,
@@ -311,23 +311,23 @@ fn copy_send(call: &Call) -> Result<Call, AllocError>
             addr,
             opt,
             bytes,
-        } => Ok(Call::TSndUData {
-            fd: *fd,
-            addr: addr.copy()?,
-            opt: opt.copy()?,
-            bytes: bytes.copy()?,
-        }),
+        } => Ok(build_or_drop!(Call::TSndUData {
+            fd: *fd;
+            addr: addr.copy(),
+            opt: opt.copy(),
+            bytes: bytes.copy(),
+        })),
         Call::TSndVUData {
             fd,
             addr,
             opt,
             parts,
-        } => Ok(Call::TSndVUData {
-            fd: *fd,
-            addr: addr.copy()?,
-            opt: opt.copy()?,
-            parts: parts.copy()?,
-        }),
+        } => Ok(build_or_drop!(Call::TSndVUData {
+            fd: *fd;
+            addr: addr.copy(),
+            opt: opt.copy(),
+            parts: parts.copy(),
+        })),
         _ => unreachable!(),
     }
 }

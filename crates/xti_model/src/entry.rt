@@ -5,7 +5,7 @@ ghost use Rattle.xti_model.specs.Families.{is_connection_news, is_received};
 
 use crate::call::Call;
 use std::alloc::AllocError;
-use xti_base::{Errno, Event, Fd, Info, Items, Octets, Seq, State};
+use xti_base::{Errno, Event, Fd, Info, Items, Octets, Seq, State, build_or_drop, let_go};
 
 /// What a call answers.
 #[derive(Drop)]
@@ -104,22 +104,22 @@ fn copy_connection_news(reply: &Reply) -> Result<Reply, AllocError>
     ensures { IfOk result (λ copy. copy ≡ reply.now) }
 {
     match reply {
-        Reply::Connected { addr, opt, udata } => Ok(Reply::Connected {
-            addr: addr.copy()?,
-            opt: opt.copy()?,
-            udata: udata.copy()?,
-        }),
+        Reply::Connected { addr, opt, udata } => Ok(build_or_drop!(Reply::Connected {
+            addr: addr.copy(),
+            opt: opt.copy(),
+            udata: udata.copy(),
+        })),
         Reply::Listened {
             seq,
             addr,
             opt,
             udata,
-        } => Ok(Reply::Listened {
-            seq: *seq,
-            addr: addr.copy()?,
-            opt: opt.copy()?,
-            udata: udata.copy()?,
-        }),
+        } => Ok(build_or_drop!(Reply::Listened {
+            seq: *seq;
+            addr: addr.copy(),
+            opt: opt.copy(),
+            udata: udata.copy(),
+        })),
         Reply::Discon { reason, seq, udata } => Ok(Reply::Discon {
             reason: *reason,
             seq: *seq,
@@ -144,17 +144,17 @@ fn copy_received(reply: &Reply) -> Result<Reply, AllocError>
             opt,
             bytes,
             flags,
-        } => Ok(Reply::UData {
-            addr: addr.copy()?,
-            opt: opt.copy()?,
-            bytes: bytes.copy()?,
-            flags: *flags,
-        }),
-        Reply::UDErr { addr, opt, code } => Ok(Reply::UDErr {
-            addr: addr.copy()?,
-            opt: opt.copy()?,
-            code: *code,
-        }),
+        } => Ok(build_or_drop!(Reply::UData {
+            flags: *flags;
+            addr: addr.copy(),
+            opt: opt.copy(),
+            bytes: bytes.copy(),
+        })),
+        Reply::UDErr { addr, opt, code } => Ok(build_or_drop!(Reply::UDErr {
+            code: *code;
+            addr: addr.copy(),
+            opt: opt.copy(),
+        })),
         _ => unreachable!(),
     }
 }
@@ -175,10 +175,10 @@ impl Reply {
             Reply::Seen { event } => Ok(Reply::Seen { event: *event }),
             Reply::Stands { state } => Ok(Reply::Stands { state: *state }),
             Reply::Limits { info } => Ok(Reply::Limits { info: *info }),
-            Reply::Addresses { local, peer } => Ok(Reply::Addresses {
-                local: local.copy()?,
-                peer: peer.copy()?,
-            }),
+            Reply::Addresses { local, peer } => Ok(build_or_drop!(Reply::Addresses {
+                local: local.copy(),
+                peer: peer.copy(),
+            })),
             Reply::Options { result, opt } => Ok(Reply::Options {
                 result: *result,
                 opt: opt.copy()?,
@@ -262,12 +262,19 @@ impl Entry {
     pub fn copy(&self) -> Result<Entry, AllocError>
         ensures { IfOk result (λ copy. copy ≡ self.now) }
     {
-        Ok(Entry {
-            worker: self.worker,
-            act: self.act.copy()?,
-            outcome: self.outcome.copy()?,
-            after: self.after,
-        })
+        let act = self.act.copy()?;
+        match self.outcome.copy() {
+            Ok(outcome) => Ok(Entry {
+                worker: self.worker,
+                act,
+                outcome,
+                after: self.after,
+            }),
+            Err(fail) => {
+                let_go(act);
+                Err(fail)
+            }
+        }
     }
 }
 

@@ -8,6 +8,7 @@ ghost use Rattle.xti_script.specs.Unread.{unread, Makes};
 
 use crate::fields::{FieldFail, Fields, Key};
 use crate::verbs::Verb;
+use xti_base::build_or_drop;
 use xti_model::NamedCall;
 
 /// A call, or why its fields aren't read.
@@ -59,32 +60,32 @@ fn read_local(verb: Verb, fields: &mut Fields) -> ReadCall
     ensures keys { IfOk result (λ _. fields.new.keys.now ≡ []) }
 {
     match verb {
-        Verb::Open => Ok(NamedCall::TOpen {
-            name: fields.name(Key::NewEndpoint)?,
-            prov: fields.provider(Key::Provider)?,
-            nonblock: fields.mode(Key::ModeOrBlock)?,
-        }),
-        Verb::Bind => Ok(NamedCall::TBind {
-            fd: fields.name(Key::Endpoint)?,
-            addr: fields.bytes(Key::Addr)?,
-            qlen: fields.number(Key::Qlen)?,
-            amax: fields.number(Key::Amax)?,
-        }),
-        Verb::SetMode => Ok(NamedCall::SetMode {
-            fd: fields.name(Key::Endpoint)?,
-            nonblock: fields.mode(Key::Mode)?,
-        }),
-        Verb::GetProtAddr => Ok(NamedCall::TGetProtAddr {
-            fd: fields.name(Key::Endpoint)?,
-            amax: fields.number(Key::Amax)?,
-            pmax: fields.number(Key::Pmax)?,
-        }),
-        Verb::OptMgmt => Ok(NamedCall::TOptMgmt {
-            fd: fields.name(Key::Endpoint)?,
-            action: fields.action(Key::Action)?,
-            opt: fields.options(Key::Opt)?,
-            omax: fields.number(Key::Omax)?,
-        }),
+        Verb::Open => Ok(build_or_drop!(NamedCall::TOpen {
+            name: fields.name(Key::NewEndpoint),
+            prov = fields.provider(Key::Provider),
+            nonblock = fields.mode(Key::ModeOrBlock),
+        })),
+        Verb::Bind => Ok(build_or_drop!(NamedCall::TBind {
+            fd: fields.name(Key::Endpoint),
+            addr: fields.bytes(Key::Addr),
+            qlen = fields.number(Key::Qlen),
+            amax = fields.number(Key::Amax),
+        })),
+        Verb::SetMode => Ok(build_or_drop!(NamedCall::SetMode {
+            fd: fields.name(Key::Endpoint),
+            nonblock = fields.mode(Key::Mode),
+        })),
+        Verb::GetProtAddr => Ok(build_or_drop!(NamedCall::TGetProtAddr {
+            fd: fields.name(Key::Endpoint),
+            amax = fields.number(Key::Amax),
+            pmax = fields.number(Key::Pmax),
+        })),
+        Verb::OptMgmt => Ok(build_or_drop!(NamedCall::TOptMgmt {
+            fd: fields.name(Key::Endpoint),
+            action = fields.action(Key::Action),
+            opt: fields.options(Key::Opt),
+            omax = fields.number(Key::Omax),
+        })),
         _ => unreachable!(),
     }
 }
@@ -98,44 +99,44 @@ fn read_connecting(verb: Verb, fields: &mut Fields) -> ReadCall
     ensures keys { IfOk result (λ _. fields.new.keys.now ≡ []) }
 {
     match verb {
-        Verb::Connect => Ok(NamedCall::TConnect {
-            fd: fields.name(Key::Endpoint)?,
-            addr: fields.bytes(Key::Addr)?,
-            opt: fields.options(Key::Opt)?,
-            udata: fields.bytes(Key::UData)?,
-            amax: fields.number(Key::Amax)?,
-            omax: fields.number(Key::Omax)?,
-            umax: fields.number(Key::Umax)?,
-        }),
-        Verb::RcvConnect => Ok(NamedCall::TRcvConnect {
-            fd: fields.name(Key::Endpoint)?,
-            amax: fields.number(Key::Amax)?,
-            omax: fields.number(Key::Omax)?,
-            umax: fields.number(Key::Umax)?,
-        }),
-        Verb::Listen => Ok(NamedCall::TListen {
-            fd: fields.name(Key::Endpoint)?,
-            name: fields.name(Key::NewSequence)?,
-            amax: fields.number(Key::Amax)?,
-            omax: fields.number(Key::Omax)?,
-            umax: fields.number(Key::Umax)?,
-        }),
-        Verb::Accept => Ok(NamedCall::TAccept {
-            fd: fields.name(Key::Endpoint)?,
-            resfd: fields.name(Key::Endpoint)?,
-            seq: fields.name(Key::Sequence)?,
-            opt: fields.options(Key::Opt)?,
-            udata: fields.bytes(Key::UData)?,
-        }),
-        Verb::SndDis => Ok(NamedCall::TSndDis {
-            fd: fields.name(Key::Endpoint)?,
-            seq: fields.sequence_or_none(Key::SequenceOrNone)?,
-            udata: fields.bytes(Key::UData)?,
-        }),
-        Verb::RcvDis => Ok(NamedCall::TRcvDis {
-            fd: fields.name(Key::Endpoint)?,
-            umax: fields.number(Key::Umax)?,
-        }),
+        Verb::Connect => Ok(build_or_drop!(NamedCall::TConnect {
+            fd: fields.name(Key::Endpoint),
+            addr: fields.bytes(Key::Addr),
+            opt: fields.options(Key::Opt),
+            udata: fields.bytes(Key::UData),
+            amax = fields.number(Key::Amax),
+            omax = fields.number(Key::Omax),
+            umax = fields.number(Key::Umax),
+        })),
+        Verb::RcvConnect => Ok(build_or_drop!(NamedCall::TRcvConnect {
+            fd: fields.name(Key::Endpoint),
+            amax = fields.number(Key::Amax),
+            omax = fields.number(Key::Omax),
+            umax = fields.number(Key::Umax),
+        })),
+        Verb::Listen => Ok(build_or_drop!(NamedCall::TListen {
+            fd: fields.name(Key::Endpoint),
+            name: fields.name(Key::NewSequence),
+            amax = fields.number(Key::Amax),
+            omax = fields.number(Key::Omax),
+            umax = fields.number(Key::Umax),
+        })),
+        Verb::Accept => Ok(build_or_drop!(NamedCall::TAccept {
+            fd: fields.name(Key::Endpoint),
+            resfd: fields.name(Key::Endpoint),
+            seq: fields.name(Key::Sequence),
+            opt: fields.options(Key::Opt),
+            udata: fields.bytes(Key::UData),
+        })),
+        Verb::SndDis => Ok(build_or_drop!(NamedCall::TSndDis {
+            fd: fields.name(Key::Endpoint),
+            seq: fields.sequence_or_none(Key::SequenceOrNone),
+            udata: fields.bytes(Key::UData),
+        })),
+        Verb::RcvDis => Ok(build_or_drop!(NamedCall::TRcvDis {
+            fd: fields.name(Key::Endpoint),
+            umax = fields.number(Key::Umax),
+        })),
         _ => unreachable!(),
     }
 }
@@ -149,24 +150,24 @@ fn read_data(verb: Verb, fields: &mut Fields) -> ReadCall
     ensures keys { IfOk result (λ _. fields.new.keys.now ≡ []) }
 {
     match verb {
-        Verb::Snd => Ok(NamedCall::TSnd {
-            fd: fields.name(Key::Endpoint)?,
-            bytes: fields.bytes(Key::Data)?,
-            flags: fields.number(Key::Flags)?,
-        }),
-        Verb::SndV => Ok(NamedCall::TSndV {
-            fd: fields.name(Key::Endpoint)?,
-            parts: fields.parts(Key::Parts)?,
-            flags: fields.number(Key::Flags)?,
-        }),
-        Verb::Rcv => Ok(NamedCall::TRcv {
-            fd: fields.name(Key::Endpoint)?,
-            max: fields.number(Key::Max)?,
-        }),
-        Verb::RcvV => Ok(NamedCall::TRcvV {
-            fd: fields.name(Key::Endpoint)?,
-            sizes: fields.sizes(Key::Sizes)?,
-        }),
+        Verb::Snd => Ok(build_or_drop!(NamedCall::TSnd {
+            fd: fields.name(Key::Endpoint),
+            bytes: fields.bytes(Key::Data),
+            flags = fields.number(Key::Flags),
+        })),
+        Verb::SndV => Ok(build_or_drop!(NamedCall::TSndV {
+            fd: fields.name(Key::Endpoint),
+            parts: fields.parts(Key::Parts),
+            flags = fields.number(Key::Flags),
+        })),
+        Verb::Rcv => Ok(build_or_drop!(NamedCall::TRcv {
+            fd: fields.name(Key::Endpoint),
+            max = fields.number(Key::Max),
+        })),
+        Verb::RcvV => Ok(build_or_drop!(NamedCall::TRcvV {
+            fd: fields.name(Key::Endpoint),
+            sizes: fields.sizes(Key::Sizes),
+        })),
         _ => unreachable!(),
     }
 }
@@ -180,35 +181,35 @@ fn read_datagram(verb: Verb, fields: &mut Fields) -> ReadCall
     ensures keys { IfOk result (λ _. fields.new.keys.now ≡ []) }
 {
     match verb {
-        Verb::SndUData => Ok(NamedCall::TSndUData {
-            fd: fields.name(Key::Endpoint)?,
-            addr: fields.bytes(Key::Addr)?,
-            opt: fields.options(Key::Opt)?,
-            bytes: fields.bytes(Key::Data)?,
-        }),
-        Verb::SndVUData => Ok(NamedCall::TSndVUData {
-            fd: fields.name(Key::Endpoint)?,
-            addr: fields.bytes(Key::Addr)?,
-            opt: fields.options(Key::Opt)?,
-            parts: fields.parts(Key::Parts)?,
-        }),
-        Verb::RcvUData => Ok(NamedCall::TRcvUData {
-            fd: fields.name(Key::Endpoint)?,
-            max: fields.number(Key::Max)?,
-            amax: fields.number(Key::Amax)?,
-            omax: fields.number(Key::Omax)?,
-        }),
-        Verb::RcvVUData => Ok(NamedCall::TRcvVUData {
-            fd: fields.name(Key::Endpoint)?,
-            sizes: fields.sizes(Key::Sizes)?,
-            amax: fields.number(Key::Amax)?,
-            omax: fields.number(Key::Omax)?,
-        }),
-        Verb::RcvUDErr => Ok(NamedCall::TRcvUDErr {
-            fd: fields.name(Key::Endpoint)?,
-            amax: fields.number(Key::Amax)?,
-            omax: fields.number(Key::Omax)?,
-        }),
+        Verb::SndUData => Ok(build_or_drop!(NamedCall::TSndUData {
+            fd: fields.name(Key::Endpoint),
+            addr: fields.bytes(Key::Addr),
+            opt: fields.options(Key::Opt),
+            bytes: fields.bytes(Key::Data),
+        })),
+        Verb::SndVUData => Ok(build_or_drop!(NamedCall::TSndVUData {
+            fd: fields.name(Key::Endpoint),
+            addr: fields.bytes(Key::Addr),
+            opt: fields.options(Key::Opt),
+            parts: fields.parts(Key::Parts),
+        })),
+        Verb::RcvUData => Ok(build_or_drop!(NamedCall::TRcvUData {
+            fd: fields.name(Key::Endpoint),
+            max = fields.number(Key::Max),
+            amax = fields.number(Key::Amax),
+            omax = fields.number(Key::Omax),
+        })),
+        Verb::RcvVUData => Ok(build_or_drop!(NamedCall::TRcvVUData {
+            fd: fields.name(Key::Endpoint),
+            sizes: fields.sizes(Key::Sizes),
+            amax = fields.number(Key::Amax),
+            omax = fields.number(Key::Omax),
+        })),
+        Verb::RcvUDErr => Ok(build_or_drop!(NamedCall::TRcvUDErr {
+            fd: fields.name(Key::Endpoint),
+            amax = fields.number(Key::Amax),
+            omax = fields.number(Key::Omax),
+        })),
         _ => unreachable!(),
     }
 }
