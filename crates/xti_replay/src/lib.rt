@@ -9,6 +9,7 @@ mod resolving;
 mod run;
 mod stalling;
 mod workers;
+mod writing;
 
 pub use beginning::fresh_workers;
 pub use names::{Known, Names, Table};

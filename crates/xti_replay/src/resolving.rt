@@ -7,10 +7,24 @@ ghost use Rattle.xti_replay.specs.Families.{names_endpoint, is_address_or_option
 ghost use Rattle.xti_replay.specs.Known.{first_number, meanings_in};
 
 use crate::names::{Names, Table, number_before};
+use crate::writing::write_over;
 use std::alloc::AllocError;
 use xti_base::limits::NO_NUMBER;
 use xti_base::{Fd, Seq};
 use xti_model::{Act, Call, Name, NamedCall};
+
+/// What was copied; where it wasn't, the copies made before it are let go by calls, and the function ends.
+macro_rules! or_drop {
+    ($copied:expr, $($owned:ident),+) => {
+        match $copied {
+            Ok(copied) => copied,
+            Err(fail) => {
+                $(drop($owned);)+
+                return Err(fail);
+            }
+        }
+    };
+}
 
 /// Writes the call of an entry in its place, where none stands yet, so that it isn't moved any more.
 #[inline(always)]
@@ -19,7 +33,7 @@ fn set(act: &mut Act, call: Call)
     ensures { act.new ≡ Begin call }
 {
     match act {
-        Act::More => *act = Act::Begin(call),
+        Act::More => write_over(act, Act::Begin(call)),
         Act::Begin(_) => unreachable!(),
     }
 }
@@ -172,13 +186,16 @@ impl<'a> Scope<'a> {
         else {
             unreachable!()
         };
+        let addr = addr.copy()?;
+        let opt = or_drop!(opt.copy(), addr);
+        let udata = or_drop!(udata.copy(), addr, opt);
         set(
             act,
             Call::TConnect {
                 fd: self.fd(fd),
-                addr: addr.copy()?,
-                opt: opt.copy()?,
-                udata: udata.copy()?,
+                addr,
+                opt,
+                udata,
                 amax: *amax,
                 omax: *omax,
                 umax: *umax,
@@ -202,14 +219,16 @@ impl<'a> Scope<'a> {
                 opt,
                 udata,
             } => {
+                let opt = opt.copy()?;
+                let udata = or_drop!(udata.copy(), opt);
                 set(
                     act,
                     Call::TAccept {
                         fd: self.fd(fd),
                         resfd: self.fd(resfd),
                         seq: self.seq(seq),
-                        opt: opt.copy()?,
-                        udata: udata.copy()?,
+                        opt,
+                        udata,
                     },
                 );
                 Ok(())
@@ -345,13 +364,16 @@ impl<'a> Scope<'a> {
                 opt,
                 bytes,
             } => {
+                let addr = addr.copy()?;
+                let opt = or_drop!(opt.copy(), addr);
+                let bytes = or_drop!(bytes.copy(), addr, opt);
                 set(
                     act,
                     Call::TSndUData {
                         fd: self.fd(fd),
-                        addr: addr.copy()?,
-                        opt: opt.copy()?,
-                        bytes: bytes.copy()?,
+                        addr,
+                        opt,
+                        bytes,
                     },
                 );
                 Ok(())
@@ -362,13 +384,16 @@ impl<'a> Scope<'a> {
                 opt,
                 parts,
             } => {
+                let addr = addr.copy()?;
+                let opt = or_drop!(opt.copy(), addr);
+                let parts = or_drop!(parts.copy(), addr, opt);
                 set(
                     act,
                     Call::TSndVUData {
                         fd: self.fd(fd),
-                        addr: addr.copy()?,
-                        opt: opt.copy()?,
-                        parts: parts.copy()?,
+                        addr,
+                        opt,
+                        parts,
                     },
                 );
                 Ok(())

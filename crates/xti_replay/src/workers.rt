@@ -10,6 +10,7 @@ ghost use Rattle.xti_replay.specs.Progress.{is_finished, turns_with, next_place,
 
 use crate::names::Names;
 use crate::resolving::Scope;
+use crate::writing::write_over;
 use std::alloc::{AllocError, Global};
 use std::collections::VecDeque;
 use xti_model::{Act, Call, Go, Line, Outcome};
@@ -115,7 +116,10 @@ impl Worker {
         ensures { IfOk result (λ next. IsNextCall lines.now self.now setup.now next) }
     {
         let mut act = Act::More;
-        self.begin_next(lines, setup, &mut act)?;
+        if let Err(fail) = self.begin_next(lines, setup, &mut act) {
+            drop(act);
+            return Err(fail);
+        }
         match act {
             Act::Begin(call) => Ok(Some(call)),
             Act::More => Ok(None),
@@ -155,7 +159,7 @@ impl Worker {
     pub fn set_next(&mut self, next: Option<Call>)
         ensures { self.new ≡ record self.old { next = next } }
     {
-        self.next = next;
+        write_over(&mut self.next, next);
     }
 
     /// How its next step begins or goes on, in an entry.
@@ -192,7 +196,7 @@ impl Worker {
         ensures { self.new ≡ record self.old { part = None } }
     {
         if self.part.is_some() {
-            self.part = None;
+            write_over(&mut self.part, None);
         }
     }
 
@@ -203,7 +207,7 @@ impl Worker {
         ensures others { KeepsAllButPart self.old self.new }
     {
         let call = call.copy()?;
-        self.part = Some(Part { call, taken });
+        write_over(&mut self.part, Some(Part { call, taken }));
         Ok(())
     }
 
