@@ -1,6 +1,6 @@
 //! Reads and writes that fail in the middle.
 
-use crate::running::{Faults, NEVER, NO_FAULTS, answer};
+use crate::running::{Faults, NEVER, NO_FAULTS, expect};
 use std::test::*;
 
 /// A command, its input, the calls that fail, and the status and what is written.
@@ -55,8 +55,7 @@ end 0
 #[test]
 fn faults(rt: HostRuntime) -> Result<(), Fail> {
     for (word, input, faults, wanted) in &CASES {
-        let answer = answer(&rt, rt.alloc(), word, &[*input], *faults)?;
-        assert_eq!(rt; answer.as_slice(), wanted.as_bytes(), "{word} {faults:?}");
+        expect(&rt, rt.alloc(), word, &[*input], *faults, wanted)?;
     }
     Ok(())
 }

@@ -1,6 +1,6 @@
 //! A run by threads, with a gate that tells whether the workers' steps are made beside each other.
 
-use crate::running::{NO_FAULTS, answer_at};
+use crate::running::{NO_FAULTS, expect_at};
 use std::sync::Wait;
 use std::sync::atomic::{AtomicBool, Ordering};
 use std::test::*;
@@ -71,9 +71,20 @@ fn threads(rt: HostRuntime) -> Result<(), Fail> {
         gave_up: AtomicBool::new(false),
     };
     let words = ["run", "--summary"];
-    let answer = answer_at(&rt, rt.alloc(), &words, &[SCRIPT], NO_FAULTS, &gate)?;
-    assert_eq!(rt; answer.as_slice(), SUMMARY.as_bytes());
-    assert_eq!(rt; gate.came.load(Ordering::SeqCst), true);
-    assert_eq!(rt; gate.gave_up.load(Ordering::SeqCst), false);
+    let ran = expect_at(
+        &rt,
+        rt.alloc(),
+        &words,
+        &[SCRIPT],
+        NO_FAULTS,
+        &gate,
+        SUMMARY,
+    );
+    let came = gate.came.load(Ordering::SeqCst);
+    let gave_up = gate.gave_up.load(Ordering::SeqCst);
+    drop(gate);
+    ran?;
+    assert!(rt; came);
+    assert!(rt; !gave_up);
     Ok(())
 }
