@@ -32,7 +32,19 @@ fn copy_of(alloc: Global, entries: &[Entry]) -> Result<Entries, AllocError>
 {
     let mut copy = Vec::with_capacity(alloc, entries.len())?;
     for entry in entries {
-        copy.push(entry.copy()?)?;
+        match entry.copy() {
+            Ok(entry) => {
+                if let Err(failed) = copy.push(entry) {
+                    drop(failed);
+                    drop(copy);
+                    return Err(AllocError);
+                }
+            }
+            Err(error) => {
+                drop(copy);
+                return Err(error);
+            }
+        }
     }
     Ok(Entries::from_vec(copy))
 }

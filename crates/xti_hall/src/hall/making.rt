@@ -20,15 +20,32 @@ fn first_marks(alloc: Global) -> Result<Vec<Mark>, AllocError>
     Ok(marks)
 }
 
+/// What was made; where memory ran out, what is owned is let go by calls, and the function ends.
+macro_rules! or_drop {
+    ($made:expr, $($owned:ident),+) => {
+        match $made {
+            Ok(made) => made,
+            Err(error) => {
+                $(drop($owned);)+
+                return Err(error);
+            }
+        }
+    };
+}
+
 /// The cells in their slots, and room for the journal's.
 fn slots_of<C: Drop>(alloc: Global, cells: Vec<C>) -> Result<Vec<Option<Held<C>>>, AllocError>
     ensures { IfOk result (λ v. (v.items ≡ map (λ x. Some (Cell x)) cells.items) × (vec_len v + 1 ≤ vec_capacity v)) }
 {
-    let mut slots = Vec::with_capacity(alloc, cells.len())?;
+    let mut slots = or_drop!(Vec::with_capacity(alloc, cells.len()), cells);
     for cell in cells {
-        slots.push(Some(Held::Cell(cell)))?;
+        if let Err(failed) = slots.push(Some(Held::Cell(cell))) {
+            drop(failed);
+            drop(slots);
+            return Err(AllocError);
+        }
     }
-    slots.reserve(1)?;
+    or_drop!(slots.reserve(1), slots);
     Ok(slots)
 }
 
@@ -50,9 +67,9 @@ impl<C: Stands> Hall<C> {
             providers: *p,
             cells: cells.len() as u32,
         };
-        let words = Vec::from_elem(alloc, 0u64, cells.len() + 3)?;
-        let marks = first_marks(alloc)?;
-        let mut slots = slots_of(alloc, cells)?;
+        let words = or_drop!(Vec::from_elem(alloc, 0u64, cells.len() + 3), cells);
+        let marks = or_drop!(first_marks(alloc), cells, words);
+        let mut slots = or_drop!(slots_of(alloc, cells), words, marks);
         slots.push_reserved(Some(Held::Journal(Journal {
             entries: Vec::new(alloc),
             marks,
