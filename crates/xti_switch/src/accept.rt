@@ -42,10 +42,12 @@ fn given(alloc: Global, e: &Endpoint, r: &Endpoint) -> Result<Option<Given>, All
     if !r.state().is(State::T_UNBND) {
         return Ok(None);
     }
+    let address = Octets::copy_of(alloc, address_of(e))?;
+    let known = or_drop!(Octets::copy_of(alloc, address_of(e)), address);
     Ok(Some(Given {
         prov: r.prov(),
-        address: Octets::copy_of(alloc, address_of(e))?,
-        known: Octets::copy_of(alloc, address_of(e))?,
+        address,
+        known,
     }))
 }
 
@@ -82,13 +84,21 @@ fn prepare(
     let Some(ind) = e.request(seq) else {
         unreachable!();
     };
-    let address = answering_address(e, r);
+    let answering = answering_address(e, r);
+    let source = Octets::copy_of(alloc, caller_address(ind))?;
+    let address = or_drop!(Octets::copy_of(alloc, answering), source);
+    let confirmation = or_drop!(
+        frames::confirmation(alloc, answering, opt, udata),
+        source,
+        address
+    );
+    let given = or_drop!(given(alloc, e, r), source, address, confirmation);
     Ok(Acceptance {
         caller: ind.caller,
-        source: Octets::copy_of(alloc, caller_address(ind))?,
-        address: Octets::copy_of(alloc, address)?,
-        confirmation: frames::confirmation(alloc, address, opt, udata)?,
-        given: given(alloc, e, r)?,
+        source,
+        address,
+        confirmation,
+        given,
     })
 }
 
@@ -107,7 +117,7 @@ fn link(
     ensures kept { SameCells lent.old lent.new }
     ensures err { OnErr result (lent.new ≡ lent.old) }
 {
-    reserve(lent, &acceptance.given)?;
+    or_drop!(reserve(lent, &acceptance.given), acceptance);
     let Acceptance {
         caller,
         source,

@@ -108,8 +108,11 @@ fn bind_to(
         give(lent, fd, prov, address, qlen)?;
         return Ok(overflow(lent, fd));
     }
-    let addr = trimmed_copy(lent.alloc(), address.as_slice(), amax)?;
-    give(lent, fd, prov, address, qlen)?;
+    let addr = or_drop!(
+        trimmed_copy(lent.alloc(), address.as_slice(), amax),
+        address
+    );
+    or_drop!(give(lent, fd, prov, address, qlen), addr);
     Ok(done(lent, fd, Reply::Bound { addr, qlen }))
 }
 
@@ -122,8 +125,8 @@ fn give(lent: &mut Lent, fd: Fd, prov: Prov, address: Octets, qlen: u32) -> Resu
     ensures kept { SameCells lent.old lent.new }
     ensures err { OnErr result (lent.new ≡ lent.old) }
 {
-    let known = address.copy()?;
-    lent.registry().reserve()?;
+    let known = or_drop!(address.copy(), address);
+    or_drop!(lent.registry().reserve(), address, known);
     lent.registry().put(prov, known, fd, qlen > 0);
     let place = lent.place_of(fd);
     bind_endpoint(lent.endpoint(place), address, qlen);

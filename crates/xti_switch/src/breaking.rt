@@ -58,7 +58,7 @@ pub(crate) fn break_off(
         None => unreachable!(),
     };
     let to_peer = prepare_any(lent, peer, reason, udata)?;
-    let to_listener = prepare_any(lent, listener, reason, udata)?;
+    let to_listener = or_drop!(prepare_any(lent, listener, reason, udata), to_peer);
     tell_any(lent, to_peer);
     tell_any(lent, to_listener);
     Ok(())

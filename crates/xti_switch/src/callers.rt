@@ -59,7 +59,15 @@ fn notices_to_callers(lent: &mut Lent, fd: Fd) -> Result<VecDeque<Notice>, Alloc
             listener: fd,
             number,
         };
-        notices.push_back(prepare(lent, caller, news, PEER_CLOSED, &[])?)?;
+        let notice = or_drop!(prepare(lent, caller, news, PEER_CLOSED, &[]), notices);
+        match notices.push_back(notice) {
+            Ok(()) => {}
+            Err(failed) => {
+                drop(failed);
+                drop(notices);
+                return Err(AllocError);
+            }
+        }
     }
     Ok(notices)
 }
@@ -75,6 +83,7 @@ fn tell_all(lent: &mut Lent, mut notices: VecDeque<Notice>)
     while let Some(notice) = notices.pop_front() {
         tell(lent, notice);
     }
+    drop(notices);
 }
 
 /// The callers of the endpoint that is open with this descriptor hear that it gives them up; where memory runs out the cells are

@@ -33,6 +33,8 @@ fn set_address(r: &mut Endpoint, address: Octets)
     if r.state().is(State::T_UNBND) {
         r.set_address(Some(address));
         r.set_qlen(0);
+    } else {
+        drop(address);
     }
 }
 
@@ -79,6 +81,8 @@ fn bind(lent: &mut Lent, resfd: Fd, address: Octets)
 {
     if let Some(place) = lent.open_place(resfd) {
         set_address(lent.endpoint(place), address);
+    } else {
+        drop(address);
     }
 }
 
@@ -132,6 +136,8 @@ pub(crate) fn respond(lent: &mut Lent, resfd: Fd, caller: Fd, source: Octets)
 {
     if let Some(place) = lent.open_place(resfd) {
         set_responding(lent.endpoint(place), caller, source);
+    } else {
+        drop(source);
     }
 }
 
@@ -144,5 +150,8 @@ pub(crate) fn confirm(lent: &mut Lent, caller: Fd, resfd: Fd, address: Octets, c
 {
     if let Some(place) = lent.open_place(caller) {
         set_accepted(lent.endpoint(place), resfd, address, confirmation);
+    } else {
+        drop(address);
+        drop(confirmation);
     }
 }

@@ -81,6 +81,7 @@ fn hear(at: &mut Endpoint, p: &Providers, fd: Fd, news: News, frame: Frame)
     ensures { Hears p.now fd.0 news (disconnect_in frame) at.old at.new }
 {
     if !at.is(p, fd) {
+        drop(frame);
         return;
     }
     match news {
@@ -88,19 +89,26 @@ fn hear(at: &mut Endpoint, p: &Providers, fd: Fd, news: News, frame: Frame)
             if is_peer(at, by) {
                 at.reset();
                 at.push_disconnect(frame);
+            } else {
+                drop(frame);
             }
         }
         News::TakenBack { number } => {
             if at.is_pending(number) {
                 at.drop_pending(number);
+                drop(frame);
             } else if at.caller(number).is_some() {
                 at.push_disconnect(frame);
+            } else {
+                drop(frame);
             }
         }
         News::GivenUp { listener, number } => {
             if asks(at, listener, number) {
                 at.push_disconnect(frame);
                 at.set_target(None);
+            } else {
+                drop(frame);
             }
         }
         News::Rejected => {
@@ -140,7 +148,7 @@ pub(crate) fn prepare(
 {
     let frame = disconnect(lent.alloc(), reason, told_number(news), udata)?;
     let place = lent.place_of(to);
-    lent.endpoint(place).reserve_disconnects()?;
+    or_drop!(lent.endpoint(place).reserve_disconnects(), frame);
     Ok(Notice { to, news, frame })
 }
 

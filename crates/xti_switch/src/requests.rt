@@ -26,7 +26,7 @@ fn push_request(l: &mut Endpoint, caller: Fd, seq: Seq, frame: Frame) -> Result<
     ensures place { l.new.place ≡ l.old.place }
     ensures err { OnErr result (l.new ≡ l.old) }
 {
-    l.reserve_pending()?;
+    or_drop!(l.reserve_pending(), frame);
     l.push_pending(caller, frame);
     l.set_last_seq(seq);
     Ok(())
@@ -40,7 +40,7 @@ fn push_refusal(e: &mut Endpoint, frame: Frame) -> Result<(), AllocError>
     ensures place { e.new.place ≡ e.old.place }
     ensures err { OnErr result (e.new ≡ e.old) }
 {
-    e.reserve_disconnects()?;
+    or_drop!(e.reserve_disconnects(), frame);
     e.push_disconnect(frame);
     e.set_state(State::T_OUTCON);
     Ok(())
@@ -71,7 +71,10 @@ pub(crate) fn queue(
 {
     match lent.open_place(listener) {
         Some(place) => push_request(lent.endpoint(place), caller, seq, frame),
-        None => Ok(()),
+        None => {
+            drop(frame);
+            Ok(())
+        }
     }
 }
 
@@ -96,6 +99,9 @@ pub(crate) fn turn_away(lent: &mut Lent, fd: Fd, reason: u32) -> Result<(), Allo
     let frame = frames::disconnect(lent.alloc(), reason, 0, &[])?;
     match lent.open_place(fd) {
         Some(place) => push_refusal(lent.endpoint(place), frame),
-        None => Ok(()),
+        None => {
+            drop(frame);
+            Ok(())
+        }
     }
 }

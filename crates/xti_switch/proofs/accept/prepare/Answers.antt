@@ -10,9 +10,9 @@ returns c =
     let i : find_number c.args.seq.0 (parts c.args.e.now).outstanding ≡ Some (indication_of c.in-Some.ind.now) = sym c.in-Some.ensures.request in
     rw i record {
       caller = sym (caller-is c.in-Some.ind.now c.in-Some.ensures.kind);
-      source = c.in_ok-copy_of.ensures.copy ∙ c.caller_address.ensures;
-      address = c.in_ok-copy_of-2.ensures.copy ∙ c.answering_address-address.ensures;
-      kind = c.in_ok-confirmation.ensures.kind;
-      confirmation = rw (← c.answering_address-address.ensures) c.in_ok-confirmation.ensures.confirmation;
-      given = c.in_ok-given.ensures;
+      source = c.in_ok-source.ensures.copy ∙ c.caller_address.ensures;
+      address = c.in-Ok.ensures.copy ∙ c.answering_address-answering.ensures;
+      kind = c.in-Ok-confirmation.ensures.kind;
+      confirmation = rw (← c.answering_address-answering.ensures) c.in-Ok-confirmation.ensures.confirmation;
+      given = c.in-Ok-given.ensures;
     }

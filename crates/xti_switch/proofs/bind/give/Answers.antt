@@ -22,7 +22,7 @@ returns-clause-ok c =
     let f = Bind.bound_to c.args.address c.args.qlen in
     let o = fd-open l c.args.fd.0 c.place_of-place.result h c.requires.fit.places c.requires.«open» c.place_of-place.ensures.place (sym c.endpoint.ensures.now) in
     let n : cell c.bind_endpoint.new.e ≡ change_endpoint (generation_of c.args.lent.now.providers c.args.fd.0) f (cell h) = ap (λ (x : Held). cell x) c.bind_endpoint.ensures ∙ parts-changed l c.args.fd.0 h f o in
-    let s = given c.args.prov c.in_ok-known.known c.args.address c.args.fd.0 (nat_lt 0 c.args.qlen) c.put.new.self.switch c.registry.result.now c.reserve.new.self c.registry-2.result.now c.put.ensures.switch c.in_ok-known.ensures.copy c.registry-2.ensures.now c.in_ok-reserve.ensures.switch in
+    let s = given c.args.prov c.in-Ok.made c.args.address c.args.fd.0 (nat_lt 0 c.args.qlen) c.put.new.self.switch c.registry.result.now c.reserve.new.self c.registry-2.result.now c.put.ensures.switch c.in-Ok.ensures.copy c.registry-2.ensures.now c.in-Ok-reserve.ensures.switch in
     fd-both l c.args.fd.0 c.place_of-place.result h c.bind_endpoint.new.e (change_endpoint (generation_of c.args.lent.now.providers c.args.fd.0) f) c.registry.result.now c.put.new.self (give_address c.args.prov c.args.address c.args.fd.0 (nat_lt 0 c.args.qlen)) c.place_of-place.ensures.place (sym c.endpoint.ensures.now) n (sym c.registry.ensures.now) s
 
 pub returns-clause-kept : goal.returns-clause-kept

@@ -14,12 +14,12 @@ prepare_any-requires-2-clause-there c =
 
 pub tell_any-requires-2-clause-ready : goal.tell_any-requires-2-clause-ready
 tell_any-requires-2-clause-ready c =
-    listener-ready c.args.lent.now c.prepare_any-2.new.lent c.tell_any.new.lent c.args.fd (parts c.in-Some.e.now) c.args.reason c.args.udata.now c.peer_news.result c.listener_news.result c.in_ok-to_peer.to_peer c.in_ok-to_listener.to_listener
+    listener-ready c.args.lent.now c.prepare_any-2.new.lent c.tell_any.new.lent c.args.fd (parts c.in-Some.e.now) c.args.reason c.args.udata.now c.peer_news.result c.listener_news.result c.in_ok-to_peer.to_peer c.in-Ok.made
     c.peer_news.ensures c.listener_news.ensures c.requires.fit
-    (room-then c.args.lent.now c.prepare_any.new.lent c.prepare_any-2.new.lent c.prepare_any.ensures.room c.prepare_any-2.ensures.room) c.in_ok-to_peer.ensures.notice c.in_ok-to_listener.ensures.notice c.tell_any.ensures.ready c.in_ok-to_listener.ensures.ready
+    (room-then c.args.lent.now c.prepare_any.new.lent c.prepare_any-2.new.lent c.prepare_any.ensures.room c.prepare_any-2.ensures.room) c.in_ok-to_peer.ensures.notice c.in-Ok.ensures.notice c.tell_any.ensures.ready c.in-Ok.ensures.ready
 
 pub returns-clause-ok : goal.returns-clause-ok
 returns-clause-ok c =
-    broken-off c.args.lent.now c.prepare_any-2.new.lent c.tell_any.new.lent c.tell_any-2.new.lent c.args.fd (parts c.in-Some.e.now) c.args.reason c.args.udata.now c.peer_news.result c.listener_news.result c.in_ok-to_peer.to_peer c.in_ok-to_listener.to_listener
+    broken-off c.args.lent.now c.prepare_any-2.new.lent c.tell_any.new.lent c.tell_any-2.new.lent c.args.fd (parts c.in-Some.e.now) c.args.reason c.args.udata.now c.peer_news.result c.listener_news.result c.in_ok-to_peer.to_peer c.in-Ok.made
     (sym c.in-Some.ensures.endpoint) c.peer_news.ensures c.listener_news.ensures
-    (room-then c.args.lent.now c.prepare_any.new.lent c.prepare_any-2.new.lent c.prepare_any.ensures.room c.prepare_any-2.ensures.room) c.in_ok-to_peer.ensures.notice c.in_ok-to_listener.ensures.notice c.tell_any.ensures.kept c.tell_any.ensures.cells c.tell_any-2.ensures.cells
+    (room-then c.args.lent.now c.prepare_any.new.lent c.prepare_any-2.new.lent c.prepare_any.ensures.room c.prepare_any-2.ensures.room) c.in_ok-to_peer.ensures.notice c.in-Ok.ensures.notice c.tell_any.ensures.kept c.tell_any.ensures.cells c.tell_any-2.ensures.cells

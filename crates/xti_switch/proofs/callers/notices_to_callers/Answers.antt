@@ -17,16 +17,16 @@ request-requires-clause-there c =
 pub prepare-requires-clause-there : goal.prepare-requires-clause-there
 prepare-requires-clause-there c = caller-held c.args.lent.now c.loop-place.lent c.args.fd.0 c.loop-place.place c.request.result c.loop-place.invariant.room c.request.ensures c.requires.reach
 
-pub returns-in_err-prepare-clause-room : goal.returns-in_err-prepare-clause-room
-returns-in_err-prepare-clause-room c = room-then c.args.lent.now c.loop-place.lent c.prepare.new.lent c.loop-place.invariant.room c.prepare.ensures.room
+pub returns-in-Err-clause-room : goal.returns-in-Err-clause-room
+returns-in-Err-clause-room c = room-then c.args.lent.now c.loop-place.lent c.prepare.new.lent c.loop-place.invariant.room c.prepare.ensures.room
 
-pub returns-in_err-push_back-clause-room : goal.returns-in_err-push_back-clause-room
-returns-in_err-push_back-clause-room c = room-then c.args.lent.now c.loop-place.lent c.prepare.new.lent c.loop-place.invariant.room c.prepare.ensures.room
+pub returns-in-Err-push_back-clause-room : goal.returns-in-Err-push_back-clause-room
+returns-in-Err-push_back-clause-room c = room-then c.args.lent.now c.loop-place.lent c.prepare.new.lent c.loop-place.invariant.room c.prepare.ensures.room
 
 pub loop-place-preserved : goal.loop-place-preserved
 loop-place-preserved c =
-    rw c.in_ok-push_back.ensures.items
-    (gathered-one c.args.lent.now c.loop-place.lent c.prepare.new.lent c.args.fd c.loop-place.place c.loop-place.notices.items c.request.result c.in_ok-prepare.field-0 c.loop-place.invariant c.prepare.ensures.room c.request.ensures c.in_ok-prepare.ensures.notice c.in_ok-prepare.ensures.ready)
+    rw c.in-Ok-push_back.ensures.items
+    (gathered-one c.args.lent.now c.loop-place.lent c.prepare.new.lent c.args.fd c.loop-place.place c.loop-place.notices.items c.request.result c.in-Ok.made c.loop-place.invariant c.prepare.ensures.room c.request.ensures c.in-Ok.ensures.notice c.in-Ok.ensures.ready)
 
 pub returns-clause-room : goal.returns-clause-room
 returns-clause-room c = c.loop-place.invariant.room
