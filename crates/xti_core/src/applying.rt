@@ -22,6 +22,15 @@ use xti_lent::Lent;
 use xti_model::{Applied, Call, Go, Outcome};
 use xti_switch::switch_step;
 
+/// Writes a value in a place, and lets go what was there. Of a type that isn't known here that is one call, and not one for
+/// each of its parts.
+#[inline(always)]
+fn write_over<T: Drop>(place: &mut T, value: T)
+    ensures { place.new ≡ value }
+{
+    *place = value;
+}
+
 /// Writes what a step answered where the caller keeps it, and answers whether a step was made. Each family of calls does so by
 /// itself below, so that the place for its answer is cleared where it is needed alone.
 #[inline(always)]
@@ -39,7 +48,7 @@ fn write(
                 after: state,
             },
         ) => {
-            *outcome = told;
+            write_over(outcome, told);
             *after = state;
             Ok(true)
         }
@@ -207,9 +216,15 @@ pub fn apply(lent: &mut Lent, call: &Call, go: Go) -> Result<Applied, AllocError
 {
     let mut outcome = Outcome::Part { taken: 0 };
     let mut after = State::T_UNINIT;
-    if apply_into(lent, call, go, &mut outcome, &mut after)? {
-        Ok(Applied::Step { outcome, after })
-    } else {
-        Ok(Applied::Blocked)
+    match apply_into(lent, call, go, &mut outcome, &mut after) {
+        Ok(true) => Ok(Applied::Step { outcome, after }),
+        Ok(false) => {
+            drop(outcome);
+            Ok(Applied::Blocked)
+        }
+        Err(error) => {
+            drop(outcome);
+            Err(error)
+        }
     }
 }

@@ -46,7 +46,15 @@ impl World {
         let registry = Box::new(alloc, Registry::fresh(alloc, p)?)?;
         let mut lent = Lent::new(alloc, p);
         for place in 0..p.places() {
-            let closed = Box::new(alloc, Endpoint::closed(alloc, place))?;
+            let closed = match Box::new(alloc, Endpoint::closed(alloc, place)) {
+                Ok(closed) => closed,
+                Err(failed) => {
+                    drop(failed);
+                    drop(registry);
+                    drop(lent);
+                    return Err(AllocError);
+                }
+            };
             lent.lend(place, closed);
         }
         lent.lend_registry(registry);

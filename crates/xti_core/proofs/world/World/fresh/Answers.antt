@@ -15,14 +15,14 @@ lend-requires-clause-room c = let e = ap length c.loop-place.invariant.numbered 
 
 pub loop-place-preserved : goal.loop-place-preserved
 loop-place-preserved c =
-    let h : c.lend.new.self.held ≡ c.loop-place.lent.held ++ c.in_ok-closed.closed.value ∷ [] = ap (λ (l : Lending). l.held) c.lend.ensures in
+    let h : c.lend.new.self.held ≡ c.loop-place.lent.held ++ c.in-Ok.closed.value ∷ [] = ap (λ (l : Lending). l.held) c.lend.ensures in
     let n = ap (λ (l : Lending). l.numbers) c.lend.ensures in
-    let place : c.in_ok-closed.closed.value.place ≡ c.closed.result.place = ap (λ (e : Held). e.place) c.in_ok-closed.ensures.ok in
+    let place : c.in-Ok.closed.value.place ≡ c.closed.result.place = ap (λ (e : Held). e.place) c.in-Ok.ensures.ok in
     record {
       providers = ap (λ (l : Lending). l.providers) c.lend.ensures ∙ c.loop-place.invariant.providers;
       numbered = n ∙ (ap (λ ns. ns ++ c.loop-place.place ∷ []) c.loop-place.invariant.numbered ∙ numbers-push 0 c.loop-place.place c.loop-place.place (omega arith));
-      unused = subst (UnusedFrom 0) (sym h) (unused-push 0 c.loop-place.lent.held c.in_ok-closed.closed.value c.loop-place.invariant.unused (omega (arith, place, c.closed.ensures.place, c.loop-place.invariant.count)) (ap (λ (e : Held). e.generation) c.in_ok-closed.ensures.ok ∙ c.closed.ensures.generation) (ap (λ (e : Held). e.body) c.in_ok-closed.ensures.ok ∙ c.closed.ensures.body));
-      count = let l = ap length h in omega (arith, l, length-append c.loop-place.lent.held (c.in_ok-closed.closed.value ∷ []), c.loop-place.invariant.count);
+      unused = subst (UnusedFrom 0) (sym h) (unused-push 0 c.loop-place.lent.held c.in-Ok.closed.value c.loop-place.invariant.unused (omega (arith, place, c.closed.ensures.place, c.loop-place.invariant.count)) (ap (λ (e : Held). e.generation) c.in-Ok.ensures.ok ∙ c.closed.ensures.generation) (ap (λ (e : Held). e.body) c.in-Ok.ensures.ok ∙ c.closed.ensures.body));
+      count = let l = ap length h in omega (arith, l, length-append c.loop-place.lent.held (c.in-Ok.closed.value ∷ []), c.loop-place.invariant.count);
       registry = ap (λ (l : Lending). l.registry) c.lend.ensures ∙ c.loop-place.invariant.registry;
     }
 
