@@ -8,6 +8,7 @@ ghost use Rattle.xti_end.specs.Held.{is_open, is_open_as, with_parts};
 
 use crate::parts::{Connection, Parts, Waiting};
 use crate::providers::profile;
+use crate::writing::write_over;
 use std::alloc::Global;
 use std::default::MadeWith;
 use std::marker::Model;
@@ -81,7 +82,7 @@ impl Endpoint {
         ensures { self.new ≡ record self.old { body = Some (opened (profile p.now prov) prov nonblock) } }
     {
         let profile = profile(p, prov);
-        self.body = Some(Parts {
+        let parts = Parts {
             prov,
             nonblock,
             state: State::T_UNBND,
@@ -92,7 +93,8 @@ impl Endpoint {
             sndbuf: profile.sndbuf,
             rcvbuf: profile.rcvbuf,
             connection: Connection::none(),
-        });
+        };
+        write_over(&mut self.body, Some(parts));
     }
 
     /// Nothing of a connection of the open endpoint is left. Takes no memory.
@@ -105,7 +107,7 @@ impl Endpoint {
         self.waiting.expedited.discard_stream();
         if let Some(parts) = &mut self.body {
             let last_seq = parts.connection.last_seq;
-            parts.connection = Connection::none();
+            write_over(&mut parts.connection, Connection::none());
             parts.connection.last_seq = last_seq;
             parts.mark = None;
         }
@@ -117,7 +119,7 @@ impl Endpoint {
         ensures { self.new ≡ record self.old { generation = self.old.generation + 1; body = None } }
     {
         self.generation += 1;
-        self.body = None;
+        write_over(&mut self.body, None);
         self.waiting.discard();
     }
 

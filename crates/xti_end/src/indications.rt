@@ -18,6 +18,7 @@ ghost use Rattle.xti_end.specs.Held.{pending_at, outstanding_at, disconnect_at};
 ghost use Rattle.xti_end.specs.Held.{AddsPending, AddsOutstanding, AddsDisconnect};
 
 use crate::endpoint::Endpoint;
+use crate::writing::write_over;
 use std::alloc::AllocError;
 use tpi_prim::Frame;
 use xti_base::{Fd, Seq, State};
@@ -208,7 +209,7 @@ impl Endpoint {
         ensures { self.new ≡ with_parts (λ e. record e { confirmation = Some (confirmation_in frame) }) self.old }
     {
         if let Some(parts) = &mut self.body {
-            parts.connection.confirmation = Some(frame);
+            write_over(&mut parts.connection.confirmation, Some(frame));
         }
     }
 
@@ -218,7 +219,7 @@ impl Endpoint {
         ensures { self.new ≡ with_parts (λ e. record e { confirmation = None }) self.old }
     {
         if let Some(parts) = &mut self.body {
-            parts.connection.confirmation = None;
+            write_over(&mut parts.connection.confirmation, None);
         }
     }
 

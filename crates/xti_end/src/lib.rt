@@ -21,6 +21,7 @@ mod receiving_release;
 mod showing;
 mod streams;
 mod values;
+mod writing;
 
 pub use endpoint::Endpoint;
 pub use fields::{is_too_long, trimmed, trimmed_copy};

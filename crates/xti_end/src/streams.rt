@@ -9,6 +9,7 @@ ghost use Rattle.xti_end.specs.Frames.{symbols_in};
 ghost use Rattle.xti_end.specs.Held.{is_open, parts, with_parts, normal_at, expedited_at, AddsNormal, AddsExpedited};
 
 use crate::endpoint::Endpoint;
+use crate::writing::write_over;
 use std::alloc::AllocError;
 use tpi_prim::Frame;
 use xti_queue::ReadQueue;
@@ -123,7 +124,7 @@ impl Endpoint {
         ensures { self.new ≡ with_parts (λ e. record e { release = true }) self.old }
     {
         if let Some(parts) = &mut self.body {
-            parts.connection.release = Some(frame);
+            write_over(&mut parts.connection.release, Some(frame));
         }
     }
 
@@ -133,7 +134,7 @@ impl Endpoint {
         ensures { self.new ≡ with_parts (λ e. record e { release = false }) self.old }
     {
         if let Some(parts) = &mut self.body {
-            parts.connection.release = None;
+            write_over(&mut parts.connection.release, None);
         }
     }
 }

@@ -9,6 +9,7 @@ ghost use Rattle.xti_model.specs.Spot.{spot_bytes};
 ghost use Rattle.xti_end.specs.Held.{is_open, parts, with_parts, mark_at, peer_at, target_at, target_number_at, target_of};
 
 use crate::endpoint::Endpoint;
+use crate::writing::write_over;
 use xti_base::{Fd, Octets, Prov, Seq, State};
 use xti_model::Spot;
 
@@ -95,7 +96,7 @@ impl Endpoint {
         ensures { self.new ≡ with_parts (λ e. record e { address = address }) self.old }
     {
         if let Some(parts) = &mut self.body {
-            parts.address = address;
+            write_over(&mut parts.address, address);
         }
     }
 
@@ -262,7 +263,7 @@ impl Endpoint {
         ensures { self.new ≡ with_parts (λ e. record e { peer_address = address }) self.old }
     {
         if let Some(parts) = &mut self.body {
-            parts.connection.peer_address = address;
+            write_over(&mut parts.connection.peer_address, address);
         }
     }
 

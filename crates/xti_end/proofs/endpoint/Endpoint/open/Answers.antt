@@ -8,6 +8,7 @@ returns c =
     let closed : is_none c.self.inside.body ≡ true = closed-none c.self.inside.body c.self.inside.waiting (rw (← c.self.view_is) at c.requires.closed) in
     let i = c.self.invariant in
     rw (
+      c.write_over.ensures,
       ← c.self.view_is,
       i.no_pending closed,
       i.no_outstanding closed,
