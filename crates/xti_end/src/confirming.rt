@@ -78,11 +78,10 @@ impl Endpoint {
         ensures { IfOk result (λ r. r ≡ Connect.connected (confirmation_of (parts self.now)) amax omax umax) }
     {
         let frame = self.the_confirmation();
-        Ok(Reply::Connected {
-            addr: trimmed_copy(self.alloc, address(frame), amax)?,
-            opt: trimmed_copy(self.alloc, options(frame), omax)?,
-            udata: trimmed_copy(self.alloc, data(frame), umax)?,
-        })
+        let addr = trimmed_copy(self.alloc, address(frame), amax)?;
+        let opt = or_drop!(trimmed_copy(self.alloc, options(frame), omax), addr);
+        let udata = or_drop!(trimmed_copy(self.alloc, data(frame), umax), addr, opt);
+        Ok(Reply::Connected { addr, opt, udata })
     }
 
     /// The confirmation is taken, and data can be sent. Takes no memory.

@@ -103,11 +103,14 @@ impl Endpoint {
         ensures { IfOk result (λ r. r ≡ Listen.listen_reply (Listen.oldest (parts self.now)) amax omax umax) }
     {
         let ind = self.oldest_request();
+        let addr = trimmed_copy(self.alloc, caller_address(ind), amax)?;
+        let opt = or_drop!(trimmed_copy(self.alloc, options(ind), omax), addr);
+        let udata = or_drop!(trimmed_copy(self.alloc, data(ind), umax), addr, opt);
         Ok(Reply::Listened {
             seq: number(ind),
-            addr: trimmed_copy(self.alloc, caller_address(ind), amax)?,
-            opt: trimmed_copy(self.alloc, options(ind), omax)?,
-            udata: trimmed_copy(self.alloc, data(ind), umax)?,
+            addr,
+            opt,
+            udata,
         })
     }
 
@@ -148,7 +151,7 @@ impl Endpoint {
             return Ok(done(self, p, fd, Reply::Overflow { seq }));
         }
         let reply = self.request_reply(amax, omax, umax)?;
-        self.take_request()?;
+        or_drop!(self.take_request(), reply);
         Ok(done(self, p, fd, reply))
     }
 

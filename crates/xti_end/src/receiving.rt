@@ -127,8 +127,8 @@ impl Endpoint {
             return Ok(done(self, p, fd, Reply::Overflow { seq: Seq(0) }));
         }
         let addr = trimmed_copy(self.alloc, source, amax)?;
-        let opt = trimmed_copy(self.alloc, options, omax)?;
-        let Received { bytes, more } = self.take_bytes(max)?;
+        let opt = or_drop!(trimmed_copy(self.alloc, options, omax), addr);
+        let Received { bytes, more } = or_drop!(self.take_bytes(max), addr, opt);
         let flags = if more { 1 } else { 0 };
         let reply = Reply::UData {
             addr,

@@ -74,9 +74,11 @@ impl Endpoint {
         ensures { IfOk result (λ r. r ≡ Datagrams.error_reply (Datagrams.first_error (parts self.now)) amax omax) }
     {
         let frame = self.first_error();
+        let addr = trimmed_copy(self.alloc, destination(frame), amax)?;
+        let opt = or_drop!(trimmed_copy(self.alloc, options(frame), omax), addr);
         Ok(Reply::UDErr {
-            addr: trimmed_copy(self.alloc, destination(frame), amax)?,
-            opt: trimmed_copy(self.alloc, options(frame), omax)?,
+            addr,
+            opt,
             code: code(frame),
         })
     }

@@ -102,7 +102,7 @@ impl Endpoint {
             return Ok(done(self, p, fd, Reply::Overflow { seq: Seq(0) }));
         }
         let local = trimmed_copy(self.alloc, local, amax)?;
-        let peer = trimmed_copy(self.alloc, peer, pmax)?;
+        let peer = or_drop!(trimmed_copy(self.alloc, peer, pmax), local);
         Ok(done(self, p, fd, Reply::Addresses { local, peer }))
     }
 }

@@ -19,8 +19,8 @@ returns-clause-step c =
     let b : is_too_long (field (Show.shown_peer (parts h)) c.args.pmax) ≡ false = ap (λ x. is_too_long (field x c.args.pmax)) (sym c.shown_peer-peer.ensures) ∙ (sym c.is_too_long-else-is_too_long.ensures ∙ c.if-is_too_long-2.false) in
     let fits : list_any is_too_long (Show.address_fields (parts h) c.args.amax c.args.pmax) ≡ false = rw (a, b) refl in
     let local : c.in_ok-local.local ≡ trimmed (address_of (parts h)) c.args.amax = c.in_ok-local.ensures.copy ∙ ap (λ x. trimmed x c.args.amax) c.shown_address-local.ensures in
-    let peer : c.in_ok-peer.peer ≡ trimmed (Show.shown_peer (parts h)) c.args.pmax = c.in_ok-peer.ensures.copy ∙ ap (λ x. trimmed x c.args.pmax) c.shown_peer-peer.ensures in
+    let peer : c.in-Ok.made ≡ trimmed (Show.shown_peer (parts h)) c.args.pmax = c.in-Ok.ensures.copy ∙ ap (λ x. trimmed x c.args.pmax) c.shown_peer-peer.ensures in
     c.done-2.ensures ∙
-    (ap (λ x. Some (made p fd (Done (Addresses x c.in_ok-peer.peer)) (alone h))) local ∙
+    (ap (λ x. Some (made p fd (Done (Addresses x c.in-Ok.made)) (alone h))) local ∙
     (ap (λ x. Some (made p fd (Done (Addresses (trimmed (address_of (parts h)) c.args.amax) x)) (alone h))) peer ∙
     addresses-told p h fd c.args.amax c.args.pmax (sym c.is.ensures ∙ c.if-not-is.false) fits))
