@@ -5,6 +5,7 @@ ghost use Rattle.xti_base.specs.declared.limits.TheConstants.{MOST_ADDRESS, MOST
 ghost use Rattle.xti_model.specs.Families.{is_connection_news, is_received};
 ghost use Rattle.xti_sound.specs.Replies.{lengths, lengths_of, news_lengths, bound_length, answered_length};
 ghost use Rattle.xti_sound.specs.Replies.{IsShort, IsShortOutcome};
+ghost use Rattle.xti_step.specs.Families.{has_no_bytes};
 
 use std::alloc::{AllocError, Global};
 use std::marker::Model;
@@ -70,6 +71,25 @@ fn copy_in(mut room: Room, bytes: &Octets) -> Octets
     room.finish()
 }
 
+/// A reply that has no field of bytes, once more.
+fn without_bytes(reply: &Reply) -> Reply
+    requires { IsTrue (has_no_bytes reply.now) }
+    ensures { result ≡ reply.now }
+{
+    match reply {
+        Reply::Plain => Reply::Plain,
+        Reply::Opened { fd } => Reply::Opened { fd: *fd },
+        Reply::Sent { n } => Reply::Sent { n: *n },
+        Reply::Seen { event } => Reply::Seen { event: *event },
+        Reply::Stands { state } => Reply::Stands { state: *state },
+        Reply::Limits { info } => Reply::Limits { info: *info },
+        Reply::Refused { errno } => Reply::Refused { errno: *errno },
+        Reply::Look { event } => Reply::Look { event: *event },
+        Reply::Overflow { seq } => Reply::Overflow { seq: *seq },
+        _ => unreachable!(),
+    }
+}
+
 /// Room for the fields of bytes of a reply, in their order.
 #[derive(Drop)]
 pub(crate) struct Spare {
@@ -94,10 +114,13 @@ impl Spare {
     fn with(alloc: Global, first: usize, second: usize, third: usize) -> Result<Spare, AllocError>
         ensures { IfOk result (λ s. s ≡ lengths first second third) }
     {
+        let first = Room::new(alloc, first)?;
+        let second = or_drop!(Room::new(alloc, second), first);
+        let third = or_drop!(Room::new(alloc, third), first, second);
         Ok(Spare {
-            first: Room::new(alloc, first)?,
-            second: Room::new(alloc, second)?,
-            third: Room::new(alloc, third)?,
+            first,
+            second,
+            third,
         })
     }
 
@@ -194,7 +217,13 @@ impl Spare {
         requires { length field.now ≤ self.first }
         ensures { result ≡ field.now }
     {
-        let Spare { first, .. } = self;
+        let Spare {
+            first,
+            second,
+            third,
+        } = self;
+        drop(second);
+        drop(third);
         copy_in(first, field)
     }
 
@@ -204,7 +233,12 @@ impl Spare {
         requires other { length other.now ≤ self.second }
         ensures { (result.0 ≡ one.now) × (result.1 ≡ other.now) }
     {
-        let Spare { first, second, .. } = self;
+        let Spare {
+            first,
+            second,
+            third,
+        } = self;
+        drop(third);
         (copy_in(first, one), copy_in(second, other))
     }
 
@@ -304,16 +338,10 @@ impl Spare {
         ensures { result ≡ reply.now }
     {
         match reply {
-            Reply::Plain => Reply::Plain,
-            Reply::Opened { fd } => Reply::Opened { fd: *fd },
             Reply::Bound { addr, qlen } => Reply::Bound {
                 addr: self.one(addr),
                 qlen: *qlen,
             },
-            Reply::Sent { n } => Reply::Sent { n: *n },
-            Reply::Seen { event } => Reply::Seen { event: *event },
-            Reply::Stands { state } => Reply::Stands { state: *state },
-            Reply::Limits { info } => Reply::Limits { info: *info },
             Reply::Addresses { local, peer } => {
                 let (local, peer) = self.two(local, peer);
                 Reply::Addresses { local, peer }
@@ -322,13 +350,22 @@ impl Spare {
                 result: *result,
                 opt: self.one(opt),
             },
-            Reply::Refused { errno } => Reply::Refused { errno: *errno },
-            Reply::Look { event } => Reply::Look { event: *event },
-            Reply::Overflow { seq } => Reply::Overflow { seq: *seq },
             Reply::Connected { .. } | Reply::Listened { .. } | Reply::Discon { .. } => {
                 self.connection_news(reply)
             }
             Reply::Got { .. } | Reply::UData { .. } | Reply::UDErr { .. } => self.received(reply),
+            Reply::Plain
+            | Reply::Opened { .. }
+            | Reply::Sent { .. }
+            | Reply::Seen { .. }
+            | Reply::Stands { .. }
+            | Reply::Limits { .. }
+            | Reply::Refused { .. }
+            | Reply::Look { .. }
+            | Reply::Overflow { .. } => {
+                drop(self);
+                without_bytes(reply)
+            }
         }
     }
 
@@ -339,7 +376,10 @@ impl Spare {
     {
         match outcome {
             Outcome::Done(reply) => Outcome::Done(self.reply(reply)),
-            Outcome::Part { taken } => Outcome::Part { taken: *taken },
+            Outcome::Part { taken } => {
+                drop(self);
+                Outcome::Part { taken: *taken }
+            }
         }
     }
 }

@@ -32,7 +32,7 @@ fn act(call: &Call, go: Go) -> Result<Act, AllocError>
 }
 
 /// Gives the journal back without an entry, and then the cells; the act is let go.
-fn give_up(hall: &Hall<Cell>, seat: &mut Seat<Cell>, lent: &mut Lent, pen: Pen<Cell>, _act: Act)
+fn give_up(hall: &Hall<Cell>, seat: &mut Seat<Cell>, lent: &mut Lent, pen: Pen<Cell>, act: Act)
     requires hall { IsSeatOf hall.now seat.old × (setting_of hall.now ≡ whole lent.old.providers) }
     requires holds { Holds seat.old.view }
     requires pen { IsPenOf seat.old pen }
@@ -44,6 +44,7 @@ fn give_up(hall: &Hall<Cell>, seat: &mut Seat<Cell>, lent: &mut Lent, pen: Pen<C
 {
     hall.return_pen(seat, pen);
     leave_all(hall, seat, lent);
+    drop(act);
 }
 
 /// Writes the entry of the step that was made on the lent cells, gives the journal back, and then the cells.
@@ -91,21 +92,25 @@ pub fn step<G: Gate, R: Wait + Sync>(
     ensures err { OnErr result (seat.new.view.mine ≡ seat.old.view.mine) }
 {
     let spare = Spare::of(alloc, call)?;
-    let act = act(call, go)?;
+    let act = or_drop!(act(call, go), spare);
     gather(rt, hall, seat, lent, call);
     gate.pause(rt, seat.number(), seat.steps(), seat, call);
     let Ok(pen) = hall.begin(rt, seat) else {
         leave_all(hall, seat, lent);
+        drop(spare);
+        drop(act);
         return Err(AllocError);
     };
     let at = pen.at();
     match apply(lent, call, go) {
         Err(error) => {
             give_up(hall, seat, lent, pen, act);
+            drop(spare);
             Err(error)
         }
         Ok(Applied::Blocked) => {
             give_up(hall, seat, lent, pen, act);
+            drop(spare);
             Ok((Applied::Blocked, at))
         }
         Ok(Applied::Step { outcome, after }) => {
