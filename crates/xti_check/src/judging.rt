@@ -47,9 +47,18 @@ fn compare(
     ensures { IfOk result (Compares outcome after entry.now) }
 {
     if after.is(entry.after) && same_outcome(&outcome, &entry.outcome) {
-        Ok(None)
-    } else {
-        Ok(Some(write_answer(alloc, &outcome, after)?))
+        drop(outcome);
+        return Ok(None);
+    }
+    match write_answer(alloc, &outcome, after) {
+        Ok(text) => {
+            drop(outcome);
+            Ok(Some(text))
+        }
+        Err(fail) => {
+            drop(outcome);
+            Err(fail)
+        }
     }
 }
 
@@ -113,9 +122,16 @@ impl<'a> Judge<'a> {
         };
         match self.world.step(going.call, going.go)? {
             Applied::Blocked => Ok(None),
-            Applied::Step { outcome, after } => Ok(Some(write_answer(
-                self.alloc, &outcome, after,
-            )?)),
+            Applied::Step { outcome, after } => match write_answer(self.alloc, &outcome, after) {
+                Ok(text) => {
+                    drop(outcome);
+                    Ok(Some(text))
+                }
+                Err(fail) => {
+                    drop(outcome);
+                    Err(fail)
+                }
+            },
         }
     }
 }

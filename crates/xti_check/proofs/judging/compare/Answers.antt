@@ -3,10 +3,10 @@ use Rattle.xti_check.proofs.Numbers.{are_numbers}
 use Rattle.xti_check.proofs.judging.compare.Goals as goal
 
 -- each number is of the outcome's own type
-pub returns : goal.returns
-returns c = (
+pub returns-in-Ok : goal.returns-in-Ok
+returns-in-Ok c = (
   search rules,
-  c.in_ok-write_answer.ensures,
+  c.in-Ok.ensures,
   are_numbers c.args.outcome (record {
     part = search rules;
     opened = search rules;
