@@ -107,13 +107,24 @@ fn gathered(alloc: Global, parts: &[&[u8]]) -> Result<Gather, AllocError> {
     }
 }
 
-/// These sizes.
-fn sizes(alloc: Global, all: &[u32]) -> Result<Sizes, AllocError> {
-    let mut sizes = Sizes::new(alloc);
+/// Adds these sizes.
+fn add_sizes(sizes: &mut Sizes, all: &[u32]) -> Result<(), AllocError> {
     for size in all {
         sizes.push(*size)?;
     }
-    Ok(sizes)
+    Ok(())
+}
+
+/// These sizes.
+fn sizes(alloc: Global, all: &[u32]) -> Result<Sizes, AllocError> {
+    let mut sizes = Sizes::new(alloc);
+    match add_sizes(&mut sizes, all) {
+        Ok(()) => Ok(sizes),
+        Err(error) => {
+            drop(sizes);
+            Err(error)
+        }
+    }
 }
 
 /// A call that changes an endpoint alone.
@@ -247,7 +258,9 @@ fn receive_parts<R: Wait + Sync>(
     ensures { IsOf xti.now seat.new }
 {
     let sizes = sizes(alloc, all)?;
-    xti.t_rcvv(rt, alloc, seat, fd, &sizes)
+    let received = xti.t_rcvv(rt, alloc, seat, fd, &sizes);
+    drop(sizes);
+    received
 }
 
 /// A call that moves data over a connection.
@@ -310,7 +323,9 @@ fn receive_datagram<R: Wait + Sync>(
     ensures { IsOf xti.now seat.new }
 {
     let sizes = sizes(alloc, all)?;
-    xti.t_rcvvudata(rt, alloc, seat, fd, &sizes, amax, omax)
+    let received = xti.t_rcvvudata(rt, alloc, seat, fd, &sizes, amax, omax);
+    drop(sizes);
+    received
 }
 
 /// A call of datagrams.

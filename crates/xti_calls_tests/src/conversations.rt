@@ -32,8 +32,10 @@ pub(crate) fn talk_about<R: Wait + Sync + Abort>(
 ) -> Result<(), Stop> {
     for (topic, tables, wanted) in topics {
         let mut log = Log::new(alloc);
-        talk(rt, alloc, &mut log, tables)?;
+        let talked = talk(rt, alloc, &mut log, tables);
         log.expect(rt, topic, wanted);
+        drop(log);
+        talked?;
     }
     Ok(())
 }

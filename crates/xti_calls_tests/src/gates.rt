@@ -9,6 +9,7 @@ use crate::asks::{Ask, Data, Datagram, Endpoint, Look, MOST, Request, converse, 
 use crate::datagrams;
 use crate::library::{Stop, another_seat, library};
 use std::alloc::{AllocError, Global};
+use std::process::Abort;
 use std::sync::Wait;
 use std::sync::atomic::{AtomicBool, Ordering};
 use std::test::*;
@@ -294,7 +295,9 @@ fn prepare<R: Wait + Sync>(
     ensures other { IfOk result (λ r. IsOf xti.now r × (unfinished_from None None r.view.mine ≡ None)) }
 {
     let mut log = Log::new(alloc);
-    converse(rt, alloc, xti, first, &mut log, before)?;
+    let made = converse(rt, alloc, xti, first, &mut log, before);
+    drop(log);
+    made?;
     another_seat(rt, alloc, xti, first)
 }
 
@@ -326,11 +329,23 @@ fn run<R: Threads + Wait + Sync>(rt: &R, alloc: Global, case: &Case) -> Result<(
     ran
 }
 
+/// Whether the held call of a case was answered and was let go in time. The test fails where the other calls answered
+/// otherwise.
+fn is_in_time<R: Threads + Wait + Sync + Abort>(
+    rt: &R,
+    alloc: Global,
+    case: &Case,
+) -> Result<bool, Stop> {
+    let (in_time, log) = run(rt, alloc, case)?;
+    log.expect(rt, case.topic, case.wanted);
+    drop(log);
+    Ok(in_time)
+}
+
 #[test]
 fn gates(rt: HostRuntime) -> Result<(), Fail> {
     for case in &CASES {
-        let (in_time, log) = run(&rt, rt.alloc(), case)?;
-        log.expect(&rt, case.topic, case.wanted);
+        let in_time = is_in_time(&rt, rt.alloc(), case)?;
         assert!(rt; in_time, "{}", case.topic);
     }
     Ok(())

@@ -412,15 +412,17 @@ fn small<R: Wait + Sync>(rt: &R, alloc: Global, log: &mut Log) -> Result<(), Sto
 #[test]
 fn parts(rt: HostRuntime) -> Result<(), Fail> {
     let mut log = Log::new(rt.alloc());
-    sends(&rt, rt.alloc(), &mut log)?;
+    let made = sends(&rt, rt.alloc(), &mut log);
     log.expect(&rt, "a send in parts", ANSWERS);
-    Ok(())
+    drop(log);
+    Ok(made?)
 }
 
 #[test]
 fn buffers(rt: HostRuntime) -> Result<(), Fail> {
     let mut log = Log::new(rt.alloc());
-    small(&rt, rt.alloc(), &mut log)?;
+    let made = small(&rt, rt.alloc(), &mut log);
     log.expect(&rt, "small buffers", SMALL);
-    Ok(())
+    drop(log);
+    Ok(made?)
 }

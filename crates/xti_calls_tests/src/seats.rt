@@ -64,6 +64,7 @@ fn splits<R: Wait>(rt: &R, alloc: Global, xti: &Xti, seat: &mut Seat) -> u32
 fn put_entry(alloc: Global, log: &mut Log, number: u64, entry: &Entry) -> Result<(), AllocError> {
     let line = write_entry(alloc, number, entry)?;
     log.append(line.as_slice());
+    drop(line);
     Ok(())
 }
 
@@ -207,7 +208,8 @@ fn numbers(rt: HostRuntime) -> Result<(), Fail> {
 #[test]
 fn histories(rt: HostRuntime) -> Result<(), Fail> {
     let mut log = Log::new(rt.alloc());
-    talked(&rt, rt.alloc(), &mut log)?;
+    let made = talked(&rt, rt.alloc(), &mut log);
     log.expect(&rt, "a datagram between two seats", ANSWERS);
-    Ok(())
+    drop(log);
+    Ok(made?)
 }

@@ -1,6 +1,7 @@
 //! Structures and their buffers, the names of errors, and what the system sets.
 
 use std::alloc::Global;
+use std::process::Abort;
 use std::test::*;
 use xti_base::{Errno, Info, Limit, ServType};
 use xti_calls::{AllocFail, Bufs, StructKind, t_alloc, t_strerror, t_sysconf};
@@ -57,12 +58,32 @@ fn address_sizes(alloc: Global) -> Result<(usize, usize, usize, bool), AllocFail
     sizes_of(t_alloc(alloc, &CONNECTIONS, StructKind::Bind))
 }
 
+/// The test fails where other sizes are wanted.
+fn expect_sizes<R: Abort>(
+    rt: &R,
+    found: Result<(usize, usize, usize, bool), AllocFail>,
+    wanted: Result<(usize, usize, usize, bool), AllocFail>,
+) {
+    assert_eq!(rt; found, wanted);
+}
+
+/// The test fails where the error has another name.
+fn expect_name<R: Abort>(rt: &R, number: u32, wanted: &str) {
+    assert_eq!(rt; t_strerror(number), wanted);
+}
+
+/// The test fails where the system sets another limit.
+fn expect_limit<R: Abort>(rt: &R, name: u32, wanted: Result<u32, Errno>) {
+    assert_eq!(rt; t_sysconf(name), wanted);
+}
+
 #[test]
 fn structures(rt: HostRuntime) {
-    assert_eq!(rt; request_sizes(rt.alloc()), Err(AllocFail::NoStructType));
-    assert_eq!(rt; address_sizes(rt.alloc()), Ok((64, 0, 0, true)));
-    assert_eq!(rt; t_strerror(9), "TLOOK");
-    assert_eq!(rt; t_strerror(30), "unknown");
-    assert_eq!(rt; t_sysconf(0), Ok(16));
-    assert_eq!(rt; t_sysconf(1), Err(Errno::TBADFLAG));
+    let alloc = rt.alloc();
+    expect_sizes(&rt, request_sizes(alloc), Err(AllocFail::NoStructType));
+    expect_sizes(&rt, address_sizes(alloc), Ok((64, 0, 0, true)));
+    expect_name(&rt, 9, "TLOOK");
+    expect_name(&rt, 30, "unknown");
+    expect_limit(&rt, 0, Ok(16));
+    expect_limit(&rt, 1, Err(Errno::TBADFLAG));
 }
