@@ -19,6 +19,9 @@ pub(crate) const MOST: Max = Max {
     udata: 64,
 };
 
+/// The options of each call but `t_optmgmt`, and the data of each request, answer and disconnect.
+const NOTHING: &[u8] = b"";
+
 /// A call with its arguments.
 pub(crate) enum Ask {
     /// A call that changes an endpoint alone.
@@ -56,15 +59,15 @@ pub(crate) enum Look {
 
 /// Calls that make a connection.
 pub(crate) enum Request {
-    Connect(Fd, &'static [u8], &'static [u8], &'static [u8], Max),
+    Connect(Fd, &'static [u8], Max),
     Confirm(Fd, Max),
     Listen(Fd, Max),
-    Accept(Fd, Fd, Seq, &'static [u8], &'static [u8]),
+    Accept(Fd, Fd, Seq),
 }
 
 /// Calls that end a connection.
 pub(crate) enum End {
-    Disconnect(Fd, Seq, &'static [u8]),
+    Disconnect(Fd, Seq),
     Disconnected(Fd, u32),
     Release(Fd),
     Released(Fd),
@@ -80,9 +83,9 @@ pub(crate) enum Data {
 
 /// Calls of datagrams.
 pub(crate) enum Datagram {
-    Send(Fd, &'static [u8], &'static [u8], &'static [u8]),
+    Send(Fd, &'static [u8], &'static [u8]),
     Receive(Fd, Max),
-    SendParts(Fd, &'static [u8], &'static [u8], &'static [&'static [u8]]),
+    SendParts(Fd, &'static [u8], &'static [&'static [u8]]),
     ReceiveParts(Fd, &'static [u32], u32, u32),
     Error(Fd, u32, u32),
 }
@@ -192,13 +195,13 @@ fn make_connection<R: Wait + Sync>(
     ensures { IsOf xti.now seat.new }
 {
     match *ask {
-        Request::Connect(fd, addr, opt, udata, max) => log.note(xti.t_connect(
-            rt, alloc, seat, fd, addr, opt, udata, max,
+        Request::Connect(fd, addr, max) => log.note(xti.t_connect(
+            rt, alloc, seat, fd, addr, NOTHING, NOTHING, max,
         )),
         Request::Confirm(fd, max) => log.note(xti.t_rcvconnect(rt, alloc, seat, fd, max)),
         Request::Listen(fd, max) => log.note(xti.t_listen(rt, alloc, seat, fd, max)),
-        Request::Accept(fd, resfd, seq, opt, udata) => log.note(xti.t_accept(
-            rt, alloc, seat, fd, resfd, seq, opt, udata,
+        Request::Accept(fd, resfd, seq) => log.note(xti.t_accept(
+            rt, alloc, seat, fd, resfd, seq, NOTHING, NOTHING,
         )),
     }
 }
@@ -217,7 +220,7 @@ fn end_connection<R: Wait + Sync>(
     ensures { IsOf xti.now seat.new }
 {
     match *ask {
-        End::Disconnect(fd, seq, udata) => log.note(xti.t_snddis(rt, alloc, seat, fd, seq, udata)),
+        End::Disconnect(fd, seq) => log.note(xti.t_snddis(rt, alloc, seat, fd, seq, NOTHING)),
         End::Disconnected(fd, umax) => log.note(xti.t_rcvdis(rt, alloc, seat, fd, umax)),
         End::Release(fd) => log.note(xti.t_sndrel(rt, alloc, seat, fd)),
         End::Released(fd) => log.note(xti.t_rcvrel(rt, alloc, seat, fd)),
@@ -294,7 +297,6 @@ fn send_datagram<R: Wait + Sync>(
     seat: &mut Seat,
     fd: Fd,
     addr: &[u8],
-    opt: &[u8],
     parts: &[&[u8]],
 ) -> Result<(), Fail>
     requires seat { IsOf xti.now seat.old }
@@ -302,7 +304,7 @@ fn send_datagram<R: Wait + Sync>(
     ensures { IsOf xti.now seat.new }
 {
     let parts = gathered(alloc, parts)?;
-    let sent = xti.t_sndvudata(rt, alloc, seat, fd, addr, opt, &parts);
+    let sent = xti.t_sndvudata(rt, alloc, seat, fd, addr, NOTHING, &parts);
     drop(parts);
     sent
 }
@@ -342,12 +344,12 @@ fn move_datagram<R: Wait + Sync>(
     ensures { IsOf xti.now seat.new }
 {
     match *ask {
-        Datagram::Send(fd, addr, opt, bytes) => log.note(xti.t_sndudata(
-            rt, alloc, seat, fd, addr, opt, bytes,
+        Datagram::Send(fd, addr, bytes) => log.note(xti.t_sndudata(
+            rt, alloc, seat, fd, addr, NOTHING, bytes,
         )),
         Datagram::Receive(fd, max) => log.note(xti.t_rcvudata(rt, alloc, seat, fd, max)),
-        Datagram::SendParts(fd, addr, opt, parts) => log.note(send_datagram(
-            rt, alloc, xti, seat, fd, addr, opt, parts,
+        Datagram::SendParts(fd, addr, parts) => log.note(send_datagram(
+            rt, alloc, xti, seat, fd, addr, parts,
         )),
         Datagram::ReceiveParts(fd, all, amax, omax) => log.note(receive_datagram(
             rt, alloc, xti, seat, fd, all, amax, omax,

@@ -34,9 +34,9 @@ pub(crate) const OF_TICOTSORD: &[Ask] = &[
 
 /// A connection from the caller to the answerer.
 pub(crate) const CONNECT: &[Ask] = &[
-    Ask::Request(Request::Connect(CALLER, b"l", b"", b"", MOST)),
+    Ask::Request(Request::Connect(CALLER, b"l", MOST)),
     Ask::Request(Request::Listen(LISTENER, MOST)),
-    Ask::Request(Request::Accept(LISTENER, ANSWERER, Seq(1), b"", b"")),
+    Ask::Request(Request::Accept(LISTENER, ANSWERER, Seq(1))),
     Ask::Request(Request::Confirm(CALLER, MOST)),
 ];
 
@@ -74,7 +74,7 @@ pub(crate) const DISCONNECT: &[Ask] = &[
     Ask::Look(Look::State(LISTENER)),
     Ask::End(End::Release(CALLER)),
     Ask::Data(Data::Send(CALLER, b"hi", 0)),
-    Ask::End(End::Disconnect(CALLER, Seq(0), b"")),
+    Ask::End(End::Disconnect(CALLER, Seq(0))),
     Ask::Data(Data::Receive(ANSWERER, 9)),
     Ask::End(End::Disconnected(ANSWERER, 64)),
     Ask::Endpoint(Endpoint::Close(ANSWERER)),

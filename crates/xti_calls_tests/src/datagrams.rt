@@ -27,7 +27,7 @@ pub(crate) const TWO_ENDPOINTS: &[Ask] = &[
 
 /// A datagram that is received in two parts.
 pub(crate) const TWO_PARTS: &[Ask] = &[
-    Ask::Datagram(Datagram::Send(A, b"b", b"", b"hello")),
+    Ask::Datagram(Datagram::Send(A, b"b", b"hello")),
     Ask::Datagram(Datagram::Receive(B, THREE_BYTES)),
     Ask::Datagram(Datagram::Receive(B, THREE_BYTES)),
 ];
@@ -36,17 +36,17 @@ pub(crate) const TWO_PARTS: &[Ask] = &[
 pub(crate) const TO_NOBODY: &[Ask] = &[
     Ask::Endpoint(Endpoint::Open(b"ticlts", false)),
     Ask::Endpoint(Endpoint::Bind(A, b"a", 0, 64)),
-    Ask::Datagram(Datagram::Send(A, b"zz", b"", b"x")),
-    Ask::Datagram(Datagram::Send(A, b"zz", b"", b"x")),
+    Ask::Datagram(Datagram::Send(A, b"zz", b"x")),
+    Ask::Datagram(Datagram::Send(A, b"zz", b"x")),
     Ask::Look(Look::Event(A)),
     Ask::Datagram(Datagram::Error(A, 64, 256)),
-    Ask::Datagram(Datagram::Send(A, b"a", b"", b"x")),
+    Ask::Datagram(Datagram::Send(A, b"a", b"x")),
     Ask::Datagram(Datagram::Error(A, 64, 256)),
 ];
 
 /// A datagram of two parts, received by buffers.
 pub(crate) const IN_PARTS: &[Ask] = &[
-    Ask::Datagram(Datagram::SendParts(A, b"b", b"", &[b"ab", b"cde"])),
+    Ask::Datagram(Datagram::SendParts(A, b"b", &[b"ab", b"cde"])),
     Ask::Datagram(Datagram::ReceiveParts(B, &[2, 1], 64, 256)),
     Ask::Datagram(Datagram::ReceiveParts(B, &[9], 64, 256)),
 ];
@@ -62,7 +62,7 @@ pub(crate) const NOTHING_WAITS: &[Ask] = &[
 pub(crate) const NONBLOCK: &[Ask] = &[Ask::Endpoint(Endpoint::Mode(A, true))];
 
 /// One datagram more.
-const ONE_MORE: Ask = Ask::Datagram(Datagram::Send(A, b"b", b"", b"x"));
+const ONE_MORE: Ask = Ask::Datagram(Datagram::Send(A, b"b", b"x"));
 
 /// As many datagrams as there is room for.
 pub(crate) const SIXTEEN_MORE: &[Ask] = &[ONE_MORE; 16];

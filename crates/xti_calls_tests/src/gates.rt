@@ -135,9 +135,9 @@ macro_rules! connection {
             Ask::Endpoint(Endpoint::Bind($listener, $address, 1, 64)),
             Ask::Endpoint(Endpoint::Open(b"ticots", true)),
             Ask::Endpoint(Endpoint::Bind($caller, b"", 0, 64)),
-            Ask::Request(Request::Connect($caller, $address, b"", b"", MOST)),
+            Ask::Request(Request::Connect($caller, $address, MOST)),
             Ask::Request(Request::Listen($listener, MOST)),
-            Ask::Request(Request::Accept($listener, $listener, Seq(1), b"", b"")),
+            Ask::Request(Request::Accept($listener, $listener, Seq(1))),
             Ask::Request(Request::Confirm($caller, MOST)),
         ]
     };
@@ -157,14 +157,14 @@ const TWO_REQUESTS: &[Ask] = &[
     Ask::Endpoint(Endpoint::Bind(Fd(7), b"", 0, 64)),
     Ask::Endpoint(Endpoint::Open(b"ticots", true)),
     Ask::Endpoint(Endpoint::Bind(Fd(8), b"", 0, 64)),
-    Ask::Request(Request::Connect(Fd(7), b"l", b"", b"", MOST)),
-    Ask::Request(Request::Connect(Fd(8), b"l", b"", b"", MOST)),
+    Ask::Request(Request::Connect(Fd(7), b"l", MOST)),
+    Ask::Request(Request::Connect(Fd(8), b"l", MOST)),
 ];
 
 /// Calls of two endpoints, and a datagram between them.
 const ON_ENDPOINTS: &[Ask] = &[
     Ask::Look(Look::State(Fd(0))),
-    Ask::Datagram(Datagram::Send(Fd(0), b"b", b"", b"hello")),
+    Ask::Datagram(Datagram::Send(Fd(0), b"b", b"hello")),
     Ask::Datagram(Datagram::Receive(Fd(1), MOST)),
     Ask::Look(Look::State(Fd(1))),
     Ask::Look(Look::State(Fd(0))),
@@ -176,7 +176,7 @@ const ON_CONNECTIONS: &[Ask] = &[
     Ask::Data(Data::Receive(Fd(0), 9)),
     Ask::Data(Data::Send(Fd(3), b"hi", 0)),
     Ask::Data(Data::Receive(Fd(2), 9)),
-    Ask::Request(Request::Accept(Fd(0), Fd(2), Seq(1), b"", b"")),
+    Ask::Request(Request::Accept(Fd(0), Fd(2), Seq(1))),
     Ask::Endpoint(Endpoint::Close(Fd(6))),
     Ask::Look(Look::Event(Fd(7))),
     Ask::Look(Look::Event(Fd(8))),

@@ -43,8 +43,8 @@ pub(crate) const TWO_REQUESTS: &[Ask] = &[
     Ask::Endpoint(Endpoint::Bind(ONE, b"", 0, 64)),
     Ask::Endpoint(Endpoint::Open(b"ticots", true)),
     Ask::Endpoint(Endpoint::Bind(OTHER, b"", 0, 64)),
-    Ask::Request(Request::Connect(ONE, b"l", b"", b"", MOST)),
-    Ask::Request(Request::Connect(OTHER, b"l", b"", b"", MOST)),
+    Ask::Request(Request::Connect(ONE, b"l", MOST)),
+    Ask::Request(Request::Connect(OTHER, b"l", MOST)),
 ];
 
 /// Of two requests the other one is refused.
@@ -57,12 +57,12 @@ pub(crate) const SHORT_QUEUE: &[Ask] = &[
 /// Two requests, which are accepted on another endpoint and on the listener.
 pub(crate) const LONG_QUEUE: &[Ask] = &[
     Ask::Request(Request::Listen(LISTENER, MOST)),
-    Ask::Request(Request::Accept(LISTENER, LISTENER, Seq(1), b"", b"")),
+    Ask::Request(Request::Accept(LISTENER, LISTENER, Seq(1))),
     Ask::Request(Request::Listen(LISTENER, MOST)),
-    Ask::Request(Request::Accept(LISTENER, LISTENER, Seq(1), b"", b"")),
+    Ask::Request(Request::Accept(LISTENER, LISTENER, Seq(1))),
     Ask::Endpoint(Endpoint::Open(b"ticots", false)),
-    Ask::Request(Request::Accept(LISTENER, FRESH, Seq(1), b"", b"")),
-    Ask::Request(Request::Accept(LISTENER, LISTENER, Seq(2), b"", b"")),
+    Ask::Request(Request::Accept(LISTENER, FRESH, Seq(1))),
+    Ask::Request(Request::Accept(LISTENER, LISTENER, Seq(2))),
 ];
 
 /// An indication whose address is too long for the caller, and which is rejected.
@@ -71,9 +71,9 @@ pub(crate) const REJECTED: &[Ask] = &[
     Ask::Endpoint(Endpoint::Bind(LISTENER, b"l", 1, 64)),
     Ask::Endpoint(Endpoint::Open(b"ticots", true)),
     Ask::Endpoint(Endpoint::Bind(ONE, b"", 0, 64)),
-    Ask::Request(Request::Connect(ONE, b"l", b"", b"", MOST)),
+    Ask::Request(Request::Connect(ONE, b"l", MOST)),
     Ask::Request(Request::Listen(LISTENER, SHORT_ADDRESS)),
-    Ask::End(End::Disconnect(LISTENER, Seq(1), b"")),
+    Ask::End(End::Disconnect(LISTENER, Seq(1))),
     Ask::End(End::Disconnected(ONE, 64)),
 ];
 
@@ -81,7 +81,7 @@ pub(crate) const REJECTED: &[Ask] = &[
 pub(crate) const TO_NOBODY: &[Ask] = &[
     Ask::Endpoint(Endpoint::Open(b"ticots", false)),
     Ask::Endpoint(Endpoint::Bind(LISTENER, b"", 0, 64)),
-    Ask::Request(Request::Connect(LISTENER, b"no", b"", b"", MOST)),
+    Ask::Request(Request::Connect(LISTENER, b"no", MOST)),
     Ask::End(End::Disconnected(LISTENER, 64)),
     Ask::End(End::Disconnected(LISTENER, 64)),
 ];
@@ -92,7 +92,7 @@ pub(crate) const OUTSTANDING: &[Ask] = &[
     Ask::Endpoint(Endpoint::Bind(LISTENER, b"l", 1, 64)),
     Ask::Endpoint(Endpoint::Open(b"ticots", true)),
     Ask::Endpoint(Endpoint::Bind(ONE, b"", 0, 64)),
-    Ask::Request(Request::Connect(ONE, b"l", b"", b"", MOST)),
+    Ask::Request(Request::Connect(ONE, b"l", MOST)),
     Ask::Request(Request::Listen(LISTENER, MOST)),
     Ask::Endpoint(Endpoint::Open(b"ticotsord", false)),
     Ask::Endpoint(Endpoint::Open(b"ticots", false)),
@@ -101,10 +101,10 @@ pub(crate) const OUTSTANDING: &[Ask] = &[
 
 /// Requests that can't be accepted so: another provider, an endpoint that listens, a sequence number of none.
 pub(crate) const NOT_ACCEPTED: &[Ask] = &[
-    Ask::Request(Request::Accept(LISTENER, OTHER, Seq(1), b"", b"")),
-    Ask::Request(Request::Accept(LISTENER, FRESH, Seq(1), b"", b"")),
-    Ask::Request(Request::Accept(LISTENER, LISTENER, Seq(2), b"", b"")),
-    Ask::Request(Request::Accept(LISTENER, LISTENER, Seq(1), b"", b"")),
+    Ask::Request(Request::Accept(LISTENER, OTHER, Seq(1))),
+    Ask::Request(Request::Accept(LISTENER, FRESH, Seq(1))),
+    Ask::Request(Request::Accept(LISTENER, LISTENER, Seq(2))),
+    Ask::Request(Request::Accept(LISTENER, LISTENER, Seq(1))),
 ];
 
 /// An address that another listener has, and a listener that can't be unbound while a request waits.
@@ -114,10 +114,10 @@ pub(crate) const UNBINDING: &[Ask] = &[
     Ask::Endpoint(Endpoint::Open(b"ticots", true)),
     Ask::Endpoint(Endpoint::Bind(ONE, b"l", 1, 64)),
     Ask::Endpoint(Endpoint::Bind(ONE, b"l", 0, 64)),
-    Ask::Request(Request::Connect(ONE, b"l", b"", b"", MOST)),
+    Ask::Request(Request::Connect(ONE, b"l", MOST)),
     Ask::Endpoint(Endpoint::Unbind(LISTENER)),
     Ask::Request(Request::Listen(LISTENER, MOST)),
-    Ask::End(End::Disconnect(LISTENER, Seq(1), b"")),
+    Ask::End(End::Disconnect(LISTENER, Seq(1))),
     Ask::Endpoint(Endpoint::Unbind(LISTENER)),
 ];
 
