@@ -51,7 +51,7 @@ fn step_again(world: &mut World, call: &Call, go: Go) -> Result<(), AllocError>
     ensures cells { OnOk result (world.new.cells ≡ left_by world.old.cells (step world.old.providers world.old.cells call.now go)) }
     ensures providers { world.new.providers ≡ world.old.providers }
 {
-    world.step(call, go)?;
+    drop(world.step(call, go)?);
     Ok(())
 }
 

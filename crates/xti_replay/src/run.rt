@@ -13,6 +13,7 @@ use crate::asking::ask;
 use crate::beginning::{go_through, turns_after, workers_after};
 use crate::stalling::stall_lines;
 use crate::workers::{Worker, put_back};
+use crate::writing::write_over;
 use std::alloc::{AllocError, Global};
 use std::collections::VecDeque;
 use std::mem;
@@ -142,7 +143,7 @@ impl<'a> Run<'a> {
         ensures lines { self.new.lines.now ≡ self.old.lines.now }
     {
         self.made = false;
-        self.entry.act = Act::More;
+        write_over(&mut self.entry.act, Act::More);
         self.made = self.make()?;
         Ok(())
     }
@@ -177,6 +178,8 @@ impl<'a> Run<'a> {
         requires { (past : List Entry) × StandsAfter past self }
         ensures { IfOk result (λ stalls. AreStallsOf self.entry stalls) }
     {
-        stall_lines(self.alloc, self.lines, &mut self.workers)
+        let stalls = stall_lines(self.alloc, self.lines, &mut self.workers);
+        drop(self);
+        stalls
     }
 }

@@ -1,13 +1,12 @@
 use Rattle.std.proofs.Common.{false}
-use Rattle.xti_model.specs.declared.entry.Act.TheVariants as act
 use Rattle.xti_replay.specs.Progress.{made_by}
 use Rattle.xti_replay.proofs.OthersAsked.{next_in, stands-with, goes-out}
 use Rattle.xti_replay.proofs.run.Run.step.Goals as goal
 
 pub make-requires-clause-stands : goal.make-requires-clause-stands
-make-requires-clause-stands c = (c.requires.0, stands-with c.requires.0 c.args.self.now (record c.args.self.now.entry { act = act.More }) false c.requires.1)
+make-requires-clause-stands c = (c.requires.0, stands-with c.requires.0 c.args.self.now (record c.args.self.now.entry { act = c.write_over.new.place }) false c.requires.1)
 
 pub returns-clause-goes_on : goal.returns-clause-goes_on
 returns-clause-goes_on c = λ past k.
-    goes-out past c.args.self.now c.make.new.self c.make.new.self.entry (record c.args.self.now.entry { act = act.More }) c.in_ok-self.field-0 false (made_by c.in_ok-self.field-0 c.make.new.self.entry) (next_in past c.args.self.now)
-    (c.in_ok-self.ensures.goes_on past (stands-with past c.args.self.now (record c.args.self.now.entry { act = act.More }) false k))
+    goes-out past c.args.self.now c.make.new.self c.make.new.self.entry (record c.args.self.now.entry { act = c.write_over.new.place }) c.in_ok-self.field-0 false (made_by c.in_ok-self.field-0 c.make.new.self.entry) (next_in past c.args.self.now)
+    (c.in_ok-self.ensures.goes_on past (stands-with past c.args.self.now (record c.args.self.now.entry { act = c.write_over.new.place }) false k))
