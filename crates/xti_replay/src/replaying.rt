@@ -47,13 +47,24 @@ pub fn go_on(alloc: Global, s: &Script, history: Entries) -> Result<Journal, All
     robin_goes_on();
     let mut run = Run::after(alloc, s, history.as_slice())?;
     let mut entries = history;
-    take_entries(&mut run, &mut entries)?;
-    let stalls = run.stalls()?;
-    Ok(Journal {
-        providers: s.providers,
-        entries,
-        stalls,
-    })
+    match take_entries(&mut run, &mut entries) {
+        Err(fail) => {
+            drop(run);
+            drop(entries);
+            Err(fail)
+        }
+        Ok(()) => match run.stalls() {
+            Ok(stalls) => Ok(Journal {
+                providers: s.providers,
+                entries,
+                stalls,
+            }),
+            Err(fail) => {
+                drop(entries);
+                Err(fail)
+            }
+        },
+    }
 }
 
 /// The journal of a script, whose workers take turns from its beginning on.

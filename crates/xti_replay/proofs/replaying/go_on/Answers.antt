@@ -15,31 +15,31 @@ take_entries-requires c = (c.args.s.now, gone_on c.args.s.now c.args.history, ru
 
 pub stalls-requires : goal.stalls-requires
 stalls-requires c =
-    (gone_on c.args.s.now c.args.history, (c.in_ok-take_entries.ensures c.args.s.now (gone_on c.args.s.now c.args.history) (run-of c.args.s.now _ c.args.history _ c.as_slice.ensures c.in_ok-run.ensures)).1.stands)
+    (gone_on c.args.s.now c.args.history, (c.in-Ok.ensures c.args.s.now (gone_on c.args.s.now c.args.history) (run-of c.args.s.now _ c.args.history _ c.as_slice.ensures c.in_ok-run.ensures)).1.stands)
 
-pub returns-clause-entries : goal.returns-clause-entries
-returns-clause-entries c = (c.in_ok-take_entries.ensures c.args.s.now (gone_on c.args.s.now c.args.history) (run-of c.args.s.now _ c.args.history _ c.as_slice.ensures c.in_ok-run.ensures)).0
+pub returns-in-Ok-stalls-clause-entries : goal.returns-in-Ok-stalls-clause-entries
+returns-in-Ok-stalls-clause-entries c = (c.in-Ok.ensures c.args.s.now (gone_on c.args.s.now c.args.history) (run-of c.args.s.now _ c.args.history _ c.as_slice.ensures c.in_ok-run.ensures)).0
 
-pub returns-clause-stalls : goal.returns-clause-stalls
-returns-clause-stalls c =
+pub returns-in-Ok-stalls-clause-stalls : goal.returns-in-Ok-stalls-clause-stalls
+returns-in-Ok-stalls-clause-stalls c =
     let all = gone_on c.args.s.now c.args.history in
-    let w = (c.in_ok-take_entries.ensures c.args.s.now all (run-of c.args.s.now _ c.args.history _ c.as_slice.ensures c.in_ok-run.ensures)).1 in
-    (ends c.args.s.now all c.in_ok-stalls.stalls c.take_entries.new.run.lines.now w.lines (c.in_ok-stalls.ensures all w.stands)).stalls
+    let w = (c.in-Ok.ensures c.args.s.now all (run-of c.args.s.now _ c.args.history _ c.as_slice.ensures c.in_ok-run.ensures)).1 in
+    (ends c.args.s.now all c.in-Ok-stalls.stalls c.take_entries.new.run.lines.now w.lines (c.in-Ok-stalls.ensures all w.stands)).stalls
 
-pub returns-clause-through : goal.returns-clause-through
-returns-clause-through c =
+pub returns-in-Ok-stalls-clause-through : goal.returns-in-Ok-stalls-clause-through
+returns-in-Ok-stalls-clause-through c =
     let all = gone_on c.args.s.now c.args.history in
-    let w = (c.in_ok-take_entries.ensures c.args.s.now all (run-of c.args.s.now _ c.args.history _ c.as_slice.ensures c.in_ok-run.ensures)).1 in
-    rw (returns-clause-entries c) (ends c.args.s.now all c.in_ok-stalls.stalls c.take_entries.new.run.lines.now w.lines (c.in_ok-stalls.ensures all w.stands)).through
+    let w = (c.in-Ok.ensures c.args.s.now all (run-of c.args.s.now _ c.args.history _ c.as_slice.ensures c.in_ok-run.ensures)).1 in
+    rw (returns-in-Ok-stalls-clause-entries c) (ends c.args.s.now all c.in-Ok-stalls.stalls c.take_entries.new.run.lines.now w.lines (c.in-Ok-stalls.ensures all w.stands)).through
 
-pub returns-clause-legal : goal.returns-clause-legal
+pub returns-in-Ok-stalls-clause-legal : goal.returns-in-Ok-stalls-clause-legal
 unfolding gone_on
-returns-clause-legal c = rw (returns-clause-entries c) (c.robin_is_legal.ensures.goes_on c.args.s.now.providers c.args.s.now.lines most_steps c.args.history c.requires.history.legal)
+returns-in-Ok-stalls-clause-legal c = rw (returns-in-Ok-stalls-clause-entries c) (c.robin_is_legal.ensures.goes_on c.args.s.now.providers c.args.s.now.lines most_steps c.args.history c.requires.history.legal)
 
-pub returns-clause-follows : goal.returns-clause-follows
+pub returns-in-Ok-stalls-clause-follows : goal.returns-in-Ok-stalls-clause-follows
 unfolding gone_on
-returns-clause-follows c = rw (returns-clause-entries c) (c.robin_goes_on.ensures.follows c.args.s.now.providers c.args.s.now.lines most_steps c.args.history c.requires.history)
+returns-in-Ok-stalls-clause-follows c = rw (returns-in-Ok-stalls-clause-entries c) (c.robin_goes_on.ensures.follows c.args.s.now.providers c.args.s.now.lines most_steps c.args.history c.requires.history)
 
-pub returns-clause-complete : goal.returns-clause-complete
+pub returns-in-Ok-stalls-clause-complete : goal.returns-in-Ok-stalls-clause-complete
 unfolding gone_on
-returns-clause-complete c = rw (returns-clause-entries c) (c.robin_goes_on.ensures.complete c.args.s.now.providers c.args.s.now.lines most_steps c.args.history c.requires.history c.requires.script.bound)
+returns-in-Ok-stalls-clause-complete c = rw (returns-in-Ok-stalls-clause-entries c) (c.robin_goes_on.ensures.complete c.args.s.now.providers c.args.s.now.lines most_steps c.args.history c.requires.history c.requires.script.bound)
