@@ -68,12 +68,14 @@ fn failed(reply: Reply) -> Fail
     requires { IsError reply }
     ensures { SaysError reply result }
 {
-    match reply {
-        Reply::Refused { errno } => Fail::Err(errno),
-        Reply::Look { event } => Fail::Look(event),
-        Reply::Overflow { seq } => Fail::Overflow(seq),
+    let fail = match &reply {
+        Reply::Refused { errno } => Fail::Err(*errno),
+        Reply::Look { event } => Fail::Look(*event),
+        Reply::Overflow { seq } => Fail::Overflow(*seq),
         _ => unreachable!(),
-    }
+    };
+    drop(reply);
+    fail
 }
 
 /// Nothing, of a call that tells nothing.
@@ -175,8 +177,15 @@ pub(crate) fn got_parts(reply: Reply, buffers: Buffers) -> Result<(Parts, u32), 
     ensures { Says (AreGot buffers.sizes) reply result }
 {
     match reply {
-        Reply::Got { bytes, flags } => Ok((buffers.fill(&bytes), flags)),
-        other => Err(failed(other)),
+        Reply::Got { bytes, flags } => {
+            let parts = buffers.fill(&bytes);
+            drop(bytes);
+            Ok((parts, flags))
+        }
+        other => {
+            drop(buffers);
+            Err(failed(other))
+        }
     }
 }
 
@@ -238,9 +247,14 @@ pub(crate) fn datagram_parts(
                 opt,
                 udata: Octets::new(alloc),
             };
-            Ok((datagram, buffers.fill(&bytes), flags))
+            let parts = buffers.fill(&bytes);
+            drop(bytes);
+            Ok((datagram, parts, flags))
         }
-        other => Err(failed(other)),
+        other => {
+            drop(buffers);
+            Err(failed(other))
+        }
     }
 }
 

@@ -48,10 +48,12 @@ impl Buffers {
         ensures sizes { IfOk result (λ b. b.sizes ≡ sizes.now) }
         ensures most { IfOk result (λ b. b.most ≡ most) }
     {
+        let buffers = rooms_for(alloc, sizes, most)?;
+        let parts = or_drop!(Vec::with_capacity(alloc, sizes.len()), buffers);
         Ok(Buffers {
             most,
-            buffers: rooms_for(alloc, sizes, most)?,
-            parts: Vec::with_capacity(alloc, sizes.len())?,
+            buffers,
+            parts,
         })
     }
 

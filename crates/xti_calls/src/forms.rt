@@ -47,6 +47,7 @@ impl Xti {
         steps_answer_in_form();
         let reply = self.call(rt, alloc, seat, &NoGate, &call);
         let _number = seat.number();
+        drop(call);
         match reply {
             Ok(reply) => Ok(reply),
             Err(halt) => Err(Fail::Halt(halt)),

@@ -247,7 +247,8 @@ impl Xti {
         ensures standing { IsStanding result.view }
     {
         let Xti { hall } = self;
-        let Seat { seat, .. } = seat;
+        let Seat { seat, lent } = seat;
+        drop(lent);
         Ended {
             hall: hall.end(rt, seat),
         }

@@ -37,11 +37,14 @@ impl Xti {
         ensures later { Later seat.old.view seat.new.view }
         ensures made { Makes (call.TConnect fd addr.now opt.now udata.now max.addr max.opt max.udata) IsConnected seat.old.view seat.new.view result }
     {
+        let addr = Octets::copy_of(alloc, addr)?;
+        let opt = or_drop!(Octets::copy_of(alloc, opt), addr);
+        let udata = or_drop!(Octets::copy_of(alloc, udata), addr, opt);
         let call = Call::TConnect {
             fd,
-            addr: Octets::copy_of(alloc, addr)?,
-            opt: Octets::copy_of(alloc, opt)?,
-            udata: Octets::copy_of(alloc, udata)?,
+            addr,
+            opt,
+            udata,
             amax: max.addr,
             omax: max.opt,
             umax: max.udata,
@@ -118,12 +121,14 @@ impl Xti {
         ensures later { Later seat.old.view seat.new.view }
         ensures made { Makes (call.TAccept fd resfd seq opt.now udata.now) IsDone seat.old.view seat.new.view result }
     {
+        let opt = Octets::copy_of(alloc, opt)?;
+        let udata = or_drop!(Octets::copy_of(alloc, udata), opt);
         let call = Call::TAccept {
             fd,
             resfd,
             seq,
-            opt: Octets::copy_of(alloc, opt)?,
-            udata: Octets::copy_of(alloc, udata)?,
+            opt,
+            udata,
         };
         done(self.reply(rt, alloc, seat, call)?)
     }

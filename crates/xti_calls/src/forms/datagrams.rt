@@ -38,11 +38,14 @@ impl Xti {
         ensures later { Later seat.old.view seat.new.view }
         ensures made { Makes (call.TSndUData fd addr.now opt.now bytes.now) IsDone seat.old.view seat.new.view result }
     {
+        let addr = Octets::copy_of(alloc, addr)?;
+        let opt = or_drop!(Octets::copy_of(alloc, opt), addr);
+        let bytes = or_drop!(Octets::copy_of(alloc, bytes), addr, opt);
         let call = Call::TSndUData {
             fd,
-            addr: Octets::copy_of(alloc, addr)?,
-            opt: Octets::copy_of(alloc, opt)?,
-            bytes: Octets::copy_of(alloc, bytes)?,
+            addr,
+            opt,
+            bytes,
         };
         done(self.reply(rt, alloc, seat, call)?)
     }
@@ -65,11 +68,14 @@ impl Xti {
         ensures later { Later seat.old.view seat.new.view }
         ensures made { Makes (call.TSndVUData fd addr.now opt.now parts.now) IsDone seat.old.view seat.new.view result }
     {
+        let addr = Octets::copy_of(alloc, addr)?;
+        let opt = or_drop!(Octets::copy_of(alloc, opt), addr);
+        let parts = or_drop!(parts.parts().copy(), addr, opt);
         let call = Call::TSndVUData {
             fd,
-            addr: Octets::copy_of(alloc, addr)?,
-            opt: Octets::copy_of(alloc, opt)?,
-            parts: parts.parts().copy()?,
+            addr,
+            opt,
+            parts,
         };
         done(self.reply(rt, alloc, seat, call)?)
     }
@@ -119,13 +125,15 @@ impl Xti {
         ensures made { Makes (call.TRcvVUData fd sizes.now amax omax) (IsDatagramInParts sizes.now) seat.old.view seat.new.view result }
     {
         let buffers = Buffers::new(alloc, sizes.as_slice(), MOST_OF_DATAGRAM)?;
+        let sizes = or_drop!(sizes.copy(), buffers);
         let call = Call::TRcvVUData {
             fd,
-            sizes: sizes.copy()?,
+            sizes,
             amax,
             omax,
         };
-        datagram_parts(alloc, self.reply(rt, alloc, seat, call)?, buffers)
+        let reply = or_drop!(self.reply(rt, alloc, seat, call), buffers);
+        datagram_parts(alloc, reply, buffers)
     }
 
     /// Address and options of a datagram that was not delivered, and the code (XNS, t_rcvuderr).

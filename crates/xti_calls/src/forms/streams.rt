@@ -108,10 +108,9 @@ impl Xti {
         ensures made { Makes (call.TRcvV fd sizes.now) (AreGot sizes.now) seat.old.view seat.new.view result }
     {
         let buffers = Buffers::new(alloc, sizes.as_slice(), MOST_OF_STREAM)?;
-        let call = Call::TRcvV {
-            fd,
-            sizes: sizes.copy()?,
-        };
-        got_parts(self.reply(rt, alloc, seat, call)?, buffers)
+        let sizes = or_drop!(sizes.copy(), buffers);
+        let call = Call::TRcvV { fd, sizes };
+        let reply = or_drop!(self.reply(rt, alloc, seat, call), buffers);
+        got_parts(reply, buffers)
     }
 }
