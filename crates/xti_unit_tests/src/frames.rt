@@ -1,8 +1,9 @@
 //! Frames: how much of an input is one, and reading them in pieces.
 
+use crate::cases::{expect_named, expect_right};
 use bytes::Bytes;
 use std::alloc::Global;
-use std::test::Fail;
+use std::test::*;
 use tpi_grammar::{Measure, measure_frame};
 use tpi_prim::primitive::Prim;
 use tpi_prim::{FrameReader, Gathering, encode};
@@ -127,25 +128,45 @@ static MEASURES: [Case; 28] = [
     ),
 ];
 
+/// What the first input that is measured otherwise is about.
+fn first_wrong_measure() -> Option<&'static str> {
+    for (input, wanted, case) in &MEASURES {
+        if measure_frame(input) != *wanted {
+            return Some(case);
+        }
+    }
+    None
+}
+
 #[test]
 fn measures(rt: HostRuntime) {
-    for (input, wanted, case) in &MEASURES {
-        assert_eq!(rt; measure_frame(input), *wanted, "{case}");
+    expect_named(&rt, first_wrong_measure());
+}
+
+/// The first length to which the frame is cut and isn't short.
+fn first_not_short(frame: &[u8]) -> Option<usize> {
+    for length in 0..frame.len() {
+        let (front, _) = frame.split_at(length);
+        if measure_frame(front) != Measure::Short {
+            return Some(length);
+        }
     }
+    None
 }
 
 #[test]
 fn cut_frames_are_short(rt: HostRuntime) {
-    for length in 0..DATAGRAM.len() {
-        let (front, _) = DATAGRAM.split_at(length);
-        assert_eq!(rt; measure_frame(front), Measure::Short, "{length}");
-    }
+    expect_right(&rt, first_not_short(DATAGRAM));
 }
 
 /// Whether the primitive's frame is these bytes.
 fn is_frame_of(alloc: Global, prim: &Prim, bytes: &[u8]) -> bool {
     match encode(alloc, prim) {
-        Ok(frame) => frame.bytes() == bytes,
+        Ok(frame) => {
+            let is_same = frame.bytes() == bytes;
+            drop(frame);
+            is_same
+        }
         Err(_) => false,
     }
 }
@@ -156,7 +177,9 @@ fn encodes(rt: HostRuntime) {
         more: false,
         user: Bytes::from_static(b"hi"),
     };
-    assert!(rt; is_frame_of(rt.alloc(), &data, DATA));
+    let is_encoded = is_frame_of(rt.alloc(), &data, DATA);
+    drop(data);
+    assert!(rt; is_encoded);
 }
 
 /// Three frames and the start of a fourth one, in these pieces, and how many frames each piece completes.
@@ -168,22 +191,56 @@ static PIECES: [(&'static [u8], usize); 5] = [
     (b"\0\0\0", 0),
 ];
 
-#[test]
-fn feeds(rt: HostRuntime) -> Result<(), Fail> {
-    let mut reader = FrameReader::new(rt.alloc());
-    for (piece, wanted) in &PIECES {
-        assert_eq!(rt; reader.feed(piece)?.len(), *wanted);
+/// How many frames the piece completes; `None` where it can't be read.
+fn count_completed(reader: &mut FrameReader, piece: &[u8]) -> Option<usize> {
+    match reader.feed(piece) {
+        Ok(prims) => {
+            let count = prims.len();
+            drop(prims);
+            Some(count)
+        }
+        Err(fail) => {
+            drop(fail);
+            None
+        }
     }
-    assert_eq!(rt; reader.rest(), 3);
-    Ok(())
+}
+
+/// The first piece that completes another number of frames.
+fn first_wrong(reader: &mut FrameReader) -> Option<usize> {
+    for (number, (piece, wanted)) in PIECES.iter().enumerate() {
+        if count_completed(reader, piece) != Some(*wanted) {
+            return Some(number);
+        }
+    }
+    None
 }
 
 #[test]
-fn user_data_in_pieces(rt: HostRuntime) -> Result<(), Fail> {
-    let mut gathering = Gathering::begin(rt.alloc(), false, false, 2)?;
+fn feeds(rt: HostRuntime) {
+    let mut reader = FrameReader::new(rt.alloc());
+    let wrong = first_wrong(&mut reader);
+    let rest = reader.rest();
+    drop(reader);
+    expect_right(&rt, wrong);
+    assert!(rt; rest == 3);
+}
+
+/// Whether user data in pieces make the frame.
+fn is_gathered(alloc: Global) -> bool {
+    let Ok(mut gathering) = Gathering::begin(alloc, false, false, 2) else {
+        return false;
+    };
     gathering.put(b"h");
     gathering.put(b"");
     gathering.put(b"i");
-    assert_eq!(rt; gathering.finish().bytes(), DATA);
-    Ok(())
+    let frame = gathering.finish();
+    let is_data = frame.bytes() == DATA;
+    drop(frame);
+    is_data
+}
+
+#[test]
+fn user_data_in_pieces(rt: HostRuntime) {
+    assert!(rt; is_gathered(rt.alloc()));
 }

@@ -1,7 +1,8 @@
 //! The text of a journal, whole and entry by entry.
 
+use crate::texts::expect_text;
 use std::alloc::{AllocError, Global};
-use std::test::Fail;
+use std::test::*;
 use xti_base::{Octets, Prov, State};
 use xti_journal::{JournalWriter, StallLine, write_entry, write_journal};
 use xti_model::{Act, Call, Entries, Entry, Journal, Outcome, Providers, Reply, Stalls};
@@ -29,22 +30,20 @@ fn entry(alloc: Global) -> Result<Entry, AllocError> {
     })
 }
 
-fn stalls(alloc: Global) -> Result<Stalls, AllocError> {
-    let mut stalls = Stalls::new(alloc);
-    stalls.push(StallLine {
-        worker: 32,
-        act: Act::More,
-    })?;
-    Ok(stalls)
+fn empty(alloc: Global) -> Journal {
+    Journal {
+        providers: Providers::usual(),
+        entries: Entries::new(alloc),
+        stalls: Stalls::new(alloc),
+    }
 }
 
-fn journal(alloc: Global) -> Result<Journal, AllocError> {
-    let mut entries = Entries::new(alloc);
-    entries.push(entry(alloc)?)?;
-    Ok(Journal {
-        providers: Providers::usual(),
-        entries,
-        stalls: stalls(alloc)?,
+/// Adds an entry and a stall line.
+fn fill(alloc: Global, journal: &mut Journal) -> Result<(), AllocError> {
+    journal.entries.push(entry(alloc)?)?;
+    journal.stalls.push(StallLine {
+        worker: 32,
+        act: Act::More,
     })
 }
 
@@ -57,17 +56,25 @@ fn add_all(writer: &mut JournalWriter, entries: &[Entry]) -> Result<(), AllocErr
 
 fn written_by_entries(alloc: Global, j: &Journal) -> Result<Octets, AllocError> {
     let mut writer = JournalWriter::begin(Vec::new(alloc), &j.providers)?;
-    add_all(&mut writer, j.entries.as_slice())?;
-    writer.end(&j.stalls)
+    match add_all(&mut writer, j.entries.as_slice()) {
+        Ok(()) => writer.end(&j.stalls),
+        Err(fail) => {
+            drop(writer);
+            Err(fail)
+        }
+    }
 }
 
 #[test]
-fn journals(rt: HostRuntime) -> Result<(), Fail> {
-    let alloc = rt.alloc();
-    let journal = journal(alloc)?;
-    assert_eq!(rt; write_journal(alloc, &journal)?.as_slice(), TEXT);
-    assert_eq!(rt; written_by_entries(alloc, &journal)?.as_slice(), TEXT);
-    Ok(())
+fn journals(rt: HostRuntime) {
+    let mut journal = empty(rt.alloc());
+    let is_filled = fill(rt.alloc(), &mut journal).is_ok();
+    let written = write_journal(rt.alloc(), &journal);
+    expect_text(&rt, written, TEXT);
+    let written = written_by_entries(rt.alloc(), &journal);
+    expect_text(&rt, written, TEXT);
+    drop(journal);
+    assert!(rt; is_filled);
 }
 
 fn first_line(alloc: Global, j: &Journal) -> Result<Octets, AllocError> {
@@ -78,12 +85,11 @@ fn first_line(alloc: Global, j: &Journal) -> Result<Octets, AllocError> {
 }
 
 #[test]
-fn entries(rt: HostRuntime) -> Result<(), Fail> {
-    let journal = journal(rt.alloc())?;
-    let line = first_line(rt.alloc(), &journal)?;
-    assert_eq!(rt;
-        line.as_slice(),
-        b"2 7 open ticlts nonblock => ok x:61 0 T_IDLE\n".as_slice()
-    );
-    Ok(())
+fn entries(rt: HostRuntime) {
+    let mut journal = empty(rt.alloc());
+    let is_filled = fill(rt.alloc(), &mut journal).is_ok();
+    let line = first_line(rt.alloc(), &journal);
+    drop(journal);
+    expect_text(&rt, line, b"2 7 open ticlts nonblock => ok x:61 0 T_IDLE\n");
+    assert!(rt; is_filled);
 }

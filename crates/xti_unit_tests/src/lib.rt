@@ -2,16 +2,16 @@
 #![tactic(auto)]
 
 #[cfg(test)]
+mod cases;
+#[cfg(test)]
 mod endpoints;
 #[cfg(test)]
 mod frames;
 #[cfg(test)]
+mod gather;
+#[cfg(test)]
 mod journal;
-#[cfg(test)]
-mod memory;
-#[cfg(test)]
-mod options;
 #[cfg(test)]
 mod queue;
 #[cfg(test)]
-mod streams;
+mod texts;

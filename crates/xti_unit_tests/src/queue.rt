@@ -4,9 +4,10 @@ ghost use Rattle.std.specs.Prelude.{◌≡◌};
 ghost use Rattle.tpi_prim.specs.Fields.{kind_in};
 ghost use Rattle.xti_queue.specs.Indications.{can_wait};
 
+use crate::cases::expect_right;
 use bytes::Bytes;
-use std::alloc::{AllocError, Global};
-use std::test::Fail;
+use std::alloc::Global;
+use std::test::*;
 use tpi_prim::primitive::Prim;
 use tpi_prim::{EncodeFail, Frame, Kind, encode};
 use xti_queue::{Piece, ReadQueue};
@@ -69,7 +70,10 @@ fn prim(sent: Sent, user: &'static [u8]) -> Prim {
 }
 
 fn frame(alloc: Global, sent: Sent, user: &'static [u8]) -> Result<Frame, EncodeFail> {
-    encode(alloc, &prim(sent, user))
+    let prim = prim(sent, user);
+    let frame = encode(alloc, &prim);
+    drop(prim);
+    frame
 }
 
 fn can_wait(frame: &Frame) -> bool
@@ -81,27 +85,72 @@ fn can_wait(frame: &Frame) -> bool
     )
 }
 
-/// Pushes a frame that may wait.
-fn push(queue: &mut ReadQueue, frame: Frame) -> Result<(), AllocError> {
-    queue.reserve(1)?;
-    if can_wait(&frame) {
+/// Pushes a frame that may wait, and says whether it does.
+fn push(queue: &mut ReadQueue, frame: Frame) -> bool {
+    if can_wait(&frame) && queue.reserve(1).is_ok() {
         queue.push(frame);
+        true
+    } else {
+        drop(frame);
+        false
     }
-    Ok(())
+}
+
+/// Whether all frames wait in the queue.
+fn push_all(alloc: Global, queue: &mut ReadQueue, frames: &[(Sent, &'static [u8])]) -> bool {
+    for (sent, user) in frames {
+        let is_pushed = match frame(alloc, *sent, user) {
+            Ok(frame) => push(queue, frame),
+            Err(_) => false,
+        };
+        if !is_pushed {
+            return false;
+        }
+    }
+    true
+}
+
+/// Whether the queue gives just this.
+fn gives(queue: &mut ReadQueue, take: &Take) -> bool {
+    let (max, wanted, closes) = *take;
+    match queue.take(max) {
+        Ok(Piece { bytes, ended }) => {
+            let is_wanted = bytes.as_slice() == wanted && ended == closes;
+            drop(bytes);
+            is_wanted
+        }
+        Err(_) => false,
+    }
+}
+
+fn gives_all(queue: &mut ReadQueue, takes: &[Take]) -> bool {
+    for take in takes {
+        if !gives(queue, take) {
+            return false;
+        }
+    }
+    true
+}
+
+/// Whether the takes give what the frames have, and nothing is left.
+fn holds(alloc: Global, case: &Case) -> bool {
+    let mut queue = ReadQueue::new(alloc);
+    let is_given = push_all(alloc, &mut queue, case.0) && gives_all(&mut queue, case.1);
+    let left = queue.frames_len();
+    drop(queue);
+    is_given && left == 0
+}
+
+fn first_wrong(alloc: Global) -> Option<usize> {
+    for (number, case) in CASES.iter().enumerate() {
+        if !holds(alloc, case) {
+            return Some(number);
+        }
+    }
+    None
 }
 
 #[test]
-fn takes(rt: HostRuntime) -> Result<(), Fail> {
-    for (frames, takes) in &CASES {
-        let mut queue = ReadQueue::new(rt.alloc());
-        for (sent, user) in *frames {
-            push(&mut queue, frame(rt.alloc(), *sent, user)?)?;
-        }
-        for (max, wanted, closes) in *takes {
-            let Piece { bytes, ended } = queue.take(*max)?;
-            assert_eq!(rt; (bytes.as_slice(), ended), (*wanted, *closes));
-        }
-        assert_eq!(rt; queue.frames_len(), 0);
-    }
-    Ok(())
+fn takes(rt: HostRuntime) {
+    expect_right(&rt, first_wrong(rt.alloc()));
 }

@@ -1,0 +1,479 @@
+//! The table of negotiation: each case as a list and in bytes.
+
+use crate::cases::expect_right;
+use std::alloc::{AllocError, Global};
+use std::test::*;
+use xti_base::{Room, is_option_list};
+use xti_opt::*;
+
+/// An option's level, name and asked value, and the result and value that it is answered with.
+type Row = (u32, u32, &'static [u8], u32, &'static [u8]);
+
+/// An action, the options, the overall result and the sizes afterwards.
+type Case = (u32, &'static [Row], u32, (u32, u32));
+
+const G: u32 = XTI_GENERIC;
+
+const EMPTY: &[u8] = b"";
+
+const SHORT: &[u8] = b"\0\0\x01";
+
+const LONG: &[u8] = b"\0\0\0\x01\0";
+
+const ZERO: &[u8] = b"\0\0\0\0";
+
+const ONE: &[u8] = b"\0\0\0\x01";
+
+const FIVE: &[u8] = b"\0\0\0\x05";
+
+const MOST: &[u8] = b"\0\x01\0\0";
+
+const OVER: &[u8] = b"\0\x01\0\x01";
+
+const HUGE: &[u8] = b"\xff\xff\xff\xff";
+/// The current sizes, 1,000 and 2,000, and those that the provider started with, 8,192 and 16,384.
+const SENDS: &[u8] = b"\0\0\x03\xe8";
+
+const RECEIVES: &[u8] = b"\0\0\x07\xd0";
+
+const STARTS_SENDS: &[u8] = b"\0\0\x20\0";
+
+const STARTS_RECEIVES: &[u8] = b"\0\0\x40\0";
+
+static NEGOTIATES: [Case; 6] = [
+    (
+        T_NEGOTIATE,
+        &[
+            (G, XTI_SNDBUF, EMPTY, T_FAILURE, SENDS),
+            (G, XTI_SNDBUF, SHORT, T_FAILURE, SENDS),
+            (G, XTI_SNDBUF, LONG, T_FAILURE, SENDS),
+            (G, XTI_SNDBUF, ZERO, T_FAILURE, SENDS),
+            (G, XTI_SNDBUF, ONE, T_SUCCESS, ONE),
+            (G, XTI_SNDBUF, ZERO, T_FAILURE, ONE),
+            (G, XTI_SNDBUF, MOST, T_SUCCESS, MOST),
+            (G, XTI_SNDBUF, FIVE, T_SUCCESS, FIVE),
+            (G, XTI_SNDBUF, OVER, T_PARTSUCCESS, MOST),
+            (G, XTI_SNDBUF, FIVE, T_SUCCESS, FIVE),
+            (G, XTI_SNDBUF, HUGE, T_PARTSUCCESS, MOST),
+        ],
+        T_FAILURE,
+        (65536, 2000),
+    ),
+    (
+        T_NEGOTIATE,
+        &[
+            (G, XTI_RCVBUF, EMPTY, T_FAILURE, RECEIVES),
+            (G, XTI_RCVBUF, SHORT, T_FAILURE, RECEIVES),
+            (G, XTI_RCVBUF, LONG, T_FAILURE, RECEIVES),
+            (G, XTI_RCVBUF, ZERO, T_FAILURE, RECEIVES),
+            (G, XTI_RCVBUF, MOST, T_SUCCESS, MOST),
+            (G, XTI_RCVBUF, SHORT, T_FAILURE, MOST),
+            (G, XTI_RCVBUF, ONE, T_SUCCESS, ONE),
+            (G, XTI_RCVBUF, OVER, T_PARTSUCCESS, MOST),
+            (G, XTI_RCVBUF, FIVE, T_SUCCESS, FIVE),
+        ],
+        T_FAILURE,
+        (1000, 5),
+    ),
+    // one that fits, one that doesn't, and both
+    (
+        T_NEGOTIATE,
+        &[(G, XTI_SNDBUF, FIVE, T_SUCCESS, FIVE)],
+        T_SUCCESS,
+        (5, 2000),
+    ),
+    (
+        T_NEGOTIATE,
+        &[
+            (G, XTI_RCVBUF, HUGE, T_PARTSUCCESS, MOST),
+            (G, XTI_SNDBUF, ONE, T_SUCCESS, ONE),
+        ],
+        T_PARTSUCCESS,
+        (1, 65536),
+    ),
+    // read only is worse than a failure
+    (
+        T_NEGOTIATE,
+        &[
+            (G, XTI_SNDLOWAT, EMPTY, T_READONLY, ONE),
+            (G, XTI_SNDLOWAT, ONE, T_READONLY, ONE),
+            (G, XTI_RCVLOWAT, FIVE, T_READONLY, ONE),
+            (G, XTI_RCVLOWAT, LONG, T_READONLY, ONE),
+            (G, XTI_RCVBUF, ZERO, T_FAILURE, RECEIVES),
+        ],
+        T_READONLY,
+        (1000, 2000),
+    ),
+    // not known is the worst
+    (
+        T_NEGOTIATE,
+        &[
+            (G, 4096, FIVE, T_NOTSUPPORT, EMPTY),
+            (G, 4101, EMPTY, T_NOTSUPPORT, EMPTY),
+            (G, XTI_SNDBUF, FIVE, T_SUCCESS, FIVE),
+            (G, XTI_RCVLOWAT, ONE, T_READONLY, ONE),
+        ],
+        T_NOTSUPPORT,
+        (5, 2000),
+    ),
+];
+
+static CHECKS: [Case; 4] = [
+    (
+        T_CHECK,
+        &[
+            (G, XTI_SNDBUF, EMPTY, T_SUCCESS, EMPTY),
+            (G, XTI_SNDBUF, SHORT, T_FAILURE, SENDS),
+            (G, XTI_SNDBUF, LONG, T_FAILURE, SENDS),
+            (G, XTI_SNDBUF, ZERO, T_FAILURE, SENDS),
+            (G, XTI_SNDBUF, ONE, T_SUCCESS, ONE),
+            (G, XTI_SNDBUF, MOST, T_SUCCESS, MOST),
+            (G, XTI_SNDBUF, OVER, T_PARTSUCCESS, MOST),
+            (G, XTI_SNDBUF, HUGE, T_PARTSUCCESS, MOST),
+            (G, XTI_SNDBUF, ZERO, T_FAILURE, SENDS),
+        ],
+        T_FAILURE,
+        (1000, 2000),
+    ),
+    (
+        T_CHECK,
+        &[
+            (G, XTI_RCVBUF, EMPTY, T_SUCCESS, EMPTY),
+            (G, XTI_RCVBUF, ONE, T_SUCCESS, ONE),
+            (G, XTI_RCVBUF, OVER, T_PARTSUCCESS, MOST),
+        ],
+        T_PARTSUCCESS,
+        (1000, 2000),
+    ),
+    (
+        T_CHECK,
+        &[
+            (G, XTI_SNDLOWAT, EMPTY, T_READONLY, EMPTY),
+            (G, XTI_SNDLOWAT, FIVE, T_READONLY, ONE),
+            (G, XTI_RCVLOWAT, EMPTY, T_READONLY, EMPTY),
+            (G, XTI_RCVLOWAT, SHORT, T_READONLY, ONE),
+            (G, XTI_RCVBUF, SHORT, T_FAILURE, RECEIVES),
+        ],
+        T_READONLY,
+        (1000, 2000),
+    ),
+    // the numbers of known options at another level
+    (
+        T_CHECK,
+        &[
+            (6, XTI_SNDBUF, EMPTY, T_NOTSUPPORT, EMPTY),
+            (6, XTI_RCVBUF, FIVE, T_NOTSUPPORT, EMPTY),
+            (6, XTI_SNDLOWAT, LONG, T_NOTSUPPORT, EMPTY),
+        ],
+        T_NOTSUPPORT,
+        (1000, 2000),
+    ),
+];
+
+static TELLS: [Case; 5] = [
+    (
+        T_CURRENT,
+        &[
+            (G, XTI_SNDBUF, EMPTY, T_SUCCESS, SENDS),
+            (G, XTI_SNDBUF, HUGE, T_SUCCESS, SENDS),
+            (G, XTI_RCVBUF, SHORT, T_SUCCESS, RECEIVES),
+            (G, XTI_RCVBUF, ZERO, T_SUCCESS, RECEIVES),
+        ],
+        T_SUCCESS,
+        (1000, 2000),
+    ),
+    (
+        T_DEFAULT,
+        &[
+            (G, XTI_SNDBUF, EMPTY, T_SUCCESS, STARTS_SENDS),
+            (G, XTI_SNDBUF, LONG, T_SUCCESS, STARTS_SENDS),
+            (G, XTI_RCVBUF, ONE, T_SUCCESS, STARTS_RECEIVES),
+            (G, XTI_RCVBUF, OVER, T_SUCCESS, STARTS_RECEIVES),
+        ],
+        T_SUCCESS,
+        (1000, 2000),
+    ),
+    (
+        T_CURRENT,
+        &[
+            (G, XTI_RCVLOWAT, EMPTY, T_READONLY, ONE),
+            (G, XTI_SNDLOWAT, FIVE, T_READONLY, ONE),
+            (G, 0, ONE, T_NOTSUPPORT, EMPTY),
+        ],
+        T_NOTSUPPORT,
+        (1000, 2000),
+    ),
+    (
+        T_DEFAULT,
+        &[
+            (G, XTI_SNDLOWAT, EMPTY, T_READONLY, ONE),
+            (G, XTI_RCVLOWAT, LONG, T_READONLY, ONE),
+        ],
+        T_READONLY,
+        (1000, 2000),
+    ),
+    // no option
+    (T_DEFAULT, &[], T_SUCCESS, (1000, 2000)),
+];
+
+fn settings() -> Settings {
+    Settings {
+        sndbuf: 1000,
+        rcvbuf: 2000,
+        start_sndbuf: 8192,
+        start_rcvbuf: 16384,
+    }
+}
+
+/// What a request is to be answered with: the options, the overall result and the sizes afterwards.
+#[derive(Clone, Copy)]
+struct Wanted<'a> {
+    bytes: &'a [u8],
+    overall: u32,
+    sizes: (u32, u32),
+}
+
+impl Wanted<'_> {
+    /// Whether it is answered so; what the provider started with stays as it was.
+    fn is(&self, bytes: &[u8], overall: u32, after: Settings) -> bool {
+        let (sndbuf, rcvbuf) = self.sizes;
+        let wanted = Settings {
+            sndbuf,
+            rcvbuf,
+            ..settings()
+        };
+        bytes == self.bytes && overall == self.overall && after == wanted
+    }
+}
+
+/// Adds an option at the end.
+fn add(bytes: &mut Vec<u8>, words: [u32; 3], value: &[u8]) -> Result<(), AllocError> {
+    let Ok(length) = u32::try_from(16 + value.len()) else {
+        return Err(AllocError);
+    };
+    bytes.extend_from_slice(&length.to_be_bytes())?;
+    for word in &words {
+        bytes.extend_from_slice(&word.to_be_bytes())?;
+    }
+    bytes.extend_from_slice(value)?;
+    bytes.extend_from_slice(&[0, 0, 0][..(4 - value.len() % 4) % 4])?;
+    Ok(())
+}
+
+/// Adds the options as they are asked, with a status that doesn't count, and as they are to be answered.
+fn add_all(asked: &mut Vec<u8>, told: &mut Vec<u8>, rows: &[Row]) -> Result<(), AllocError> {
+    for (level, name, value, status, answer) in rows {
+        add(asked, [*level, *name, 77], value)?;
+        add(told, [*level, *name, *status], answer)?;
+    }
+    Ok(())
+}
+
+/// Whether the request is answered so in bytes, of which there are as many as it was said.
+fn is_answered_in_bytes(alloc: Global, action: u32, request: &[u8], wanted: &Wanted) -> bool {
+    let Ok(size) = answer_size(action, request) else {
+        return false;
+    };
+    let Ok(mut room) = Room::new(alloc, size) else {
+        return false;
+    };
+    let mut after = settings();
+    let answered = negotiate_bytes(&mut after, action, request, &mut room);
+    let bytes = room.finish();
+    let is_wanted = match answered {
+        Ok(overall) => {
+            bytes.as_slice().len() == size && wanted.is(bytes.as_slice(), overall, after)
+        }
+        Err(_) => false,
+    };
+    drop(bytes);
+    is_wanted
+}
+
+/// Whether the request is answered so as a list.
+fn is_answered_as_list(alloc: Global, action: u32, request: &[u8], wanted: &Wanted) -> bool {
+    let Ok(list) = read_options(alloc, request) else {
+        return false;
+    };
+    let mut after = settings();
+    let answered = negotiate(alloc, &mut after, action, &list);
+    drop(list);
+    let Ok((answers, overall)) = answered else {
+        return false;
+    };
+    let written = write_options(alloc, &answers);
+    drop(answers);
+    let Ok(bytes) = written else {
+        return false;
+    };
+    let is_wanted = wanted.is(bytes.as_slice(), overall, after);
+    drop(bytes);
+    is_wanted
+}
+
+/// Whether the request is answered as the case is to be, as a list and in bytes.
+fn is_answered(alloc: Global, case: &Case, request: &[u8], answer: &[u8]) -> bool {
+    let wanted = Wanted {
+        bytes: answer,
+        overall: case.2,
+        sizes: case.3,
+    };
+    is_answered_as_list(alloc, case.0, request, &wanted)
+        && is_answered_in_bytes(alloc, case.0, request, &wanted)
+}
+
+fn holds(alloc: Global, case: &Case) -> bool {
+    let mut asked = Vec::new(alloc);
+    let mut told = Vec::new(alloc);
+    let holds = add_all(&mut asked, &mut told, case.1).is_ok()
+        && is_answered(alloc, case, asked.as_slice(), told.as_slice());
+    drop(asked);
+    drop(told);
+    holds
+}
+
+/// The first case that doesn't hold.
+fn first_wrong(alloc: Global, cases: &[Case]) -> Option<usize> {
+    for (number, case) in cases.iter().enumerate() {
+        if !holds(alloc, case) {
+            return Some(number);
+        }
+    }
+    None
+}
+
+#[test]
+fn negotiates(rt: HostRuntime) {
+    expect_right(&rt, first_wrong(rt.alloc(), &NEGOTIATES));
+    expect_right(&rt, first_wrong(rt.alloc(), &CHECKS));
+    expect_right(&rt, first_wrong(rt.alloc(), &TELLS));
+}
+
+/// The bytes of an option without a value at level 6.
+const OTHER_LEVEL: &[u8] = b"\0\0\0\x10\0\0\0\x06\0\0\0\x01\0\0\0\0";
+
+/// A receive size of 70,000 and a low-water mark of 5, which can't be set.
+const LARGE: &[u8] =
+    b"\0\0\0\x14\0\0\xff\xff\0\0\x10\x02\0\0\0\0\0\x01\x11\x70\0\0\0\x14\0\0\xff\xff\0\0\x10\x03\0\0\0\0\0\0\0\x05";
+
+/// `LARGE` without its last byte.
+const CUT: &[u8] =
+    b"\0\0\0\x14\0\0\xff\xff\0\0\x10\x02\0\0\0\0\0\x01\x11\x70\0\0\0\x14\0\0\xff\xff\0\0\x10\x03\0\0\0\0\0\0\0";
+
+/// `LARGE`, and behind it the option at the other level.
+const MIXED: &[u8] =
+    b"\0\0\0\x14\0\0\xff\xff\0\0\x10\x02\0\0\0\0\0\x01\x11\x70\0\0\0\x14\0\0\xff\xff\0\0\x10\x03\0\0\0\0\0\0\0\x05\0\0\0\x10\0\0\0\x06\0\0\0\x01\0\0\0\0";
+
+/// An action, a request, and what it is to be answered with.
+type Answered = (u32, &'static [u8], Wanted<'static>);
+
+static ANSWERS: [Answered; 4] = [
+    (
+        T_CURRENT,
+        b"",
+        Wanted {
+            bytes: b"",
+            overall: 32,
+            sizes: (1000, 2000),
+        },
+    ),
+    (
+        T_NEGOTIATE,
+        LARGE,
+        Wanted {
+            bytes: b"\0\0\0\x14\0\0\xff\xff\0\0\x10\x02\0\0\x01\0\0\x01\0\0\0\0\0\x14\0\0\xff\xff\0\0\x10\x03\0\0\x02\0\0\0\0\x01",
+            overall: 512,
+            sizes: (1000, 65536),
+        },
+    ),
+    // a value of five bytes, filled up by zeros, and a check without a value
+    (
+        T_CHECK,
+        b"\0\0\0\x15\0\0\xff\xff\0\0\x10\x01\0\0\0\x20\0\0\0\x07\x07\0\0\0\0\0\0\x10\0\0\xff\xff\0\0\x10\x02\0\0\0\0",
+        Wanted {
+            bytes: b"\0\0\0\x14\0\0\xff\xff\0\0\x10\x01\0\0\0\x40\0\0\x03\xe8\0\0\0\x10\0\0\xff\xff\0\0\x10\x02\0\0\0\x20",
+            overall: 64,
+            sizes: (1000, 2000),
+        },
+    ),
+    (
+        T_NEGOTIATE,
+        OTHER_LEVEL,
+        Wanted {
+            bytes: b"\0\0\0\x10\0\0\0\x06\0\0\0\x01\0\0\x04\0",
+            overall: 1024,
+            sizes: (1000, 2000),
+        },
+    ),
+];
+
+/// The first request that isn't answered so.
+fn first_wrong_answer(alloc: Global) -> Option<usize> {
+    for (number, (action, request, wanted)) in ANSWERS.iter().enumerate() {
+        if !is_answered_in_bytes(alloc, *action, request, wanted) {
+            return Some(number);
+        }
+    }
+    None
+}
+
+#[test]
+fn answers_in_bytes(rt: HostRuntime) {
+    expect_right(&rt, first_wrong_answer(rt.alloc()));
+}
+
+/// An action, a request, and why it is refused.
+type Refused = (u32, &'static [u8], OptRefusal);
+
+static REFUSALS: [Refused; 7] = [
+    (7, b"", OptRefusal::BadFlag),
+    (0, LARGE, OptRefusal::BadFlag),
+    // the action is looked at first
+    (12, MIXED, OptRefusal::BadFlag),
+    (T_SUCCESS, CUT, OptRefusal::BadFlag),
+    // a byte is missing, and two levels
+    (T_NEGOTIATE, CUT, OptRefusal::BadOption),
+    (T_CURRENT, MIXED, OptRefusal::BadOption),
+    (T_CHECK, MIXED, OptRefusal::BadOption),
+];
+
+/// Whether the request is refused so, in bytes and, if it is a list of options, as a list.
+fn is_refused(alloc: Global, action: u32, request: &[u8], refusal: OptRefusal) -> bool {
+    answer_size(action, request) == Err(refusal) && is_refused_list(alloc, action, request, refusal)
+}
+
+/// Whether bytes that are a list of options are refused so as a list, and the settings stay as they were.
+fn is_refused_list(alloc: Global, action: u32, request: &[u8], refusal: OptRefusal) -> bool {
+    let Ok(list) = read_options(alloc, request) else {
+        return !is_option_list(request);
+    };
+    let expected = match refusal {
+        OptRefusal::BadFlag => OptFail::BadFlag,
+        OptRefusal::BadOption => OptFail::BadOption,
+    };
+    let mut after = settings();
+    let answered = negotiate(alloc, &mut after, action, &list);
+    drop(list);
+    match answered {
+        Ok((answers, _)) => {
+            drop(answers);
+            false
+        }
+        Err(fail) => fail == expected && after == settings(),
+    }
+}
+
+/// The first request that isn't refused so.
+fn first_wrong_refusal(alloc: Global) -> Option<usize> {
+    for (number, (action, request, refusal)) in REFUSALS.iter().enumerate() {
+        if !is_refused(alloc, *action, request, *refusal) {
+            return Some(number);
+        }
+    }
+    None
+}
+
+#[test]
+fn refuses(rt: HostRuntime) {
+    expect_right(&rt, first_wrong_refusal(rt.alloc()));
+}

@@ -1,0 +1,183 @@
+//! Sources and sinks.
+
+use std::alloc::Global;
+use std::io;
+use std::io::{ErrorKind, Read, Write};
+use std::process::Abort;
+use std::test::*;
+use xti_base::Octets;
+use xti_io::*;
+
+// Gives bytes, counts its reads from 1, and fails at the one of this number.
+#[derive(Drop)]
+struct CountedReader<'a> {
+    bytes: &'a [u8],
+    reads: u64,
+    fails: u64,
+}
+
+impl Read for CountedReader<'_> {
+    fn read(&mut self, buf: &mut [u8]) -> io::Result<usize> {
+        self.reads = self.reads.saturating_add(1);
+        if self.reads == self.fails {
+            return Err(ErrorKind::Other.into());
+        }
+        self.bytes.read(buf)
+    }
+}
+
+// Takes bytes, counts its writes from 1, and fails at the one of this number.
+#[derive(Drop)]
+struct CountedWriter {
+    bytes: Vec<u8>,
+    writes: u64,
+    fails: u64,
+}
+
+impl Write for CountedWriter {
+    fn write(&mut self, buf: &[u8]) -> io::Result<usize> {
+        self.writes = self.writes.saturating_add(1);
+        if self.writes == self.fails {
+            return Err(ErrorKind::Other.into());
+        }
+        self.bytes.write(buf)
+    }
+
+    fn flush(&mut self) -> io::Result<()> {
+        Ok(())
+    }
+}
+
+/// Whether all that the source gives, at most so many bytes, is this.
+fn gives<R: Source>(alloc: Global, source: &mut R, bytes: &[u8]) -> bool {
+    match read_all(alloc, source, bytes.len()) {
+        Ok(all) => {
+            let is_same = all.as_slice() == bytes;
+            drop(all);
+            is_same
+        }
+        Err(_) => false,
+    }
+}
+
+/// Whether a read that fails once is told as a fault, and the bytes are read then, in three reads in all.
+fn is_read_again(alloc: Global) -> bool {
+    let mut reader = CountedReader {
+        bytes: b"abc",
+        reads: 0,
+        fails: 1,
+    };
+    let mut source = StdSource::new(&mut reader);
+    let refused = read_all(alloc, &mut source, 3).err();
+    let is_read = gives(alloc, &mut source, b"abc");
+    refused == Some(ReadEnd::Fault) && is_read && reader.reads == 3
+}
+
+// No contract of `Read` and `Write` tells a call that is made again after an error from one call, nor a call for one byte
+// from a call for more: these tests do.
+#[test]
+fn an_error_of_a_read_is_a_fault(rt: HostRuntime) {
+    assert!(rt; is_read_again(rt.alloc()));
+}
+
+/// Whether a write that fails once is told as a fault, and the bytes are written then, in two writes in all.
+fn is_written_again(alloc: Global) -> bool {
+    let mut writer = CountedWriter {
+        bytes: Vec::new(alloc),
+        writes: 0,
+        fails: 1,
+    };
+    let mut sink = StdSink::new(&mut writer);
+    let refused = write_all(&mut sink, b"abc");
+    let written = write_all(&mut sink, b"abc");
+    let writes = writer.writes;
+    let is_kept = writer.bytes.as_slice() == b"abc".as_slice();
+    drop(writer);
+    refused == Err(WriteEnd::Fault { written: 0 }) && written.is_ok() && writes == 2 && is_kept
+}
+
+#[test]
+fn an_error_of_a_write_is_a_fault(rt: HostRuntime) {
+    assert!(rt; is_written_again(rt.alloc()));
+}
+
+/// In how many reads the bytes are read; `None` where others are.
+fn count_reads(alloc: Global, bytes: &[u8]) -> Option<u64> {
+    let mut reader = CountedReader {
+        bytes,
+        reads: 0,
+        fails: 0,
+    };
+    let mut source = StdSource::new(&mut reader);
+    if gives(alloc, &mut source, bytes) {
+        Some(reader.reads)
+    } else {
+        None
+    }
+}
+
+/// In how many writes the bytes are written; `None` where others are.
+fn count_writes(alloc: Global, bytes: &[u8]) -> Option<u64> {
+    let mut writer = CountedWriter {
+        bytes: Vec::new(alloc),
+        writes: 0,
+        fails: 0,
+    };
+    let mut sink = StdSink::new(&mut writer);
+    let is_done = write_all(&mut sink, bytes).is_ok();
+    let is_whole = is_done && writer.bytes.as_slice() == bytes;
+    let writes = writer.writes;
+    drop(writer);
+    if is_whole { Some(writes) } else { None }
+}
+
+/// The test fails where there are no such calls, or over ten.
+fn expect_few<R: Abort>(rt: &R, calls: Option<u64>) {
+    assert!(rt; matches!(calls, Some(0..=10)), "{calls:?} calls");
+}
+
+#[test]
+fn reads_are_few(rt: HostRuntime) {
+    let Ok(bytes) = vec![in rt.alloc(); 7u8; 100_000] else {
+        panic!(rt; "out of memory");
+    };
+    let reads = count_reads(rt.alloc(), bytes.as_slice());
+    drop(bytes);
+    expect_few(&rt, reads);
+}
+
+#[test]
+fn writes_are_few(rt: HostRuntime) {
+    let Ok(bytes) = vec![in rt.alloc(); 7u8; 100_000] else {
+        panic!(rt; "out of memory");
+    };
+    let writes = count_writes(rt.alloc(), bytes.as_slice());
+    drop(bytes);
+    expect_few(&rt, writes);
+}
+
+/// Whether a sink in memory keeps these bytes.
+fn is_kept(alloc: Global, bytes: &[u8]) -> bool {
+    let Ok(mut sink) = SureSink::new(alloc, bytes.len()) else {
+        return false;
+    };
+    let is_kept = write_all(&mut sink, bytes).is_ok() && sink.held() == bytes;
+    drop(sink);
+    is_kept
+}
+
+/// Whether a source in memory gives these bytes.
+fn is_given(alloc: Global, bytes: &[u8]) -> bool {
+    let Ok(copy) = Octets::copy_of(alloc, bytes) else {
+        return false;
+    };
+    let mut source = SureSource::new(copy);
+    let is_given = gives(alloc, &mut source, bytes);
+    drop(source);
+    is_given
+}
+
+#[test]
+fn carries(rt: HostRuntime) {
+    assert!(rt; is_given(rt.alloc(), b"abc") && is_kept(rt.alloc(), b"abc"));
+}
