@@ -6,6 +6,10 @@ mod cases;
 #[cfg(test)]
 mod memory;
 #[cfg(test)]
+mod option_lists;
+#[cfg(test)]
 mod options;
+#[cfg(test)]
+mod providers;
 #[cfg(test)]
 mod streams;

@@ -9,8 +9,6 @@ mod name;
 mod profile;
 mod script;
 mod spot;
-#[cfg(test)]
-mod tests;
 
 pub use call::Call;
 pub use cells::Cells;

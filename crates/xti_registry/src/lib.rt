@@ -7,6 +7,3 @@ mod place;
 mod registry;
 
 pub use registry::Registry;
-
-#[cfg(test)]
-mod tests;

@@ -4,8 +4,6 @@
 mod counting;
 mod line;
 mod payload;
-#[cfg(test)]
-mod tests;
 mod totals;
 mod worker;
 

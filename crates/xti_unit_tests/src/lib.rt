@@ -12,6 +12,12 @@ mod gather;
 #[cfg(test)]
 mod journal;
 #[cfg(test)]
+mod lent;
+#[cfg(test)]
 mod queue;
+#[cfg(test)]
+mod registry;
+#[cfg(test)]
+mod summary;
 #[cfg(test)]
 mod texts;
