@@ -8,7 +8,7 @@ ghost use Rattle.xti_calls.specs.Typed.{IsDone, IsOpened, IsBound, IsConnected, 
 use crate::buffers::Buffers;
 use crate::calling::Halt;
 use std::alloc::{AllocError, Global};
-use xti_base::{Errno, Event, Fd, Info, Octets, Parts, Seq, State};
+use xti_base::{Errno, Event, Fd, Info, Octets, Parts, Seq, State, let_go};
 use xti_model::Reply;
 
 /// Why a call has no answer of its own.
@@ -74,7 +74,7 @@ fn failed(reply: Reply) -> Fail
         Reply::Overflow { seq } => Fail::Overflow(*seq),
         _ => unreachable!(),
     };
-    drop(reply);
+    let_go(reply);
     fail
 }
 
@@ -179,11 +179,11 @@ pub(crate) fn got_parts(reply: Reply, buffers: Buffers) -> Result<(Parts, u32), 
     match reply {
         Reply::Got { bytes, flags } => {
             let parts = buffers.fill(&bytes);
-            drop(bytes);
+            let_go(bytes);
             Ok((parts, flags))
         }
         other => {
-            drop(buffers);
+            let_go(buffers);
             Err(failed(other))
         }
     }
@@ -248,11 +248,11 @@ pub(crate) fn datagram_parts(
                 udata: Octets::new(alloc),
             };
             let parts = buffers.fill(&bytes);
-            drop(bytes);
+            let_go(bytes);
             Ok((datagram, parts, flags))
         }
         other => {
-            drop(buffers);
+            let_go(buffers);
             Err(failed(other))
         }
     }

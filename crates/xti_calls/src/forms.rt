@@ -18,6 +18,7 @@ use crate::shared::Xti;
 use std::alloc::Global;
 use std::sync::Wait;
 use xti_answers::steps_answer_in_form;
+use xti_base::let_go;
 use xti_model::{Call, Reply};
 use xti_step::NoGate;
 
@@ -47,7 +48,7 @@ impl Xti {
         steps_answer_in_form();
         let reply = self.call(rt, alloc, seat, &NoGate, &call);
         let _number = seat.number();
-        drop(call);
+        let_go(call);
         match reply {
             Ok(reply) => Ok(reply),
             Err(halt) => Err(Fail::Halt(halt)),

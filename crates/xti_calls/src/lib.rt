@@ -1,19 +1,6 @@
 //! The library: the calls of XTI in their own types, over a hall in which threads meet.
 #![tactic(auto)]
 
-/// What was made; where it wasn't, what is owned is let go by calls, and the function ends.
-macro_rules! or_drop {
-    ($made:expr, $($owned:ident),+) => {
-        match $made {
-            Ok(made) => made,
-            Err(error) => {
-                $(drop($owned);)+
-                return Err(From::from(error));
-            }
-        }
-    };
-}
-
 mod answers;
 mod buffers;
 mod calling;

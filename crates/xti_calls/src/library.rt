@@ -19,6 +19,7 @@ use crate::shared::Xti;
 use std::alloc::{AllocError, Global};
 use std::marker::Model;
 use std::sync::Wait;
+use xti_base::let_go;
 use xti_gather::{Cell, nothing_lent, open_hall};
 use xti_hall::{Ended as EndedHall, NoSeat, Seat as HallSeat};
 use xti_lent::Lent;
@@ -248,7 +249,7 @@ impl Xti {
     {
         let Xti { hall } = self;
         let Seat { seat, lent } = seat;
-        drop(lent);
+        let_go(lent);
         Ended {
             hall: hall.end(rt, seat),
         }

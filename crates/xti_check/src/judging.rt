@@ -11,7 +11,7 @@ use crate::going::{Part, begun_at, going_of, left_after, made_by};
 use crate::same::same_outcome;
 use std::alloc::{AllocError, Global};
 use xti_base::limits::WORKERS;
-use xti_base::{Octets, State};
+use xti_base::{Octets, State, let_go};
 use xti_core::World;
 use xti_journal::write_answer;
 use xti_model::{Act, Applied, Entry, Outcome, Providers, StallLine};
@@ -47,16 +47,16 @@ fn compare(
     ensures { IfOk result (Compares outcome after entry.now) }
 {
     if after.is(entry.after) && same_outcome(&outcome, &entry.outcome) {
-        drop(outcome);
+        let_go(outcome);
         return Ok(None);
     }
     match write_answer(alloc, &outcome, after) {
         Ok(text) => {
-            drop(outcome);
+            let_go(outcome);
             Ok(Some(text))
         }
         Err(fail) => {
-            drop(outcome);
+            let_go(outcome);
             Err(fail)
         }
     }
@@ -124,11 +124,11 @@ impl<'a> Judge<'a> {
             Applied::Blocked => Ok(None),
             Applied::Step { outcome, after } => match write_answer(self.alloc, &outcome, after) {
                 Ok(text) => {
-                    drop(outcome);
+                    let_go(outcome);
                     Ok(Some(text))
                 }
                 Err(fail) => {
-                    drop(outcome);
+                    let_go(outcome);
                     Err(fail)
                 }
             },

@@ -15,21 +15,12 @@ ghost use Rattle.xti_core.specs.Written.{IsWritten, StepsInto};
 
 use crate::looking::look;
 use std::alloc::AllocError;
-use xti_base::{Fd, State};
+use xti_base::{Fd, State, let_go, write_over};
 use xti_data::data_step;
 use xti_dgram::dgram_step;
 use xti_lent::Lent;
 use xti_model::{Applied, Call, Go, Outcome};
 use xti_switch::switch_step;
-
-/// Writes a value in a place, and lets go what was there. Of a type that isn't known here that is one call, and not one for
-/// each of its parts.
-#[inline(always)]
-fn write_over<T: Drop>(place: &mut T, value: T)
-    ensures { place.new ≡ value }
-{
-    *place = value;
-}
 
 /// Writes what a step answered where the caller keeps it, and answers whether a step was made. Each family of calls does so by
 /// itself below, so that the place for its answer is cleared where it is needed alone.
@@ -219,11 +210,11 @@ pub fn apply(lent: &mut Lent, call: &Call, go: Go) -> Result<Applied, AllocError
     match apply_into(lent, call, go, &mut outcome, &mut after) {
         Ok(true) => Ok(Applied::Step { outcome, after }),
         Ok(false) => {
-            drop(outcome);
+            let_go(outcome);
             Ok(Applied::Blocked)
         }
         Err(error) => {
-            drop(outcome);
+            let_go(outcome);
             Err(error)
         }
     }

@@ -13,7 +13,7 @@ use crate::applying::{apply, apply_into};
 use crate::waiting::waits;
 use std::alloc::{AllocError, Global};
 use std::marker::Model;
-use xti_base::State;
+use xti_base::{State, let_go};
 use xti_end::Endpoint;
 use xti_lent::Lent;
 use xti_model::{Applied, Call, Go, Outcome, Providers};
@@ -49,9 +49,9 @@ impl World {
             let closed = match Box::new(alloc, Endpoint::closed(alloc, place)) {
                 Ok(closed) => closed,
                 Err(failed) => {
-                    drop(failed);
-                    drop(registry);
-                    drop(lent);
+                    let_go(failed);
+                    let_go(registry);
+                    let_go(lent);
                     return Err(AllocError);
                 }
             };

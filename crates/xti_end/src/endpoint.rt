@@ -8,11 +8,10 @@ ghost use Rattle.xti_end.specs.Held.{is_open, is_open_as, with_parts};
 
 use crate::parts::{Connection, Parts, Waiting};
 use crate::providers::profile;
-use crate::writing::write_over;
 use std::alloc::Global;
 use std::default::MadeWith;
 use std::marker::Model;
-use xti_base::{Fd, Prov, State};
+use xti_base::{Fd, Prov, State, write_over};
 use xti_model::Providers;
 
 /// A place, and the endpoint that is open there. Contracts see the place's cell, and how many more members each of its lists takes

@@ -18,10 +18,9 @@ ghost use Rattle.xti_end.specs.Held.{pending_at, outstanding_at, disconnect_at};
 ghost use Rattle.xti_end.specs.Held.{AddsPending, AddsOutstanding, AddsDisconnect};
 
 use crate::endpoint::Endpoint;
-use crate::writing::write_over;
 use std::alloc::AllocError;
 use tpi_prim::Frame;
-use xti_base::{Fd, Seq, State};
+use xti_base::{Fd, Seq, State, write_over};
 use xti_model::{Cells, Providers};
 
 /// A request to connect: a T_CONN_IND, and the descriptor of the endpoint that asks.

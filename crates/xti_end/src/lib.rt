@@ -1,19 +1,6 @@
 //! One endpoint: the cell of its place, part by part, and the calls that touch no other cell.
 #![tactic(auto)]
 
-/// What was made; where it wasn't, what is owned is let go by calls, and the function ends.
-macro_rules! or_drop {
-    ($made:expr, $($owned:ident),+) => {
-        match $made {
-            Ok(made) => made,
-            Err(fail) => {
-                $(drop($owned);)+
-                return Err(fail);
-            }
-        }
-    };
-}
-
 mod answers;
 mod confirming;
 mod datagrams;
@@ -34,7 +21,6 @@ mod receiving_release;
 mod showing;
 mod streams;
 mod values;
-mod writing;
 
 pub use endpoint::Endpoint;
 pub use fields::{is_too_long, trimmed, trimmed_copy};

@@ -9,9 +9,9 @@ ghost use Rattle.xti_end.specs.Frames.{symbols_in};
 ghost use Rattle.xti_end.specs.Held.{is_open, parts, with_parts, normal_at, expedited_at, AddsNormal, AddsExpedited};
 
 use crate::endpoint::Endpoint;
-use crate::writing::write_over;
 use std::alloc::AllocError;
 use tpi_prim::Frame;
+use xti_base::write_over;
 use xti_queue::ReadQueue;
 
 impl Endpoint {

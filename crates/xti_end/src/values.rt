@@ -9,8 +9,7 @@ ghost use Rattle.xti_model.specs.Spot.{spot_bytes};
 ghost use Rattle.xti_end.specs.Held.{is_open, parts, with_parts, mark_at, peer_at, target_at, target_number_at, target_of};
 
 use crate::endpoint::Endpoint;
-use crate::writing::write_over;
-use xti_base::{Fd, Octets, Prov, Seq, State};
+use xti_base::{Fd, Octets, Prov, Seq, State, write_over};
 use xti_model::Spot;
 
 impl Endpoint {

@@ -18,6 +18,7 @@ ghost use Rattle.xti_replay.specs.Turns.{AddsTurns, AreTurnsOf};
 use crate::workers::{Worker, put_back};
 use std::alloc::{AllocError, Global};
 use std::collections::VecDeque;
+use xti_base::let_go;
 use xti_base::limits::WORKERS;
 use xti_core::World;
 use xti_model::{Act, Call, Entry, Go, Line};
@@ -51,7 +52,7 @@ fn step_again(world: &mut World, call: &Call, go: Go) -> Result<(), AllocError>
     ensures cells { OnOk result (world.new.cells ≡ left_by world.old.cells (step world.old.providers world.old.cells call.now go)) }
     ensures providers { world.new.providers ≡ world.old.providers }
 {
-    drop(world.step(call, go)?);
+    let_go(world.step(call, go)?);
     Ok(())
 }
 

@@ -9,7 +9,6 @@ mod resolving;
 mod run;
 mod stalling;
 mod workers;
-mod writing;
 
 pub use beginning::fresh_workers;
 pub use names::{Known, Names, Table};

@@ -13,6 +13,7 @@ ghost use Rattle.xti_replay.specs.Stalls.{stalls_of, stalls_after, are_through};
 
 use crate::run::Run;
 use std::alloc::{AllocError, Global};
+use xti_base::let_go;
 use xti_base::limits::MOST_STEPS;
 use xti_model::{Entries, Journal, Script, robin_goes_on, robin_is_legal};
 
@@ -49,8 +50,8 @@ pub fn go_on(alloc: Global, s: &Script, history: Entries) -> Result<Journal, All
     let mut entries = history;
     match take_entries(&mut run, &mut entries) {
         Err(fail) => {
-            drop(run);
-            drop(entries);
+            let_go(run);
+            let_go(entries);
             Err(fail)
         }
         Ok(()) => match run.stalls() {
@@ -60,7 +61,7 @@ pub fn go_on(alloc: Global, s: &Script, history: Entries) -> Result<Journal, All
                 stalls,
             }),
             Err(fail) => {
-                drop(entries);
+                let_go(entries);
                 Err(fail)
             }
         },

@@ -13,11 +13,10 @@ use crate::asking::ask;
 use crate::beginning::{go_through, turns_after, workers_after};
 use crate::stalling::stall_lines;
 use crate::workers::{Worker, put_back};
-use crate::writing::write_over;
 use std::alloc::{AllocError, Global};
 use std::collections::VecDeque;
 use std::mem;
-use xti_base::State;
+use xti_base::{State, let_go, write_over};
 use xti_core::World;
 use xti_model::{Act, Entry, Line, Outcome, Script, Stalls};
 
@@ -179,7 +178,7 @@ impl<'a> Run<'a> {
         ensures { IfOk result (λ stalls. AreStallsOf self.entry stalls) }
     {
         let stalls = stall_lines(self.alloc, self.lines, &mut self.workers);
-        drop(self);
+        let_go(self);
         stalls
     }
 }

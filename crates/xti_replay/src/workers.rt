@@ -10,9 +10,9 @@ ghost use Rattle.xti_replay.specs.Progress.{is_finished, turns_with, next_place,
 
 use crate::names::Names;
 use crate::resolving::Scope;
-use crate::writing::write_over;
 use std::alloc::{AllocError, Global};
 use std::collections::VecDeque;
+use xti_base::{let_go, write_over};
 use xti_model::{Act, Call, Go, Line, Outcome};
 
 /// A call that is part way.
@@ -117,7 +117,7 @@ impl Worker {
     {
         let mut act = Act::More;
         if let Err(fail) = self.begin_next(lines, setup, &mut act) {
-            drop(act);
+            let_go(act);
             return Err(fail);
         }
         match act {

@@ -10,7 +10,7 @@ ghost use Rattle.xti_step.specs.Families.{has_no_bytes};
 use std::alloc::{AllocError, Global};
 use std::marker::Model;
 use xti_base::limits::{MOST_ADDRESS, MOST_CONNECT_DATA, MOST_OPTIONS, MOST_SIZE};
-use xti_base::{Octets, Room};
+use xti_base::{Octets, Room, let_go, or_drop};
 use xti_model::{Call, Outcome, Reply};
 
 /// The most bytes of an address that the provider chooses.
@@ -222,8 +222,8 @@ impl Spare {
             second,
             third,
         } = self;
-        drop(second);
-        drop(third);
+        let_go(second);
+        let_go(third);
         copy_in(first, field)
     }
 
@@ -238,7 +238,7 @@ impl Spare {
             second,
             third,
         } = self;
-        drop(third);
+        let_go(third);
         (copy_in(first, one), copy_in(second, other))
     }
 
@@ -363,7 +363,7 @@ impl Spare {
             | Reply::Refused { .. }
             | Reply::Look { .. }
             | Reply::Overflow { .. } => {
-                drop(self);
+                let_go(self);
                 without_bytes(reply)
             }
         }
@@ -377,7 +377,7 @@ impl Spare {
         match outcome {
             Outcome::Done(reply) => Outcome::Done(self.reply(reply)),
             Outcome::Part { taken } => {
-                drop(self);
+                let_go(self);
                 Outcome::Part { taken: *taken }
             }
         }

@@ -15,6 +15,7 @@ use crate::gate::Gate;
 use crate::spare::Spare;
 use std::alloc::{AllocError, Global};
 use std::sync::Wait;
+use xti_base::{let_go, or_drop};
 use xti_core::apply;
 use xti_gather::{Cell, gather, leave_all};
 use xti_hall::{Hall, Pen, Seat};
@@ -44,7 +45,7 @@ fn give_up(hall: &Hall<Cell>, seat: &mut Seat<Cell>, lent: &mut Lent, pen: Pen<C
 {
     hall.return_pen(seat, pen);
     leave_all(hall, seat, lent);
-    drop(act);
+    let_go(act);
 }
 
 /// Writes the entry of the step that was made on the lent cells, gives the journal back, and then the cells.
@@ -97,20 +98,20 @@ pub fn step<G: Gate, R: Wait + Sync>(
     gate.pause(rt, seat.number(), seat.steps(), seat, call);
     let Ok(pen) = hall.begin(rt, seat) else {
         leave_all(hall, seat, lent);
-        drop(spare);
-        drop(act);
+        let_go(spare);
+        let_go(act);
         return Err(AllocError);
     };
     let at = pen.at();
     match apply(lent, call, go) {
         Err(error) => {
             give_up(hall, seat, lent, pen, act);
-            drop(spare);
+            let_go(spare);
             Err(error)
         }
         Ok(Applied::Blocked) => {
             give_up(hall, seat, lent, pen, act);
-            drop(spare);
+            let_go(spare);
             Ok((Applied::Blocked, at))
         }
         Ok(Applied::Step { outcome, after }) => {

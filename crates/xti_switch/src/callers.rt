@@ -14,7 +14,7 @@ use crate::notices::{News, Notice, prepare, tell};
 use std::alloc::AllocError;
 use std::collections::VecDeque;
 use xti_base::reasons::PEER_CLOSED;
-use xti_base::{Fd, Seq};
+use xti_base::{Fd, Seq, let_go, or_drop};
 use xti_lent::Lent;
 
 /// How many requests the endpoint that is open with this descriptor didn't answer.
@@ -63,8 +63,8 @@ fn notices_to_callers(lent: &mut Lent, fd: Fd) -> Result<VecDeque<Notice>, Alloc
         match notices.push_back(notice) {
             Ok(()) => {}
             Err(failed) => {
-                drop(failed);
-                drop(notices);
+                let_go(failed);
+                let_go(notices);
                 return Err(AllocError);
             }
         }
@@ -83,7 +83,7 @@ fn tell_all(lent: &mut Lent, mut notices: VecDeque<Notice>)
     while let Some(notice) = notices.pop_front() {
         tell(lent, notice);
     }
-    drop(notices);
+    let_go(notices);
 }
 
 /// The callers of the endpoint that is open with this descriptor hear that it gives them up; where memory runs out the cells are

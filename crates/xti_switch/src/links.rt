@@ -13,7 +13,7 @@ ghost use Rattle.xti_switch.specs.Accepts.{accepted_by, giving, giving_if, respo
 
 use std::alloc::AllocError;
 use tpi_prim::Frame;
-use xti_base::{Fd, Octets, Prov, Seq, State};
+use xti_base::{Fd, Octets, Prov, Seq, State, let_go};
 use xti_end::Endpoint;
 use xti_lent::Lent;
 
@@ -34,7 +34,7 @@ fn set_address(r: &mut Endpoint, address: Octets)
         r.set_address(Some(address));
         r.set_qlen(0);
     } else {
-        drop(address);
+        let_go(address);
     }
 }
 
@@ -82,7 +82,7 @@ fn bind(lent: &mut Lent, resfd: Fd, address: Octets)
     if let Some(place) = lent.open_place(resfd) {
         set_address(lent.endpoint(place), address);
     } else {
-        drop(address);
+        let_go(address);
     }
 }
 
@@ -137,7 +137,7 @@ pub(crate) fn respond(lent: &mut Lent, resfd: Fd, caller: Fd, source: Octets)
     if let Some(place) = lent.open_place(resfd) {
         set_responding(lent.endpoint(place), caller, source);
     } else {
-        drop(source);
+        let_go(source);
     }
 }
 
@@ -151,7 +151,7 @@ pub(crate) fn confirm(lent: &mut Lent, caller: Fd, resfd: Fd, address: Octets, c
     if let Some(place) = lent.open_place(caller) {
         set_accepted(lent.endpoint(place), resfd, address, confirmation);
     } else {
-        drop(address);
-        drop(confirmation);
+        let_go(address);
+        let_go(confirmation);
     }
 }

@@ -16,7 +16,7 @@ ghost use Rattle.xti_switch.specs.Hearing.{told_number, is_told, telling, tellin
 use crate::frames::disconnect;
 use std::alloc::{AllocError, Global};
 use tpi_prim::Frame;
-use xti_base::{Fd, Seq};
+use xti_base::{Fd, Seq, let_go, or_drop};
 use xti_end::Endpoint;
 use xti_lent::Lent;
 use xti_model::Providers;
@@ -81,7 +81,7 @@ fn hear(at: &mut Endpoint, p: &Providers, fd: Fd, news: News, frame: Frame)
     ensures { Hears p.now fd.0 news (disconnect_in frame) at.old at.new }
 {
     if !at.is(p, fd) {
-        drop(frame);
+        let_go(frame);
         return;
     }
     match news {
@@ -90,17 +90,17 @@ fn hear(at: &mut Endpoint, p: &Providers, fd: Fd, news: News, frame: Frame)
                 at.reset();
                 at.push_disconnect(frame);
             } else {
-                drop(frame);
+                let_go(frame);
             }
         }
         News::TakenBack { number } => {
             if at.is_pending(number) {
                 at.drop_pending(number);
-                drop(frame);
+                let_go(frame);
             } else if at.caller(number).is_some() {
                 at.push_disconnect(frame);
             } else {
-                drop(frame);
+                let_go(frame);
             }
         }
         News::GivenUp { listener, number } => {
@@ -108,7 +108,7 @@ fn hear(at: &mut Endpoint, p: &Providers, fd: Fd, news: News, frame: Frame)
                 at.push_disconnect(frame);
                 at.set_target(None);
             } else {
-                drop(frame);
+                let_go(frame);
             }
         }
         News::Rejected => {

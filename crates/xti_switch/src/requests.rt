@@ -14,7 +14,7 @@ ghost use Rattle.xti_switch.specs.Connects.{queued};
 use crate::frames;
 use std::alloc::AllocError;
 use tpi_prim::Frame;
-use xti_base::{Fd, Seq, State};
+use xti_base::{Fd, Seq, State, let_go, or_drop};
 use xti_end::Endpoint;
 use xti_lent::Lent;
 
@@ -72,7 +72,7 @@ pub(crate) fn queue(
     match lent.open_place(listener) {
         Some(place) => push_request(lent.endpoint(place), caller, seq, frame),
         None => {
-            drop(frame);
+            let_go(frame);
             Ok(())
         }
     }
@@ -100,7 +100,7 @@ pub(crate) fn turn_away(lent: &mut Lent, fd: Fd, reason: u32) -> Result<(), Allo
     match lent.open_place(fd) {
         Some(place) => push_refusal(lent.endpoint(place), frame),
         None => {
-            drop(frame);
+            let_go(frame);
             Ok(())
         }
     }

@@ -13,6 +13,7 @@ use crate::pen::Pen;
 use crate::seat::Seat;
 use std::alloc::{AllocError, Global};
 use std::sync::Wait;
+use xti_base::let_go;
 use xti_model::{Entries, Entry, Outcome};
 use xti_rule::{Journal, Mark, Stands};
 
@@ -35,13 +36,13 @@ fn copy_of(alloc: Global, entries: &[Entry]) -> Result<Entries, AllocError>
         match entry.copy() {
             Ok(entry) => {
                 if let Err(failed) = copy.push(entry) {
-                    drop(failed);
-                    drop(copy);
+                    let_go(failed);
+                    let_go(copy);
                     return Err(AllocError);
                 }
             }
             Err(error) => {
-                drop(copy);
+                let_go(copy);
                 return Err(error);
             }
         }

@@ -8,6 +8,7 @@ use super::Hall;
 use crate::seat::Seat;
 use atomic_table::{Refused, Table};
 use std::alloc::{AllocError, Global};
+use xti_base::{let_go, or_drop};
 use xti_model::Providers;
 use xti_rule::{Held, Journal, Mark, Setting, Stands};
 
@@ -20,19 +21,6 @@ fn first_marks(alloc: Global) -> Result<Vec<Mark>, AllocError>
     Ok(marks)
 }
 
-/// What was made; where memory ran out, what is owned is let go by calls, and the function ends.
-macro_rules! or_drop {
-    ($made:expr, $($owned:ident),+) => {
-        match $made {
-            Ok(made) => made,
-            Err(error) => {
-                $(drop($owned);)+
-                return Err(error);
-            }
-        }
-    };
-}
-
 /// The cells in their slots, and room for the journal's.
 fn slots_of<C: Drop>(alloc: Global, cells: Vec<C>) -> Result<Vec<Option<Held<C>>>, AllocError>
     ensures { IfOk result (λ v. (v.items ≡ map (λ x. Some (Cell x)) cells.items) × (vec_len v + 1 ≤ vec_capacity v)) }
@@ -40,8 +28,8 @@ fn slots_of<C: Drop>(alloc: Global, cells: Vec<C>) -> Result<Vec<Option<Held<C>>
     let mut slots = or_drop!(Vec::with_capacity(alloc, cells.len()), cells);
     for cell in cells {
         if let Err(failed) = slots.push(Some(Held::Cell(cell))) {
-            drop(failed);
-            drop(slots);
+            let_go(failed);
+            let_go(slots);
             return Err(AllocError);
         }
     }
