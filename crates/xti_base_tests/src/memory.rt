@@ -2,7 +2,6 @@
 
 use crate::cases::expect_right;
 use std::alloc::{AllocError, Global};
-use std::test::*;
 use xti_base::{Calls, Octets, Parts, Room};
 
 /// Whether these are the bytes, for which there was memory.

@@ -2,7 +2,6 @@
 
 use crate::cases::expect_named;
 use std::alloc::{AllocError, Global};
-use std::test::*;
 use xti_base::{Octets, Opt, is_option_list};
 use xti_opt::{OptRead, read_options, write_options};
 

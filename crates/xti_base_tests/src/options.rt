@@ -2,7 +2,6 @@
 
 use crate::cases::expect_right;
 use std::alloc::{AllocError, Global};
-use std::test::*;
 use xti_base::{Room, is_option_list};
 use xti_opt::*;
 

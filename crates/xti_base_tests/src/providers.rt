@@ -1,7 +1,6 @@
 //! The bounds of the providers' values.
 
 use crate::cases::expect_right;
-use std::test::*;
 use xti_base::Limit;
 use xti_model::{Profile, Providers};
 

@@ -4,7 +4,6 @@ use std::alloc::Global;
 use std::io;
 use std::io::{ErrorKind, Read, Write};
 use std::process::Abort;
-use std::test::*;
 use xti_base::Octets;
 use xti_io::*;
 

@@ -11,7 +11,6 @@ ghost use Rattle.xti_end.specs.Taken.{IsAt};
 use crate::cases::expect_right;
 use bytes::Bytes;
 use std::alloc::{AllocError, Global};
-use std::test::*;
 use tpi_prim::primitive::Prim;
 use tpi_prim::{Frame, Kind, encode};
 use xti_base::{Fd, Octets, Prov, Sizes, State};

@@ -3,7 +3,6 @@
 use crate::cases::{expect_named, expect_right};
 use bytes::Bytes;
 use std::alloc::Global;
-use std::test::*;
 use tpi_grammar::{Measure, measure_frame};
 use tpi_prim::primitive::Prim;
 use tpi_prim::{FrameReader, Gathering, encode};

@@ -1,6 +1,5 @@
 //! The parts of a vector send.
 
-use std::test::*;
 use xti_base::Octets;
 use xti_data::Gather;
 

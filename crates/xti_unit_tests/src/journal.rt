@@ -2,7 +2,6 @@
 
 use crate::texts::expect_text;
 use std::alloc::{AllocError, Global};
-use std::test::*;
 use xti_base::{Octets, Prov, State};
 use xti_journal::{JournalWriter, StallLine, write_entry, write_journal};
 use xti_model::{Act, Call, Entries, Entry, Journal, Outcome, Providers, Reply, Stalls};

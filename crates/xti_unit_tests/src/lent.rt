@@ -1,7 +1,6 @@
 //! The cells that a step is lent.
 
 use std::alloc::Global;
-use std::test::*;
 use xti_base::{Fd, Prov};
 use xti_end::Endpoint;
 use xti_lent::Lent;

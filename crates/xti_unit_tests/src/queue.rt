@@ -7,7 +7,6 @@ ghost use Rattle.xti_queue.specs.Indications.{can_wait};
 use crate::cases::expect_right;
 use bytes::Bytes;
 use std::alloc::Global;
-use std::test::*;
 use tpi_prim::primitive::Prim;
 use tpi_prim::{EncodeFail, Frame, Kind, encode};
 use xti_queue::{Piece, ReadQueue};

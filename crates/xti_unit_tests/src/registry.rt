@@ -2,7 +2,6 @@
 
 use crate::cases::expect_right;
 use std::alloc::Global;
-use std::test::*;
 use xti_base::{Fd, Octets, Prov};
 use xti_model::Providers;
 use xti_registry::Registry;

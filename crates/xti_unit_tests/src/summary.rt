@@ -4,7 +4,6 @@ ghost use Rattle.xti_summary.specs.Counting.{HaveWorkers};
 
 use crate::texts::expect_text;
 use std::alloc::{AllocError, Global};
-use std::test::*;
 use xti_base::{Errno, Event, Fd, Octets, Parts, State};
 use xti_model::{Act, Call, Entries, Entry, Journal, Outcome, Providers, Reply, StallLine, Stalls};
 use xti_summary::{Summary, summary};

@@ -2,7 +2,6 @@
 
 use std::alloc::AllocError;
 use std::process::Abort;
-use std::test::*;
 use xti_base::Octets;
 
 /// The test fails where the bytes are others.
