@@ -14,7 +14,7 @@ use crate::library::Seat;
 use crate::shared::Xti;
 use std::alloc::Global;
 use std::sync::Wait;
-use xti_base::{Fd, Octets, Seq, or_drop};
+use xti_base::{Fd, Octets, Seq};
 use xti_model::Call;
 
 impl Xti {

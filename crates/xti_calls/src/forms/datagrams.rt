@@ -15,7 +15,7 @@ use crate::library::Seat;
 use crate::shared::Xti;
 use std::alloc::Global;
 use std::sync::Wait;
-use xti_base::{Fd, Octets, Parts, Sizes, or_drop};
+use xti_base::{Fd, Octets, Parts, Sizes};
 use xti_data::Gather;
 use xti_model::Call;
 
