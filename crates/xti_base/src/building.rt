@@ -16,21 +16,6 @@ pub fn write_over<T: Drop>(place: &mut T, value: T)
     *place = value;
 }
 
-/// What was made: `or_drop!(result, owned, ..)`. Where it wasn't, what is owned is let go by [`let_go`], and the function ends with
-/// that error.
-#[macro_export]
-macro_rules! or_drop {
-    ($result:expr, $($owned:ident),+ $(,)?) => {
-        match $result {
-            Ok(made) => made,
-            Err(fail) => {
-                $($crate::let_go($owned);)+
-                return Err(fail);
-            }
-        }
-    };
-}
-
 /// Makes a variant of an enum out of parts that are made in this order. Where one can't be made, those before it are let go by
 /// [`let_go`], and the function ends with that error.
 ///

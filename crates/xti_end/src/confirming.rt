@@ -18,7 +18,7 @@ use crate::providers::has_connections;
 use std::alloc::AllocError;
 use tpi_prim::Frame;
 use tpi_prim::primitive::Part;
-use xti_base::{Errno, Event, Fd, Seq, State, or_drop};
+use xti_base::{Errno, Event, Fd, Seq, State};
 use xti_model::{Applied, Providers, Reply};
 
 /// The address of who answered.

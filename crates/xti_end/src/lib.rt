@@ -1,6 +1,19 @@
 //! One endpoint: the cell of its place, part by part, and the calls that touch no other cell.
 #![tactic(auto)]
 
+/// What was made; where it wasn't, what is owned is let go by calls, and the function ends.
+macro_rules! or_drop {
+    ($made:expr, $($owned:ident),+) => {
+        match $made {
+            Ok(made) => made,
+            Err(fail) => {
+                $(xti_base::let_go($owned);)+
+                return Err(fail);
+            }
+        }
+    };
+}
+
 mod answers;
 mod confirming;
 mod datagrams;

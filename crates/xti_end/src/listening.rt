@@ -20,7 +20,7 @@ use crate::indications::Ind;
 use crate::providers::has_connections;
 use std::alloc::AllocError;
 use tpi_prim::primitive::Part;
-use xti_base::{Errno, Event, Fd, Seq, State, or_drop};
+use xti_base::{Errno, Event, Fd, Seq, State};
 use xti_model::{Applied, Providers, Reply};
 
 /// Whether an endpoint in this state takes requests to connect.

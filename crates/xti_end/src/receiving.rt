@@ -16,7 +16,7 @@ use crate::providers::has_datagrams;
 use std::alloc::AllocError;
 use tpi_prim::primitive::Part;
 use xti_base::limits::MOST_PARTS;
-use xti_base::{Errno, Event, Fd, Octets, Seq, State, or_drop};
+use xti_base::{Errno, Event, Fd, Octets, Seq, State};
 use xti_model::{Applied, Providers, Reply};
 
 /// Whether there are more bytes than `max`.

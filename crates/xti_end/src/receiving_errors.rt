@@ -19,7 +19,7 @@ use crate::providers::has_datagrams;
 use std::alloc::AllocError;
 use tpi_prim::Frame;
 use tpi_prim::primitive::Part;
-use xti_base::{Errno, Fd, Seq, State, or_drop};
+use xti_base::{Errno, Fd, Seq, State};
 use xti_model::{Applied, Providers, Reply};
 
 /// Where the datagram of a T_UDERROR_IND was to go.

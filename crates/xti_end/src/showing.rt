@@ -12,7 +12,7 @@ use crate::endpoint::Endpoint;
 use crate::fields::{is_too_long, trimmed_copy};
 use crate::providers::info;
 use std::alloc::AllocError;
-use xti_base::{Errno, Fd, Seq, State, or_drop};
+use xti_base::{Errno, Fd, Seq, State};
 use xti_model::{Applied, Providers, Reply};
 
 impl Endpoint {

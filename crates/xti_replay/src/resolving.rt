@@ -9,8 +9,21 @@ ghost use Rattle.xti_replay.specs.Known.{first_number, meanings_in};
 use crate::names::{Names, Table, number_before};
 use std::alloc::AllocError;
 use xti_base::limits::NO_NUMBER;
-use xti_base::{Fd, Seq, or_drop, write_over};
+use xti_base::{Fd, Seq, write_over};
 use xti_model::{Act, Call, Name, NamedCall};
+
+/// What was copied; where it wasn't, the copies before it are let go by calls, and the function ends.
+macro_rules! or_drop {
+    ($copied:expr, $($owned:ident),+) => {
+        match $copied {
+            Ok(copied) => copied,
+            Err(fail) => {
+                $(xti_base::let_go($owned);)+
+                return Err(fail);
+            }
+        }
+    };
+}
 
 /// Writes the call of an entry in its place, where none stands yet, so that it isn't moved any more.
 #[inline(always)]

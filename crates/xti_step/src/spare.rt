@@ -10,7 +10,7 @@ ghost use Rattle.xti_step.specs.Families.{has_no_bytes};
 use std::alloc::{AllocError, Global};
 use std::marker::Model;
 use xti_base::limits::{MOST_ADDRESS, MOST_CONNECT_DATA, MOST_OPTIONS, MOST_SIZE};
-use xti_base::{Octets, Room, let_go, or_drop};
+use xti_base::{Octets, Room, let_go};
 use xti_model::{Call, Outcome, Reply};
 
 /// The most bytes of an address that the provider chooses.

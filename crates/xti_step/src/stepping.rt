@@ -15,7 +15,7 @@ use crate::gate::Gate;
 use crate::spare::Spare;
 use std::alloc::{AllocError, Global};
 use std::sync::Wait;
-use xti_base::{let_go, or_drop};
+use xti_base::let_go;
 use xti_core::apply;
 use xti_gather::{Cell, gather, leave_all};
 use xti_hall::{Hall, Pen, Seat};

@@ -16,7 +16,7 @@ use crate::links::{Given, confirm, give, reserve, respond, take_out};
 use crate::refusals::accept_refusal;
 use std::alloc::{AllocError, Global};
 use tpi_prim::Frame;
-use xti_base::{Errno, Fd, Octets, Seq, State, or_drop};
+use xti_base::{Errno, Fd, Octets, Seq, State};
 use xti_end::{Endpoint, caller_address};
 use xti_lent::{Lent, address_of, done, refused};
 use xti_model::{Applied, Reply};

@@ -10,7 +10,7 @@ ghost use Rattle.xti_switch.specs.Taken.{binding, IsBound, IsOpen};
 
 use std::alloc::{AllocError, Global};
 use xti_base::limits::{MOST_ADDRESS, MOST_QUEUE};
-use xti_base::{Errno, Fd, Octets, Prov, State, or_drop};
+use xti_base::{Errno, Fd, Octets, Prov, State};
 use xti_end::{Endpoint, has_datagrams, is_too_long, trimmed_copy};
 use xti_lent::{Lent, done, overflow, refused};
 use xti_model::{Applied, Reply};

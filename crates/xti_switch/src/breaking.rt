@@ -12,7 +12,7 @@ ghost use Rattle.xti_switch.specs.Taken.{IsOpen};
 
 use crate::notices::{News, prepare_any, tell_any};
 use std::alloc::AllocError;
-use xti_base::{Fd, or_drop};
+use xti_base::Fd;
 use xti_end::Endpoint;
 use xti_lent::Lent;
 

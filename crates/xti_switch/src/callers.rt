@@ -14,7 +14,7 @@ use crate::notices::{News, Notice, prepare, tell};
 use std::alloc::AllocError;
 use std::collections::VecDeque;
 use xti_base::reasons::PEER_CLOSED;
-use xti_base::{Fd, Seq, let_go, or_drop};
+use xti_base::{Fd, Seq, let_go};
 use xti_lent::Lent;
 
 /// How many requests the endpoint that is open with this descriptor didn't answer.

@@ -1,6 +1,19 @@
 //! The calls that go through the switch: t_open, t_close, t_bind, t_unbind, t_connect, t_accept and t_snddis.
 #![tactic(auto)]
 
+/// What was made; where memory ran out, what is owned is let go by calls, and the function ends.
+macro_rules! or_drop {
+    ($made:expr, $($owned:ident),+) => {
+        match $made {
+            Ok(made) => made,
+            Err(error) => {
+                $(xti_base::let_go($owned);)+
+                return Err(error);
+            }
+        }
+    };
+}
+
 mod accept;
 mod bind;
 mod breaking;

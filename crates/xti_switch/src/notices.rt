@@ -16,7 +16,7 @@ ghost use Rattle.xti_switch.specs.Hearing.{told_number, is_told, telling, tellin
 use crate::frames::disconnect;
 use std::alloc::{AllocError, Global};
 use tpi_prim::Frame;
-use xti_base::{Fd, Seq, let_go, or_drop};
+use xti_base::{Fd, Seq, let_go};
 use xti_end::Endpoint;
 use xti_lent::Lent;
 use xti_model::Providers;

@@ -14,7 +14,7 @@ ghost use Rattle.xti_switch.specs.Connects.{queued};
 use crate::frames;
 use std::alloc::AllocError;
 use tpi_prim::Frame;
-use xti_base::{Fd, Seq, State, let_go, or_drop};
+use xti_base::{Fd, Seq, State, let_go};
 use xti_end::Endpoint;
 use xti_lent::Lent;
 

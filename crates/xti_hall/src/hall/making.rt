@@ -8,7 +8,7 @@ use super::Hall;
 use crate::seat::Seat;
 use atomic_table::{Refused, Table};
 use std::alloc::{AllocError, Global};
-use xti_base::{let_go, or_drop};
+use xti_base::let_go;
 use xti_model::Providers;
 use xti_rule::{Held, Journal, Mark, Setting, Stands};
 
@@ -19,6 +19,19 @@ fn first_marks(alloc: Global) -> Result<Vec<Mark>, AllocError>
     let mut marks = Vec::from_elem(alloc, Mark::Absent, 33)?;
     marks[0] = Mark::Free;
     Ok(marks)
+}
+
+/// What was made; where memory ran out, what is owned is let go by calls, and the function ends.
+macro_rules! or_drop {
+    ($made:expr, $($owned:ident),+) => {
+        match $made {
+            Ok(made) => made,
+            Err(error) => {
+                $(xti_base::let_go($owned);)+
+                return Err(error);
+            }
+        }
+    };
 }
 
 /// The cells in their slots, and room for the journal's.
