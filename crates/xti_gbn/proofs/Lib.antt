@@ -1,0 +1,6 @@
+pub mod Spellings
+pub mod Numbering
+pub mod Soundness
+pub mod Rounds
+pub mod EndSteps
+pub mod Runs

@@ -1,0 +1,20 @@
+//! Go back N over lossy datagrams: a sender that keeps up to 8 packets until they are acknowledged, a receiver that takes them in
+//! order, and the run of both ends over any carrier of bytes.
+#![tactic(auto)]
+
+mod carrier;
+mod ends;
+mod events;
+mod link;
+mod receiver;
+mod report;
+mod sender;
+mod wire;
+
+pub use carrier::Carrier;
+pub use events::{Events, LinkEvent, MOST_EVENTS};
+pub use link::{links_keep_order, rounds_deliver_all, run_link};
+pub use receiver::{Receiver, Taken};
+pub use report::{Report, write_report};
+pub use sender::{OfferFail, Packets, Sender};
+pub use wire::{MOST_BODY, Packet, Wire, WireFail, read_wire, texts_tell_wires, write_wire};

@@ -1,0 +1,58 @@
+//! The run of both ends.
+
+ghost use Rattle.std.specs.Prelude.{◌≡◌, ◌≤◌, ◌+◌, ◌++◌, ℕ, List, length, All, IfOk, OnOk};
+ghost use Rattle.xti_gbn.specs.declared.events.LinkEvent.{LinkEvent};
+ghost use Rattle.xti_gbn.specs.declared.events.TheConstants.{MOST_EVENTS};
+ghost use Rattle.xti_gbn.specs.Sending.{window};
+ghost use Rattle.xti_gbn.specs.Link.{after, unacknowledged};
+ghost use Rattle.xti_gbn.specs.Reports.{report_of};
+ghost use Rattle.xti_gbn.specs.Laws.{IsPrefix, IsDone, round, with_rounds};
+ghost use Rattle.xti_gbn.specs.Ends.{IsSmallEvent};
+
+use crate::carrier::Carrier;
+use crate::ends::Ends;
+use crate::events::Events;
+use crate::report::Report;
+use std::alloc::{AllocError, Global};
+use xti_base::Parts;
+
+/// Runs both ends of a link: the report is that of the link's definition over these events, whatever carries between the ends.
+/// At most 10,000 events, each body of at most 512 bytes. After an error the carrier may not be ready.
+pub fn run_link<C: Carrier>(
+    alloc: Global,
+    events: &Events,
+    carrier: &mut C,
+) -> Result<Report, AllocError>
+    requires few { length events.now ≤ MOST_EVENTS }
+    requires small { All IsSmallEvent events.now }
+    requires ready { C.is_ready carrier.old }
+    ensures report { IfOk result (λ report. report ≡ report_of events.now) }
+    ensures stays_ready { OnOk result (C.is_ready carrier.new) }
+{
+    let mut ends = Ends::new(alloc);
+    let mut lines = Parts::new(alloc);
+    for event in events.as_slice() {
+        let line = ends.step(alloc, event, carrier)?;
+        lines.push(line)?;
+    }
+    Ok(ends.report(lines))
+}
+
+/// What is delivered is a prefix of what was offered, whatever befalls the link.
+///
+/// `acknowledged`, `window`: the sender knows no more to be delivered than is, and at most 8 bodies less than it took.
+pub fn links_keep_order()
+    ensures prefix { (events : List LinkEvent) → IsPrefix (after events).delivered (after events).offered }
+    ensures delivered { (events : List LinkEvent) → length (after events).delivered ≤ length (after events).offered }
+    ensures acknowledged { (events : List LinkEvent) → (after events).acknowledged ≤ length (after events).delivered }
+    ensures window { (events : List LinkEvent) → length (after events).offered ≤ (after events).acknowledged + window }
+{}
+
+/// After whatever befell the link, a round without loss delivers and acknowledges all that was offered.
+///
+/// `rounds`: so do as many rounds as there are bodies that aren't acknowledged, and any more.
+pub fn rounds_deliver_all()
+    ensures one { (events : List LinkEvent) → IsDone (after events) (after (events ++ round (after events))) }
+    ensures rounds { (events : List LinkEvent) (count : ℕ) → length (unacknowledged (after events)) ≤ count
+        → IsDone (after events) (after (with_rounds count events)) }
+{}
