@@ -10,7 +10,6 @@ use Rattle.std.proofs.lemmas.Option.{slice_get-map, slice_get_within}
 use Rattle.std.proofs.lemmas.Bool.{ltb-true, lt-ltb, cases_lt}
 use Rattle.xti_text.specs.Words.{number_word}
 use Rattle.xti_gbn.specs.declared.wire.Packet.{Packet}
-use Rattle.xti_gbn.specs.declared.events.LinkEvent.{LinkEvent}
 use Rattle.xti_gbn.specs.declared.events.LinkEvent.TheVariants.{Offer, Timeout, Data, Ack}
 use Rattle.xti_gbn.specs.declared.ends.Ends.{Ends}
 use Rattle.xti_gbn.specs.Wire.{packet_text, most_body, HasSmall, IsPacketText}

@@ -1,5 +1,5 @@
 -- A run event by event.
-use Rattle.std.proofs.Common.{◌≡◌, ◌+◌, ◌*◌, ◌<◌, ◌≤◌, ℕ, Bool, true, false, cond, List, [], ◌∷◌, ◌++◌, length, take, get_or, Option, Some, None, refl, sym, ◌∙◌, ap, subst, arith, append_assoc}
+use Rattle.std.proofs.Common.{◌≡◌, ◌+◌, ◌*◌, ◌<◌, ◌≤◌, ℕ, Bool, true, false, cond, List, [], ◌∷◌, ◌++◌, length, take, get_or, Option, Some, None, refl, sym, ◌∙◌, ap, subst, arith}
 use Rattle.std.specs.Prelude.{is_some, slice_get}
 use Rattle.std.proofs.lemmas.List.{length_push, length-take-le, take_more, take_all}
 use Rattle.xti_gbn.specs.declared.wire.Packet.{Packet}
@@ -7,11 +7,10 @@ use Rattle.xti_gbn.specs.declared.events.LinkEvent.{LinkEvent}
 use Rattle.xti_gbn.specs.declared.events.LinkEvent.TheVariants.{Offer, Timeout, Data, Ack}
 use Rattle.xti_gbn.specs.declared.events.TheConstants.{MOST_EVENTS}
 use Rattle.xti_gbn.specs.declared.ends.Ends.{Ends}
-use Rattle.xti_gbn.specs.declared.report.Report.{Report}
 use Rattle.xti_gbn.specs.Sending.{Sending, next_of}
-use Rattle.xti_gbn.specs.Link.{Link, opening, has_room, offer, time_out, arrive_some, acknowledge_some, after_event, after_from, after}
+use Rattle.xti_gbn.specs.Link.{Link, opening, has_room, arrive_some, acknowledge_some, after_event, after_from, after}
 use Rattle.xti_gbn.specs.Reports.{line_of, carried_by, lines_from, carried_from, report_of}
-use Rattle.xti_gbn.specs.Ends.{StandsAt, HasRoom, GoesOn, Steps}
+use Rattle.xti_gbn.specs.Ends.{StandsAt, HasRoom, Steps}
 use Rattle.xti_gbn.proofs.Rounds.{after_from-append, after_from-one}
 use Rattle.xti_gbn.proofs.EndSteps.{next-is}
 

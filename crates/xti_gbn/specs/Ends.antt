@@ -2,22 +2,15 @@
 use Rattle.std.specs.Prelude.{◌≡◌, ℕ, ◌+◌, ◌^◌, ◌<◌, ◌≤◌, List, [], length, drop, map, All, MatchOption, Some, slice_get, ◌-◌}
 use Rattle.xti_gbn.specs.declared.wire.Packet.{Packet}
 use Rattle.xti_gbn.specs.declared.events.LinkEvent.{LinkEvent}
-use Rattle.xti_gbn.specs.declared.events.LinkEvent.TheVariants.{Offer, Timeout, Data, Ack}
 use Rattle.xti_gbn.specs.declared.events.TheConstants.{MOST_EVENTS}
 use Rattle.xti_gbn.specs.declared.ends.Ends.{Ends}
 use Rattle.xti_gbn.specs.Wire.{packet_text, most_body}
-use Rattle.xti_gbn.specs.Sending.{Sending, window, next_of}
+use Rattle.xti_gbn.specs.Sending.{window, next_of}
 use Rattle.xti_gbn.specs.Link.{Link, after_event}
 use Rattle.xti_gbn.specs.Reports.{line_of, carried_by}
 use Rattle.xti_gbn.specs.Laws.{IsPrefix}
 
--- an offered body has at most so many bytes
-abbrev pub IsSmallEvent : LinkEvent → Type 0
-IsSmallEvent (Offer body) = length body ≤ most_body
-IsSmallEvent Timeout = Unit {0}
-IsSmallEvent (Data place) = Unit {0}
-IsSmallEvent (Ack place) = Unit {0}
-
+-- a body has at most so many bytes
 abbrev pub IsSmallBody : List ℕ → Type 0
 IsSmallBody body = length body ≤ most_body
 

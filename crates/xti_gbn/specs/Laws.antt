@@ -1,5 +1,5 @@
 -- What holds of a link whatever befalls it, and what a round without loss comes to.
-use Rattle.std.specs.Prelude.{◌≡◌, ℕ, zero, suc, ◌+◌, ◌-◌, ◌≤◌, List, [], ◌∷◌, ◌++◌, length, take}
+use Rattle.std.specs.Prelude.{◌≡◌, ℕ, zero, suc, ◌+◌, ◌-◌, List, [], ◌∷◌, ◌++◌, length, take}
 use Rattle.xti_gbn.specs.declared.events.LinkEvent.{LinkEvent}
 use Rattle.xti_gbn.specs.declared.events.LinkEvent.TheVariants.{Timeout, Data, Ack}
 use Rattle.xti_gbn.specs.Link.{Link, unacknowledged, after}

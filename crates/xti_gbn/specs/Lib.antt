@@ -2,6 +2,7 @@ pub mod Wire
 pub mod Numbered
 pub mod Sending
 pub mod Receiving
+pub mod Events
 pub mod Link
 pub mod Reports
 pub mod Ends

@@ -1,5 +1,5 @@
 -- The report of a run: a line for each event, and four numbers.
-use Rattle.std.specs.Prelude.{ℕ, ◌+◌, ◌*◌, Bool, true, false, is_some, List, [], ◌∷◌, ◌++◌, length, Option, Some, None, slice_get, codes, if◌then◌else◌}
+use Rattle.std.specs.Prelude.{ℕ, ◌+◌, ◌*◌, is_some, List, [], ◌∷◌, ◌++◌, length, Option, Some, None, slice_get, codes, if◌then◌else◌}
 use Rattle.std.specs.List.{flat_map}
 use Rattle.xti_text.specs.Words.{number_word, octets_word}
 use Rattle.xti_gbn.specs.declared.wire.Packet.{Packet}

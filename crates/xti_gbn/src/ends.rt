@@ -4,11 +4,12 @@ ghost use Rattle.std.specs.Prelude.{◌≡◌, ◌++◌, ◌∷◌, [], ◌+◌,
 ghost use Rattle.xti_gbn.specs.declared.events.LinkEvent.TheVariants.{Offer, Timeout, Data, Ack};
 ghost use Rattle.xti_gbn.specs.declared.events.TheConstants.{MOST_EVENTS};
 ghost use Rattle.xti_gbn.specs.Wire.{most_body, packet_text, HasSmall};
+ghost use Rattle.xti_gbn.specs.Events.{IsSmallEvent};
 ghost use Rattle.xti_gbn.specs.Receiving.{taken_body, expected_after};
 ghost use Rattle.xti_gbn.specs.Sending.{next_of};
 ghost use Rattle.xti_gbn.specs.Link.{opening};
 ghost use Rattle.xti_gbn.specs.Reports.{arrival_line};
-ghost use Rattle.xti_gbn.specs.Ends.{IsSmallEvent, Stands, StandsAt, HasRoom, Steps};
+ghost use Rattle.xti_gbn.specs.Ends.{Stands, StandsAt, HasRoom, Steps};
 
 use crate::carrier::{Carrier, carry_acknowledgement, carry_packet};
 use crate::events::LinkEvent;
@@ -47,6 +48,7 @@ impl Ends {
         }
     }
 
+    // Puts a packet: its bytes are kept.
     fn put(&mut self, alloc: Global, packet: &Packet) -> Result<(), AllocError>
         requires { length packet.now.body ≤ most_body }
         ensures { OnOk result (self.new ≡ record self.old { packets = self.old.packets ++ packet_text packet.now ∷ [] }) }
@@ -55,6 +57,7 @@ impl Ends {
         self.packets.push(text)
     }
 
+    // The sender is offered a body.
     fn offer(&mut self, alloc: Global, body: &[u8]) -> Result<Octets, AllocError>
         requires small { length body.now ≤ most_body }
         requires numbers { next_of self.old.sender < 2 ^ 32 - 1 }
@@ -71,6 +74,7 @@ impl Ends {
         }
     }
 
+    // Puts packets in order.
     fn put_all(&mut self, alloc: Global, packets: &[Packet]) -> Result<(), AllocError>
         requires { All HasSmall packets.now }
         ensures { OnOk result (self.new ≡ record self.old { packets = self.old.packets ++ map packet_text packets.now }) }
@@ -81,6 +85,7 @@ impl Ends {
         Ok(())
     }
 
+    // The sender waited too long.
     fn time_out(&mut self, alloc: Global) -> Result<Octets, AllocError>
         ensures { IfOk result (λ line. Steps Timeout self.old line self.new) }
     {
@@ -104,6 +109,7 @@ impl Ends {
         arrival_line(alloc, packet.seq, &taken)
     }
 
+    // The packet at a place is carried to the receiver.
     fn data<C: Carrier>(
         &mut self,
         alloc: Global,
@@ -124,6 +130,7 @@ impl Ends {
         self.arrive(alloc, &packet)
     }
 
+    // The acknowledgement at a place is carried to the sender.
     fn ack<C: Carrier>(
         &mut self,
         alloc: Global,

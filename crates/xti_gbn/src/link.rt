@@ -3,11 +3,11 @@
 ghost use Rattle.std.specs.Prelude.{◌≡◌, ◌≤◌, ◌+◌, ◌++◌, ℕ, List, length, All, IfOk, OnOk};
 ghost use Rattle.xti_gbn.specs.declared.events.LinkEvent.{LinkEvent};
 ghost use Rattle.xti_gbn.specs.declared.events.TheConstants.{MOST_EVENTS};
+ghost use Rattle.xti_gbn.specs.Events.{IsSmallEvent};
 ghost use Rattle.xti_gbn.specs.Sending.{window};
 ghost use Rattle.xti_gbn.specs.Link.{after, unacknowledged};
 ghost use Rattle.xti_gbn.specs.Reports.{report_of};
 ghost use Rattle.xti_gbn.specs.Laws.{IsPrefix, IsDone, round, with_rounds};
-ghost use Rattle.xti_gbn.specs.Ends.{IsSmallEvent};
 
 use crate::carrier::Carrier;
 use crate::ends::Ends;

@@ -41,6 +41,7 @@ pub(crate) fn number_line(alloc: Global, key: &str, number: u32) -> Result<Octet
     Ok(Octets::from_vec(line))
 }
 
+// The line of a packet whose body was taken.
 fn delivered_line(alloc: Global, number: u32, body: &[u8], ack: u32) -> Result<Octets, AllocError>
     ensures { IfOk result (λ line. line ≡ arrival_line number (Some body.now) ack) }
 {
@@ -61,6 +62,7 @@ pub(crate) fn arrival_line(alloc: Global, number: u32, taken: &Taken) -> Result<
     }
 }
 
+// Appends lines, each with its line feed.
 fn put_lines(out: &mut Vec<u8>, lines: &[Octets]) -> Result<(), AllocError>
     ensures { OnOk result (out.new.items ≡ out.old.items ++ flat_map ended lines.now) }
 {
@@ -71,6 +73,7 @@ fn put_lines(out: &mut Vec<u8>, lines: &[Octets]) -> Result<(), AllocError>
     Ok(())
 }
 
+// Appends the last line, with its line feed.
 fn put_last(out: &mut Vec<u8>, report: &Report) -> Result<(), AllocError>
     ensures { OnOk result (out.new.items ≡ out.old.items ++ ended (last_line report.now)) }
 {

@@ -1,4 +1,4 @@
-use Rattle.std.proofs.Common.{◌≡◌, ◌∙◌, [], length, ap, arith}
+use Rattle.std.proofs.Common.{◌∙◌, [], length, ap, arith}
 use Rattle.xti_gbn.proofs.Spellings.{length-numbered, ack-number}
 use Rattle.xti_gbn.proofs.carrier.carry_acknowledgement.Goals as goal
 

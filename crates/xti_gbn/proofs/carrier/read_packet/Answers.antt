@@ -1,4 +1,4 @@
-use Rattle.std.proofs.Common.{◌≡◌, Result, Err, ap}
+use Rattle.std.proofs.Common.{Result, Err, ap}
 use Rattle.xti_gbn.specs.declared.wire.Wire.{Wire}
 use Rattle.xti_gbn.specs.declared.wire.Wire.TheVariants.{Data}
 use Rattle.xti_gbn.specs.declared.wire.WireFail.{WireFail}

@@ -1,4 +1,3 @@
-use Rattle.std.proofs.Common.{arith}
 use Rattle.xti_gbn.specs.Link.{after}
 use Rattle.xti_gbn.proofs.Soundness.{prefix-length, sound-after}
 use Rattle.xti_gbn.proofs.link.links_keep_order.Goals as goal

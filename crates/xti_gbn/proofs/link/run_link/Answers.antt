@@ -1,4 +1,4 @@
-use Rattle.std.proofs.Common.{◌≡◌, ◌∙◌, ◌+◌, ◌≤◌, length, take, sym, ap, subst, arith}
+use Rattle.std.proofs.Common.{◌∙◌, ◌+◌, ◌≤◌, length, take, sym, ap, subst, arith}
 use Rattle.xti_gbn.specs.declared.events.TheConstants.{MOST_EVENTS}
 use Rattle.xti_gbn.specs.Link.{after}
 use Rattle.xti_gbn.specs.Reports.{report_of}

@@ -1,4 +1,4 @@
-use Rattle.std.proofs.Common.{◌≡◌, ◌∙◌, sym, ap}
+use Rattle.std.proofs.Common.{◌∙◌, sym}
 use Rattle.std.specs.Prelude.{codes}
 use Rattle.xti_gbn.specs.declared.events.LinkEvent.TheVariants.{Data}
 use Rattle.xti_gbn.specs.Receiving.{taken_body, expected_after}

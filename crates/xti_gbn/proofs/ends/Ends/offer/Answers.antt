@@ -1,4 +1,4 @@
-use Rattle.std.proofs.Common.{◌≡◌, List, ℕ, Result, Err, ap}
+use Rattle.std.proofs.Common.{Result, Err, ap}
 use Rattle.std.specs.Prelude.{codes}
 use Rattle.xti_text.specs.Words.{number_word}
 use Rattle.xti_gbn.specs.declared.wire.Packet.{Packet}

@@ -1,10 +1,8 @@
-use Rattle.std.proofs.Common.{◌≡◌, ◌∙◌, List, length, sym, ap, subst, arith}
+use Rattle.std.proofs.Common.{◌≡◌, ◌∙◌, length, sym, ap, subst, arith}
 use Rattle.std.specs.Prelude.{All, codes}
 use Rattle.xti_text.specs.Words.{number_word}
-use Rattle.xti_gbn.specs.declared.wire.Packet.{Packet}
 use Rattle.xti_gbn.specs.declared.events.LinkEvent.TheVariants.{Timeout}
-use Rattle.xti_gbn.specs.declared.ends.Ends.{Ends}
-use Rattle.xti_gbn.specs.Wire.{packet_text, HasSmall}
+use Rattle.xti_gbn.specs.Wire.{HasSmall}
 use Rattle.xti_gbn.specs.Ends.{Steps}
 use Rattle.xti_gbn.proofs.Numbering.{length-packets_from}
 use Rattle.xti_gbn.proofs.EndSteps.{told, small-packets, timeout-steps}
