@@ -1,5 +1,5 @@
 -- The text of a seed gives its number, and the decimal digits of a number give that number.
-use Rattle.std.proofs.Common.{◌≡◌, refl, ap, subst, ◌∙◌, ℕ, ◌≤◌, ◌<◌, ◌^◌, Bool, true, false, cond, ◌&&◌, eqb, ltb, List, [], ◌∷◌, length, drop, Option, Some, None, Result, Ok, Err, decimal, arith, lt-ltb, ltb-true, ne_eqb, sym, inl, inr}
+use Rattle.std.proofs.Common.{◌≡◌, refl, ap, subst, ◌∙◌, ℕ, ◌≤◌, ◌<◌, ◌^◌, Bool, true, false, cond, ◌&&◌, ltb, [], ◌∷◌, length, drop, Some, None, Result, Ok, Err, decimal, arith, lt-ltb, ltb-true, ne_eqb, sym, inl, inr}
 use Rattle.std.specs.Char.{digit_value}
 use Rattle.std.specs.List.{list_all}
 use Rattle.std.specs.Result.{result_ok}

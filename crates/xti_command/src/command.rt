@@ -19,6 +19,8 @@ pub enum Reading {
     Check,
     /// A line is written for each of some frames.
     Frames,
+    /// Both ends of a link are run, and the report is written.
+    Link,
 }
 
 /// What the program is asked to do.
@@ -111,6 +113,7 @@ fn command_named(word: &str, summary: bool, seed: Option<&str>) -> Option<Comman
         "run" => without_seed(Reading::Run { summary }, seed),
         "check" => alone(Reading::Check, summary, seed),
         "frames" => alone(Reading::Frames, summary, seed),
+        "link" => alone(Reading::Link, summary, seed),
         "gen" => generating(summary, seed),
         _ => None,
     }

@@ -1,6 +1,6 @@
-use Rattle.std.proofs.Common.{rules, ap, ap₂, codes, true, ◌≡◌, ◌∙◌}
+use Rattle.std.proofs.Common.{rules, ap₂, ◌≡◌, ◌∙◌}
 use Rattle.std.proofs.lemmas.Result.{IfOk-weaker}
-use Rattle.clap.specs.Words.{App, app_of, rule_of, with_rule}
+use Rattle.clap.specs.Words.{app_of, rule_of, with_rule}
 use Rattle.xti_command.specs.Words.{bare_app, seed_rule, summary_rule, word_rule}
 use Rattle.xti_command.proofs.command.command_line.Goals as goal
 
