@@ -16,6 +16,7 @@ MOST_CONTROL = 1_024
 MOST_INPUT = 67_108_864
 MOST_LINES = 100_000
 MOST_BYTES = 4_194_304
+MOST_EVENTS = 10_000
 DATAGRAM = 8_192
 T_CONN_REQ, T_DATA_REQ, T_BIND_REQ, T_UNITDATA_REQ, T_ORDREL_REQ = 0, 3, 6, 8, 10
 T_CONN_IND, T_DATA_IND, T_UNITDATA_IND, T_UDERROR_IND = 11, 14, 20, 21
@@ -209,6 +210,12 @@ def generated(seed):
     return script([*calls, "10 connect c addr=t:srv", *(f"10 snd c data=f:{size(10, turn)}" for turn in range(1024)), "10 sndrel c"])
 
 
+def link(count):
+    """So many events of a link: bodies of the most bytes, each delivered and acknowledged, and timeouts at the end."""
+    events = [event for i in range(count // 3) for event in ("offer f:512", f"data {i}", f"ack {i}")] + ["timeout"] * (count % 3)
+    return "\n".join(["xti-link 1", *events, ""]).encode()
+
+
 INPUTS = {
     "a-datagram-of-the-most-bytes": datagram_in_one,
     "a-datagram-of-the-most-bytes-in-parts": datagram_in_parts,
@@ -228,6 +235,8 @@ INPUTS = {
     "a-generated-script": lambda: generated(7),
     "generated-script-of-7": bytes,
     "generated-script-of-18446744073709551615": bytes,
+    "as-many-lines-as-a-link-script-may-have": lambda: link(MOST_EVENTS),
+    "a-line-more-than-a-link-script-may-have": lambda: link(MOST_EVENTS + 1),
     "frames-with-the-most-user-data": data_frames,
     "a-frame-with-a-byte-too-much": data_over_its_limit,
     "frames-with-the-longest-control-part": control_frames,

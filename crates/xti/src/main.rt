@@ -18,6 +18,7 @@ usage: xti replay [--summary]
        xti run [--summary]
        xti check
        xti frames
+       xti link
        xti gen --seed N [--summary]
        xti --help | -h | --version
 
@@ -29,6 +30,8 @@ check   reads a journal from standard input, and prints the number of its
         steps where each is what XTI gives there, else the first wrong line
 frames  reads TPI frames one after the other from standard input, and prints a
         line for each on standard output
+link    reads a link script from standard input, runs both ends of the link by
+        go back N over datagrams, and prints a line for each event
 gen     reads nothing, and prints the script that is generated from a number
 
 --summary  prints one line in place of the journal: how many steps were made,

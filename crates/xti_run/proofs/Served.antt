@@ -10,15 +10,18 @@ use Rattle.xti_script.specs.Refused.{IsRefusedAt}
 use Rattle.xti_model.specs.declared.script.Journal.{Journal}
 use Rattle.xti_journal_reader.specs.Grammar.{IsJournal}
 use Rattle.xti_journal_reader.specs.Refused.{IsRefusedAt as IsNoJournalAt}
+use Rattle.xti_gbn.specs.declared.events.LinkEvent.{LinkEvent}
+use Rattle.xti_link.specs.Grammar.{IsLinkScript}
+use Rattle.xti_link.specs.Refused.{IsRefusedAt as IsNoLinkScriptAt}
 use Rattle.xti_command.specs.declared.command.Command.{Command}
 use Rattle.xti_command.specs.declared.command.Command.TheVariants.{Read, Gen}
 use Rattle.xti_command.specs.declared.command.Reading.{Reading}
-use Rattle.xti_command.specs.declared.command.Reading.TheVariants.{Replay, Run, Check, Frames}
+use Rattle.xti_command.specs.declared.command.Reading.TheVariants.{Replay, Run, Check, Frames, Link}
 use Rattle.xti_generate.specs.Generated.{generated}
-use Rattle.xti_run.specs.Program.{IsLeft, IsRun, IsAnswer, IsOutput, IsOutputOf, IsDone, HasInput, HasScript, HasJournal, HasFrames, IsFinished, IsGenerated, IsWholeRun, limit, status_with}
+use Rattle.xti_run.specs.Program.{IsLeft, IsRun, IsAnswer, IsOutput, IsOutputOf, IsDone, HasInput, HasScript, HasJournal, HasFrames, HasLink, IsFinished, IsGenerated, IsWholeRun, limit, status_with}
 use Rattle.xti_command.specs.Words.{command_of}
 
--- no text is a script and refused at a line, nor a journal, and no bytes are frames and wrong first at a place
+-- no text is a script and refused at a line, nor a journal, nor a link script, and no bytes are frames and wrong first at a place
 abbrev pub NoScript : Type 0
 NoScript = (text : List ℕ) (s : Script) (line : ℕ) → IsScript s text → IsRefusedAt text line → ⊥
 
@@ -27,6 +30,9 @@ NoJournal = (text : List ℕ) (j : Journal) (line : ℕ) → IsJournal j text �
 
 abbrev pub NoFrames : Type 0
 NoFrames = (bs : List ℕ) (at : ℕ) → IsFirstWrong bs at → IsFrames bs → ⊥
+
+abbrev pub NoLink : Type 0
+NoLink = (events : List LinkEvent) (text : List ℕ) (line : ℕ) → IsLinkScript events text → IsNoLinkScriptAt text line → ⊥
 
 the_left : (left : Option (List ℕ)) (input told : List ℕ) → IsLeft left input → left ≡ Some told → told ≡ input
 the_left (Some bytes) input told h e = cc
@@ -66,19 +72,25 @@ frames_served never left input status text l h (inl (within, inl done)) = done.d
 frames_served never left input status text l h (inl (within, inr refused)) = absurd (never input refused.at refused.wrong (subst IsFrames (the_left left input h.input l h.told) h.are_frames))
 frames_served never left input status text l h (inr long) = let same : length h.input ≡ length input = ap length (the_left left input h.input l h.told) in absurd (omega (arith, long.long, h.within, same))
 
-run_served : NoScript → NoJournal → NoFrames → (reading : Reading) (left : Option (List ℕ)) (status : ℕ) (text : List ℕ) → HasInput (Read reading) left → IsRun reading left status text → IsDone (Read reading) status
-run_served scripts journals frames (Replay summary) left status text h run = script_served scripts summary left run.input status text run.is_left h run.answer
-run_served scripts journals frames (Run summary) left status text h run = threads_served scripts summary left run.input status text run.is_left h run.answer
-run_served scripts journals frames Check left status text h run = journal_served journals left run.input status text run.is_left h run.answer
-run_served scripts journals frames Frames left status text h run = frames_served frames left run.input status text run.is_left h run.answer
+link_served : NoLink → (left : Option (List ℕ)) (input : List ℕ) (status : ℕ) (text : List ℕ) → IsLeft left input → HasLink left → IsAnswer Link input status text → status ≡ 0
+link_served never left input status text l h (inl (within, inl done)) = done.done
+link_served never left input status text l h (inl (within, inr refused)) = absurd (never h.events input refused.line (subst (λ bs. IsLinkScript h.events bs) (the_left left input h.input l h.told) h.is_script) refused.refused)
+link_served never left input status text l h (inr long) = let same : length h.input ≡ length input = ap length (the_left left input h.input l h.told) in absurd (omega (arith, long.long, h.within, same))
+
+run_served : NoScript → NoJournal → NoFrames → NoLink → (reading : Reading) (left : Option (List ℕ)) (status : ℕ) (text : List ℕ) → HasInput (Read reading) left → IsRun reading left status text → IsDone (Read reading) status
+run_served scripts journals frames links (Replay summary) left status text h run = script_served scripts summary left run.input status text run.is_left h run.answer
+run_served scripts journals frames links (Run summary) left status text h run = threads_served scripts summary left run.input status text run.is_left h run.answer
+run_served scripts journals frames links Check left status text h run = journal_served journals left run.input status text run.is_left h run.answer
+run_served scripts journals frames links Frames left status text h run = frames_served frames left run.input status text run.is_left h run.answer
+run_served scripts journals frames links Link left status text h run = link_served links left run.input status text run.is_left h run.answer
 
 gen_served : (seed : ℕ) (summary : Bool) (status : ℕ) (text : List ℕ) → IsGenerated seed summary status text → IsDone (Gen seed summary) status
 gen_served seed false status text written = written.0
 gen_served seed true status text played = run_finished true (generated seed) (robin (generated seed)) status text played.whole
 
-output_served : NoScript → NoJournal → NoFrames → (command : Command) (left : Option (List ℕ)) (status : ℕ) (text : List ℕ) → HasInput command left → IsOutputOf (Some command) left status text → IsDone command status
-output_served scripts journals frames (Read reading) left status text h out = run_served scripts journals frames reading left status text h out
-output_served scripts journals frames (Gen seed summary) left status text h out = gen_served seed summary status text out
+output_served : NoScript → NoJournal → NoFrames → NoLink → (command : Command) (left : Option (List ℕ)) (status : ℕ) (text : List ℕ) → HasInput command left → IsOutputOf (Some command) left status text → IsDone command status
+output_served scripts journals frames links (Read reading) left status text h out = run_served scripts journals frames links reading left status text h out
+output_served scripts journals frames links (Gen seed summary) left status text h out = gen_served seed summary status text out
 
-pub served : NoScript → NoJournal → NoFrames → (words : List (List ℕ)) (command : Command) (left : Option (List ℕ)) (status : ℕ) (text : List ℕ) → command_of words ≡ Some command → HasInput command left → IsOutput words left status text → IsDone command status
-served scripts journals frames words command left status text e h out = output_served scripts journals frames command left status text h (subst (λ o. IsOutputOf o left status text) e out)
+pub served : NoScript → NoJournal → NoFrames → NoLink → (words : List (List ℕ)) (command : Command) (left : Option (List ℕ)) (status : ℕ) (text : List ℕ) → command_of words ≡ Some command → HasInput command left → IsOutput words left status text → IsDone command status
+served scripts journals frames links words command left status text e h out = output_served scripts journals frames links command left status text h (subst (λ o. IsOutputOf o left status text) e out)

@@ -21,13 +21,17 @@ use Rattle.xti_check.specs.Verdicts.{IsLegal}
 use Rattle.xti_check.specs.Judgements.{TellsWrong, legal_text}
 use Rattle.tpi_grammar.specs.Frames.{IsFrames, IsFirstWrong}
 use Rattle.xti_frames.specs.FrameText.{IsShown}
+use Rattle.xti_gbn.specs.declared.events.LinkEvent.{LinkEvent}
+use Rattle.xti_gbn.specs.Reports.{report_of, report_text}
+use Rattle.xti_link.specs.Grammar.{IsLinkScript}
+use Rattle.xti_link.specs.Refused.{IsRefusedAt as IsNoLinkScriptAt}
 use Rattle.xti_summary.specs.Summaries.{summary_text}
 use Rattle.xti_generate.specs.Generated.{generated}
 use Rattle.xti_canonical.specs.Canonical.{script_text}
 use Rattle.xti_command.specs.declared.command.Command.{Command}
 use Rattle.xti_command.specs.declared.command.Command.TheVariants.{Read, Gen}
 use Rattle.xti_command.specs.declared.command.Reading.{Reading}
-use Rattle.xti_command.specs.declared.command.Reading.TheVariants.{Replay, Run, Check, Frames}
+use Rattle.xti_command.specs.declared.command.Reading.TheVariants.{Replay, Run, Check, Frames, Link}
 use Rattle.xti_command.specs.Words.{command_of}
 
 -- the most bytes of an input
@@ -141,6 +145,20 @@ pub record IsRefusedByte (input : List ℕ) (status : ℕ) (text : List ℕ) : T
   pub done : status ≡ 2
   pub printed : text ≡ refused_byte at
 
+-- the input is a link script: status 0, and the report of its events, which is that of the definition of a link
+pub record IsLinked (input : List ℕ) (status : ℕ) (text : List ℕ) : Type 0 where
+  pub events : List LinkEvent
+  pub is_script : IsLinkScript events input
+  pub done : status ≡ 0
+  pub printed : text ≡ report_text (report_of events)
+
+-- the input is no link script: status 2, and the first line by which it is not
+pub record IsRefusedLink (input : List ℕ) (status : ℕ) (text : List ℕ) : Type 0 where
+  pub line : ℕ
+  pub refused : IsNoLinkScriptAt input line
+  pub done : status ≡ 2
+  pub printed : text ≡ refused_line line
+
 -- the input is too long: status 2
 pub record IsTooLong (input : List ℕ) (status : ℕ) (text : List ℕ) : Type 0 where
   pub long : limit < length input
@@ -158,6 +176,7 @@ IsAnswered (Replay summary) input status text = IsReplayed summary input status 
 IsAnswered (Run summary) input status text = IsRunByThreads summary input status text ⊎ IsRefusedInput input status text
 IsAnswered Check input status text = IsLegalJournal input status text ⊎ (IsWrongJournal input status text ⊎ IsRefusedJournal input status text)
 IsAnswered Frames input status text = IsListed input status text ⊎ IsRefusedByte input status text
+IsAnswered Link input status text = IsLinked input status text ⊎ IsRefusedLink input status text
 
 -- the status and the text for an input
 abbrev pub IsAnswer : Reading → List ℕ → ℕ → List ℕ → Type 0
@@ -223,6 +242,14 @@ pub record HasFrames (left : Option (List ℕ)) : Type 0 where
   pub within : length input ≤ limit
   pub are_frames : IsFrames input
 
+-- what a source that tells its bytes had left is a link script, within the limit
+pub record HasLink (left : Option (List ℕ)) : Type 0 where
+  pub events : List LinkEvent
+  pub input : List ℕ
+  pub told : left ≡ Some input
+  pub within : length input ≤ limit
+  pub is_script : IsLinkScript events input
+
 -- what a source that tells its bytes had left is a journal, within the limit
 pub record HasJournal (left : Option (List ℕ)) : Type 0 where
   pub journal : Journal
@@ -241,6 +268,7 @@ IsDone (Read (Replay summary)) status = IsFinished status
 IsDone (Read (Run summary)) status = IsFinished status
 IsDone (Read Check) status = (status ≡ 0) ⊎ (status ≡ 7)
 IsDone (Read Frames) status = status ≡ 0
+IsDone (Read Link) status = status ≡ 0
 IsDone (Gen seed false) status = status ≡ 0
 IsDone (Gen seed true) status = IsFinished status
 
@@ -250,6 +278,7 @@ HasInput (Read (Replay summary)) left = HasScript left
 HasInput (Read (Run summary)) left = HasScript left
 HasInput (Read Check) left = HasJournal left
 HasInput (Read Frames) left = HasFrames left
+HasInput (Read Link) left = HasLink left
 HasInput (Gen seed summary) left = Unit {0}
 
 -- with this status the whole text was written

@@ -13,7 +13,7 @@ ghost use Rattle.xti_script.specs.Read.{IsBad};
 ghost use Rattle.xti_command.specs.declared.command.Command.{Command};
 ghost use Rattle.xti_command.specs.Words.{IsPlain, command_in, command_of, found_in, is_taken};
 ghost use Rattle.xti_run.specs.Entries.{ReportsMore, ReportsAll};
-ghost use Rattle.xti_run.specs.Program.{IsReplayed, IsRunByThreads, IsWholeRun, IsThreaded, IsRefusedInput, IsLegalJournal, IsWrongJournal, IsRefusedJournal, IsWhole, IsListed, IsRefusedByte, IsAnswered, IsRun, IsOutput, IsRefusedWords, IsReader, IsPlayed, IsGenerated, IsWritten, IsWrittenOrOutOfMemory, IsCutOff, HasInput, IsDone, IsOutOfMemory, IsReadFault, IsUnanswered, NoFault, limit, refused_line, refused_byte, refused_words, refused_size, status_with};
+ghost use Rattle.xti_run.specs.Program.{IsReplayed, IsRunByThreads, IsWholeRun, IsThreaded, IsRefusedInput, IsLegalJournal, IsWrongJournal, IsRefusedJournal, IsWhole, IsListed, IsRefusedByte, IsLinked, IsRefusedLink, IsAnswered, IsRun, IsOutput, IsRefusedWords, IsReader, IsPlayed, IsGenerated, IsWritten, IsWrittenOrOutOfMemory, IsCutOff, HasInput, IsDone, IsOutOfMemory, IsReadFault, IsUnanswered, NoFault, limit, refused_line, refused_byte, refused_words, refused_size, status_with};
 
 use crate::report::Report;
 use crate::round_robin::texts_are_playable;
@@ -24,11 +24,13 @@ use tpi_grammar::frames_law;
 use xti_base::Octets;
 use xti_base::limits::{MOST_INPUT, MOST_STEPS};
 use xti_canonical::write_script;
+use xti_carrier::show_link;
 use xti_check::{Judgement, judge};
 use xti_command::{Command, Reading, Words, WordsFail, plain_words_are_commands};
 use xti_frames::{FramesFail, show_frames};
 use xti_generate::{generate, generated_scripts_have_texts};
 use xti_io::{ReadEnd, Sink, Source, read_all, write_all};
+use xti_link::{LinkFail, read_link};
 use xti_model::{Entry, Script, Stalls, robin_goes_on, robin_is_legal};
 use xti_replay::Run;
 use xti_script::{ScriptFail, never_both, read_script};
@@ -244,6 +246,23 @@ fn frames_answer(alloc: Global, input: &[u8]) -> Result<Answer, AllocError>
     }
 }
 
+/// What `link` answers to an input within the limit.
+fn link_answer(alloc: Global, input: &[u8]) -> Result<Answer, AllocError>
+    ensures { IfOk result (λ a. IsLinked input.now a.status a.text ⊎ IsRefusedLink input.now a.status a.text) }
+{
+    match read_link(alloc, input) {
+        Ok(events) => {
+            let text = show_link(alloc, &events)?;
+            Ok(Answer { status: 0, text })
+        }
+        Err(LinkFail::Bad { line }) => {
+            let text = line_text(alloc, line)?;
+            Ok(Answer { status: 2, text })
+        }
+        Err(LinkFail::OutOfMemory) => Err(AllocError),
+    }
+}
+
 /// What is answered to an input within the limit.
 fn answer_to<T: Threads + Wait + Sync, G: Gate>(
     rt: &T,
@@ -259,6 +278,7 @@ fn answer_to<T: Threads + Wait + Sync, G: Gate>(
         Reading::Run { summary } => run_answer(rt, alloc, summary, input, gate),
         Reading::Check => check_answer(alloc, input.as_slice()),
         Reading::Frames => frames_answer(alloc, input.as_slice()),
+        Reading::Link => link_answer(alloc, input.as_slice()),
     }
 }
 
@@ -329,9 +349,9 @@ fn output<T: Threads + Wait + Sync, R: Source, G: Gate>(
 ///
 /// `replay` reads a script, makes the calls of its workers by turns, and writes the journal, or with `--summary` one line of
 /// numbers; `run` does the same, but the calls are made by threads; `check` reads a journal, and writes `legal N` or its first
-/// wrong line; `frames` reads TPI frames one after the other, and writes a line for each; `gen --seed N` reads nothing and
-/// writes the script that is generated from the number, or with `--summary` makes its calls by turns and writes the line of
-/// numbers.
+/// wrong line; `frames` reads TPI frames one after the other, and writes a line for each; `link` reads a link script, runs both
+/// ends of the link over datagrams, and writes the report; `gen --seed N` reads nothing and writes the script that is generated
+/// from the number, or with `--summary` makes its calls by turns and writes the line of numbers.
 ///
 /// `run` makes worker 0's calls first, and then starts a thread for each other worker that has calls; at each step of theirs a
 /// thread may be held by the gate. Where a thread can't be started, or out of memory stops one, the calls that are left are
@@ -350,7 +370,7 @@ pub fn program<T: Threads + Wait + Sync, R: Source, W: Sink, G: Gate>(
     gate: &G,
 ) -> Status
     // Below 4 and with 7 the whole text was written: the journal of a legal run or its summary, the verdict on a
-    // journal, the lines of the frames, the generated script, or why there are none.
+    // journal, the lines of the frames, the report of a link, the generated script, or why there are none.
     ensures written { IsWhole result.0
         → IsWritten words.now (R.left source.old) result.0 (W.held sink.old) (W.held sink.new) }
     ensures unwritten { (result.0 ≡ 4) ⊎ (result.0 ≡ 5) → W.held sink.new ≡ W.held sink.old }
@@ -380,6 +400,7 @@ pub fn program<T: Threads + Wait + Sync, R: Source, W: Sink, G: Gate>(
 {
     never_both();
     xti_journal_reader::never_both();
+    xti_link::never_both();
     frames_law();
     plain_words_are_commands();
     match output(rt, alloc, words, source, gate) {

@@ -18,7 +18,7 @@ returns-clause-cut_off g c six =
     cut_off _ _ _ _ _ _ _ c.in-Ok.ensures.ok taken
 
 pub returns-in-Ok-write_all-clause-complete : goal.returns-in-Ok-write_all-clause-complete
-returns-in-Ok-write_all-clause-complete g c command named input source_fault sink_fault = inl (served c.never_both.ensures c.never_both-2.ensures c.frames_law.ensures.never_both c.args.words.now command (g.R.Source.left c.args.source.now) c.in-Ok.answer.status c.in-Ok.answer.text named input c.in-Ok.ensures.ok)
+returns-in-Ok-write_all-clause-complete g c command named input source_fault sink_fault = inl (served c.never_both.ensures c.never_both-2.ensures c.frames_law.ensures.never_both c.never_both-3.ensures c.args.words.now command (g.R.Source.left c.args.source.now) c.in-Ok.answer.status c.in-Ok.answer.text named input c.in-Ok.ensures.ok)
 
 pub returns-in-Ok-write_all-clause-unwritten : goal.returns-in-Ok-write_all-clause-unwritten
 returns-in-Ok-write_all-clause-unwritten g c never = absurd (never_unwritten _ _ (of_output _ _ _ _ c.in-Ok.ensures.ok) never)
