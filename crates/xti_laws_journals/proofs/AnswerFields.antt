@@ -1,5 +1,5 @@
 -- An answer in the form of its call, whose values are as wide as their types, is one that journals have.
-use Rattle.std.proofs.Common.{◌≡◌, ℕ, true, false, List, [], ◌∷◌, Option, Some, None, sym}
+use Rattle.std.proofs.Common.{◌≡◌, false, Some, sym}
 use Rattle.std.proofs.lemmas.Bool.{false≢true}
 use Rattle.xti_base.specs.declared.errno.Errno.{Errno}
 use Rattle.xti_base.specs.declared.errno.Errno.TheVariants as errno
@@ -9,7 +9,6 @@ use Rattle.xti_model.specs.declared.entry.Outcome.{Outcome}
 use Rattle.xti_model.specs.declared.entry.Outcome.TheVariants.{Done, Part}
 use Rattle.xti_model.specs.declared.entry.Reply.TheVariants as reply
 use Rattle.xti_journal_reader.specs.declared.verbs.Verb.{Verb}
-use Rattle.xti_journal_reader.specs.Kinds.{Kind}
 use Rattle.xti_journal_reader.specs.Kinds.{Kind as kind}
 use Rattle.xti_journal_reader.specs.FieldValue.{Value as value}
 use Rattle.xti_journal_reader.specs.Fields.{field, IsOfKind, AreFields}

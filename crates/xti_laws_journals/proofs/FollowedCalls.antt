@@ -1,5 +1,5 @@
 -- What holds of every call of a script, with what its names stand for, holds of each call that the entries of its workers begin.
-use Rattle.std.specs.Prelude.{ℕ, zero, suc, ◌<◌, Bool, true, false, List, [], ◌∷◌, ◌++◌, length, map, take, slice_get, Option, Some, None, ◌≡◌}
+use Rattle.std.specs.Prelude.{ℕ, zero, suc, ◌<◌, Bool, true, false, List, [], ◌∷◌, ◌++◌, length, map, take, slice_get, Some, ◌≡◌}
 use Rattle.std.specs.List.{AllByRecursion, list_all}
 use Rattle.std.proofs.Common.{cond, refl, subst, sym, arith}
 use Rattle.std.proofs.lemmas.Bool.{and_parts, eq-eqb, ltb-true}

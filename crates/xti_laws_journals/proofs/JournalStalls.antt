@@ -1,28 +1,25 @@
 -- The stall lines of a run are those of a journal, and they are right where nobody can go on.
-use Rattle.std.proofs.Common.{◌≡◌, ℕ, zero, suc, ◌+◌, ◌≤◌, ◌<◌, Bool, true, false, cond, List, [], ◌∷◌, ◌++◌, Option, Some, None, refl, sym, ap, subst, ◌∙◌, arith, ◌&&◌, ◌||◌}
-use Rattle.std.specs.Prelude.{option_map, option_and_then, is_none, slice_get, length, IsTrue, IfSome}
+use Rattle.std.proofs.Common.{◌≡◌, ℕ, zero, suc, ◌+◌, ◌≤◌, ◌<◌, Bool, true, false, cond, List, [], ◌∷◌, ◌++◌, Option, Some, None, refl, sym, subst, arith, ◌||◌}
+use Rattle.std.specs.Prelude.{option_map, is_none, IsTrue, IfSome}
 use Rattle.std.specs.List.{list_all, flat_map}
 use Rattle.std.proofs.lemmas.Bool.{and_parts, false≢true}
 use Rattle.std.proofs.lemmas.Option.{none-some}
 use Rattle.xti_model.specs.declared.entry.Act.TheVariants.{Begin, More}
 use Rattle.xti_model.specs.declared.entry.Entry.{Entry}
-use Rattle.xti_model.specs.declared.entry.Go.TheVariants as go
 use Rattle.xti_model.specs.declared.profile.Providers.{Providers}
 use Rattle.xti_model.specs.declared.script.Line.{Line}
 use Rattle.xti_model.specs.declared.script.StallLine.{StallLine}
 use Rattle.xti_model.specs.Complete.{Complete, resolved_in, workers, is_stuck, is_stuck_by, is_setup, is_setup_stuck, is_rest_done, setup_first}
 use Rattle.xti_model.specs.History.{Going, unfinished, made_by, step_going, after}
-use Rattle.xti_model.specs.Resolve.{Placed, placed, begun}
+use Rattle.xti_model.specs.Resolve.{Placed}
 use Rattle.xti_model.specs.Robin.{act_of, begin_line, next_line, next_or, next_going, is_through, numbers}
-use Rattle.xti_model.specs.Step.{Step, step}
-use Rattle.xti_model.specs.World.{World}
+use Rattle.xti_model.specs.Step.{Step}
 use Rattle.xti_model.proofs.Legality.{GoesOn, unfinished-goes_on, next-doing}
 use Rattle.xti_journal_reader.specs.Calls.{verb_of}
 use Rattle.xti_journal_reader.specs.Grammar.{last_verb, IsAct, IsStall, AreStalls, AreStallsAfter}
 use Rattle.xti_replay.specs.Stalls.{stall_of, stall_at, stalls_after}
-use Rattle.xti_check.specs.Verdicts.{stalling, IsBlockedAt, IsRightStall, AreRightStalls}
-use Rattle.xti_laws_journals.proofs.FollowedCalls.{AllPlaced, one-placed}
-use Rattle.xti_laws_journals.proofs.ValuedScripts.{IsWritable, IsWritableNamed}
+use Rattle.xti_check.specs.Verdicts.{IsBlockedAt, IsRightStall, AreRightStalls}
+use Rattle.xti_laws_journals.proofs.ValuedScripts.{IsWritable}
 use Rattle.xti_laws_journals.proofs.JournalEntries.{going-verb, is-act}
 
 -- ---- in the form of journals

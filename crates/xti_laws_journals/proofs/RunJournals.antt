@@ -1,5 +1,5 @@
 -- The journal of a run has a text.
-use Rattle.std.specs.Prelude.{◌≡◌, true, ℕ, List, [], Some, All, length}
+use Rattle.std.specs.Prelude.{◌≡◌, true, List, [], All, length}
 use Rattle.xti_model.specs.declared.call.Call.{Call}
 use Rattle.xti_model.specs.declared.entry.Entry.{Entry}
 use Rattle.xti_model.specs.declared.entry.Go.{Go}
@@ -19,7 +19,7 @@ use Rattle.xti_streams.specs.Laws.{IsLegalRun}
 use Rattle.xti_answers.specs.Answers.{AnswersInForm}
 use Rattle.xti_laws_bytes.specs.Values.{IsOfBytes, AreOfBytes, AnswersValues}
 use Rattle.xti_laws_journals.specs.Runs.{journal_of}
-use Rattle.xti_laws_journals.proofs.FollowedCalls.{AllBegin, placed-such, one-placed, begun-such}
+use Rattle.xti_laws_journals.proofs.FollowedCalls.{placed-such, one-placed, begun-such}
 use Rattle.xti_laws_journals.proofs.ValuedScripts.{IsWritable, IsWritableNamed, script-writable}
 use Rattle.xti_laws_journals.proofs.NamedNumbers.{meanings-numbered, named-of-bytes, lines-of-bytes}
 use Rattle.xti_laws_journals.proofs.JournalEntries.{entries-are}
@@ -35,15 +35,15 @@ module _
     (h : HasScriptText s)
     (r : IsLegalRun s es)
   where
-  answers : All AnswersValues es
-  answers = valued s.providers es v r.legal (begun-such HasByteArguments IsOfBytes s.lines es r.workers_only r.follows (lines-of-bytes s.lines b) (λ l k. named-of-bytes (meanings l.earlier l.line.worker es) l.line.call k))
+    answers : All AnswersValues es
+    answers = valued s.providers es v r.legal (begun-such HasByteArguments IsOfBytes s.lines es r.workers_only r.follows (lines-of-bytes s.lines b) (λ l k. named-of-bytes (meanings l.earlier l.line.worker es) l.line.call k))
 
-  of_line : (l : Placed) → IsWritableNamed l.line.call → IsWritable (resolved_in es l)
-  of_line l k = k (meanings l.earlier l.line.worker es) (meanings-numbered l.earlier l.line.worker es answers)
+    of_line : (l : Placed) → IsWritableNamed l.line.call → IsWritable (resolved_in es l)
+    of_line l k = k (meanings l.earlier l.line.worker es) (meanings-numbered l.earlier l.line.worker es answers)
 
-  pub run-text : HasText (journal_of s es)
-  run-text = record {
-    providers = v;
-    entries = entries-are s.providers (opening s.providers) es (form s.providers) r.legal (begun-such IsWritableNamed IsWritable s.lines es r.workers_only r.follows (script-writable s h) of_line) answers r.workers_only;
-    stalls = stalls-are s.lines es (λ worker l n. of_line l (one-placed IsWritableNamed (placed s.lines worker) (length (begun es worker)) l (placed-such IsWritableNamed [] s.lines worker (script-writable s h)) n));
-  }
+    pub run-text : HasText (journal_of s es)
+    run-text = record {
+      providers = v;
+      entries = entries-are s.providers (opening s.providers) es (form s.providers) r.legal (begun-such IsWritableNamed IsWritable s.lines es r.workers_only r.follows (script-writable s h) of_line) answers r.workers_only;
+      stalls = stalls-are s.lines es (λ worker l n. of_line l (one-placed IsWritableNamed (placed s.lines worker) (length (begun es worker)) l (placed-such IsWritableNamed [] s.lines worker (script-writable s h)) n));
+    }

@@ -1,6 +1,4 @@
-use Rattle.std.proofs.Common.{◌≡◌, ◌<◌, ◌≤◌, ◌+◌, ◌^◌, refl, sym, arith}
-use Rattle.std.specs.Prelude.{length}
-use Rattle.xti_model.specs.Robin.{most_steps}
+use Rattle.std.proofs.Common.{refl, sym, arith}
 use Rattle.xti_journal.specs.JournalText.{journal_text}
 use Rattle.xti_journal_reader.proofs.Whole.{one_journal}
 use Rattle.xti_laws_journals.specs.Runs.{journal_of}
