@@ -9,16 +9,16 @@ use Rattle.xti_model.specs.declared.script.Journal.{Journal}
 use Rattle.xti_model.specs.History.{Legal}
 use Rattle.xti_model.specs.Robin.{robin}
 use Rattle.xti_model.specs.Complete.{Follows, Each, workers, Complete}
-use Rattle.xti_model.specs.Work.{script_bytes}
-use Rattle.xti_replay.specs.Stalls.{stalls_after, are_through}
+use Rattle.xti_replay.specs.Stalls.{are_through}
 use Rattle.xti_streams.specs.Laws.{PrefixLaw, WaitingLaw, ReleaseLaw}
 use Rattle.xti_script.specs.Grammar.{IsScript}
 use Rattle.xti_script.specs.Refused.{IsRefusedAt}
 use Rattle.xti_journal.specs.JournalText.{journal_text}
-use Rattle.xti_journal_reader.specs.Grammar.{IsJournal}
+use Rattle.xti_journal_reader.specs.Grammar.{HasText, IsJournal}
 use Rattle.xti_journal_reader.specs.Refused.{IsRefusedAt as IsNoJournalAt}
 use Rattle.xti_check.specs.Verdicts.{IsLegal}
 use Rattle.xti_check.specs.Judgements.{TellsWrong, legal_text}
+use Rattle.xti_laws_journals.specs.Runs.{journal_of, AreFew, IsOnlyJournal}
 use Rattle.tpi_grammar.specs.Frames.{IsFrames, IsFirstWrong}
 use Rattle.xti_frames.specs.FrameText.{IsShown}
 use Rattle.xti_gbn.specs.declared.events.LinkEvent.{LinkEvent}
@@ -37,10 +37,6 @@ use Rattle.xti_command.specs.Words.{command_of}
 -- the most bytes of an input
 abbrev pub limit : ℕ
 limit = MOST_INPUT
-
--- the journal of these entries, with a stall line for each worker that they leave unfinished
-abbrev pub journal_of : Script → List Entry → Journal
-journal_of s entries = record { providers = s.providers; entries = entries; stalls = stalls_after s.lines entries }
 
 -- 0 where all are finished, else 3
 abbrev pub status_with : Bool → ℕ
@@ -67,14 +63,22 @@ abbrev pub printed_of : Bool → Journal → List ℕ
 printed_of false j = journal_text j
 printed_of true j = summary_text j
 
--- The script was run, and these are all its entries: their journal with a stall line for each worker that is not finished, or the summary of that. The run is legal, has each worker's calls in script order, each once,
--- and ends early only where worker 0 is blocked in its setup, or each worker that is not finished is blocked.
+-- where no summary is asked for, the text is that of this journal, and of no other
+abbrev pub IsPrinted : Bool → Journal → List ℕ → Type 0
+IsPrinted false j text = IsJournal j text × IsOnlyJournal j text
+IsPrinted true j text = HasText j × (text ≡ summary_text j)
+
+-- The script was run, and these are all its entries, no more than it has calls and bytes of arguments: their journal with a stall line for each worker that is not finished, or the summary of that. The journal is
+-- one that is read, no other has its text, and it is legal. The run is legal, has each worker's calls in script order, each once, and ends early only where worker 0 is blocked in its setup, or each worker that is
+-- not finished is blocked.
 -- On each connection of the run, and of normal and of expedited data each by itself, what an end received is a prefix of what the other end sent; while its life lasts and the connection is not broken there, what waits
 -- is the rest; and an end that received the orderly release received all.
 -- Status 0 where every worker is finished, else 3.
 pub record IsWholeRun (summary : Bool) (script : Script) (entries : List Entry) (status : ℕ) (text : List ℕ) : Type 0 where
   pub done : status ≡ run_status script entries
-  pub printed : text ≡ printed_of summary (journal_of script entries)
+  pub printed : IsPrinted summary (journal_of script entries) text
+  pub judged : IsLegal (journal_of script entries)
+  pub few : AreFew script entries
   pub legal : Legal script.providers entries
   pub follows : Each (Follows entries script.lines) workers
   pub complete : Complete script.providers entries script.lines
@@ -82,10 +86,9 @@ pub record IsWholeRun (summary : Bool) (script : Script) (entries : List Entry) 
   pub waiting : WaitingLaw script.providers entries
   pub release : ReleaseLaw script.providers entries
 
--- the script was run by turns, in no more steps than it has calls and bytes of arguments
+-- the script was run by turns
 pub record IsPlayed (summary : Bool) (script : Script) (status : ℕ) (text : List ℕ) : Type 0 where
   pub whole : IsWholeRun summary script (robin script) status text
-  pub few : length (robin script) ≤ length script.lines + script_bytes script.lines
 
 -- the script was run by threads, which made some whole run of it
 pub record IsThreaded (summary : Bool) (script : Script) (status : ℕ) (text : List ℕ) : Type 0 where
@@ -111,11 +114,16 @@ pub record IsRefusedInput (input : List ℕ) (status : ℕ) (text : List ℕ) : 
   pub done : status ≡ 2
   pub printed : text ≡ refused_line line
 
--- the input is a legal journal: status 0, and the number of its entries
+-- The input is a legal journal: status 0, and the number of its entries.
+-- On each of its connections, and of normal and of expedited data each by itself, what an end received is a prefix of what the other end sent; while its life lasts and the connection is not broken there, what waits
+-- is the rest; and an end that received the orderly release received all.
 pub record IsLegalJournal (input : List ℕ) (status : ℕ) (text : List ℕ) : Type 0 where
   pub journal : Journal
   pub is_journal : IsJournal journal input
   pub legal : IsLegal journal
+  pub prefix : PrefixLaw journal.providers journal.entries
+  pub waiting : WaitingLaw journal.providers journal.entries
+  pub release : ReleaseLaw journal.providers journal.entries
   pub done : status ≡ 0
   pub printed : text ≡ legal_text (length journal.entries)
 

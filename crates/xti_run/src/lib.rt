@@ -1,11 +1,13 @@
 //! Runs of scripts.
 #![tactic(auto)]
 
+mod laws;
 mod report;
 mod round_robin;
 mod threading;
 mod top;
 
+pub use laws::check_says_legal_of_runs;
 pub use round_robin::replay;
 pub use threading::run;
 pub use top::{Status, program};

@@ -1,17 +1,20 @@
 //! The run of a script on one thread.
 
-ghost use Rattle.std.specs.Prelude.{◌≡◌, ◌↔◌, ◌+◌, ◌≤◌, [], length, IfOk, OnOk, true};
+ghost use Rattle.std.specs.Prelude.{◌≡◌, ◌↔◌, [], IfOk, OnOk, true};
 ghost use Rattle.xti_model.specs.declared.script.Script.{Script};
 ghost use Rattle.xti_model.specs.History.{Legal};
 ghost use Rattle.xti_model.specs.Robin.{robin};
-ghost use Rattle.xti_model.specs.Work.{script_bytes};
 ghost use Rattle.xti_model.specs.Complete.{Follows, Each, workers, Complete};
+ghost use Rattle.xti_check.specs.Verdicts.{IsLegal};
+ghost use Rattle.xti_journal_reader.specs.Grammar.{HasText as JournalHasText};
+ghost use Rattle.xti_laws_journals.specs.Runs.{AreFew};
 ghost use Rattle.xti_replay.specs.Playable.{IsPlayable};
 ghost use Rattle.xti_replay.specs.Stalls.{stalls_of, are_through};
 ghost use Rattle.xti_script.specs.Grammar.{HasText};
 ghost use Rattle.xti_streams.specs.Laws.{PrefixLaw, WaitingLaw, ReleaseLaw};
 
 use std::alloc::{AllocError, Global};
+use xti_laws_journals::{runs_make_journals, whole_runs_make_legal_journals};
 use xti_model::{Journal, Script};
 use xti_script::{scripts_are_small, scripts_have_valid_providers, scripts_have_workers};
 use xti_streams::scripts_keep_order;
@@ -29,7 +32,9 @@ pub(crate) fn texts_are_playable()
 pub fn replay(alloc: Global, s: &Script) -> Result<Journal, AllocError>
     requires { HasText s.now }
     ensures entries { IfOk result (λ j. j.entries ≡ robin s.now) }
-    ensures few { IfOk result (λ j. length j.entries ≤ length s.now.lines + script_bytes s.now.lines) }
+    ensures few { IfOk result (λ j. AreFew s.now j.entries) }
+    ensures has_text { IfOk result JournalHasText }
+    ensures judged { IfOk result IsLegal }
     ensures providers { IfOk result (λ j. j.providers ≡ s.now.providers) }
     ensures stalls { IfOk result (λ j. j.stalls ≡ stalls_of s.now) }
     ensures through { IfOk result (λ j. (j.stalls ≡ []) ↔ (are_through s.now.lines j.entries ≡ true)) }
@@ -42,5 +47,7 @@ pub fn replay(alloc: Global, s: &Script) -> Result<Journal, AllocError>
 {
     texts_are_playable();
     scripts_keep_order();
+    runs_make_journals();
+    whole_runs_make_legal_journals();
     xti_replay::replay(alloc, s)
 }

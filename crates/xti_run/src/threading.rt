@@ -4,6 +4,9 @@ ghost use Rattle.std.specs.Prelude.{◌≡◌, ◌↔◌, [], IfOk, true};
 ghost use Rattle.xti_model.specs.declared.script.Script.{Script};
 ghost use Rattle.xti_model.specs.History.{Legal};
 ghost use Rattle.xti_model.specs.Complete.{Follows, Each, workers, Complete};
+ghost use Rattle.xti_check.specs.Verdicts.{IsLegal};
+ghost use Rattle.xti_journal_reader.specs.Grammar.{HasText as JournalHasText};
+ghost use Rattle.xti_laws_journals.specs.Runs.{AreFew};
 ghost use Rattle.xti_replay.specs.Stalls.{stalls_after, are_through};
 ghost use Rattle.xti_script.specs.Grammar.{HasText};
 ghost use Rattle.xti_streams.specs.Laws.{PrefixLaw, WaitingLaw, ReleaseLaw};
@@ -12,6 +15,9 @@ use crate::round_robin::texts_are_playable;
 use std::alloc::{AllocError, Global};
 use std::sync::Wait;
 use std::thread::Threads;
+use xti_laws_journals::{
+    runs_have_few_entries, runs_make_journals, whole_runs_make_legal_journals,
+};
 use xti_model::{Journal, Script};
 use xti_replay::go_on;
 use xti_step::Gate;
@@ -30,6 +36,9 @@ pub fn run<G: Gate, R: Threads + Wait + Sync>(
     gate: &G,
 ) -> Result<Journal, AllocError>
     requires { HasText s.now }
+    ensures few { IfOk result (λ j. AreFew s.now j.entries) }
+    ensures has_text { IfOk result JournalHasText }
+    ensures judged { IfOk result IsLegal }
     ensures providers { IfOk result (λ j. j.providers ≡ s.now.providers) }
     ensures stalls { IfOk result (λ j. j.stalls ≡ stalls_after s.now.lines j.entries) }
     ensures through { IfOk result (λ j. (j.stalls ≡ []) ↔ (are_through s.now.lines j.entries ≡ true)) }
@@ -42,6 +51,9 @@ pub fn run<G: Gate, R: Threads + Wait + Sync>(
 {
     texts_are_playable();
     scripts_keep_order();
+    runs_have_few_entries();
+    runs_make_journals();
+    whole_runs_make_legal_journals();
     let history = play(rt, alloc, s, gate)?;
     go_on(alloc, s, history)
 }

@@ -30,6 +30,10 @@ use xti_command::{Command, Reading, Words, WordsFail, plain_words_are_commands};
 use xti_frames::{FramesFail, show_frames};
 use xti_generate::{generate, generated_scripts_have_texts};
 use xti_io::{ReadEnd, Sink, Source, read_all, write_all};
+use xti_laws_journals::{
+    legal_journals_keep_order, runs_have_few_entries, runs_make_journals,
+    whole_runs_make_legal_journals,
+};
 use xti_link::{LinkFail, read_link};
 use xti_model::{Entry, Script, Stalls, robin_goes_on, robin_is_legal};
 use xti_replay::Run;
@@ -126,6 +130,9 @@ fn whole_run(
     robin_is_legal();
     robin_goes_on();
     scripts_keep_order();
+    runs_have_few_entries();
+    runs_make_journals();
+    whole_runs_make_legal_journals();
     let mut report = Report::begin(summary, room, &script.providers)?;
     report_history(&mut report, history)?;
     let mut run = Run::after(alloc, script, history)?;
@@ -222,6 +229,7 @@ fn check_answer(alloc: Global, input: &[u8]) -> Result<Answer, AllocError>
     ensures { IfOk result (λ a. IsLegalJournal input.now a.status a.text
         ⊎ (IsWrongJournal input.now a.status a.text ⊎ IsRefusedJournal input.now a.status a.text)) }
 {
+    legal_journals_keep_order();
     match judge(alloc, input)? {
         Judgement::Legal { text } => Ok(Answer { status: 0, text }),
         Judgement::Wrong { text } => Ok(Answer { status: 7, text }),

@@ -1,6 +1,9 @@
 use Rattle.std.proofs.Common.{rules}
 use Rattle.xti_streams.specs.Laws.{PrefixLaw, WaitingLaw, ReleaseLaw}
-use Rattle.xti_run.proofs.Answered.{of-journal, own-stalls}
+use Rattle.xti_check.specs.Verdicts.{IsLegal}
+use Rattle.xti_journal_reader.specs.Grammar.{HasText}
+use Rattle.xti_laws_journals.specs.Runs.{AreFew}
+use Rattle.xti_run.proofs.Answered.{of-journal, of-whole, own-stalls}
 use Rattle.xti_replay.specs.Runs.{gone_on}
 use Rattle.xti_run.proofs.threading.run.Goals as goal
 
@@ -24,3 +27,16 @@ returns-clause-waiting g c =
 pub returns-clause-release : goal.returns-clause-release
 returns-clause-release g c =
     of-journal c.args.s.now (ReleaseLaw c.args.s.now.providers) c.go_on.result (λ entries r. c.scripts_keep_order.ensures.release c.args.s.now entries c.requires r) c.go_on.ensures.legal c.go_on.ensures.complete
+
+pub returns-clause-few : goal.returns-clause-few
+returns-clause-few g c = of-journal c.args.s.now (AreFew c.args.s.now) c.go_on.result (λ entries r. c.runs_have_few_entries.ensures c.args.s.now entries r) c.go_on.ensures.legal c.go_on.ensures.complete
+
+pub returns-clause-has_text : goal.returns-clause-has_text
+returns-clause-has_text g c =
+    of-whole c.args.s.now HasText c.go_on.result (λ entries r complete. c.runs_make_journals.ensures.has_text c.args.s.now entries c.requires r) c.go_on.ensures.legal c.go_on.ensures.complete c.go_on.ensures.providers
+    (own-stalls c.args.s.now (gone_on c.args.s.now c.in_ok-history.history) c.go_on.result c.go_on.ensures.entries c.go_on.ensures.stalls)
+
+pub returns-clause-judged : goal.returns-clause-judged
+returns-clause-judged g c =
+    of-whole c.args.s.now IsLegal c.go_on.result (λ entries r complete. c.whole_runs_make_legal_journals.ensures c.args.s.now entries r complete) c.go_on.ensures.legal c.go_on.ensures.complete c.go_on.ensures.providers
+    (own-stalls c.args.s.now (gone_on c.args.s.now c.in_ok-history.history) c.go_on.result c.go_on.ensures.entries c.go_on.ensures.stalls)

@@ -2,7 +2,6 @@ use Rattle.std.proofs.Common.{List, subst}
 use Rattle.std.proofs.lemmas.Result.{IfOk-weaker}
 use Rattle.xti_model.specs.declared.entry.Entry.{Entry}
 use Rattle.xti_model.proofs.GoingOn.{history-begins}
-use Rattle.xti_replay.proofs.Few.{robin-few}
 use Rattle.xti_replay.proofs.WholeRuns.{gone-from_start}
 use Rattle.xti_run.specs.Program.{IsWholeRun}
 use Rattle.xti_run.proofs.top.played.Goals as goal
@@ -13,5 +12,4 @@ whole_run-requires-clause-history c = history-begins c.args.script.now.providers
 pub returns : goal.returns
 returns c = IfOk-weaker c.whole_run.result _ _ (λ a whole. record {
   whole = subst (λ (entries : List Entry). IsWholeRun c.args.summary c.args.script.now entries a.status a.text) (gone-from_start c.args.script.now) whole;
-  few = robin-few c.args.script.now;
 }) c.whole_run.ensures

@@ -33,4 +33,5 @@ returns c =
     let reported = whole.0 c.args.summary s.providers (c.in_ok-report_history.ensures c.args.summary s.providers [] c.in_ok-report.ensures) in
     whole-run c.args.summary s all c.in_ok-text.text c.in_ok-stalls.stalls c.journal_status-status.result end c.journal_status-status.ensures
     (c.in_ok-text.ensures c.args.summary (record { providers = s.providers; entries = all; stalls = c.in_ok-stalls.stalls }) reported refl)
-    legal complete (c.scripts_keep_order.ensures.prefix s all text r) (c.scripts_keep_order.ensures.waiting s all text r) (c.scripts_keep_order.ensures.release s all text r)
+    legal complete (c.runs_make_journals.ensures.has_text s all text r) (c.runs_make_journals.ensures.only s all text r) (c.whole_runs_make_legal_journals.ensures s all r complete) (c.runs_have_few_entries.ensures s all r)
+    (c.scripts_keep_order.ensures.prefix s all text r) (c.scripts_keep_order.ensures.waiting s all text r) (c.scripts_keep_order.ensures.release s all text r)

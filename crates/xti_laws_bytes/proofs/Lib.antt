@@ -1,0 +1,5 @@
+mod ByteLists
+mod ByteWorlds
+mod AnsweredOptions
+mod ByteReplies
+pub mod ByteHistories

@@ -1,0 +1,108 @@
+-- The entries of a legal history are those of a journal, where its calls are written in journals and its answers have such values.
+use Rattle.std.proofs.Common.{◌≡◌, ℕ, ◌≤◌, Bool, true, false, cond, eqb, List, [], ◌∷◌, ◌++◌, Option, Some, None, refl, sym, ap, subst, ◌∙◌, arith}
+use Rattle.std.specs.Prelude.{option_map, option_and_then, All}
+use Rattle.std.specs.List.{list_all}
+use Rattle.std.proofs.lemmas.Bool.{and_parts, ltb-true}
+use Rattle.std.proofs.lemmas.List.Elements.{All-head, All-tail}
+use Rattle.std.proofs.lemmas.Option.{none-some}
+use Rattle.xti_model.specs.declared.call.Call.{Call}
+use Rattle.xti_model.specs.declared.entry.Act.{Act}
+use Rattle.xti_model.specs.declared.entry.Act.TheVariants.{Begin, More}
+use Rattle.xti_model.specs.declared.entry.Entry.{Entry}
+use Rattle.xti_model.specs.declared.entry.Go.{Go}
+use Rattle.xti_model.specs.declared.profile.Providers.{Providers}
+use Rattle.xti_model.specs.Complete.{is_worker}
+use Rattle.xti_model.specs.World.{World}
+use Rattle.xti_model.specs.Step.{Step, step}
+use Rattle.xti_model.specs.History.{Going, own, call_after, unfinished, made_by, doing, step_going, step_at, left_by, Fits, LegalFrom}
+use Rattle.xti_model.proofs.Working.{call_from, IsCallOf, call_of-from}
+use Rattle.xti_journal_reader.specs.declared.verbs.Verb.{Verb}
+use Rattle.xti_journal_reader.specs.Calls.{verb_of}
+use Rattle.xti_journal_reader.specs.Grammar.{verb_after, verb_from, last_verb, IsAct, IsAnswer, IsEntry, AreEntries}
+use Rattle.xti_sound.specs.Given.{OfStep}
+use Rattle.xti_answers.specs.Answers.{AnswersInForm}
+use Rattle.xti_laws_bytes.specs.Values.{AnswersValues}
+use Rattle.xti_laws_journals.proofs.FollowedCalls.{Begins, AllBegin}
+use Rattle.xti_laws_journals.proofs.ValuedScripts.{IsWritable}
+use Rattle.xti_laws_journals.proofs.AnswerFields.{is-answer}
+
+-- ---- the worker's last call
+
+verb-more : (c : Option Call) (a : Act) → verb_after (option_map verb_of c) a ≡ option_map verb_of (call_after c a)
+verb-more c (Begin call) = refl
+verb-more c More = refl
+
+verbs-are : (c : Option Call) (worker : ℕ) (es : List Entry) → verb_from (option_map verb_of c) worker es ≡ option_map verb_of (call_from c (own es worker))
+verbs-are c worker [] = refl
+verbs-are c worker (e ∷ es) = go (eqb e.worker worker) (verbs-are (call_after c e.act) worker es) (verbs-are c worker es)
+  where
+    go : (b : Bool) → verb_from (option_map verb_of (call_after c e.act)) worker es ≡ option_map verb_of (call_from (call_after c e.act) (own es worker)) → verb_from (option_map verb_of c) worker es ≡ option_map verb_of (call_from c (own es worker))
+        → verb_from (cond b (verb_after (option_map verb_of c) e.act) (option_map verb_of c)) worker es ≡ option_map verb_of (call_from c (cond b (e ∷ own es worker) (own es worker)))
+    go true here later = ap (λ (v : Option Verb). verb_from v worker es) (verb-more c e.act) ∙ here
+    go false here later = later
+
+pub last-is : (past : List Entry) (worker : ℕ) → last_verb past worker ≡ option_map verb_of (call_from None (own past worker))
+unfolding last_verb
+last-is past worker = verbs-are None worker past
+
+-- a call that goes on is the last that was begun
+pub going-verb : (past : List Entry) (worker : ℕ) (g : Going) → unfinished past worker ≡ Some g → last_verb past worker ≡ Some (verb_of g.call)
+going-verb past worker g u = last-is past worker ∙ ap (option_map verb_of) (subst (IsCallOf (call_from None (own past worker))) u (call_of-from None None (own past worker) tt))
+
+made-call : (u : Option Going) (c : Option Call) (a : Act) (g : Going) → IsCallOf c u → made_by u a ≡ Some g → call_after c a ≡ Some g.call
+made-call None c (Begin x) g h e = ap (option_map (λ (y : Going). y.call)) e
+made-call (Some u) c (Begin x) g h e = absurd (none-some g e)
+made-call u c More g h e = subst (IsCallOf c) e h
+
+verb-is : (past : List Entry) (e : Entry) (g : Going) → doing past e ≡ Some g → verb_after (last_verb past e.worker) e.act ≡ Some (verb_of g.call)
+verb-is past e g d =
+    let last : Option Call = call_from None (own past e.worker) in
+    ap (λ (v : Option Verb). verb_after v e.act) (last-is past e.worker)
+    ∙ verb-more last e.act
+    ∙ ap (option_map verb_of) (made-call (unfinished past e.worker) last e.act g (call_of-from None None (own past e.worker) tt) d)
+
+-- ---- entries
+
+-- an act after this call, or a call that is written in journals
+pub is-act : (o : Option Verb) (a : Act) (v : Verb) → Begins IsWritable a → (a ≡ More → o ≡ Some v) → IsAct o a
+is-act None (Begin c) v h k = h
+is-act (Some x) (Begin c) v h k = h
+is-act None More v h k = absurd (none-some v (k refl))
+is-act (Some x) More v h k = tt
+
+begins-not : {A : Type 0} (c : Call) → Begin c ≡ More → A
+begins-not c e = absurd cc
+
+-- `more` goes on with the worker's call
+more-goes : (past : List Entry) (e : Entry) (g : Going) → doing past e ≡ Some g → e.act ≡ More → last_verb past e.worker ≡ Some (verb_of g.call)
+more-goes past e g d m = going-verb past e.worker g (ap (made_by (unfinished past e.worker)) (sym m) ∙ d)
+
+one-entry : (p : Providers) (w : World) (past : List Entry) (e : Entry) → ((w : World) (c : Call) (g : Go) → OfStep p w c g (λ s. AnswersInForm (verb_of c) s.outcome))
+    → Fits (step_at p w past e) e → Begins IsWritable e.act → AnswersValues e → is_worker e ≡ true → IsEntry past e
+one-entry p w past e form f b v i = go (doing past e) refl f
+  where
+    small : e.worker ≤ 32
+    small = (let l = ltb-true e.worker 33 i in omega (arith, l))
+
+    go : (o : Option Going) → doing past e ≡ o → Fits (option_and_then (step_going p w) o) e → IsEntry past e
+    go None d k = absurd k
+    go (Some g) d k = stepped (step p w g.call g.so_far) refl k
+      where
+        stepped : (o : Option Step) → step p w g.call g.so_far ≡ o → Fits o e → IsEntry past e
+        stepped None j k = absurd k
+        stepped (Some s) j k = record {
+          worker = small;
+          act = is-act (last_verb past e.worker) e.act (verb_of g.call) b (more-goes past e g d);
+          answer = subst (λ (v : Option Verb). IsAnswer v e.outcome) (sym (verb-is past e g d)) (is-answer (verb_of g.call) e.outcome (subst (AnswersInForm (verb_of g.call)) (sym k.0) (form w g.call g.so_far s j)) v);
+        }
+
+entries-from : (p : Providers) (w : World) (past es : List Entry) → ((w : World) (c : Call) (g : Go) → OfStep p w c g (λ s. AnswersInForm (verb_of c) s.outcome))
+    → LegalFrom p w past es → AllBegin IsWritable es → All AnswersValues es → list_all is_worker es ≡ true → AreEntries past es
+entries-from p w past [] form l b v i = tt
+entries-from p w past (e ∷ es) form l b v i =
+    let parts = and_parts (is_worker e) (list_all is_worker es) i in
+    (one-entry p w past e form l.0 b.0 (All-head AnswersValues e es v) parts.0, entries-from p (left_by w (step_at p w past e)) (past ++ e ∷ []) es form l.1 b.1 (All-tail AnswersValues e es v) parts.1)
+
+pub entries-are : (p : Providers) (w : World) (es : List Entry) → ((w : World) (c : Call) (g : Go) → OfStep p w c g (λ s. AnswersInForm (verb_of c) s.outcome))
+    → LegalFrom p w [] es → AllBegin IsWritable es → All AnswersValues es → list_all is_worker es ≡ true → AreEntries [] es
+entries-are p w es form l b v i = entries-from p w [] es form l b v i

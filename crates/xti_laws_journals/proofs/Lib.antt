@@ -1,0 +1,9 @@
+mod FewEntries
+mod FollowedCalls
+mod ValuedScripts
+mod NamedNumbers
+mod AnswerFields
+mod JournalEntries
+mod JournalStalls
+mod SentByJournals
+mod RunJournals

@@ -1,0 +1,34 @@
+-- The calls of a journal that has a text send bytes.
+use Rattle.std.proofs.Common.{ℕ, ◌<◌, List, [], ◌∷◌, ◌++◌, Option, Some, None}
+use Rattle.std.specs.Prelude.{All}
+use Rattle.std.specs.List.{concat}
+use Rattle.std.proofs.lemmas.List.Elements.{All-nil, All-head, All-tail, All-append}
+use Rattle.xti_model.specs.declared.call.Call.{Call}
+use Rattle.xti_model.specs.declared.call.Call.TheVariants as call
+use Rattle.xti_model.specs.declared.entry.Act.{Act}
+use Rattle.xti_model.specs.declared.entry.Act.TheVariants.{Begin, More}
+use Rattle.xti_model.specs.declared.entry.Entry.{Entry}
+use Rattle.xti_model.specs.SentBytes.{AreBytes, SendsBytes, BeginsBytes, AllSendBytes}
+use Rattle.xti_journal_reader.specs.declared.verbs.Verb.{Verb}
+use Rattle.xti_journal_reader.specs.Fields.{field, AreFields}
+use Rattle.xti_journal_reader.specs.Calls.{form_of, form, verb_of, call_values}
+use Rattle.xti_journal_reader.specs.Grammar.{IsAct, AreEntries}
+
+joined-bytes : (parts : List (List ℕ)) → All AreBytes parts → AreBytes (concat parts)
+joined-bytes [] a = All-nil (λ b. b < 256)
+joined-bytes (part ∷ parts) a = All-append (λ b. b < 256) part (concat parts) (All-head AreBytes part parts a) (joined-bytes parts (All-tail AreBytes part parts a))
+
+fields-send : (c : Call) → AreFields (form (verb_of c)) (call_values c) → SendsBytes c
+unfolding form_of field
+fields-send (call.TSnd fd bytes flags) h = h.1.0
+fields-send (call.TSndV fd parts flags) h = joined-bytes parts h.1.0
+fields-send other h = tt
+
+act-sends : (o : Option Verb) (a : Act) → IsAct o a → BeginsBytes a
+act-sends None (Begin c) h = fields-send c h
+act-sends (Some v) (Begin c) h = fields-send c h
+act-sends o More h = tt
+
+pub entries-send : (past es : List Entry) → AreEntries past es → AllSendBytes es
+entries-send past [] h = tt
+entries-send past (e ∷ es) h = (act-sends _ e.act h.0.act, entries-send (past ++ e ∷ []) es h.1)
