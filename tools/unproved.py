@@ -80,19 +80,36 @@ def copy_kit(folder, compiling, linking):
     return made
 
 
-def copy_crates(folder, crate, needs, sources):
-    """Copies of the crates, and one of these sources above them."""
-    for below in (TOP / "crates").iterdir():
+def copy_crates(folder):
+    """Copies of the crates, as far as a program is made of them."""
+    for crate in (TOP / "crates").iterdir():
         for part in ("src", "specs", "proofs"):
-            if (below / part).is_dir():
-                shutil.copytree(below / part, folder / "crates" / below.name / part, dirs_exist_ok=True)
-    made = folder / "crates" / crate
-    (made / "src").mkdir(parents=True, exist_ok=True)
+            if (crate / part).is_dir():
+                shutil.copytree(crate / part, folder / "crates" / crate.name / part, dirs_exist_ok=True)
+    for name in ("HANDLES", "crates.txt"):
+        shutil.copy(TOP / name, folder)
+
+
+def add_crate(folder, crate, needs, sources):
+    """A crate of these sources above the copies."""
+    place = folder / "crates" / crate
+    (place / "src").mkdir(parents=True, exist_ok=True)
     for name, source in sources.items():
-        shutil.copy(TOP / "tools" / source, made / "src" / f"{name}.rt")
-    shutil.copy(TOP / "HANDLES", folder)
-    (folder / "crates.txt").write_text((TOP / "crates.txt").read_text() + f"{crate}: {needs}\n")
-    return made
+        shutil.copy(TOP / "tools" / source, place / "src" / f"{name}.rt")
+    with open(folder / "crates.txt", "a") as file:
+        file.write(f"{crate}: {needs}\n")
+    return place
+
+
+def build(folder, place, flags, compiling, linking):
+    """Makes the program of the crate at this place; its path."""
+    program = folder / "program"
+    rt = copy_kit(folder, compiling, linking) / "bin/rt"
+    words = [sys.executable, rt, "try", "--steps", "1", *flags]
+    done = subprocess.run(words, cwd=place, stdin=subprocess.DEVNULL, capture_output=True, text=True)
+    if not program.exists():
+        sys.exit(f"no program was made\n{done.stdout[-2000:]}\n{done.stderr[-4000:]}")
+    return program
 
 
 def make(folder, crate, needs, sources, flags=(), compiling="", linking=""):
@@ -101,10 +118,5 @@ def make(folder, crate, needs, sources, flags=(), compiling="", linking=""):
     if program.exists():
         return program
     folder.mkdir(parents=True, exist_ok=True)
-    place = copy_crates(folder, crate, needs, sources)
-    rt = copy_kit(folder, compiling, linking) / "bin/rt"
-    words = [sys.executable, rt, "try", "--steps", "1", *flags]
-    done = subprocess.run(words, cwd=place, stdin=subprocess.DEVNULL, capture_output=True, text=True)
-    if not program.exists():
-        sys.exit(f"no program was made\n{done.stdout[-2000:]}\n{done.stderr[-4000:]}")
-    return program
+    copy_crates(folder)
+    return build(folder, add_crate(folder, crate, needs, sources), flags, compiling, linking)
