@@ -1,5 +1,6 @@
 -- The loop of a call: each step that is made is one more of its own, and a wait leaves them.
 use Rattle.std.proofs.Common.{◌≡◌, ℕ, List, [], ◌∷◌, ◌++◌, length, Option, Some, None, refl, sym, ap, ◌∙◌, subst, arith, append_assoc, length-append}
+use Rattle.std.specs.List.{AllByRecursion}
 use Rattle.std.proofs.lemmas.List.{append-nil}
 use mathlib.Core.List.{IsPrefix}
 use lib.ListN.{get_or}
@@ -24,7 +25,7 @@ use Rattle.xti_rule.specs.declared.view.View.{View}
 use Rattle.xti_rule.specs.Histories.{after}
 use Rattle.xti_hall.specs.Seats.{Looks}
 use Rattle.xti_step.specs.Steps.{HoldsNothing, Later, MayGo, entry_of, Made}
-use Rattle.xti_calls.specs.Calling.{IsMore, AreSteps, Answered, Stopped, going_at, IsAt}
+use Rattle.xti_calls.specs.Calling.{IsMore, IsPart, AreSteps, Answered, Stopped, going_at, IsAt}
 use Rattle.xti_calls.proofs.Unfinished.{GoingHasLeft, made-call, entry-left}
 
 prefix-trans : (xs ys zs : List Entry) → IsPrefix xs ys → IsPrefix ys zs → IsPrefix xs zs
@@ -38,6 +39,7 @@ pub record Goes (v : View) (c : Call) (from g : Go) (v' : View) : Type 0 where
   pub later : Later v v'
   pub parts : List Entry
   pub steps : AreSteps c from parts
+  pub are_parts : AllByRecursion IsPart parts
   pub mine : v'.mine ≡ v.mine ++ parts
   pub begun : g ≡ go.Begin → parts ≡ []
   pub unmoved : parts ≡ [] → g ≡ from
@@ -86,6 +88,7 @@ module _ {v : View} {c : Call} {from g : Go} {v1 v2 : View} (k : Goes v c from g
     parts = k.parts;
     last = x;
     steps = more;
+    are_parts = k.are_parts;
     mine = mine';
     outcome = e;
     finished = going' ∙ ap (going_after (Some c)) e;
@@ -98,6 +101,7 @@ module _ {v : View} {c : Call} {from g : Go} {v1 v2 : View} (k : Goes v c from g
     later = later-still v v1 v2 k.later l;
     parts = k.parts ++ x ∷ [];
     steps = more;
+    are_parts = all-append IsPart k.parts (x ∷ []) k.are_parts ((n, e), tt);
     mine = mine';
     begun = λ i. cc;
     unmoved = λ i. absurd (not-empty k.parts x i);
@@ -111,6 +115,7 @@ goes-on {v} {c} {from} {g} {v1} {v2} k m l = record {
   later = later-still v v1 v2 k.later l;
   parts = k.parts;
   steps = k.steps;
+  are_parts = k.are_parts;
   mine = m ∙ k.mine;
   begun = k.begun;
   unmoved = k.unmoved;
@@ -119,7 +124,7 @@ goes-on {v} {c} {from} {g} {v1} {v2} k m l = record {
 }
 
 abbrev pub goes-stopped : {v : View} {c : Call} {from g : Go} {v1 : View} → Goes v c from g v1 → (n : ℕ) → n ≡ taken_before g → Stopped v c from v1 n
-goes-stopped {v} {c} {from} {g} {v1} k n e = record { parts = k.parts; steps = k.steps; mine = k.mine; so_far = g; unmoved = k.unmoved; taken_is = e; is_at = k.is_at }
+goes-stopped {v} {c} {from} {g} {v1} k n e = record { parts = k.parts; steps = k.steps; are_parts = k.are_parts; mine = k.mine; so_far = g; unmoved = k.unmoved; taken_is = e; is_at = k.is_at }
 
 -- a look at the history leaves the seat idle
 pub looks-idle : (v v' : View) → HoldsNothing v → Looks v v' → HoldsNothing v'

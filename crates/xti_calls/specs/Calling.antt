@@ -7,7 +7,7 @@ use Rattle.xti_model.specs.declared.entry.Go.{Go}
 use Rattle.xti_model.specs.declared.entry.Go.TheVariants as go
 use Rattle.xti_model.specs.declared.entry.Entry.{Entry}
 use Rattle.xti_model.specs.declared.entry.Reply.{Reply}
-use Rattle.xti_model.specs.declared.entry.Outcome.TheVariants.{Done}
+use Rattle.xti_model.specs.declared.entry.Outcome.TheVariants.{Done, Part}
 use Rattle.xti_model.specs.History.{Going, unfinished_from}
 use Rattle.xti_model.specs.Robin.{act_of}
 use Rattle.xti_model.specs.Step.{step}
@@ -45,33 +45,40 @@ where_left v = so_far_in (unfinished_from None None v.mine)
 abbrev pub IsMore : Entry → Type 0
 IsMore e = e.act ≡ act.More
 
+-- the step took bytes, and did not finish its call
+abbrev pub IsPart : Entry → Type 0
+IsPart e = (taken : ℕ) × (e.outcome ≡ Part taken)
+
 -- steps of one call one after the other, from this one on
 abbrev pub AreSteps : Call → Go → List Entry → Type 0
 AreSteps c g [] = Unit {0}
 AreSteps c g (e ∷ es) = (e.act ≡ act_of g c) × AllByRecursion IsMore es
 
--- all steps of the call that were left were made; the last one is the last entry that was seen, and answered this
+-- all steps of the call that were left were made, parts and then the last one, which is the last entry that was seen, and answered
+-- this
 pub record Answered (v : View) (c : Call) (g : Go) (v' : View) (reply : Reply) : Type 0 where
   pub parts : List Entry
   pub last : Entry
   pub steps : AreSteps c g (parts ++ last ∷ [])
+  pub are_parts : AllByRecursion IsPart parts
   pub mine : v'.mine ≡ v.mine ++ (parts ++ last ∷ [])
   pub outcome : last.outcome ≡ Done reply
   pub finished : unfinished_from None None v'.mine ≡ None
   pub before : List Entry
   pub ends : v'.seen ≡ before ++ last ∷ []
 
--- some steps of the call were made, all of them parts, and so many bytes are taken; the next is `so_far`
+-- the steps of the call that were made, if any, are all parts, and so many bytes are taken; the next is `so_far`
 pub record Stopped (v : View) (c : Call) (g : Go) (v' : View) (taken : ℕ) : Type 0 where
   pub parts : List Entry
   pub steps : AreSteps c g parts
+  pub are_parts : AllByRecursion IsPart parts
   pub mine : v'.mine ≡ v.mine ++ parts
   pub so_far : Go
   pub unmoved : parts ≡ [] → so_far ≡ g
   pub taken_is : taken ≡ taken_before so_far
   pub is_at : IsAt v' c so_far
 
--- the next step is blocked after what was seen, and no seat that is out can go on there
+-- the next step is blocked after what was seen, and each seat that is out rests there, or waits for what is blocked
 pub record StoppedAtStall (v : View) (c : Call) (g : Go) (v' : View) (taken : ℕ) (s : Stall) : Type 0 where
   pub stopped : Stopped v c g v' taken
   pub blocked : step v'.setting.providers (after v'.setting v'.seen) c stopped.so_far ≡ None

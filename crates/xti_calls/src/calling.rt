@@ -24,7 +24,7 @@ use xti_waits::{blocked_calls_have_wants, want_of};
 pub enum Halt {
     /// Out of memory.
     OutOfMemory { taken: u32 },
-    /// The call is blocked, and no seat that is out can go on.
+    /// The call is blocked, and each other seat that is out rests, or waits for what is blocked too.
     Stalled { taken: u32, stall: Stall },
 }
 
