@@ -11,18 +11,39 @@ use std::alloc::{AllocError, Global};
 use xti_base::{Errno, Event, Fd, Info, Octets, Parts, Seq, State, let_go};
 use xti_model::Reply;
 
-/// Why a call has no answer of its own.
+/// Why a call has no answer of its own. There are two ways to fail.
+///
+/// XTI refused the call: `Err`, `Look` and `Overflow` are what t_errno tells in C. The call is finished; the history has its
+/// entry, with the error, and the seat may make its next call. Each call lists these errors in the order in which they are
+/// looked at, and answers the first whose condition holds. A call that was refused has changed nothing, but for these:
+/// - TBUFOVFLW: what the call does is done, and what it would have told is lost. Of `t_rcvudata` and `t_rcvvudata` the whole
+///   datagram is gone.
+/// - TFLOW: the endpoint is marked, so that T_GODATA or T_GOEXDATA tells of room.
+/// - `t_connect`: its TNODATA with O_NONBLOCK says that the request is made, and in blocking mode an error that comes after the
+///   request doesn't take it back.
+///
+/// Or the call stopped before it had an answer. With `Memory` that was before its first step, and the seat is as it was. With
+/// `Halt` it was at a step: memory ran out, or the call is blocked while each other seat that is out rests or is blocked too.
+/// The steps that it had made stand:
+/// - Where `Seat::unfinished` is `None` then, it had made none. It has changed nothing, and the seat may make any call.
+/// - Else the request of a blocking `t_connect` was made, or some bytes of a blocking `t_snd` or `t_sndv` were taken (no other
+///   call is made in parts). The seat makes no other call until `Xti::resume` has gone on with this one.
+///
+/// A step takes all its memory, that for the answer too, before it changes anything: no answer of a step that was made is lost
+/// for lack of memory.
 #[derive(Clone, Copy)]
 pub enum Fail {
     /// An error other than TLOOK and TBUFOVFLW.
     Err(Errno),
-    /// TLOOK: this event is pending.
+    /// TLOOK: this event is pending, the first of those that the call looks at.
     Look(Event),
-    /// TBUFOVFLW: a returned field is too long; the sequence number of t_listen, else 0.
+    /// TBUFOVFLW: a returned field is longer than the caller takes. Of `t_listen` it has the sequence number of the request
+    /// that was taken, by which it may be accepted or rejected; of every other call 0.
     Overflow(Seq),
-    /// The call stopped before its reply.
+    /// The call stopped at a step that it couldn't make, for the reason that `Halt` has.
     Halt(Halt),
-    /// Out of memory before the first step, and none was made.
+    /// Out of memory before the first step, and none was made: while the bytes, parts or sizes among the arguments were copied,
+    /// or the buffers of a vector receive were made. A call without any of these never answers it.
     Memory(AllocError),
 }
 
@@ -36,27 +57,40 @@ impl From<AllocError> for Fail {
     }
 }
 
-/// The most bytes that the caller takes of an address, of options and of data.
+/// How many bytes the caller takes at most of each field that is returned (the maxlen of a netbuf in XNS).
+///
+/// With 0 the caller doesn't take the field: it is answered as an empty list, however long it is. Where a field is longer than
+/// its number, which isn't 0, the call answers TBUFOVFLW and tells none of the fields. An address has at most 64 bytes, options
+/// that the other end gave at most 256, and data with a request or its answer at most 64. The arguments `amax`, `pmax`, `omax`
+/// and `umax` of other calls are such numbers too: of an address, the peer's address, options and data.
 #[derive(Clone, Copy, Debug, PartialEq, Eq)]
 pub struct Max {
-    /// Of an address.
+    /// Of the address, in bytes; 64 is always enough.
     pub addr: u32,
-    /// Of options.
+    /// Of the options, in bytes; 256 is always enough.
     pub opt: u32,
-    /// Of data.
+    /// Of the data, in bytes; 64 is always enough, but for `t_rcvudata`. There it is how many bytes of the datagram are taken
+    /// at once: where it has more the answer has T_MORE, and no TBUFOVFLW comes of it.
     pub udata: u32,
 }
 
-/// Address, options and data of a connection or a datagram.
+/// Address, options and data that came with a request to connect, with its answer, or as a datagram (t_call and t_unitdata in
+/// XNS).
+///
+/// A field that the caller doesn't take, by a `Max` of 0, is an empty list.
 #[derive(Drop)]
 pub struct TCall {
-    /// The sequence number of an indication; else 0.
+    /// Of `t_listen`, the sequence number of the request, from 1 on, by which `t_accept` and `t_snddis` name it; else 0.
     pub seq: Seq,
-    /// The address.
+    /// The address of the other end: of `t_listen` the caller's, of `t_connect` and `t_rcvconnect` that of the endpoint that
+    /// got the connection (`resfd` of `t_accept`), of a datagram the sender's. Empty too for each part of a datagram but the
+    /// first.
     pub addr: Octets,
-    /// The options.
+    /// The options that the other end gave, in the form of t_opthdr (`read_options` of `xti_opt` reads them); empty where it
+    /// gave none, and for each part of a datagram but the first.
     pub opt: Octets,
-    /// The data.
+    /// The data: at most 64 bytes with a request or its answer, empty where none were given; else the bytes of the datagram, or
+    /// of this part of it. Always empty of `t_rcvvudata`, which answers the bytes beside it.
     pub udata: Octets,
 }
 
@@ -111,7 +145,7 @@ pub(crate) fn bound(reply: Reply) -> Result<(Octets, u32), Fail>
     }
 }
 
-/// The answer to a request.
+/// The answer to a request to connect, with 0 for a sequence number.
 pub(crate) fn connected(reply: Reply) -> Result<TCall, Fail>
     requires { MayBe answer.Connected reply }
     ensures { Says IsConnected reply result }
@@ -127,7 +161,7 @@ pub(crate) fn connected(reply: Reply) -> Result<TCall, Fail>
     }
 }
 
-/// An indication.
+/// A request to connect, with its sequence number.
 pub(crate) fn listened(reply: Reply) -> Result<TCall, Fail>
     requires { MayBe answer.Listened reply }
     ensures { Says IsListened reply result }
@@ -269,7 +303,7 @@ pub(crate) fn datagram_error(reply: Reply) -> Result<(Octets, Octets, u32), Fail
     }
 }
 
-/// The first event that is pending.
+/// The first event that is pending, or none.
 pub(crate) fn seen(reply: Reply) -> Result<Option<Event>, Fail>
     requires { MayBe answer.Seen reply }
     ensures { Says IsSeen reply result }

@@ -1,4 +1,5 @@
-//! The calls of XTI in their own types.
+//! The calls of XTI in their own types: a method of `Xti` for each, with the name that it has in XNS, and `set_mode`. Each
+//! says what it does, for what it waits and which errors it answers; `Fail` says what they have in common where they fail.
 
 ghost use Rattle.std.specs.Prelude.{◌≡◌, None, IfOk, MatchResult};
 ghost use Rattle.xti_model.specs.declared.entry.Go.TheVariants.{Begin};

@@ -26,8 +26,11 @@ use xti_lent::Lent;
 use xti_model::{Applied, Call, Entries, Go, Providers, Reply};
 use xti_step::{Gate, step};
 
-/// One caller's token: a seat of the library's hall, which holds nothing between two calls, with room for the cells of
-/// a step.
+/// One caller's token: a seat of the library's hall, which holds nothing between two calls, with room for the cells of a step.
+///
+/// A seat makes its calls one after the other, and begins one only where none is unfinished (`unfinished` is `None`). Other
+/// seats make theirs beside it. Each step takes its turn at the endpoints that it touches and at the history, so a call that
+/// isn't blocked may still wait for the step of another seat.
 #[derive(Drop)]
 pub struct Seat {
     seat: HallSeat<Cell>,
@@ -46,7 +49,8 @@ impl Model for Seat {
 }
 
 impl Seat {
-    /// The seat's number. `standing` is true of every seat. Takes no memory.
+    /// The seat's number, from 0 on, by which entries of the history name their worker. `standing` is true of every seat. Takes
+    /// no memory.
     pub fn number(&self) -> u32
         ensures number { result ≡ self.now.view.number }
         ensures standing { IsStanding self.now.view }
@@ -54,14 +58,16 @@ impl Seat {
         self.seat.number()
     }
 
-    /// How many entries of the history are the seat's own. Takes no memory.
+    /// How many entries of the history are the seat's own: one for each step that it made, refused ones among them. Takes no
+    /// memory.
     pub fn steps(&self) -> u64
         ensures { result ≡ length self.now.view.mine }
     {
         self.seat.steps()
     }
 
-    /// How many bytes were taken of the seat's unfinished call; `None` exactly where it has none. Takes no memory.
+    /// How many bytes were taken of the seat's unfinished call, which is 0 of a `t_connect`; `None` exactly where it has none.
+    /// Takes no memory.
     pub fn unfinished(&self) -> Option<u32>
         ensures { result ≡ unfinished_bytes self.now.view.mine }
     {
@@ -84,8 +90,8 @@ impl Model for Ended {
 }
 
 impl Ended {
-    /// Another seat of the library, which has then seen the whole history. `whole`: it hadn't seen more. Takes no memory, and waits
-    /// for nobody.
+    /// Another seat of the library, which has then seen the whole history. `whole`: it hadn't seen more. Takes no memory, and
+    /// waits for nobody.
     pub fn meet(&mut self, other: Seat) -> Seat
         requires { AreOfOneHall other self.old }
         ensures seat { IsSameSeat other result × (self.new ≡ self.old) }
@@ -107,7 +113,8 @@ impl Ended {
 }
 
 impl Xti {
-    /// The library in its opening world, and the seat with number 0, whose spare numbers are 1 to 32.
+    /// The library in its opening world, in which no endpoint was opened, and the seat with number 0, whose spare numbers are 1
+    /// to 32. The providers' values must be valid, as the usual ones are. The error says that memory ran out.
     pub fn new(alloc: Global, p: &Providers) -> Result<(Xti, Seat), AllocError>
         requires { valid p.now ≡ true }
         ensures providers { IfOk result (λ r. providers_of r.0 ≡ p.now) }
@@ -119,6 +126,10 @@ impl Xti {
     }
 
     /// One step of a call, without waiting where it is blocked.
+    ///
+    /// `go` is how far the call has come: `Begin`, or `More` with the bytes that its steps have taken. Where the step is
+    /// blocked (`Applied::Blocked`) or memory runs out (the error), no entry was made. `gate` is asked while the seat holds
+    /// just the cells that the call touches.
     pub fn step<G: Gate, R: Wait + Sync>(
         &self,
         rt: &R,
@@ -149,6 +160,10 @@ impl Xti {
     }
 
     /// All steps of a call by a seat that has none unfinished, waiting where it is blocked.
+    ///
+    /// The reply may be an error of XTI (`Reply::Refused`, `Look`, `Overflow`), and then has its entry in the history like any
+    /// other; `Halt` says why the call stopped before its reply. The methods from `t_open` to `set_mode` are this one, each for
+    /// its own call, with arguments and answers in types of their own, and without a gate.
     pub fn call<G: Gate, R: Wait + Sync>(
         &self,
         rt: &R,
@@ -177,6 +192,9 @@ impl Xti {
     }
 
     /// The steps that are left of the seat's unfinished call, which this must be, waiting where it is blocked.
+    ///
+    /// A call is unfinished where only a part of it was made: the request of a blocking `t_connect`, or some bytes of a
+    /// blocking `t_snd` or `t_sndv`. It is handed over once more as a value of `Call`, and answers as `call` does.
     pub fn resume<G: Gate, R: Wait + Sync>(
         &self,
         rt: &R,
@@ -219,6 +237,9 @@ impl Xti {
     }
 
     /// Until its next call gives the journal back, the seat counts as resting.
+    ///
+    /// A caller that makes no more calls, or none for now, lets its seat rest: others that wait then don't wait for it before
+    /// they find that nobody can go on.
     pub fn rest<R: Wait>(&self, rt: &R, seat: &mut Seat)
         requires { IsOf self.now seat.old }
         ensures seat { IsSameSeat seat.old seat.new }
@@ -239,8 +260,8 @@ impl Xti {
         Seat { seat, lent }
     }
 
-    /// Ends the library: its history is handed out and not copied, all of which the seat has then seen, and no further call can be
-    /// made. Takes no memory.
+    /// Ends the library: its history is handed out and not copied, all of which the seat has then seen, and no further call can
+    /// be made. Takes no memory.
     pub fn end<R: Wait>(self, rt: &R, seat: Seat) -> Ended
         requires { IsOf self seat }
         ensures seat { IsSameSeat seat result }

@@ -20,7 +20,25 @@ use xti_data::Gather;
 use xti_model::Call;
 
 impl Xti {
-    /// Sends a datagram (XNS, t_sndudata).
+    /// Sends a datagram to an address (XNS, t_sndudata).
+    ///
+    /// `addr` is the destination, of 1 to 64 bytes; it may be the endpoint's own. `opt` is a list of options of at most 256
+    /// bytes. `bytes` are at most as many as the provider's `tsdu`, 8,192 by default, and may be none where it has T_SENDZERO.
+    /// The endpoint that is bound to `addr` gets the datagram whole, with this endpoint's address as its source. Where nobody
+    /// is bound there, the call is done too, and an error with code 1 then waits at this endpoint for `t_rcvuderr`. In blocking
+    /// mode the call waits while 16 datagrams wait at the destination.
+    ///
+    /// # Errors
+    ///
+    /// XTI ([`Fail`]) answers the first that holds; nothing has changed but after TFLOW:
+    /// - TBADF: no endpoint is open with `fd`.
+    /// - TNOTSUPPORT: the provider isn't `ticlts`.
+    /// - TOUTSTATE: the state isn't T_IDLE.
+    /// - TBADADDR: `addr` is empty, or has more than 64 bytes.
+    /// - TBADOPT: `opt` has more than 256 bytes, or is no list of options.
+    /// - TBADDATA: `bytes` are more than `tsdu`, or none without T_SENDZERO.
+    /// - TLOOK with T_UDERR: the error of a datagram waits (`t_rcvuderr`).
+    /// - TFLOW, with O_NONBLOCK: 16 datagrams wait at the destination. T_GODATA then tells when one more may be sent there.
     #[tactic(auto, using(crate::proofs::Replied::makes_said), unfolding(xti_journal_reader::specs::Calls::form_of))]
     pub fn t_sndudata<R: Wait + Sync>(
         &self,
@@ -50,7 +68,14 @@ impl Xti {
         done(self.reply(rt, alloc, seat, call)?)
     }
 
-    /// Sends the parts, joined, as a datagram (XNS, t_sndvudata).
+    /// Sends parts, joined, as one datagram to an address (XNS, t_sndvudata).
+    ///
+    /// As `t_sndudata` with the bytes of all parts one after the other: the receiver doesn't see where a part ended. There are
+    /// at most 16 parts, together at most as long as the provider's `tsdu`. It waits as `t_sndudata` does.
+    ///
+    /// # Errors
+    ///
+    /// XTI ([`Fail`]) answers those of `t_sndudata`, in their order. TBADDATA comes for more than 16 parts too.
     #[tactic(auto, using(crate::proofs::Replied::makes_said), unfolding(xti_journal_reader::specs::Calls::form_of))]
     pub fn t_sndvudata<R: Wait + Sync>(
         &self,
@@ -80,7 +105,24 @@ impl Xti {
         done(self.reply(rt, alloc, seat, call)?)
     }
 
-    /// A datagram or a part of one, and flags (XNS, t_rcvudata).
+    /// Receives the first datagram that waits, or a part of it, and answers it with flags (XNS, t_rcvudata).
+    ///
+    /// At most `max.udata` bytes are taken. Where bytes are left the flags are T_MORE (1), and the next receive goes on with
+    /// them; else they are 0. The sender's address and the options come with the first part alone, and are empty with the
+    /// others. With `max.udata` 0 a datagram loses no bytes, but this is its first part; one without bytes is gone. `max.addr`
+    /// and `max.opt` are what the caller takes of the address and the options. In blocking mode the call waits for a datagram,
+    /// or for the error of one.
+    ///
+    /// # Errors
+    ///
+    /// XTI ([`Fail`]) answers the first that holds; nothing has changed but after TBUFOVFLW:
+    /// - TBADF: no endpoint is open with `fd`.
+    /// - TNOTSUPPORT: the provider isn't `ticlts`.
+    /// - TOUTSTATE: the state isn't T_IDLE.
+    /// - TLOOK with T_UDERR: the error of a datagram waits (`t_rcvuderr`).
+    /// - TNODATA, with O_NONBLOCK: no datagram waits.
+    /// - TBUFOVFLW: the address or the options are longer than `max` says. The whole datagram is gone. A later part never has
+    ///   this error, and more bytes than `max.udata` are none.
     #[tactic(auto, using(crate::proofs::Replied::makes_said), unfolding(xti_journal_reader::specs::Calls::form_of))]
     pub fn t_rcvudata<R: Wait + Sync>(
         &self,
@@ -105,8 +147,17 @@ impl Xti {
         datagram(self.reply(rt, alloc, seat, call)?)
     }
 
-    /// A datagram or a part of one, its bytes in parts of at most these sizes, each filled before the next, and flags (XNS,
-    /// t_rcvvudata). There is a part for each size, and `udata` is empty. Once bytes are received, memory can't run out.
+    /// Receives a datagram or a part of it in parts of at most these sizes, and answers it with flags (XNS, t_rcvvudata).
+    ///
+    /// As `t_rcvudata` with the sum of the sizes as `max.udata`, and `amax` and `omax` as `max.addr` and `max.opt`. There are
+    /// at most 16 sizes. A part is answered for each, and each is filled before the next has a byte, so the parts after the
+    /// last byte are empty; `udata` of the `TCall` is always empty. Their room is made before the call, so once bytes are
+    /// received, memory can't run out. It waits as `t_rcvudata` does.
+    ///
+    /// # Errors
+    ///
+    /// XTI ([`Fail`]) answers those of `t_rcvudata`, in their order, and between TOUTSTATE and TLOOK:
+    /// - TBADDATA: there are more than 16 sizes.
     #[tactic(auto, using(crate::proofs::Replied::makes_said, crate::proofs::Replied::datagram_fits), unfolding(xti_journal_reader::specs::Calls::form_of))]
     pub fn t_rcvvudata<R: Wait + Sync>(
         &self,
@@ -136,7 +187,21 @@ impl Xti {
         datagram_parts(alloc, reply, buffers)
     }
 
-    /// Address and options of a datagram that was not delivered, and the code (XNS, t_rcvuderr).
+    /// Takes the first error of a datagram that waits, and answers destination, options and code (XNS, t_rcvuderr).
+    ///
+    /// They are those of a datagram that this endpoint sent while nobody was bound to its destination, which code 1 says; there
+    /// is no other code. `amax` and `omax` are how many bytes of the destination and of the options the caller takes at most;
+    /// with 0 that field is answered as empty. The call never waits: `t_rcvudata` does, and then answers TLOOK with T_UDERR.
+    ///
+    /// # Errors
+    ///
+    /// XTI ([`Fail`]) answers the first that holds; nothing has changed but after TBUFOVFLW:
+    /// - TBADF: no endpoint is open with `fd`.
+    /// - TNOTSUPPORT: the provider isn't `ticlts`.
+    /// - TOUTSTATE: the state isn't T_IDLE.
+    /// - TNOUDERR: no such error waits.
+    /// - TBUFOVFLW: the destination is longer than `amax`, which isn't 0, or the options than `omax`, which isn't 0. The error
+    ///   is taken all the same, and isn't told.
     #[tactic(auto, using(crate::proofs::Replied::makes_said), unfolding(xti_journal_reader::specs::Calls::form_of))]
     pub fn t_rcvuderr<R: Wait + Sync>(
         &self,

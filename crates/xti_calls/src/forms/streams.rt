@@ -20,7 +20,31 @@ use xti_data::Gather;
 use xti_model::Call;
 
 impl Xti {
-    /// Sends bytes on a connection (XNS, t_snd), and answers how many were taken.
+    /// Sends bytes on a connection, and answers how many were taken (XNS, t_snd).
+    ///
+    /// One call takes at most 65,536 bytes. `flags` is the sum of T_MORE (1) and T_EXPEDITED (2), or 0. With T_MORE the message
+    /// goes on with the next send of the kind; without it, it ends after the last of `bytes`. An expedited message has at most
+    /// 128 bytes, and a normal one at most `tsdu`. Where that is 0, normal data are a stream without ends: T_MORE says nothing,
+    /// and there is no limit, as with T_INFINITE. A send of no bytes is allowed where the provider has T_SENDZERO.
+    ///
+    /// There is room where fewer normal bytes wait at the other end than this end's send size and that end's receive size
+    /// together, and fewer than 256 ends of messages; for expedited data, fewer than 256 bytes and 16 ends. In blocking mode
+    /// the call waits for the other end to receive, part by part, until all bytes are taken. Where a later part is refused, the
+    /// call answers how many bytes were taken, in place of the error. With O_NONBLOCK it takes what there is room for, and
+    /// answers how many bytes that is; where it isn't all, the message has no end yet.
+    ///
+    /// # Errors
+    ///
+    /// XTI ([`Fail`]) answers the first that holds; nothing has changed but after TFLOW:
+    /// - TBADF: no endpoint is open with `fd`.
+    /// - TNOTSUPPORT: the provider is `ticlts`.
+    /// - TBADFLAG: `flags` is over 3.
+    /// - TOUTSTATE: the state is neither T_DATAXFER nor T_INREL.
+    /// - TBADDATA: there are more than 65,536 bytes; or none, without T_SENDZERO; or with what was sent of the message already
+    ///   more than its limit.
+    /// - TLOOK with T_DISCONNECT: a disconnect waits (`t_rcvdis`).
+    /// - TLOOK with T_ORDREL: the other end has released, and all its data were received (`t_rcvrel`).
+    /// - TFLOW, with O_NONBLOCK: there is no room. T_GODATA, or T_GOEXDATA for expedited data, then tells when there is.
     #[tactic(auto, using(crate::proofs::Replied::makes_said), unfolding(xti_journal_reader::specs::Calls::form_of))]
     pub fn t_snd<R: Wait + Sync>(
         &self,
@@ -45,7 +69,14 @@ impl Xti {
         sent(self.reply(rt, alloc, seat, call)?)
     }
 
-    /// Sends parts, joined, on a connection (XNS, t_sndv), and answers how many bytes were taken.
+    /// Sends parts, joined, on a connection, and answers how many bytes were taken (XNS, t_sndv).
+    ///
+    /// As `t_snd` with the bytes of all parts one after the other: what is sent doesn't show where a part ended. There are at
+    /// most 16 parts, of at most 65,536 bytes together. It waits as `t_snd` does.
+    ///
+    /// # Errors
+    ///
+    /// XTI ([`Fail`]) answers those of `t_snd`, in their order. TBADDATA comes for more than 16 parts too.
     #[tactic(auto, using(crate::proofs::Replied::makes_said), unfolding(xti_journal_reader::specs::Calls::form_of))]
     pub fn t_sndv<R: Wait + Sync>(
         &self,
@@ -70,7 +101,23 @@ impl Xti {
         sent(self.reply(rt, alloc, seat, call)?)
     }
 
-    /// At most so many bytes of a connection, and flags (XNS, t_rcv).
+    /// Receives at most `max` bytes of a connection, and answers them with flags (XNS, t_rcv).
+    ///
+    /// Expedited data come first where there are any, with T_EXPEDITED (2) in the flags. Bytes are taken up to an end of a
+    /// message, and that end with them; T_MORE (1) in the flags says that none was taken. Normal data of a provider with `tsdu`
+    /// 0 have no ends, and never T_MORE. After a receive of expedited data that took no end, no normal data come until the end
+    /// was taken. With `max` over 0 an empty list is an end alone; with `max` 0 no bytes are taken, but an end that stands
+    /// first is. At most 131,072 bytes come at once. In blocking mode the call waits for data, a release or a disconnect.
+    ///
+    /// # Errors
+    ///
+    /// XTI ([`Fail`]) answers the first that holds; nothing has changed then:
+    /// - TBADF: no endpoint is open with `fd`.
+    /// - TNOTSUPPORT: the provider is `ticlts`.
+    /// - TOUTSTATE: the state is neither T_DATAXFER nor T_OUTREL.
+    /// - TLOOK with T_DISCONNECT: a disconnect waits (`t_rcvdis`).
+    /// - TLOOK with T_ORDREL: the other end has released, and all its data were received (`t_rcvrel`).
+    /// - TNODATA, with O_NONBLOCK: no data wait that may be received.
     #[tactic(auto, using(crate::proofs::Replied::makes_said), unfolding(xti_journal_reader::specs::Calls::form_of))]
     pub fn t_rcv<R: Wait + Sync>(
         &self,
@@ -90,8 +137,16 @@ impl Xti {
         got(self.reply(rt, alloc, seat, call)?)
     }
 
-    /// Bytes of a connection in parts of at most these sizes, each filled before the next, and flags (XNS, t_rcvv). There
-    /// is a part for each size. Once bytes are received, memory can't run out.
+    /// Receives bytes of a connection in parts of at most these sizes, and answers them with flags (XNS, t_rcvv).
+    ///
+    /// As `t_rcv` with the sum of the sizes as `max`. There are at most 16 sizes. A part is answered for each, and each is
+    /// filled before the next has a byte, so the parts after the last byte are empty. Their room is made before the call, so
+    /// once bytes are received, memory can't run out. It waits as `t_rcv` does.
+    ///
+    /// # Errors
+    ///
+    /// XTI ([`Fail`]) answers those of `t_rcv`, in their order, and between TOUTSTATE and TLOOK:
+    /// - TBADDATA: there are more than 16 sizes.
     #[tactic(auto, using(crate::proofs::Replied::makes_said, crate::proofs::Replied::got_fits), unfolding(xti_journal_reader::specs::Calls::form_of))]
     pub fn t_rcvv<R: Wait + Sync>(
         &self,
