@@ -8,7 +8,12 @@ use xti_carrier::DatagramCarrier;
 use xti_gbn::Carrier;
 
 /// Whether 1 to 517 bytes come as they are, to the receiver or back.
-fn comes_whole(alloc: Global, carrier: &mut DatagramCarrier, to_receiver: bool, bytes: &[u8]) -> bool
+fn comes_whole(
+    alloc: Global,
+    carrier: &mut DatagramCarrier,
+    to_receiver: bool,
+    bytes: &[u8],
+) -> bool
     requires ready { IsReady carrier.old }
     requires some { 1 ≤ length bytes.now }
     requires most { length bytes.now ≤ 517 }
