@@ -9,6 +9,7 @@ import re
 
 TOP = pathlib.Path(__file__).resolve().parent.parent
 TRIED = TOP / "docs" / "edits-tried.txt"
+OF_GATE, LEFT_OUT = "*.edit", "*.edit.md"
 HEAD = re.compile(r"^\s*(?:pub(?:\([^)]*\))? )?(?:(?:const|unsafe) )*fn \w+")
 
 
@@ -43,9 +44,14 @@ def edits(crate, pattern="*.edit*"):
     return sorted((TOP / "crates" / crate / "must-fail").glob(pattern))
 
 
+def crates_with_edits(pattern="*.edit*"):
+    """The crates that have such edits, in order."""
+    return sorted({path.parent.parent.name for path in TOP.glob(f"crates/*/must-fail/{pattern}")})
+
+
 def crates_left_out():
     """The crates of which the gate leaves out an edit."""
-    return sorted({path.parent.parent.name for path in TOP.glob("crates/*/must-fail/*.edit.md")})
+    return crates_with_edits(LEFT_OUT)
 
 
 def tried():
