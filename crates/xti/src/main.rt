@@ -11,7 +11,7 @@ use std::{env, io};
 use xti_io::{StdSink, StdSource};
 use xti_run::{NoGate, Words, program};
 
-const VERSION: &str = "xti 0.1.0\n";
+const VERSION: &str = "xti 0.2.0\n";
 
 const USAGE: &str = "\
 usage: xti replay [--summary]
@@ -22,26 +22,34 @@ usage: xti replay [--summary]
        xti gen --seed N [--summary]
        xti --help | -h | --version
 
-replay  reads a script of XTI calls from standard input, makes the calls of
-        its workers by turns, and prints their journal on standard output
-run     reads a script, makes the calls of each worker in a thread of its own,
-        and prints the journal of what happened
-check   reads a journal from standard input, and prints the number of its
-        steps where each is what XTI gives there, else the first wrong line
-frames  reads TPI frames one after the other from standard input, and prints a
-        line for each on standard output
-link    reads a link script from standard input, runs both ends of the link by
-        go back N over datagrams, and prints a line for each event
-gen     reads nothing, and prints the script that is generated from a number
+Makes calls of the X/Open Transport Interface (XTI) inside its own process.
+Each command but gen reads standard input; all print on standard output.
 
---summary  prints one line in place of the journal: how many steps were made,
-           how they ended, and how many bytes were sent and received; with gen
-           the generated script is replayed
+replay  reads a script, where '1 snd a data=t:hi' is a t_snd of worker 1, and
+        prints its journal: each step with its answer. The workers take turns,
+        so the journal is the same each time
+run     reads a script, and prints the journal of a run with a thread for each
+        worker but 0; the order of the steps may differ from run to run
+check   reads a journal, and prints 'legal' and the number of its steps where
+        each is what XTI gives there, else the number of the first wrong line,
+        what should stand there and what does
+frames  reads encoded TPI primitives, one after the other, and prints a line
+        for each: its name, its fields and its data
+link    reads a link script: what is sent, and what arrives, over datagrams
+        that may be lost or repeated. Prints a line for each event of both
+        ends, which do go back N, and a last line of counts
+gen     reads nothing, and prints a script that is generated from the number
+
+--summary  prints one line of counts in place of the journal: steps, how they
+           ended, bytes sent and received, workers that are blocked at the
+           end; with gen the generated script is replayed for it
 --seed N   the number, from 0 to 18446744073709551615
 
 status: 0 done, 1 the words are no command, 2 the input is refused,
         3 a worker is blocked at the end, 4 out of memory,
         5 reading failed, 6 writing failed, 7 the journal is not legal
+
+'man xti' (docs/xti.1 in the source) has the forms of scripts and journals.
 ";
 
 /// The text that the words ask for where they are no command: the usage or the version.
