@@ -34,7 +34,7 @@ fn is_right(alloc: Global, receiver: &mut Receiver, number: u32, is_taken: bool,
     let has_body = taken
         .body
         .as_ref()
-        .is_some_and(|body| body.as_slice() == b"body");
+        .is_some_and(|body| body.as_slice() == b"body".as_slice());
     let is_right = has_body == is_taken && taken.ack == ack && receiver.expected() == ack;
     drop(taken);
     is_right
