@@ -1,4 +1,4 @@
--- When no seat that is out can go on.
+-- When each seat that is out rests, or waits for what is blocked.
 use Rattle.std.specs.Prelude.{◌≡◌, ◌+◌, ◌<◌, ◌≤◌, take, ◌==◌, ℕ, Bool, true, false, length, count_by}
 use Rattle.std.specs.List.{list_all}
 use Rattle.xti_rule.specs.declared.view.Mark.{Mark}

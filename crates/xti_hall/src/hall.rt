@@ -4,6 +4,7 @@ ghost use Rattle.xti_hall.specs.Sizes.{IsSized};
 
 use atomic_table::Table;
 use std::alloc::Global;
+use std::sync::atomic::AtomicU32;
 use xti_rule::{Held, Ruled, Setting, Stands, View};
 
 mod cells;
@@ -22,5 +23,7 @@ pub use seats::NoSeat;
 pub struct Hall<C: Stands> {
     table: Table<Option<Held<C>>, View, Setting, Ruled<C>, Global>,
     cells: u32,
+    /// How many callers sleep for a turn, any turn.
+    sleepers: AtomicU32,
     ghost sized: { IsSized table.shared.table_id table.shared.key cells },
 }

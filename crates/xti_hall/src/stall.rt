@@ -17,7 +17,7 @@ pub struct Stall {
 pub enum Waited {
     /// The history went on.
     Again,
-    /// No seat that is out can go on.
+    /// Each seat that is out rests, or waits for what is blocked.
     Stalled(Stall),
 }
 
@@ -28,6 +28,6 @@ pub(crate) enum Sight {
     Again,
     /// It may park while the bell has this number.
     Parks(u32),
-    /// No seat that is out can go on.
+    /// Each seat that is out rests, or waits for what is blocked.
     Stalls(Stall),
 }

@@ -1,39 +1,57 @@
-//! Short looks before a thread gives way or parks. They change nothing and tell nothing: what was seen may be over at once.
+//! Who waits looks for a while before it sleeps. A look changes nothing and tells nothing: what was seen may be over at once.
+//!
+//! No wake is lost at a turn. Who sleeps first counts itself among the sleepers, and the sleep looks at the turn's word once
+//! more. Who gives the turn back first sets the word to 0, and then reads the count. All of these are sequentially consistent:
+//! so either the sleep finds that the word isn't 1, or the count is found above 0, and one is woken. Where the word is 1 again,
+//! the same holds of whoever holds the turn now. One that is woken tries to take the turn: it wakes the next when it gives the
+//! turn back, or whoever was faster does.
 
 ghost use Rattle.std.specs.Prelude.{◌≤◌, ◌+◌};
 ghost use Rattle.xti_hall.specs.Words.{setting_of};
 
 use super::Hall;
-use std::thread;
+use std::sync::Wait;
+use std::sync::atomic::Ordering;
 use xti_rule::Stands;
 
-/// So often the word of a turn is read before another thread is let run.
-const LOOKS_AT_TURN: u32 = 4_000;
+/// So often the word of a turn is read before who waits for it sleeps.
+const LOOKS_AT_TURN: u32 = 200;
 
-/// So often other threads are let run before a seat that waits parks.
-const LOOKS_AT_LENGTH: u32 = 64;
+/// So often the length is read before a seat that waits for an entry parks.
+const LOOKS_AT_LENGTH: u32 = 1_000;
 
 impl<C: Stands> Hall<C> {
-    /// Looks for a while whether this turn is given back; if it isn't, another thread is let run. The turn of the journal comes
-    /// after those of the cells.
-    pub(super) fn linger_for_turn(&self, turn: u32)
+    /// Looks for a while whether this turn is given back; if it isn't, sleeps until one who gives it back wakes it. It may also
+    /// return for no reason. The turn of the journal comes after those of the cells.
+    pub(super) fn linger_for_turn<R: Wait>(&self, rt: &R, turn: u32)
         requires turn { turn ≤ (setting_of self.now).cells }
     {
+        let word = turn as usize + 1;
         for _ in 0..LOOKS_AT_TURN {
-            if self.table.shared.peek(turn as usize + 1) == 0 {
+            if self.table.shared.peek(word) == 0 {
                 return;
             }
         }
-        thread::yield_now();
+        self.sleepers.fetch_add(1, Ordering::SeqCst);
+        self.table.shared.park(rt, word, 1);
+        self.sleepers.fetch_sub(1, Ordering::SeqCst);
     }
 
-    /// Lets other threads run until the history is longer than this, though not for long.
+    /// Wakes one that sleeps for this turn, which was just given back.
+    pub(super) fn wake_for_turn(&self, turn: u32)
+        requires turn { turn ≤ (setting_of self.now).cells }
+    {
+        if self.sleepers.load(Ordering::SeqCst) != 0 {
+            self.table.shared.wake_one(turn as usize + 1);
+        }
+    }
+
+    /// Looks for a while whether the history is longer than this.
     pub(super) fn linger_for_entry(&self, at: u64) {
         for _ in 0..LOOKS_AT_LENGTH {
             if self.table.shared.peek(0) > at {
                 return;
             }
-            thread::yield_now();
         }
     }
 }

@@ -8,6 +8,7 @@ use super::Hall;
 use crate::seat::Seat;
 use atomic_table::{Refused, Table};
 use std::alloc::{AllocError, Global};
+use std::sync::atomic::AtomicU32;
 use xti_base::let_go;
 use xti_model::Providers;
 use xti_rule::{Held, Journal, Mark, Setting, Stands};
@@ -80,6 +81,7 @@ impl<C: Stands> Hall<C> {
                 Hall {
                     table,
                     cells: setting.cells,
+                    sleepers: AtomicU32::new(0),
                 },
                 Seat {
                     pass,

@@ -39,7 +39,7 @@ impl<C: Stands> Hall<C> {
             if self.try_pen(pass) {
                 return;
             }
-            self.linger_for_turn(self.cells);
+            self.linger_for_turn(rt, self.cells);
         }
         unreachable!()
     }
@@ -86,6 +86,7 @@ impl<C: Stands> Hall<C> {
         self.table
             .shared
             .store::<Return>(pass, self.cells as usize + 1, 0);
+        self.wake_for_turn(self.cells);
     }
 
     /// Gives the journal back. The seat has seen as much as before.
@@ -102,6 +103,7 @@ impl<C: Stands> Hall<C> {
         self.table
             .shared
             .store::<ReturnUnseen>(pass, self.cells as usize + 1, 0);
+        self.wake_for_turn(self.cells);
     }
 
     /// Adds the entry to the history and 1 to the length, and gives the journal back.
@@ -123,5 +125,6 @@ impl<C: Stands> Hall<C> {
         self.table
             .shared
             .store::<Return>(pass, self.cells as usize + 1, 0);
+        self.wake_for_turn(self.cells);
     }
 }

@@ -42,7 +42,7 @@ impl<C: Stands> Hall<C> {
             if self.try_take(pass, cell) {
                 return;
             }
-            self.linger_for_turn(cell);
+            self.linger_for_turn(rt, cell);
         }
         unreachable!()
     }
@@ -82,6 +82,7 @@ impl<C: Stands> Hall<C> {
         shared.store::<Reopen>(pass, turn, 1);
         let empty = shared.exchange(pass, cell as usize, Some(Held::Cell(value)));
         shared.store::<Leave>(pass, turn, 0);
+        self.wake_for_turn(cell);
         let None = empty else { unreachable!() };
     }
 }

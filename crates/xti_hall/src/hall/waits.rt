@@ -114,9 +114,9 @@ impl<C: Stands> Hall<C> {
         Sight::Parks((bell % (1 << 32)) as u32)
     }
 
-    /// Waits until the history is longer than `at`, or until no seat that is out can go on: each rests, or waits for what is
-    /// blocked in the history as it is. For a while it lets others run; then its mark is set, and all are looked at once more
-    /// before the seat parks, so the last seat to wait finds the stall itself. It holds nothing while it waits. Takes no memory.
+    /// Waits until the history is longer than `at`, or until each seat that is out rests, or waits for what is blocked in the
+    /// history as it is. For a while it looks at the length alone; then its mark is set, and all are looked at once more before
+    /// the seat parks, so the last seat to wait finds the stall itself. It holds nothing while it waits. Takes no memory.
     pub fn wait<R: Wait>(&self, rt: &R, seat: &mut Seat<C>, want: Want, at: u64) -> Waited
         requires hall { IsSeatOf self.now seat.old }
         requires free { seat.old.view.journal ≡ false }
