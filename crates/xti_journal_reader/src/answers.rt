@@ -8,8 +8,27 @@ ghost use Rattle.xti_journal_reader.specs.Unread.{unread, Gives};
 
 use crate::fields::{FieldFail, Fields};
 use crate::verbs::Answer;
-use xti_base::{Fd, Info, Seq, build_or_drop, write_over};
+use xti_base::{Info, build_or_drop, write_over};
 use xti_model::{Outcome, Reply};
+
+/// What a provider offers.
+#[inline(always)]
+#[tactic(auto, unfolding(crate::specs::Fields::field, crate::specs::Calls::answer_form))]
+fn read_info(fields: &mut Fields) -> Result<Info, FieldFail>
+    requires { fields.old.keys.now ≡ answer_form Answer.Limits }
+    ensures { Gives (λ info. outcome_read (Outcome.Done (Reply.Limits info))) (answered Answer.Limits (unread fields.old)) fields.new.words result }
+{
+    Ok(Info {
+        addr: read_or_end!(fields.limit()),
+        options: read_or_end!(fields.limit()),
+        tsdu: read_or_end!(fields.limit()),
+        etsdu: read_or_end!(fields.limit()),
+        connect: read_or_end!(fields.limit()),
+        discon: read_or_end!(fields.limit()),
+        servtype: read_or_end!(fields.service()),
+        flags: read_or_end!(fields.number()),
+    })
+}
 
 /// Writes an answer that tells of an endpoint or of a provider.
 #[tactic(auto, unfolding(crate::specs::Fields::field, crate::specs::Calls::answer_form))]
@@ -19,39 +38,30 @@ fn read_report(answer: Answer, fields: &mut Fields, outcome: &mut Outcome) -> Re
     ensures { Gives (λ _. outcome_read outcome.new) (answered answer (unread fields.old)) fields.new.words result }
 {
     let reply = match answer {
-        Answer::Opened => Reply::Opened {
-            fd: Fd(fields.number()?),
-        },
+        Answer::Opened => build_or_drop!(Reply::Opened {
+            fd = fields.fd(),
+        }),
         Answer::Bound => build_or_drop!(Reply::Bound {
             addr: fields.bytes(),
             qlen = fields.number(),
         }),
-        Answer::Seen => Reply::Seen {
-            event: fields.event_or_none()?,
-        },
-        Answer::Stands => Reply::Stands {
-            state: fields.state()?,
-        },
-        Answer::Limits => Reply::Limits {
-            info: Info {
-                addr: fields.limit()?,
-                options: fields.limit()?,
-                tsdu: fields.limit()?,
-                etsdu: fields.limit()?,
-                connect: fields.limit()?,
-                discon: fields.limit()?,
-                servtype: fields.service()?,
-                flags: fields.number()?,
-            },
-        },
+        Answer::Seen => build_or_drop!(Reply::Seen {
+            event = fields.event_or_none(),
+        }),
+        Answer::Stands => build_or_drop!(Reply::Stands {
+            state = fields.state(),
+        }),
+        Answer::Limits => build_or_drop!(Reply::Limits {
+            info = read_info(fields),
+        }),
         Answer::Addresses => build_or_drop!(Reply::Addresses {
             local: fields.bytes(),
             peer: fields.bytes(),
         }),
-        Answer::Options => Reply::Options {
-            result: fields.number()?,
-            opt: fields.bytes()?,
-        },
+        Answer::Options => build_or_drop!(Reply::Options {
+            result = fields.number(),
+            opt: fields.bytes(),
+        }),
         _ => unreachable!(),
     };
     write_over(outcome, Outcome::Done(reply));
@@ -71,27 +81,24 @@ fn read_news(answer: Answer, fields: &mut Fields, outcome: &mut Outcome) -> Resu
             opt: fields.bytes(),
             udata: fields.bytes(),
         }),
-        Answer::Listened => {
-            let seq = Seq(fields.number()?);
-            build_or_drop!(Reply::Listened {
-                seq;
-                addr: fields.bytes(),
-                opt: fields.bytes(),
-                udata: fields.bytes(),
-            })
-        }
-        Answer::Sent => Reply::Sent {
-            n: fields.number()?,
-        },
+        Answer::Listened => build_or_drop!(Reply::Listened {
+            seq = fields.seq(),
+            addr: fields.bytes(),
+            opt: fields.bytes(),
+            udata: fields.bytes(),
+        }),
+        Answer::Sent => build_or_drop!(Reply::Sent {
+            n = fields.number(),
+        }),
         Answer::Got => build_or_drop!(Reply::Got {
             bytes: fields.bytes(),
             flags = fields.number(),
         }),
-        Answer::Discon => Reply::Discon {
-            reason: fields.number()?,
-            seq: Seq(fields.number()?),
-            udata: fields.bytes()?,
-        },
+        Answer::Discon => build_or_drop!(Reply::Discon {
+            reason = fields.number(),
+            seq = fields.seq(),
+            udata: fields.bytes(),
+        }),
         Answer::UData => build_or_drop!(Reply::UData {
             addr: fields.bytes(),
             opt: fields.bytes(),
@@ -117,15 +124,15 @@ fn read_error(answer: Answer, fields: &mut Fields, outcome: &mut Outcome) -> Res
     ensures { Gives (λ _. outcome_read outcome.new) (answered answer (unread fields.old)) fields.new.words result }
 {
     let reply = match answer {
-        Answer::Refused => Reply::Refused {
-            errno: fields.errno()?,
-        },
-        Answer::Look => Reply::Look {
-            event: fields.event()?,
-        },
-        Answer::Overflow => Reply::Overflow {
-            seq: Seq(fields.number()?),
-        },
+        Answer::Refused => build_or_drop!(Reply::Refused {
+            errno = fields.errno(),
+        }),
+        Answer::Look => build_or_drop!(Reply::Look {
+            event = fields.event(),
+        }),
+        Answer::Overflow => build_or_drop!(Reply::Overflow {
+            seq = fields.seq(),
+        }),
         _ => unreachable!(),
     };
     write_over(outcome, Outcome::Done(reply));
@@ -148,7 +155,7 @@ pub(crate) fn read_answer(
             Ok(())
         }
         Answer::Part => {
-            let taken = fields.number()?;
+            let taken = read_or_end!(fields.number());
             write_over(outcome, Outcome::Part { taken });
             Ok(())
         }

@@ -2,14 +2,16 @@
 
 ghost use Rattle.std.specs.Prelude.{◌≡◌};
 ghost use Rattle.xti_words.specs.Texts.{words_of};
-ghost use Rattle.xti_journal_reader.specs.Reading.{ended, Ended, may_follow, line_read, line_in, profile_values, profile_in};
+ghost use Rattle.xti_journal_reader.specs.Grammar.{last_verb};
+ghost use Rattle.xti_journal_reader.specs.Reading.{last_worker, stall_in, stall_read, stalled, Stalled, ended, Ended, may_follow, line_read, line_in, profile_values, profile_in};
 ghost use Rattle.xti_journal_reader.specs.Unread.{IsRead};
 
 use crate::draft::Draft;
 use crate::fields::{FieldFail, Fields, Key};
 use crate::lines::{is_number, read_entry, read_stall};
 use std::alloc::Global;
-use xti_model::{Entry, Profile, StallLine};
+use xti_base::let_go;
+use xti_model::{Act, Entry, Profile, StallLine};
 
 /// A line after the head.
 #[derive(Drop)]
@@ -30,27 +32,44 @@ fn may_follow(before: Option<u32>, worker: u32) -> bool
     }
 }
 
+/// The stall line whose words after the first these are, where it may stand after those that were read. Its act is written in
+/// this place first.
+#[inline(always)]
+fn read_next_stall(
+    draft: &Draft,
+    fields: &mut Fields,
+    act: &mut Act,
+) -> Result<StallLine, FieldFail>
+    ensures { IsRead (λ s. Stalled (stall_read s)) (stalled (last_worker draft.now.stalls) (stall_in (last_verb draft.now.entries) fields.old.words)) result }
+{
+    let stall = read_or_end!(read_stall(draft, fields, act));
+    if may_follow(draft.last_worker(), stall.worker) {
+        Ok(stall)
+    } else {
+        let_go(stall);
+        Err(FieldFail::Wrong)
+    }
+}
+
 /// The line that the words are after those that were read; an entry is written.
 #[tactic(auto, unfolding(crate::specs::Reading::line_in))]
 fn read_words(draft: &Draft, fields: &mut Fields, entry: &mut Entry) -> Result<Line, FieldFail>
     ensures { IsRead (line_read entry.new) (line_in draft.now.entries draft.now.stalls fields.old.words) result }
 {
-    match fields.word().ok_or(FieldFail::Wrong)? {
-        b"end" => {
-            read_end(draft.count(), fields)?;
-            Ok(Line::End)
-        }
-        b"stall" => {
-            let stall = read_stall(draft, fields, &mut entry.act)?;
-            if may_follow(draft.last_worker(), stall.worker) {
-                Ok(Line::Stall(stall))
-            } else {
-                Err(FieldFail::Wrong)
+    match fields.word() {
+        Some(b"end") => match read_end(draft.count(), fields) {
+            Ok(()) => Ok(Line::End),
+            Err(fail) => Err(fail),
+        },
+        Some(b"stall") => match read_next_stall(draft, fields, &mut entry.act) {
+            Ok(stall) => Ok(Line::Stall(stall)),
+            Err(fail) => Err(fail),
+        },
+        Some(word) if draft.last_worker().is_none() => {
+            match read_entry(draft.count() as u64 + 1, draft, word, fields, entry) {
+                Ok(()) => Ok(Line::Entry),
+                Err(fail) => Err(fail),
             }
-        }
-        word if draft.last_worker().is_none() => {
-            read_entry(draft.count() as u64 + 1, draft, word, fields, entry)?;
-            Ok(Line::Entry)
         }
         _ => Err(FieldFail::Wrong),
     }

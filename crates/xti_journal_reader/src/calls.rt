@@ -8,7 +8,7 @@ ghost use Rattle.xti_journal_reader.specs.Unread.{unread, Gives};
 
 use crate::fields::{FieldFail, Fields};
 use crate::verbs::Verb;
-use xti_base::{Fd, Seq, build_or_drop, write_over};
+use xti_base::{build_or_drop, write_over};
 use xti_model::{Act, Call};
 
 /// Writes a call that says no more than which endpoint.
@@ -18,31 +18,16 @@ fn read_plain(verb: Verb, fields: &mut Fields, act: &mut Act) -> Result<(), Fiel
     requires keys { fields.old.keys.now ≡ form verb }
     ensures { Gives (λ _. act_read act.new) (begun verb (unread fields.old)) fields.new.words result }
 {
+    let fd = read_or_end!(fields.fd());
     let call = match verb {
-        Verb::Close => Call::TClose {
-            fd: Fd(fields.number()?),
-        },
-        Verb::Unbind => Call::TUnbind {
-            fd: Fd(fields.number()?),
-        },
-        Verb::SndRel => Call::TSndRel {
-            fd: Fd(fields.number()?),
-        },
-        Verb::RcvRel => Call::TRcvRel {
-            fd: Fd(fields.number()?),
-        },
-        Verb::Look => Call::TLookAt {
-            fd: Fd(fields.number()?),
-        },
-        Verb::GetState => Call::TGetState {
-            fd: Fd(fields.number()?),
-        },
-        Verb::Sync => Call::TSync {
-            fd: Fd(fields.number()?),
-        },
-        Verb::GetInfo => Call::TGetInfo {
-            fd: Fd(fields.number()?),
-        },
+        Verb::Close => Call::TClose { fd },
+        Verb::Unbind => Call::TUnbind { fd },
+        Verb::SndRel => Call::TSndRel { fd },
+        Verb::RcvRel => Call::TRcvRel { fd },
+        Verb::Look => Call::TLookAt { fd },
+        Verb::GetState => Call::TGetState { fd },
+        Verb::Sync => Call::TSync { fd },
+        Verb::GetInfo => Call::TGetInfo { fd },
         _ => unreachable!(),
     };
     write_over(act, Act::Begin(call));
@@ -57,37 +42,31 @@ fn read_local(verb: Verb, fields: &mut Fields, act: &mut Act) -> Result<(), Fiel
     ensures { Gives (λ _. act_read act.new) (begun verb (unread fields.old)) fields.new.words result }
 {
     let call = match verb {
-        Verb::Open => Call::TOpen {
-            prov: fields.provider()?,
-            nonblock: fields.mode()?,
-        },
-        Verb::Bind => {
-            let fd = Fd(fields.number()?);
-            build_or_drop!(Call::TBind {
-                fd;
-                addr: fields.bytes(),
-                qlen = fields.number(),
-                amax = fields.number(),
-            })
-        }
-        Verb::SetMode => Call::SetMode {
-            fd: Fd(fields.number()?),
-            nonblock: fields.mode()?,
-        },
-        Verb::GetProtAddr => Call::TGetProtAddr {
-            fd: Fd(fields.number()?),
-            amax: fields.number()?,
-            pmax: fields.number()?,
-        },
-        Verb::OptMgmt => {
-            let fd = Fd(fields.number()?);
-            build_or_drop!(Call::TOptMgmt {
-                fd;
-                action = fields.number(),
-                opt: fields.bytes(),
-                omax = fields.number(),
-            })
-        }
+        Verb::Open => build_or_drop!(Call::TOpen {
+            prov = fields.provider(),
+            nonblock = fields.mode(),
+        }),
+        Verb::Bind => build_or_drop!(Call::TBind {
+            fd = fields.fd(),
+            addr: fields.bytes(),
+            qlen = fields.number(),
+            amax = fields.number(),
+        }),
+        Verb::SetMode => build_or_drop!(Call::SetMode {
+            fd = fields.fd(),
+            nonblock = fields.mode(),
+        }),
+        Verb::GetProtAddr => build_or_drop!(Call::TGetProtAddr {
+            fd = fields.fd(),
+            amax = fields.number(),
+            pmax = fields.number(),
+        }),
+        Verb::OptMgmt => build_or_drop!(Call::TOptMgmt {
+            fd = fields.fd(),
+            action = fields.number(),
+            opt: fields.bytes(),
+            omax = fields.number(),
+        }),
         _ => unreachable!(),
     };
     write_over(act, Act::Begin(call));
@@ -101,50 +80,45 @@ fn read_connecting(verb: Verb, fields: &mut Fields, act: &mut Act) -> Result<(),
     requires keys { fields.old.keys.now ≡ form verb }
     ensures { Gives (λ _. act_read act.new) (begun verb (unread fields.old)) fields.new.words result }
 {
+    let fd = read_or_end!(fields.fd());
     let call = match verb {
-        Verb::Connect => {
-            let fd = Fd(fields.number()?);
-            build_or_drop!(Call::TConnect {
-                fd;
-                addr: fields.bytes(),
-                opt: fields.bytes(),
-                udata: fields.bytes(),
-                amax = fields.number(),
-                omax = fields.number(),
-                umax = fields.number(),
-            })
-        }
-        Verb::RcvConnect => Call::TRcvConnect {
-            fd: Fd(fields.number()?),
-            amax: fields.number()?,
-            omax: fields.number()?,
-            umax: fields.number()?,
-        },
-        Verb::Listen => Call::TListen {
-            fd: Fd(fields.number()?),
-            amax: fields.number()?,
-            omax: fields.number()?,
-            umax: fields.number()?,
-        },
-        Verb::Accept => {
-            let fd = Fd(fields.number()?);
-            let resfd = Fd(fields.number()?);
-            let seq = Seq(fields.number()?);
-            build_or_drop!(Call::TAccept {
-                fd, resfd, seq;
-                opt: fields.bytes(),
-                udata: fields.bytes(),
-            })
-        }
-        Verb::SndDis => Call::TSndDis {
-            fd: Fd(fields.number()?),
-            seq: Seq(fields.number()?),
-            udata: fields.bytes()?,
-        },
-        Verb::RcvDis => Call::TRcvDis {
-            fd: Fd(fields.number()?),
-            umax: fields.number()?,
-        },
+        Verb::Connect => build_or_drop!(Call::TConnect {
+            fd;
+            addr: fields.bytes(),
+            opt: fields.bytes(),
+            udata: fields.bytes(),
+            amax = fields.number(),
+            omax = fields.number(),
+            umax = fields.number(),
+        }),
+        Verb::RcvConnect => build_or_drop!(Call::TRcvConnect {
+            fd;
+            amax = fields.number(),
+            omax = fields.number(),
+            umax = fields.number(),
+        }),
+        Verb::Listen => build_or_drop!(Call::TListen {
+            fd;
+            amax = fields.number(),
+            omax = fields.number(),
+            umax = fields.number(),
+        }),
+        Verb::Accept => build_or_drop!(Call::TAccept {
+            fd;
+            resfd = fields.fd(),
+            seq = fields.seq(),
+            opt: fields.bytes(),
+            udata: fields.bytes(),
+        }),
+        Verb::SndDis => build_or_drop!(Call::TSndDis {
+            fd;
+            seq = fields.seq(),
+            udata: fields.bytes(),
+        }),
+        Verb::RcvDis => build_or_drop!(Call::TRcvDis {
+            fd;
+            umax = fields.number(),
+        }),
         _ => unreachable!(),
     };
     write_over(act, Act::Begin(call));
@@ -158,31 +132,26 @@ fn read_data(verb: Verb, fields: &mut Fields, act: &mut Act) -> Result<(), Field
     requires keys { fields.old.keys.now ≡ form verb }
     ensures { Gives (λ _. act_read act.new) (begun verb (unread fields.old)) fields.new.words result }
 {
+    let fd = read_or_end!(fields.fd());
     let call = match verb {
-        Verb::Snd => {
-            let fd = Fd(fields.number()?);
-            build_or_drop!(Call::TSnd {
-                fd;
-                bytes: fields.bytes(),
-                flags = fields.number(),
-            })
-        }
-        Verb::SndV => {
-            let fd = Fd(fields.number()?);
-            build_or_drop!(Call::TSndV {
-                fd;
-                parts: fields.parts(),
-                flags = fields.number(),
-            })
-        }
-        Verb::Rcv => Call::TRcv {
-            fd: Fd(fields.number()?),
-            max: fields.number()?,
-        },
-        Verb::RcvV => Call::TRcvV {
-            fd: Fd(fields.number()?),
-            sizes: fields.sizes()?,
-        },
+        Verb::Snd => build_or_drop!(Call::TSnd {
+            fd;
+            bytes: fields.bytes(),
+            flags = fields.number(),
+        }),
+        Verb::SndV => build_or_drop!(Call::TSndV {
+            fd;
+            parts: fields.parts(),
+            flags = fields.number(),
+        }),
+        Verb::Rcv => build_or_drop!(Call::TRcv {
+            fd;
+            max = fields.number(),
+        }),
+        Verb::RcvV => build_or_drop!(Call::TRcvV {
+            fd;
+            sizes: fields.sizes(),
+        }),
         _ => unreachable!(),
     };
     write_over(act, Act::Begin(call));
@@ -196,45 +165,37 @@ fn read_datagram(verb: Verb, fields: &mut Fields, act: &mut Act) -> Result<(), F
     requires keys { fields.old.keys.now ≡ form verb }
     ensures { Gives (λ _. act_read act.new) (begun verb (unread fields.old)) fields.new.words result }
 {
+    let fd = read_or_end!(fields.fd());
     let call = match verb {
-        Verb::SndUData => {
-            let fd = Fd(fields.number()?);
-            build_or_drop!(Call::TSndUData {
-                fd;
-                addr: fields.bytes(),
-                opt: fields.bytes(),
-                bytes: fields.bytes(),
-            })
-        }
-        Verb::SndVUData => {
-            let fd = Fd(fields.number()?);
-            build_or_drop!(Call::TSndVUData {
-                fd;
-                addr: fields.bytes(),
-                opt: fields.bytes(),
-                parts: fields.parts(),
-            })
-        }
-        Verb::RcvUData => Call::TRcvUData {
-            fd: Fd(fields.number()?),
-            max: fields.number()?,
-            amax: fields.number()?,
-            omax: fields.number()?,
-        },
-        Verb::RcvVUData => {
-            let fd = Fd(fields.number()?);
-            build_or_drop!(Call::TRcvVUData {
-                fd;
-                sizes: fields.sizes(),
-                amax = fields.number(),
-                omax = fields.number(),
-            })
-        }
-        Verb::RcvUDErr => Call::TRcvUDErr {
-            fd: Fd(fields.number()?),
-            amax: fields.number()?,
-            omax: fields.number()?,
-        },
+        Verb::SndUData => build_or_drop!(Call::TSndUData {
+            fd;
+            addr: fields.bytes(),
+            opt: fields.bytes(),
+            bytes: fields.bytes(),
+        }),
+        Verb::SndVUData => build_or_drop!(Call::TSndVUData {
+            fd;
+            addr: fields.bytes(),
+            opt: fields.bytes(),
+            parts: fields.parts(),
+        }),
+        Verb::RcvUData => build_or_drop!(Call::TRcvUData {
+            fd;
+            max = fields.number(),
+            amax = fields.number(),
+            omax = fields.number(),
+        }),
+        Verb::RcvVUData => build_or_drop!(Call::TRcvVUData {
+            fd;
+            sizes: fields.sizes(),
+            amax = fields.number(),
+            omax = fields.number(),
+        }),
+        Verb::RcvUDErr => build_or_drop!(Call::TRcvUDErr {
+            fd;
+            amax = fields.number(),
+            omax = fields.number(),
+        }),
         _ => unreachable!(),
     };
     write_over(act, Act::Begin(call));

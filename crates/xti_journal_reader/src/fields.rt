@@ -15,7 +15,7 @@ use crate::names::{
 };
 use crate::values::{octets_in, parts_in, sizes_in};
 use std::alloc::{AllocError, Global};
-use xti_base::{Errno, Event, Limit, Octets, Parts, Prov, ServType, Sizes, State};
+use xti_base::{Errno, Event, Fd, Limit, Octets, Parts, Prov, Seq, ServType, Sizes, State};
 use xti_words::{Words, mode_in, number_in, provider_in};
 
 /// The keys of fields. The first ten are written without a key.
@@ -227,6 +227,32 @@ impl<'a> Fields<'a> {
         match self.next() {
             (_, Some(text)) => number_in(text).ok_or(FieldFail::Wrong),
             (_, None) => Err(FieldFail::Wrong),
+        }
+    }
+
+    /// The descriptor whose number the next field is.
+    #[inline(always)]
+    pub(crate) fn fd(&mut self) -> Result<Fd, FieldFail>
+        requires { NextIs kind.Number self.old.keys.now }
+        ensures keys { self.new.keys.now ≡ drop 1 self.old.keys.now }
+        ensures value { Reads (λ fd. value.Number fd.0) (unread self.old) (unread self.new) result }
+    {
+        match self.number() {
+            Ok(number) => Ok(Fd(number)),
+            Err(fail) => Err(fail),
+        }
+    }
+
+    /// The sequence number that the next field is.
+    #[inline(always)]
+    pub(crate) fn seq(&mut self) -> Result<Seq, FieldFail>
+        requires { NextIs kind.Number self.old.keys.now }
+        ensures keys { self.new.keys.now ≡ drop 1 self.old.keys.now }
+        ensures value { Reads (λ seq. value.Number seq.0) (unread self.old) (unread self.new) result }
+    {
+        match self.number() {
+            Ok(number) => Ok(Seq(number)),
+            Err(fail) => Err(fail),
         }
     }
 

@@ -1,6 +1,16 @@
 //! Journals read back.
 #![tactic(auto)]
 
+/// What was read; where it wasn't, the function ends with that error, as at `?`, which is two calls more to prove.
+macro_rules! read_or_end {
+    ($read:expr) => {
+        match $read {
+            Ok(read) => read,
+            Err(fail) => return Err(fail),
+        }
+    };
+}
+
 mod answers;
 mod body;
 mod calls;

@@ -34,12 +34,16 @@ fn worker_in(word: &[u8]) -> Option<u32>
 fn read_act(fields: &mut Fields, act: &mut Act) -> Result<(), FieldFail>
     ensures { Gives (λ _. act_read act.new) (act_in fields.old.words) fields.new.words result }
 {
-    let word = fields.word().ok_or(FieldFail::Wrong)?;
+    let Some(word) = fields.word() else {
+        return Err(FieldFail::Wrong);
+    };
     if word == b"more".as_slice() {
         write_over(act, Act::More);
         return Ok(());
     }
-    let verb = verb_in(word).ok_or(FieldFail::Wrong)?;
+    let Some(verb) = verb_in(word) else {
+        return Err(FieldFail::Wrong);
+    };
     fields.expect(form(verb));
     read_call(verb, fields, act)
 }
@@ -62,10 +66,10 @@ fn read_error(fields: &mut Fields) -> Answer
 fn read_answer_word(verb: Verb, fields: &mut Fields) -> Result<Answer, FieldFail>
     ensures { Gives same (answer_in verb fields.old.words) fields.new.words result }
 {
-    match fields.word().ok_or(FieldFail::Wrong)? {
-        b"ok" => Ok(answer_of(verb)),
-        b"err" => Ok(read_error(fields)),
-        b"part" => Ok(Answer::Part),
+    match fields.word() {
+        Some(b"ok") => Ok(answer_of(verb)),
+        Some(b"err") => Ok(read_error(fields)),
+        Some(b"part") => Ok(Answer::Part),
         _ => Err(FieldFail::Wrong),
     }
 }
@@ -75,7 +79,7 @@ fn read_answer_word(verb: Verb, fields: &mut Fields) -> Result<Answer, FieldFail
 fn read_outcome(verb: Verb, fields: &mut Fields, outcome: &mut Outcome) -> Result<(), FieldFail>
     ensures { Gives (λ _. outcome_read outcome.new) (outcome_in verb fields.old.words) fields.new.words result }
 {
-    let answer = read_answer_word(verb, fields)?;
+    let answer = read_or_end!(read_answer_word(verb, fields));
     fields.expect(answer_form(answer));
     read_answer(answer, fields, outcome)
 }
@@ -86,10 +90,16 @@ fn read_step(fields: &mut Fields, act: &mut Act) -> Result<u32, FieldFail>
     ensures value { Gives (step_read act.new) (step_in fields.old.words) fields.new.words result }
     ensures worker { IfOk result (λ worker. worker ≤ LAST_WORKER) }
 {
-    let word = fields.word().ok_or(FieldFail::Wrong)?;
-    let worker = worker_in(word).ok_or(FieldFail::Wrong)?;
-    read_act(fields, act)?;
-    Ok(worker)
+    let Some(word) = fields.word() else {
+        return Err(FieldFail::Wrong);
+    };
+    let Some(worker) = worker_in(word) else {
+        return Err(FieldFail::Wrong);
+    };
+    match read_act(fields, act) {
+        Ok(()) => Ok(worker),
+        Err(fail) => Err(fail),
+    }
 }
 
 /// The state that the last word is.
@@ -98,7 +108,7 @@ fn read_state(fields: &mut Fields) -> Result<State, FieldFail>
     ensures { IsRead same (state_at_end fields.old.words) result }
 {
     fields.expect(&[Key::State]);
-    let state = fields.state()?;
+    let state = read_or_end!(fields.state());
     if fields.are_read() {
         Ok(state)
     } else {
@@ -114,10 +124,12 @@ fn read_after_arrow(
 ) -> Result<State, FieldFail>
     ensures { IsRead (behind_read outcome.new) (behind_arrow verb fields.old.words) result }
 {
-    let verb = verb.ok_or(FieldFail::Wrong)?;
+    let Some(verb) = verb else {
+        return Err(FieldFail::Wrong);
+    };
     match fields.word() {
         Some(b"=>") => {
-            read_outcome(verb, fields, outcome)?;
+            read_or_end!(read_outcome(verb, fields, outcome));
             read_state(fields)
         }
         _ => Err(FieldFail::Wrong),

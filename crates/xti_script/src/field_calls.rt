@@ -14,6 +14,14 @@ use xti_model::NamedCall;
 /// A call, or why its fields aren't read.
 type ReadCall = Result<NamedCall, FieldFail>;
 
+/// Makes a call at the endpoint with the name, which was read before its other fields. Where one of these can't be read, those
+/// before it are let go with the name, and the function ends with that error.
+macro_rules! call_at {
+    ($name:ident, $call:ident { $($field:tt)* }) => {
+        build_or_drop!(@ NamedCall::$call [$name,] [$name] $($field)*)
+    };
+}
+
 /// A call that says no more than which endpoint.
 #[tactic(auto, unfolding(crate::specs::Fields::field, crate::specs::Calls::form_of, crate::specs::Calls::call_with))]
 fn read_plain(verb: Verb, fields: &mut Fields) -> ReadCall
@@ -22,31 +30,16 @@ fn read_plain(verb: Verb, fields: &mut Fields) -> ReadCall
     ensures call { Makes (with_values verb (unread fields.old)) (unread fields.new) result }
     ensures keys { IfOk result (λ _. fields.new.keys.now ≡ []) }
 {
+    let fd = fields.name(Key::Endpoint)?;
     match verb {
-        Verb::Close => Ok(NamedCall::TClose {
-            fd: fields.name(Key::Endpoint)?,
-        }),
-        Verb::Unbind => Ok(NamedCall::TUnbind {
-            fd: fields.name(Key::Endpoint)?,
-        }),
-        Verb::SndRel => Ok(NamedCall::TSndRel {
-            fd: fields.name(Key::Endpoint)?,
-        }),
-        Verb::RcvRel => Ok(NamedCall::TRcvRel {
-            fd: fields.name(Key::Endpoint)?,
-        }),
-        Verb::Look => Ok(NamedCall::TLookAt {
-            fd: fields.name(Key::Endpoint)?,
-        }),
-        Verb::GetState => Ok(NamedCall::TGetState {
-            fd: fields.name(Key::Endpoint)?,
-        }),
-        Verb::Sync => Ok(NamedCall::TSync {
-            fd: fields.name(Key::Endpoint)?,
-        }),
-        Verb::GetInfo => Ok(NamedCall::TGetInfo {
-            fd: fields.name(Key::Endpoint)?,
-        }),
+        Verb::Close => Ok(NamedCall::TClose { fd }),
+        Verb::Unbind => Ok(NamedCall::TUnbind { fd }),
+        Verb::SndRel => Ok(NamedCall::TSndRel { fd }),
+        Verb::RcvRel => Ok(NamedCall::TRcvRel { fd }),
+        Verb::Look => Ok(NamedCall::TLookAt { fd }),
+        Verb::GetState => Ok(NamedCall::TGetState { fd }),
+        Verb::Sync => Ok(NamedCall::TSync { fd }),
+        Verb::GetInfo => Ok(NamedCall::TGetInfo { fd }),
         _ => unreachable!(),
     }
 }
@@ -98,9 +91,9 @@ fn read_connecting(verb: Verb, fields: &mut Fields) -> ReadCall
     ensures call { Makes (with_values verb (unread fields.old)) (unread fields.new) result }
     ensures keys { IfOk result (λ _. fields.new.keys.now ≡ []) }
 {
+    let fd = fields.name(Key::Endpoint)?;
     match verb {
-        Verb::Connect => Ok(build_or_drop!(NamedCall::TConnect {
-            fd: fields.name(Key::Endpoint),
+        Verb::Connect => Ok(call_at!(fd, TConnect {
             addr: fields.bytes(Key::Addr),
             opt: fields.options(Key::Opt),
             udata: fields.bytes(Key::UData),
@@ -108,33 +101,34 @@ fn read_connecting(verb: Verb, fields: &mut Fields) -> ReadCall
             omax = fields.number(Key::Omax),
             umax = fields.number(Key::Umax),
         })),
-        Verb::RcvConnect => Ok(build_or_drop!(NamedCall::TRcvConnect {
-            fd: fields.name(Key::Endpoint),
+        Verb::RcvConnect => Ok(call_at!(fd, TRcvConnect {
             amax = fields.number(Key::Amax),
             omax = fields.number(Key::Omax),
             umax = fields.number(Key::Umax),
         })),
-        Verb::Listen => Ok(build_or_drop!(NamedCall::TListen {
-            fd: fields.name(Key::Endpoint),
+        Verb::Listen => Ok(call_at!(fd, TListen {
             name: fields.name(Key::NewSequence),
             amax = fields.number(Key::Amax),
             omax = fields.number(Key::Omax),
             umax = fields.number(Key::Umax),
         })),
-        Verb::Accept => Ok(build_or_drop!(NamedCall::TAccept {
-            fd: fields.name(Key::Endpoint),
-            resfd: fields.name(Key::Endpoint),
-            seq: fields.name(Key::Sequence),
-            opt: fields.options(Key::Opt),
-            udata: fields.bytes(Key::UData),
-        })),
-        Verb::SndDis => Ok(build_or_drop!(NamedCall::TSndDis {
-            fd: fields.name(Key::Endpoint),
-            seq: fields.sequence_or_none(Key::SequenceOrNone),
-            udata: fields.bytes(Key::UData),
-        })),
-        Verb::RcvDis => Ok(build_or_drop!(NamedCall::TRcvDis {
-            fd: fields.name(Key::Endpoint),
+        Verb::Accept => Ok(call_at!(
+            fd,
+            TAccept {
+                resfd: fields.name(Key::Endpoint),
+                seq: fields.name(Key::Sequence),
+                opt: fields.options(Key::Opt),
+                udata: fields.bytes(Key::UData),
+            }
+        )),
+        Verb::SndDis => Ok(call_at!(
+            fd,
+            TSndDis {
+                seq: fields.sequence_or_none(Key::SequenceOrNone),
+                udata: fields.bytes(Key::UData),
+            }
+        )),
+        Verb::RcvDis => Ok(call_at!(fd, TRcvDis {
             umax = fields.number(Key::Umax),
         })),
         _ => unreachable!(),
@@ -149,25 +143,25 @@ fn read_data(verb: Verb, fields: &mut Fields) -> ReadCall
     ensures call { Makes (with_values verb (unread fields.old)) (unread fields.new) result }
     ensures keys { IfOk result (λ _. fields.new.keys.now ≡ []) }
 {
+    let fd = fields.name(Key::Endpoint)?;
     match verb {
-        Verb::Snd => Ok(build_or_drop!(NamedCall::TSnd {
-            fd: fields.name(Key::Endpoint),
+        Verb::Snd => Ok(call_at!(fd, TSnd {
             bytes: fields.bytes(Key::Data),
             flags = fields.number(Key::Flags),
         })),
-        Verb::SndV => Ok(build_or_drop!(NamedCall::TSndV {
-            fd: fields.name(Key::Endpoint),
+        Verb::SndV => Ok(call_at!(fd, TSndV {
             parts: fields.parts(Key::Parts),
             flags = fields.number(Key::Flags),
         })),
-        Verb::Rcv => Ok(build_or_drop!(NamedCall::TRcv {
-            fd: fields.name(Key::Endpoint),
+        Verb::Rcv => Ok(call_at!(fd, TRcv {
             max = fields.number(Key::Max),
         })),
-        Verb::RcvV => Ok(build_or_drop!(NamedCall::TRcvV {
-            fd: fields.name(Key::Endpoint),
-            sizes: fields.sizes(Key::Sizes),
-        })),
+        Verb::RcvV => Ok(call_at!(
+            fd,
+            TRcvV {
+                sizes: fields.sizes(Key::Sizes),
+            }
+        )),
         _ => unreachable!(),
     }
 }
@@ -180,33 +174,35 @@ fn read_datagram(verb: Verb, fields: &mut Fields) -> ReadCall
     ensures call { Makes (with_values verb (unread fields.old)) (unread fields.new) result }
     ensures keys { IfOk result (λ _. fields.new.keys.now ≡ []) }
 {
+    let fd = fields.name(Key::Endpoint)?;
     match verb {
-        Verb::SndUData => Ok(build_or_drop!(NamedCall::TSndUData {
-            fd: fields.name(Key::Endpoint),
-            addr: fields.bytes(Key::Addr),
-            opt: fields.options(Key::Opt),
-            bytes: fields.bytes(Key::Data),
-        })),
-        Verb::SndVUData => Ok(build_or_drop!(NamedCall::TSndVUData {
-            fd: fields.name(Key::Endpoint),
-            addr: fields.bytes(Key::Addr),
-            opt: fields.options(Key::Opt),
-            parts: fields.parts(Key::Parts),
-        })),
-        Verb::RcvUData => Ok(build_or_drop!(NamedCall::TRcvUData {
-            fd: fields.name(Key::Endpoint),
+        Verb::SndUData => Ok(call_at!(
+            fd,
+            TSndUData {
+                addr: fields.bytes(Key::Addr),
+                opt: fields.options(Key::Opt),
+                bytes: fields.bytes(Key::Data),
+            }
+        )),
+        Verb::SndVUData => Ok(call_at!(
+            fd,
+            TSndVUData {
+                addr: fields.bytes(Key::Addr),
+                opt: fields.options(Key::Opt),
+                parts: fields.parts(Key::Parts),
+            }
+        )),
+        Verb::RcvUData => Ok(call_at!(fd, TRcvUData {
             max = fields.number(Key::Max),
             amax = fields.number(Key::Amax),
             omax = fields.number(Key::Omax),
         })),
-        Verb::RcvVUData => Ok(build_or_drop!(NamedCall::TRcvVUData {
-            fd: fields.name(Key::Endpoint),
+        Verb::RcvVUData => Ok(call_at!(fd, TRcvVUData {
             sizes: fields.sizes(Key::Sizes),
             amax = fields.number(Key::Amax),
             omax = fields.number(Key::Omax),
         })),
-        Verb::RcvUDErr => Ok(build_or_drop!(NamedCall::TRcvUDErr {
-            fd: fields.name(Key::Endpoint),
+        Verb::RcvUDErr => Ok(call_at!(fd, TRcvUDErr {
             amax = fields.number(Key::Amax),
             omax = fields.number(Key::Omax),
         })),
