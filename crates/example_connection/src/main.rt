@@ -158,7 +158,7 @@ fn exchange<R: Threads + Wait + Sync + Print + Eprint + AllocGlobal>(
 ) -> Result<bool, Failure> {
     let alloc = rt.alloc();
     usual_is_valid();
-    let (xti, mut listening) = Xti::new(alloc, &Providers::usual())?;
+    let (xti, mut listening) = Xti::new(alloc, &Providers::usual(), false)?;
     let Ok(calling) = xti.split(rt, alloc, &mut listening) else {
         unreachable!()
     };

@@ -1,5 +1,5 @@
 -- The loop of a call: each step that is made is one more of its own, and a wait leaves them.
-use Rattle.std.proofs.Common.{◌≡◌, ℕ, List, [], ◌∷◌, ◌++◌, length, Option, Some, None, refl, sym, ap, ◌∙◌, subst, arith, append_assoc, length-append}
+use Rattle.std.proofs.Common.{◌≡◌, ℕ, List, [], ◌∷◌, ◌++◌, length, Option, Some, None, refl, sym, ap, ◌∙◌, subst, arith, append_assoc, length-append, ◌⊎◌, inl, inr, false}
 use Rattle.std.specs.List.{AllByRecursion}
 use Rattle.std.proofs.lemmas.List.{append-nil}
 use mathlib.Core.List.{IsPrefix}
@@ -21,10 +21,13 @@ use Rattle.xti_model.specs.History.{Going, call_after, going_after, unfinished_f
 use Rattle.xti_model.proofs.Working.{call_from, unfinished_from-snoc, call_of-from}
 use Rattle.xti_model.proofs.Appending.{all-append}
 use Rattle.xti_rule.specs.declared.setting.Setting.{Setting}
+use Rattle.xti_rule.specs.declared.view.Mark.{Mark}
+use Rattle.xti_rule.specs.declared.view.Mark.TheVariants.{Free}
 use Rattle.xti_rule.specs.declared.view.View.{View}
 use Rattle.xti_rule.specs.Histories.{after}
-use Rattle.xti_hall.specs.Seats.{Looks}
-use Rattle.xti_step.specs.Steps.{HoldsNothing, Later, MayGo, entry_of, Made}
+use Rattle.xti_hall.specs.Seats.{Looks, entry_of}
+use Rattle.xti_hall.specs.Stalls.{waits}
+use Rattle.xti_step.specs.Steps.{HoldsNothing, Later, MayGo, Made}
 use Rattle.xti_calls.specs.Calling.{IsMore, IsPart, AreSteps, Answered, Stopped, going_at, IsAt}
 use Rattle.xti_calls.proofs.Unfinished.{GoingHasLeft, made-call, entry-left}
 
@@ -83,8 +86,8 @@ module _ {v : View} {c : Call} {from g : Go} {v1 v2 : View} (k : Goes v c from g
   abbrev going' : unfinished_from None None v2.mine ≡ going_after (Some c) outcome
   going' = ap (unfinished_from None None) m.mine ∙ after-step c g v1.mine x (goes-may k) refl
 
-  pub goes-done : (reply : Reply) → outcome ≡ Done reply → Answered v c from v2 reply
-  goes-done reply e = record {
+  pub goes-done : (reply : Reply) → outcome ≡ Done reply → v2.mark ≡ Free → Answered v c from v2 reply
+  goes-done reply e free = record {
     parts = k.parts;
     last = x;
     steps = more;
@@ -94,6 +97,7 @@ module _ {v : View} {c : Call} {from g : Go} {v1 v2 : View} (k : Goes v c from g
     finished = going' ∙ ap (going_after (Some c)) e;
     before = m.before;
     ends = m.ends;
+    free = free;
   }
 
   pub goes-part : (n : ℕ) → outcome ≡ Part n → Goes v c from (go.More n) v2
@@ -125,6 +129,11 @@ goes-on {v} {c} {from} {g} {v1} {v2} k m l = record {
 
 abbrev pub goes-stopped : {v : View} {c : Call} {from g : Go} {v1 : View} → Goes v c from g v1 → (n : ℕ) → n ≡ taken_before g → Stopped v c from v1 n
 goes-stopped {v} {c} {from} {g} {v1} k n e = record { parts = k.parts; steps = k.steps; are_parts = k.are_parts; mine = k.mine; so_far = g; unmoved = k.unmoved; taken_is = e; is_at = k.is_at }
+
+-- a seat that is free, or marked as before, waits no more than before
+pub waits-no-more : (m m' : Mark) → (m' ≡ m) ⊎ (m' ≡ Free) → waits m ≡ false → waits m' ≡ false
+waits-no-more m m' (inl e) w = ap waits e ∙ w
+waits-no-more m m' (inr e) w = ap waits e
 
 -- a look at the history leaves the seat idle
 pub looks-idle : (v v' : View) → HoldsNothing v → Looks v v' → HoldsNothing v'

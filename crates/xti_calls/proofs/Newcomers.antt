@@ -15,4 +15,4 @@ none_held (suc n) zero = refl
 none_held (suc n) (suc i) = none_held n i
 
 pub newcomer_ready : (p : Setting) (l : Lending) → IsEmpty l → l.providers ≡ p.providers → IsReady (newcomer p) l
-newcomer_ready p l empty same = record { idle = (refl, λ i. none_held p.cells i); empty = empty; providers = same }
+newcomer_ready p l empty same = record { idle = (refl, λ i. none_held p.cells i); empty = empty; providers = same; mark = refl }

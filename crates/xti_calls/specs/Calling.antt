@@ -13,6 +13,7 @@ use Rattle.xti_model.specs.Robin.{act_of}
 use Rattle.xti_model.specs.Step.{step}
 use Rattle.xti_model.specs.Wants.{taken_before}
 use Rattle.xti_rule.specs.declared.view.View.{View}
+use Rattle.xti_rule.specs.declared.view.Mark.TheVariants.{Free, Resting}
 use Rattle.xti_rule.specs.Histories.{after}
 use Rattle.xti_wants.specs.declared.want.Want.{Want}
 use Rattle.xti_waits.specs.Wanted.{IsWant}
@@ -55,7 +56,7 @@ AreSteps c g [] = Unit {0}
 AreSteps c g (e ∷ es) = (e.act ≡ act_of g c) × AllByRecursion IsMore es
 
 -- all steps of the call that were left were made, parts and then the last one, which is the last entry that was seen, and answered
--- this
+-- this; the seat goes about its calls
 pub record Answered (v : View) (c : Call) (g : Go) (v' : View) (reply : Reply) : Type 0 where
   pub parts : List Entry
   pub last : Entry
@@ -66,6 +67,7 @@ pub record Answered (v : View) (c : Call) (g : Go) (v' : View) (reply : Reply) :
   pub finished : unfinished_from None None v'.mine ≡ None
   pub before : List Entry
   pub ends : v'.seen ≡ before ++ last ∷ []
+  pub free : v'.mark ≡ Free
 
 -- the steps of the call that were made, if any, are all parts, and so many bytes are taken; the next is `so_far`
 pub record Stopped (v : View) (c : Call) (g : Go) (v' : View) (taken : ℕ) : Type 0 where
@@ -78,13 +80,15 @@ pub record Stopped (v : View) (c : Call) (g : Go) (v' : View) (taken : ℕ) : Ty
   pub taken_is : taken ≡ taken_before so_far
   pub is_at : IsAt v' c so_far
 
--- the next step is blocked after what was seen, and each seat that is out rests there, or waits for what is blocked
+-- the next step is blocked after what was seen, and each seat that is out rests there, or waits for what is blocked; the seat
+-- counts as resting from now on
 pub record StoppedAtStall (v : View) (c : Call) (g : Go) (v' : View) (taken : ℕ) (s : Stall) : Type 0 where
   pub stopped : Stopped v c g v' taken
   pub blocked : step v'.setting.providers (after v'.setting v'.seen) c stopped.so_far ≡ None
   pub want : Want
   pub want_is : IsWant c stopped.so_far want
   pub stall : IsStall v' want s
+  pub rests : v'.mark ≡ Resting
 
 abbrev pub Halted : View → Call → Go → View → Halt → Type 0
 Halted v c g v' (OutOfMemory taken) = Stopped v c g v' taken

@@ -1,11 +1,13 @@
 //! All steps of a call.
 
-ghost use Rattle.std.specs.Prelude.{◌≡◌, None, MatchResult};
+ghost use Rattle.std.specs.Prelude.{◌≡◌, None, false, MatchResult};
 ghost use Rattle.xti_model.specs.declared.entry.Go.TheVariants.{Begin};
 ghost use Rattle.xti_model.specs.History.{unfinished_from};
 ghost use Rattle.xti_model.specs.Wants.{HasLeft, taken_before};
+ghost use Rattle.xti_hall.specs.Seats.{IsStanding};
+ghost use Rattle.xti_hall.specs.Stalls.{waits};
 ghost use Rattle.xti_hall.specs.Words.{setting_of, IsSeatOf, IsSameSeat};
-ghost use Rattle.xti_gather.specs.Cells.{whole};
+ghost use Rattle.xti_gather.specs.Cells.{IsWhole};
 ghost use Rattle.xti_gather.specs.Lends.{IsEmpty};
 ghost use Rattle.xti_step.specs.Steps.{HoldsNothing, Later};
 ghost use Rattle.xti_calls.specs.Calling.{IsAt, IsUnfinished, Answered, Halted, going_at, where_left};
@@ -15,7 +17,7 @@ use std::sync::Wait;
 use xti_gather::Cell;
 use xti_hall::{Hall, Seat, Stall, Waited};
 use xti_lent::Lent;
-use xti_model::{Applied, Call, Go, Outcome, Reply};
+use xti_model::{Applied, Call, Cells, Go, Outcome, Reply};
 use xti_step::{Gate, step};
 use xti_waits::{blocked_calls_have_wants, want_of};
 
@@ -38,7 +40,8 @@ fn taken_before(go: Go) -> u32
     }
 }
 
-/// The steps of a call from this one on, waiting where it is blocked.
+/// The steps of a call from this one on, waiting where it is blocked. Each but the first begins with the cells of the one before
+/// it.
 fn go_on<G: Gate, R: Wait + Sync>(
     rt: &R,
     alloc: Global,
@@ -49,7 +52,7 @@ fn go_on<G: Gate, R: Wait + Sync>(
     call: &Call,
     from: Go,
 ) -> Result<Reply, Halt>
-    requires hall { IsSeatOf hall.now seat.old × (setting_of hall.now ≡ whole lent.old.providers) }
+    requires hall { IsSeatOf hall.now seat.old × (IsWhole (setting_of hall.now) lent.old.providers) }
     requires idle { HoldsNothing seat.old.view }
     requires empty { IsEmpty lent.old }
     requires from { IsAt seat.old.view call.now from }
@@ -58,14 +61,17 @@ fn go_on<G: Gate, R: Wait + Sync>(
     ensures idle { HoldsNothing seat.new.view }
     ensures empty { IsEmpty lent.new × (lent.new.providers ≡ lent.old.providers) }
     ensures later { Later seat.old.view seat.new.view }
+    ensures standing { IsStanding seat.new.view }
+    ensures mark { waits seat.old.view.mark ≡ false → waits seat.new.view.mark ≡ false }
     ensures made { MatchResult result
         (Answered seat.old.view call.now from seat.new.view)
         (Halted seat.old.view call.now from seat.new.view) }
 {
     blocked_calls_have_wants();
     let mut go = from;
+    let mut first = Cells::new();
     for _ in rt.forever() {
-        match step(rt, alloc, hall, seat, lent, gate, call, go) {
+        match step(rt, alloc, hall, seat, lent, &mut first, gate, call, go) {
             Err(_) => {
                 return Err(Halt::OutOfMemory {
                     taken: taken_before(go),
@@ -106,7 +112,7 @@ pub fn call<G: Gate, R: Wait + Sync>(
     gate: &G,
     call: &Call,
 ) -> Result<Reply, Halt>
-    requires hall { IsSeatOf hall.now seat.old × (setting_of hall.now ≡ whole lent.old.providers) }
+    requires hall { IsSeatOf hall.now seat.old × (IsWhole (setting_of hall.now) lent.old.providers) }
     requires idle { HoldsNothing seat.old.view }
     requires empty { IsEmpty lent.old }
     requires none { unfinished_from None None seat.old.view.mine ≡ None }
@@ -114,6 +120,8 @@ pub fn call<G: Gate, R: Wait + Sync>(
     ensures idle { HoldsNothing seat.new.view }
     ensures empty { IsEmpty lent.new × (lent.new.providers ≡ lent.old.providers) }
     ensures later { Later seat.old.view seat.new.view }
+    ensures standing { IsStanding seat.new.view }
+    ensures mark { waits seat.old.view.mark ≡ false → waits seat.new.view.mark ≡ false }
     ensures made { MatchResult result
         (Answered seat.old.view call.now Begin seat.new.view)
         (Halted seat.old.view call.now Begin seat.new.view) }
@@ -131,7 +139,7 @@ pub fn resume<G: Gate, R: Wait + Sync>(
     gate: &G,
     call: &Call,
 ) -> Result<Reply, Halt>
-    requires hall { IsSeatOf hall.now seat.old × (setting_of hall.now ≡ whole lent.old.providers) }
+    requires hall { IsSeatOf hall.now seat.old × (IsWhole (setting_of hall.now) lent.old.providers) }
     requires idle { HoldsNothing seat.old.view }
     requires empty { IsEmpty lent.old }
     requires unfinished { IsUnfinished seat.old.view call.now }
@@ -139,11 +147,12 @@ pub fn resume<G: Gate, R: Wait + Sync>(
     ensures idle { HoldsNothing seat.new.view }
     ensures empty { IsEmpty lent.new × (lent.new.providers ≡ lent.old.providers) }
     ensures later { Later seat.old.view seat.new.view }
+    ensures standing { IsStanding seat.new.view }
+    ensures mark { waits seat.old.view.mark ≡ false → waits seat.new.view.mark ≡ false }
     ensures made { MatchResult result
         (Answered seat.old.view call.now (where_left seat.old.view) seat.new.view)
         (Halted seat.old.view call.now (where_left seat.old.view) seat.new.view) }
 {
-    let _number = seat.number();
     let Some(taken) = seat.unfinished() else {
         unreachable!()
     };

@@ -48,7 +48,6 @@ impl Xti {
     {
         steps_answer_in_form();
         let reply = self.call(rt, alloc, seat, &NoGate, &call);
-        let _number = seat.number();
         let_go(call);
         match reply {
             Ok(reply) => Ok(reply),

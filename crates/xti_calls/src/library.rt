@@ -6,13 +6,13 @@ ghost use Rattle.xti_model.specs.declared.entry.Go.TheVariants.{Begin};
 ghost use Rattle.xti_model.specs.History.{unfinished_from};
 ghost use Rattle.xti_model.specs.Profile.{valid};
 ghost use Rattle.xti_rule.specs.Rule.{newcomer};
-ghost use Rattle.xti_rule.specs.declared.view.Mark.TheVariants.{Resting};
+ghost use Rattle.xti_rule.specs.declared.view.Mark.TheVariants.{Free, Resting};
 ghost use Rattle.xti_hall.specs.Seats.{AreOfOneHall, CutsOff, HasNoneToSpare, Looks, Meets, IsStanding, unfinished_bytes};
 ghost use Rattle.xti_hall.specs.Words.{IsSameSeat};
 ghost use Rattle.xti_gather.specs.Cells.{whole};
 ghost use Rattle.xti_step.specs.Steps.{Later, MayGo, Tells};
 ghost use Rattle.xti_calls.specs.Calling.{IsUnfinished, Answered, Halted, where_left};
-ghost use Rattle.xti_calls.specs.Library.{IsOf, providers_of};
+ghost use Rattle.xti_calls.specs.Library.{IsOf, providers_of, keeps_of};
 
 use crate::calling::{Halt, call, resume};
 use crate::shared::Xti;
@@ -23,7 +23,7 @@ use xti_base::let_go;
 use xti_gather::{Cell, nothing_lent, open_hall};
 use xti_hall::{Ended as EndedHall, NoSeat, Seat as HallSeat};
 use xti_lent::Lent;
-use xti_model::{Applied, Call, Entries, Go, Providers, Reply};
+use xti_model::{Applied, Call, Cells, Entries, Go, Providers, Reply};
 use xti_step::{Gate, step};
 
 /// One caller's token: a seat of the library's hall, which holds nothing between two calls, with room for the cells of a step.
@@ -69,7 +69,8 @@ impl Seat {
     /// How many bytes were taken of the seat's unfinished call, which is 0 of a `t_connect`; `None` exactly where it has none.
     /// Takes no memory.
     pub fn unfinished(&self) -> Option<u32>
-        ensures { result ≡ unfinished_bytes self.now.view.mine }
+        ensures bytes { result ≡ unfinished_bytes self.now.view.mine }
+        ensures standing { IsStanding self.now.view }
     {
         self.seat.unfinished()
     }
@@ -97,6 +98,7 @@ impl Ended {
         ensures seat { IsSameSeat other result × (self.new ≡ self.old) }
         ensures met { Meets other.view self.old.view result.view }
         ensures whole { IsPrefix other.view.seen self.old.view.seen }
+        ensures standing { IsStanding result.view }
     {
         let Seat { seat, lent } = other;
         let seat = self.hall.meet(seat);
@@ -115,14 +117,25 @@ impl Ended {
 impl Xti {
     /// The library in its opening world, in which no endpoint was opened, and the seat with number 0, whose spare numbers are 1
     /// to 32. The providers' values must be valid, as the usual ones are. The error says that memory ran out.
-    pub fn new(alloc: Global, p: &Providers) -> Result<(Xti, Seat), AllocError>
+    ///
+    /// `keeps` says whether the history is kept, so that `history` and `end` can hand it out. Where it is, each step leaves an
+    /// entry for good; where it isn't, memory doesn't grow with the calls, and what a call is told is the same.
+    pub fn new(alloc: Global, p: &Providers, keeps: bool) -> Result<(Xti, Seat), AllocError>
         requires { valid p.now ≡ true }
         ensures providers { IfOk result (λ r. providers_of r.0 ≡ p.now) }
-        ensures seat { IfOk result (λ r. IsOf r.0 r.1 × (r.1.view ≡ newcomer (whole p.now))) }
+        ensures keeps { IfOk result (λ r. keeps_of r.0 ≡ keeps) }
+        ensures seat { IfOk result (λ r. IsOf r.0 r.1 × (r.1.view ≡ newcomer (whole p.now keeps))) }
     {
-        let (hall, seat) = open_hall(alloc, p)?;
+        let (hall, seat) = open_hall(alloc, p, keeps)?;
         let lent = nothing_lent(alloc, p);
         Ok((Xti { hall }, Seat { seat, lent }))
+    }
+
+    /// Whether the history is kept, so that it can be handed out. Takes no memory.
+    pub fn keeps(&self) -> bool
+        ensures { result ≡ keeps_of self.now }
+    {
+        self.hall.keeps()
     }
 
     /// One step of a call, without waiting where it is blocked.
@@ -143,7 +156,9 @@ impl Xti {
         requires go { MayGo seat.old.view call.now go }
         ensures seat { IsSameSeat seat.old seat.new }
         ensures later { Later seat.old.view seat.new.view }
+        ensures standing { IsStanding seat.new.view }
         ensures ok { IfOk result (Tells seat.old.view call.now go seat.new.view) }
+        ensures free { IfOk result (λ _. seat.new.view.mark ≡ Free) }
         ensures err { OnErr result (seat.new.view.mine ≡ seat.old.view.mine) }
     {
         let (applied, _at) = step(
@@ -152,6 +167,7 @@ impl Xti {
             &self.hall,
             &mut seat.seat,
             &mut seat.lent,
+            &mut Cells::new(),
             gate,
             call,
             go,
@@ -176,6 +192,7 @@ impl Xti {
         requires none { unfinished_from None None seat.old.view.mine ≡ None }
         ensures seat { IsSameSeat seat.old seat.new }
         ensures later { Later seat.old.view seat.new.view }
+        ensures standing { IsStanding seat.new.view }
         ensures made { MatchResult result
             (Answered seat.old.view made.now Begin seat.new.view)
             (Halted seat.old.view made.now Begin seat.new.view) }
@@ -207,6 +224,7 @@ impl Xti {
         requires unfinished { IsUnfinished seat.old.view call.now }
         ensures seat { IsSameSeat seat.old seat.new }
         ensures later { Later seat.old.view seat.new.view }
+        ensures standing { IsStanding seat.new.view }
         ensures made { MatchResult result
             (Answered seat.old.view call.now (where_left seat.old.view) seat.new.view)
             (Halted seat.old.view call.now (where_left seat.old.view) seat.new.view) }
@@ -230,6 +248,7 @@ impl Xti {
         ensures seats { MatchResult result
             (λ fresh. CutsOff seat.old seat.new fresh)
             (λ _. HasNoneToSpare seat.old seat.new) }
+        ensures standing { IsStanding seat.new.view × IfOk result (λ fresh. IsStanding fresh.view) }
     {
         let fresh = self.hall.split(rt, &mut seat.seat)?;
         let lent = nothing_lent(alloc, seat.lent.providers());
@@ -244,6 +263,7 @@ impl Xti {
         requires { IsOf self.now seat.old }
         ensures seat { IsSameSeat seat.old seat.new }
         ensures mark { seat.new.view.mark ≡ Resting }
+        ensures standing { IsStanding seat.new.view }
         ensures looks { Looks seat.old.view seat.new.view }
     {
         self.hall.rest(rt, &mut seat.seat);
@@ -254,16 +274,18 @@ impl Xti {
         requires { IsOf self.now seat × IsOf self.now other.old }
         ensures seat { IsSameSeat seat result × (other.new ≡ other.old) }
         ensures met { Meets seat.view other.old.view result.view }
+        ensures standing { IsStanding result.view }
     {
         let Seat { seat, lent } = seat;
         let seat = self.hall.meet(seat, &mut other.seat);
         Seat { seat, lent }
     }
 
-    /// Ends the library: its history is handed out and not copied, all of which the seat has then seen, and no further call can
-    /// be made. Takes no memory.
+    /// Ends the library, which must have kept its history: that is handed out and not copied, all of which the seat has then
+    /// seen, and no further call can be made. Takes no memory.
     pub fn end<R: Wait>(self, rt: &R, seat: Seat) -> Ended
-        requires { IsOf self seat }
+        requires seat { IsOf self seat }
+        requires keeps { keeps_of self ≡ true }
         ensures seat { IsSameSeat seat result }
         ensures looks { Looks seat.view result.view }
         ensures standing { IsStanding result.view }
@@ -276,16 +298,19 @@ impl Xti {
         }
     }
 
-    /// A copy of the history at this point, which is what the seat has then seen.
+    /// A copy of the history at this point, which is what the seat has then seen. The library must keep it.
     pub fn history<R: Wait>(
         &self,
         rt: &R,
         alloc: Global,
         seat: &mut Seat,
     ) -> Result<Entries, AllocError>
-        requires { IsOf self.now seat.old }
+        requires seat { IsOf self.now seat.old }
+        requires keeps { keeps_of self.now ≡ true }
         ensures seat { IsSameSeat seat.old seat.new }
         ensures looks { Looks seat.old.view seat.new.view }
+        ensures standing { IsStanding seat.new.view }
+        ensures free { seat.new.view.mark ≡ Free }
         ensures history { IfOk result (λ h. h ≡ seat.new.view.seen) }
     {
         self.hall.history(rt, alloc, &mut seat.seat)

@@ -3,16 +3,16 @@
 ghost use Rattle.std.specs.Prelude.{◌≡◌, true};
 ghost use Rattle.xti_model.specs.Profile.{valid};
 ghost use Rattle.xti_hall.specs.Words.{setting_of};
-ghost use Rattle.xti_gather.specs.Cells.{whole};
+ghost use Rattle.xti_gather.specs.Cells.{IsWhole};
 
 use xti_gather::Cell;
 use xti_hall::Hall;
 
-/// The library: a hall that has all cells of its providers, whose values are valid. Threads share it by a reference, and each calls with a seat
-/// of its own.
+/// The library: a hall that has all cells of its providers, whose values are valid. Threads share it by a reference, and each
+/// calls with a seat of its own.
 #[derive(Drop)]
 pub struct Xti {
     pub(crate) hall: Hall<Cell>,
-    ghost all_cells: { setting_of hall ≡ whole (setting_of hall).providers },
+    ghost all_cells: { IsWhole (setting_of hall) (setting_of hall).providers },
     ghost valid_providers: { valid (setting_of hall).providers ≡ true },
 }

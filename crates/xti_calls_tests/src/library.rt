@@ -3,7 +3,7 @@
 ghost use Rattle.std.specs.Prelude.{◌≡◌, None, true, OnOk, IfOk};
 ghost use Rattle.xti_model.specs.History.{unfinished_from};
 ghost use Rattle.xti_model.specs.Profile.{valid};
-ghost use Rattle.xti_calls.specs.Library.{IsOf};
+ghost use Rattle.xti_calls.specs.Library.{IsOf, keeps_of};
 
 use std::alloc::{AllocError, Global};
 use std::sync::Wait;
@@ -31,18 +31,20 @@ impl From<AllocError> for Stop {
     }
 }
 
-/// A library with these providers, and its first seat.
+/// A library with these providers that keeps its history, and its first seat.
 pub(crate) fn library_with(alloc: Global, providers: &Providers) -> Result<(Xti, Seat), Stop>
     requires { valid providers.now ≡ true }
     ensures seat { IfOk result (λ r. IsOf r.0 r.1) }
+    ensures keeps { IfOk result (λ r. keeps_of r.0 ≡ true) }
     ensures none { IfOk result (λ r. unfinished_from None None r.1.view.mine ≡ None) }
 {
-    Ok(Xti::new(alloc, providers)?)
+    Ok(Xti::new(alloc, providers, true)?)
 }
 
-/// A library with the usual providers, and its first seat.
+/// A library with the usual providers that keeps its history, and its first seat.
 pub(crate) fn library(alloc: Global) -> Result<(Xti, Seat), Stop>
     ensures seat { IfOk result (λ r. IsOf r.0 r.1) }
+    ensures keeps { IfOk result (λ r. keeps_of r.0 ≡ true) }
     ensures none { IfOk result (λ r. unfinished_from None None r.1.view.mine ≡ None) }
 {
     usual_is_valid();

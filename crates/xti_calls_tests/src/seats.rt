@@ -1,8 +1,8 @@
 //! Seats: their numbers, what they have seen, and the one history.
 
-ghost use Rattle.std.specs.Prelude.{◌≡◌, None};
+ghost use Rattle.std.specs.Prelude.{◌≡◌, None, true};
 ghost use Rattle.xti_model.specs.History.{unfinished_from};
-ghost use Rattle.xti_calls.specs.Library.{IsOf};
+ghost use Rattle.xti_calls.specs.Library.{IsOf, keeps_of};
 
 use crate::answers::Log;
 use crate::asks::make_all;
@@ -13,7 +13,7 @@ use std::sync::Wait;
 use std::test::*;
 use xti_calls::{Seat, Xti};
 use xti_journal::write_entry;
-use xti_model::Entry;
+use xti_model::{Entry, Providers, usual_is_valid};
 
 /// What the calls of a datagram answer that the second seat sends and receives, and the lines of the history.
 const ANSWERS: &str = "0
@@ -30,6 +30,16 @@ ok
 5 1 sndudata 0 addr=x:62 opt=x: data=x:68656c6c6f => ok T_IDLE
 6 1 rcvudata 1 max=3 amax=64 omax=256 => ok x:61 x: x:68656c 1 T_IDLE
 7 1 rcvudata 1 max=3 amax=64 omax=256 => ok x: x: x:6c6f 0 T_IDLE
+";
+
+/// What the same calls answer in a library that keeps no history.
+const ANSWERS_ALONE: &str = "0
+x:61 0
+1
+x:62 0
+ok
+0 x:61 x: x:68656c 1
+0 x: x: x:6c6f 0
 ";
 
 /// The number of one more seat that this one gives, if it gives one.
@@ -78,7 +88,8 @@ fn put_entries(alloc: Global, log: &mut Log, entries: &[Entry]) -> Result<(), Al
 
 /// How many entries the seat tells.
 fn entries<R: Wait>(rt: &R, alloc: Global, xti: &Xti, seat: &mut Seat) -> Result<usize, Stop>
-    requires { IsOf xti.now seat.old }
+    requires keeps { keeps_of xti.now ≡ true }
+    requires seat { IsOf xti.now seat.old }
 {
     let history = xti.history(rt, alloc, seat)?;
     let length = history.as_slice().len();
@@ -95,6 +106,7 @@ fn crowd<R: Wait>(
     first: &mut Seat,
     mut one: Seat,
 ) -> Result<(u32, bool, u32, usize), Stop>
+    requires keeps { keeps_of xti.now ≡ true }
     requires first { IsOf xti.now first.old }
     requires one { IsOf xti.now one }
 {
@@ -114,6 +126,7 @@ fn crowd_of<R: Wait>(
     xti: &Xti,
     first: &mut Seat,
 ) -> Result<(u32, bool, u32, usize), Stop>
+    requires keeps { keeps_of xti.now ≡ true }
     requires seat { IsOf xti.now first.old }
     requires none { unfinished_from None None first.old.view.mine ≡ None }
 {
@@ -158,6 +171,7 @@ fn talk<R: Wait + Sync>(
     mut second: Seat,
     log: &mut Log,
 ) -> Result<(), Stop>
+    requires keeps { keeps_of xti ≡ true }
     requires first { IsOf xti first × (unfinished_from None None first.view.mine ≡ None) }
     requires second { IsOf xti second × (unfinished_from None None second.view.mine ≡ None) }
 {
@@ -180,6 +194,7 @@ fn talk_of<R: Wait + Sync>(
     mut first: Seat,
     log: &mut Log,
 ) -> Result<(), Stop>
+    requires keeps { keeps_of xti ≡ true }
     requires seat { IsOf xti first }
     requires none { unfinished_from None None first.view.mine ≡ None }
 {
@@ -199,6 +214,23 @@ fn talked<R: Wait + Sync>(rt: &R, alloc: Global, log: &mut Log) -> Result<(), St
     talk_of(rt, alloc, xti, first, log)
 }
 
+/// The same without the history, in a library that keeps none.
+fn talked_unkept<R: Wait + Sync>(rt: &R, alloc: Global, log: &mut Log) -> Result<(), Stop> {
+    usual_is_valid();
+    let (xti, mut first) = Xti::new(alloc, &Providers::usual(), false)?;
+    let made = match another_seat(rt, alloc, &xti, &mut first) {
+        Ok(mut second) => {
+            let made = datagram(rt, alloc, &xti, &mut first, &mut second, log);
+            drop(second);
+            made
+        }
+        Err(stop) => Err(stop),
+    };
+    drop(first);
+    drop(xti);
+    made
+}
+
 #[test]
 fn numbers(rt: HostRuntime) -> Result<(), Fail> {
     assert_eq!(rt; crowded(&rt, rt.alloc())?, (31, true, 1, 0));
@@ -210,6 +242,15 @@ fn histories(rt: HostRuntime) -> Result<(), Fail> {
     let mut log = Log::new(rt.alloc());
     let made = talked(&rt, rt.alloc(), &mut log);
     log.expect(&rt, "a datagram between two seats", ANSWERS);
+    drop(log);
+    Ok(made?)
+}
+
+#[test]
+fn answers_without_a_history(rt: HostRuntime) -> Result<(), Fail> {
+    let mut log = Log::new(rt.alloc());
+    let made = talked_unkept(&rt, rt.alloc(), &mut log);
+    log.expect(&rt, "a datagram where no history is kept", ANSWERS_ALONE);
     drop(log);
     Ok(made?)
 }

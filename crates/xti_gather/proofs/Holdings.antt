@@ -20,7 +20,7 @@ use Rattle.xti_hall.specs.Seats.{SeatView, bare, Entered, Left, HoldsNone}
 use Rattle.xti_hall.specs.Words.{setting_of, IsSeatOf}
 use Rattle.xti_hall.specs.declared.hall.Hall.{Hall}
 use Rattle.xti_gather.specs.declared.cell.Cell as rust
-use Rattle.xti_gather.specs.Cells.{whole}
+use Rattle.xti_gather.specs.Cells.{whole, IsWhole}
 use Rattle.xti_gather.specs.Lends.{Lends, Somewhen, IsEmpty, Just}
 use Rattle.xti_gather.proofs.Numbers.{cases}
 
@@ -35,8 +35,8 @@ pub same-providers : (v v' : View) (l l' : Lending) → Lends v l → Lends v' l
 same-providers v v' l l' before then rest = then.providers ∙ (ap (λ (s : Setting). s.providers) (same-setting v v' rest) ∙ sym before.providers)
 
 -- the seat is still one of the hall, and the hall has the cells of these providers
-pub still-of : (h : Hall rust.Cell) (s s' : SeatView) (p p' : Providers) → IsSeatOf h s × (setting_of h ≡ whole p) → s'.hall ≡ s.hall → bare s'.view ≡ bare s.view → p' ≡ p → IsSeatOf h s' × (setting_of h ≡ whole p')
-still-of h s s' p p' of same rest e = ((same ∙ of.0.0, same-setting s.view s'.view rest ∙ of.0.1), of.1 ∙ ap whole (sym e))
+pub still-of : (h : Hall rust.Cell) (s s' : SeatView) (p p' : Providers) → IsSeatOf h s × IsWhole (setting_of h) p → s'.hall ≡ s.hall → bare s'.view ≡ bare s.view → p' ≡ p → IsSeatOf h s' × IsWhole (setting_of h) p'
+still-of h s s' p p' of same rest e = ((same ∙ of.0.0, same-setting s.view s'.view rest ∙ of.0.1), of.1 ∙ ap (λ q. whole q (setting_of h).keeps) (sym e))
 
 pub left_lends : (v v' : View) (l l' : Lending) (k : ℕ) → Lends v l → Left v k v' → l'.providers ≡ l.providers → IsLoan l' → cell_lent l' k ≡ None → ((n : ℕ) → n ≢ k → cell_lent l' n ≡ cell_lent l n) → Lends v' l'
 left_lends v v' l l' k lends e same loan gone others =

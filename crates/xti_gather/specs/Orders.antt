@@ -1,13 +1,19 @@
 -- The order of cells that are lent and of those that are to be.
-use Rattle.std.specs.Prelude.{◌≡◌, ◌<◌, ◌≤◌, ◌+◌, ℕ, true, false, List}
+use Rattle.std.specs.Prelude.{◌≡◌, ◌<◌, ◌≤◌, ◌+◌, ℕ, true, false, List, [], ◌∷◌}
 use Rattle.std.specs.List.{AllByRecursion}
 use Rattle.xti_model.specs.declared.profile.Providers.{Providers}
-use Rattle.xti_model.specs.World.{places, is_among}
+use Rattle.xti_model.specs.declared.call.Call.{Call}
+use Rattle.xti_model.specs.Touched.{touched}
+use Rattle.xti_model.specs.World.{World, places, is_among}
 use Rattle.xti_lent.specs.Lending.{Lending, is_lent}
 
 -- the numbers are those of places or of the switch
 abbrev pub AreCells : Providers → List ℕ → Type 0
 AreCells p = AllByRecursion (λ n. n < places p + 1)
+
+-- the call touches the cell of this place alone, whatever the world is
+abbrev pub TouchesAlone : Providers → ℕ → Call → Type 0
+TouchesAlone p n c = (n < places p) × ((w : World) → touched p w c ≡ n ∷ [])
 
 -- every lent cell is one of these
 abbrev pub LentWithin : Lending → List ℕ → Type 0

@@ -6,7 +6,7 @@ ghost use Rattle.xti_lent.specs.Fit.{AllLent};
 ghost use Rattle.xti_lent.specs.Lending.{cell_lent, is_lent};
 ghost use Rattle.xti_hall.specs.Seats.{bare};
 ghost use Rattle.xti_hall.specs.Words.{setting_of, IsSeatOf, IsSameSeat};
-ghost use Rattle.xti_gather.specs.Cells.{whole};
+ghost use Rattle.xti_gather.specs.Cells.{IsWhole};
 ghost use Rattle.xti_gather.specs.Lends.{Lends};
 ghost use Rattle.xti_gather.specs.Orders.{AreCells, AllBelow, InOrder};
 
@@ -19,8 +19,14 @@ use xti_model::Cells;
 
 /// Enters a cell and lends it, unless it is lent already. A cell that is entered has a higher number than all that are
 /// lent.
-fn enter<R: Wait>(rt: &R, hall: &Hall<Cell>, seat: &mut Seat<Cell>, lent: &mut Lent, cell: u32)
-    requires hall { IsSeatOf hall.now seat.old × (setting_of hall.now ≡ whole lent.old.providers) }
+pub(crate) fn enter<R: Wait>(
+    rt: &R,
+    hall: &Hall<Cell>,
+    seat: &mut Seat<Cell>,
+    lent: &mut Lent,
+    cell: u32,
+)
+    requires hall { IsSeatOf hall.now seat.old × (IsWhole (setting_of hall.now) lent.old.providers) }
     requires free { seat.old.view.journal ≡ false }
     requires lends { Lends seat.old.view lent.old }
     requires cell { cell < places lent.old.providers + 1 }
@@ -46,7 +52,7 @@ pub(crate) fn enter_missing<R: Wait>(
     lent: &mut Lent,
     cells: &Cells,
 )
-    requires hall { IsSeatOf hall.now seat.old × (setting_of hall.now ≡ whole lent.old.providers) }
+    requires hall { IsSeatOf hall.now seat.old × (IsWhole (setting_of hall.now) lent.old.providers) }
     requires free { seat.old.view.journal ≡ false }
     requires lends { Lends seat.old.view lent.old }
     requires cells { AreCells lent.old.providers cells.now }

@@ -1,49 +1,86 @@
 //! The cells that a call touches are entered, and no others.
 
-ghost use Rattle.std.specs.Prelude.{◌≡◌, false};
+ghost use Rattle.std.specs.Prelude.{◌≡◌, false, IfSome};
 ghost use Rattle.xti_lent.specs.Lending.{cell_lent};
 ghost use Rattle.xti_hall.specs.Seats.{bare, HoldsNone};
 ghost use Rattle.xti_hall.specs.Words.{setting_of, IsSeatOf, IsSameSeat};
-ghost use Rattle.xti_gather.specs.Cells.{whole};
+ghost use Rattle.xti_gather.specs.Cells.{IsWhole};
 ghost use Rattle.xti_gather.specs.Lends.{Lends, IsEmpty, Just};
+ghost use Rattle.xti_gather.specs.Orders.{AreCells, TouchesAlone};
 
 use crate::cell::Cell;
 use crate::choosing::missing;
-use crate::entering::enter_missing;
+use crate::entering::{enter, enter_missing};
 use crate::leaving::{give_back, leave_unless_in_order};
 use std::sync::Wait;
 use xti_core::touch;
 use xti_hall::{Hall, Seat};
 use xti_lent::Lent;
-use xti_model::Call;
+use xti_model::{Call, Cells};
+
+/// The place of a call that touches the cell of its descriptor alone, whatever the world is.
+#[tactic(auto, unfolding(xti_model::specs::Cells::listed))]
+fn own_place(call: &Call, lent: &Lent) -> Option<u32>
+    ensures { IfSome result (λ n. TouchesAlone lent.now.providers n call.now) }
+{
+    match call {
+        Call::TRcvConnect { fd, .. }
+        | Call::TListen { fd, .. }
+        | Call::TRcv { fd, .. }
+        | Call::TRcvV { fd, .. }
+        | Call::TRcvDis { fd, .. }
+        | Call::TRcvRel { fd }
+        | Call::TRcvUData { fd, .. }
+        | Call::TRcvVUData { fd, .. }
+        | Call::TRcvUDErr { fd, .. }
+        | Call::TGetState { fd }
+        | Call::TSync { fd }
+        | Call::TGetInfo { fd }
+        | Call::TGetProtAddr { fd, .. }
+        | Call::TOptMgmt { fd, .. }
+        | Call::SetMode { fd, .. } => Some(lent.place_of(*fd)),
+        _ => None,
+    }
+}
 
 /// Enters the cells that the call touches, and no others, and lends them.
 ///
-/// The lent cells tell what the call touches, as far as they go. Those that it doesn't touch are given back, those that
-/// are missing are entered in rising order, and the lent cells are asked again. Where a missing cell has a lower number
-/// than one that is lent, all are given back first. How often it asks has no bound, since others change what the cells
-/// tell. Takes no memory.
+/// A call that touches one cell alone enters it. Another begins with the cells in `first`, those of an earlier step, as it may
+/// well touch the same. The lent cells tell what the call touches, as far as they go. Those that it doesn't touch are given
+/// back, those that are missing are entered in rising order, and the lent cells are asked again. Where a missing cell has a
+/// lower number than one that is lent, all are given back first. How often it asks has no bound, since others change what the
+/// cells tell. `first` then has the cells of this step; a call that touches one cell alone leaves it as it was. Takes no
+/// memory.
 pub fn gather<R: Wait>(
     rt: &R,
     hall: &Hall<Cell>,
     seat: &mut Seat<Cell>,
     lent: &mut Lent,
     call: &Call,
+    first: &mut Cells,
 )
-    requires hall { IsSeatOf hall.now seat.old × (setting_of hall.now ≡ whole lent.old.providers) }
+    requires hall { IsSeatOf hall.now seat.old × (IsWhole (setting_of hall.now) lent.old.providers) }
     requires free { seat.old.view.journal ≡ false }
     requires none { HoldsNone seat.old.view }
     requires empty { IsEmpty lent.old }
+    requires first { AreCells lent.old.providers first.old }
     ensures hall { IsSameSeat seat.old seat.new }
     ensures rest { bare seat.new.view ≡ bare seat.old.view }
     ensures lends { Lends seat.new.view lent.new }
     ensures providers { lent.new.providers ≡ lent.old.providers }
     ensures just { Just lent.old.providers (cell_lent lent.new) call.now }
+    ensures first { AreCells lent.old.providers first.new }
 {
+    if let Some(own) = own_place(call, lent) {
+        enter(rt, hall, seat, lent, own);
+        return;
+    }
+    enter_missing(rt, hall, seat, lent, first);
     for _ in rt.forever() {
         let cells = touch(call, lent);
         give_back(hall, seat, lent, &cells);
         let Some(least) = missing(lent, &cells) else {
+            *first = cells;
             return;
         };
         leave_unless_in_order(hall, seat, lent, &cells, least);

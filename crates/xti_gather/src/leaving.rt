@@ -5,7 +5,7 @@ ghost use Rattle.xti_model.specs.World.{is_among, places};
 ghost use Rattle.xti_lent.specs.Lending.{cell_lent, is_lent};
 ghost use Rattle.xti_hall.specs.Seats.{bare, HoldsNone};
 ghost use Rattle.xti_hall.specs.Words.{setting_of, IsSeatOf, IsSameSeat};
-ghost use Rattle.xti_gather.specs.Cells.{whole};
+ghost use Rattle.xti_gather.specs.Cells.{IsWhole};
 ghost use Rattle.xti_gather.specs.Lends.{Lends, IsEmpty};
 ghost use Rattle.xti_gather.specs.Orders.{AllBelow, InOrder, IsLeastMissing};
 
@@ -18,7 +18,7 @@ use xti_model::Cells;
 
 /// Gives back a cell that is lent.
 fn leave(hall: &Hall<Cell>, seat: &mut Seat<Cell>, lent: &mut Lent, cell: u32)
-    requires hall { IsSeatOf hall.now seat.old × (setting_of hall.now ≡ whole lent.old.providers) }
+    requires hall { IsSeatOf hall.now seat.old × (IsWhole (setting_of hall.now) lent.old.providers) }
     requires lends { Lends seat.old.view lent.old }
     requires lent { is_lent lent.old cell ≡ true }
     ensures hall { IsSameSeat seat.old seat.new }
@@ -35,7 +35,7 @@ fn leave(hall: &Hall<Cell>, seat: &mut Seat<Cell>, lent: &mut Lent, cell: u32)
 
 /// Gives back the cells that are not among these.
 pub(crate) fn give_back(hall: &Hall<Cell>, seat: &mut Seat<Cell>, lent: &mut Lent, cells: &Cells)
-    requires hall { IsSeatOf hall.now seat.old × (setting_of hall.now ≡ whole lent.old.providers) }
+    requires hall { IsSeatOf hall.now seat.old × (IsWhole (setting_of hall.now) lent.old.providers) }
     requires lends { Lends seat.old.view lent.old }
     ensures hall { IsSameSeat seat.old seat.new }
     ensures rest { bare seat.new.view ≡ bare seat.old.view }
@@ -50,7 +50,7 @@ pub(crate) fn give_back(hall: &Hall<Cell>, seat: &mut Seat<Cell>, lent: &mut Len
 
 /// Gives every cell back. Takes no memory, and waits for nobody.
 pub fn leave_all(hall: &Hall<Cell>, seat: &mut Seat<Cell>, lent: &mut Lent)
-    requires hall { IsSeatOf hall.now seat.old × (setting_of hall.now ≡ whole lent.old.providers) }
+    requires hall { IsSeatOf hall.now seat.old × (IsWhole (setting_of hall.now) lent.old.providers) }
     requires lends { Lends seat.old.view lent.old }
     ensures hall { IsSameSeat seat.old seat.new }
     ensures rest { bare seat.new.view ≡ bare seat.old.view }
@@ -69,7 +69,7 @@ pub(crate) fn leave_unless_in_order(
     cells: &Cells,
     least: u32,
 )
-    requires hall { IsSeatOf hall.now seat.old × (setting_of hall.now ≡ whole lent.old.providers) }
+    requires hall { IsSeatOf hall.now seat.old × (IsWhole (setting_of hall.now) lent.old.providers) }
     requires lends { Lends seat.old.view lent.old }
     requires cell { least < places lent.old.providers + 1 }
     requires least { IsLeastMissing lent.old cells.now least }

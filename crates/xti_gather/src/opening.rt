@@ -1,6 +1,6 @@
 //! The hall of the opening world.
 
-ghost use Rattle.std.specs.Prelude.{◌≡◌, ◌+◌, true, IfOk, vec_len};
+ghost use Rattle.std.specs.Prelude.{◌≡◌, ◌+◌, true, IfOk, vec_len, Bool};
 ghost use Rattle.xti_model.specs.World.{places};
 ghost use Rattle.xti_rule.specs.Rule.{newcomer};
 ghost use Rattle.xti_hall.specs.Seats.{StandInOrder};
@@ -17,7 +17,7 @@ use xti_registry::Registry;
 /// The cells of the opening world, in their order.
 pub fn opening_cells(alloc: Global, p: &Providers) -> Result<Vec<Cell>, AllocError>
     ensures many { IfOk result (λ v. vec_len v ≡ places p.now + 1) }
-    ensures stand { IfOk result (λ v. StandInOrder (λ s. StandsFor s.providers) (whole p.now) v.items) }
+    ensures stand { IfOk result (λ v. (keeps : Bool) → StandInOrder (λ s. StandsFor s.providers) (whole p.now keeps) v.items) }
 {
     let registry = Box::new(alloc, Registry::fresh(alloc, p)?)?;
     let mut cells = Vec::with_capacity(alloc, p.places() as usize + 1)?;
@@ -29,11 +29,15 @@ pub fn opening_cells(alloc: Global, p: &Providers) -> Result<Vec<Cell>, AllocErr
     Ok(cells)
 }
 
-/// A hall over the opening world of the providers, and its first seat.
-pub fn open_hall(alloc: Global, p: &Providers) -> Result<(Hall<Cell>, Seat<Cell>), AllocError>
-    ensures hall { IfOk result (λ r. setting_of r.0 ≡ whole p.now) }
-    ensures seat { IfOk result (λ r. (r.1.hall ≡ id_of r.0) × (r.1.view ≡ newcomer (whole p.now))) }
+/// A hall over the opening world of the providers, whose history is kept or not, and its first seat.
+pub fn open_hall(
+    alloc: Global,
+    p: &Providers,
+    keeps: bool,
+) -> Result<(Hall<Cell>, Seat<Cell>), AllocError>
+    ensures hall { IfOk result (λ r. setting_of r.0 ≡ whole p.now keeps) }
+    ensures seat { IfOk result (λ r. (r.1.hall ≡ id_of r.0) × (r.1.view ≡ newcomer (whole p.now keeps))) }
 {
     let cells = opening_cells(alloc, p)?;
-    Hall::new(alloc, p, cells)
+    Hall::new(alloc, p, cells, keeps)
 }

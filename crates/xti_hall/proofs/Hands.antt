@@ -35,6 +35,7 @@ meets v w j m n h e s k =
       mine = refl;
       held = refl;
       journal = refl;
+      mark = refl;
       first = l.seen;
       second = l.heard;
     }

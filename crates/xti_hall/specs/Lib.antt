@@ -3,3 +3,4 @@ pub mod Seats
 pub mod Pens
 pub mod Stalls
 pub mod Words
+pub mod Records

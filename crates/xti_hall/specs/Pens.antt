@@ -4,19 +4,22 @@ use Rattle.atomic_table.specs.Seated.{TableId}
 use Rattle.xti_model.specs.declared.entry.Entry.{Entry}
 use Rattle.xti_rule.specs.declared.view.Journal.{Journal}
 use Rattle.xti_rule.specs.declared.view.Mark.{Mark}
+use Rattle.xti_rule.specs.declared.view.View.{View}
+use Rattle.xti_rule.specs.declared.setting.Setting.{Setting}
 use Rattle.xti_hall.specs.Seats.{SeatView}
 
--- the hall and the number of the seat that holds the journal, and what the journal has
+-- the hall of the seat that holds the journal, its number and the history that it recorded, and the marks that the journal has
 pub record PenView : Type 0 where
   pub hall : TableId
+  pub setting : Setting
   pub number : ℕ
   pub history : List Entry
   pub marks : List Mark
 
-abbrev pub pen_view : TableId → ℕ → Journal → PenView
-pen_view hall number j = record { hall = hall; number = number; history = j.entries.items; marks = j.marks.items }
+abbrev pub pen_view : TableId → View → Journal → PenView
+pen_view hall v j = record { hall = hall; setting = v.setting; number = v.number; history = v.history; marks = j.marks.items }
 
 -- the pen is that of the seat's `begin`
 abbrev pub IsPenOf : SeatView → PenView → Type 0
 IsPenOf s p =
-    (p.hall ≡ s.hall) × (p.number ≡ s.view.number) × (p.history ≡ s.view.history) × (p.marks ≡ s.view.marks)
+    (p.hall ≡ s.hall) × (p.setting ≡ s.view.setting) × (p.number ≡ s.view.number) × (p.history ≡ s.view.history) × (p.marks ≡ s.view.marks)

@@ -6,7 +6,11 @@ use lib.ListN.{get_elem?}
 use Rattle.atomic_table.specs.Seated.{TableId}
 use Rattle.atomic_table.specs.Table.{rest}
 use Rattle.xti_model.specs.declared.entry.Entry.{Entry}
+use Rattle.xti_base.specs.declared.kinds.State.{State}
+use Rattle.xti_model.specs.declared.call.Call.{Call}
+use Rattle.xti_model.specs.declared.entry.Go.{Go}
 use Rattle.xti_model.specs.declared.entry.Outcome.{Outcome}
+use Rattle.xti_model.specs.Robin.{act_of}
 use Rattle.xti_model.specs.declared.entry.Outcome.TheVariants.{Done, Part}
 use Rattle.xti_model.specs.History.{unfinished_from}
 use Rattle.xti_model.specs.Wants.{taken_before}
@@ -17,7 +21,7 @@ use Rattle.xti_rule.specs.declared.view.View.{View}
 use Rattle.xti_rule.specs.declared.view.Journal.{Journal}
 use Rattle.xti_rule.specs.declared.view.Mark.{Mark}
 use Rattle.xti_rule.specs.declared.view.Mark.TheVariants.{Free}
-use Rattle.xti_rule.specs.Rule.{Slot}
+use Rattle.xti_rule.specs.Rule.{Slot, HasLog}
 use Rattle.xti_rule.specs.Steps.{Seated, Fresh, giver, committed, Marked, at, with_held, with_pen, without_pen, Holds}
 
 -- which hall made the seat, which of the hall's seats it is, and what it knows
@@ -60,9 +64,13 @@ FitsSeat m number next steps unfinished =
 abbrev pub HasJournal : {C : Type 0} → ℕ → Seated C → Type 0
 HasJournal cells m = (m.0.journal ≡ true) × (m.1 ≡ (cells, None) ∷ rest m.1)
 
--- the journal has the history that the view records, and its marks may go back
+-- the journal is that of the history that the view records, and its marks may go back
 abbrev pub MayGoBack : View → Journal → Type 0
-MayGoBack v j = (j.entries.items ≡ v.history) × Marked v j.marks.items
+MayGoBack v j = HasLog v.setting j v.history × Marked v j.marks.items
+
+-- the seat's entry of a step of the call
+abbrev pub entry_of : View → Call → Go → Outcome → State → Entry
+entry_of v c g outcome state = record { worker = v.number; act = act_of g c; outcome = outcome; after = state }
 
 -- the seat's view after this entry of its own
 abbrev pub wrote_entry : View → Entry → View
@@ -162,5 +170,6 @@ pub record Meets (v w v' : View) : Type 0 where
   pub mine : v'.mine ≡ v.mine
   pub held : v'.held ≡ v.held
   pub journal : v'.journal ≡ v.journal
+  pub mark : v'.mark ≡ v.mark
   pub first : IsPrefix v.seen v'.seen
   pub second : IsPrefix w.seen v'.seen

@@ -7,7 +7,7 @@ use Rattle.xti_rule.specs.declared.view.View.{View}
 use Rattle.xti_wants.specs.declared.want.Want.{Want}
 use Rattle.xti_hall.specs.declared.stall.Stall.{Stall}
 use Rattle.xti_hall.specs.declared.stall.Sight.{Sight}
-use Rattle.xti_hall.specs.declared.stall.Sight.TheVariants.{Again, Parks, Stalls}
+use Rattle.xti_hall.specs.declared.stall.Sight.TheVariants.{Again, Parks, Alone, Stalls}
 use Rattle.xti_hall.specs.declared.stall.Waited.{Waited}
 use Rattle.xti_hall.specs.declared.stall.Waited.TheVariants as waited
 use Rattle.xti_rule.specs.Histories.{Blocked}
@@ -54,9 +54,10 @@ WasBlocked v at want = (at ≤ length v.seen) × Blocked v.setting (take at v.se
 abbrev pub Sees : View → Want → ℕ → Sight → Type 0
 Sees v want at Again = (at < length v.seen) × (v.mark ≡ Free)
 Sees v want at (Parks bell) = (at ≡ length v.seen) × (v.mark ≡ Waiting want at)
+Sees v want at Alone = (at ≡ length v.seen) × (v.mark ≡ Waiting want at)
 Sees v want at (Stalls s) = IsStall v want s × (s.at ≡ at) × (v.mark ≡ Resting)
 
--- what a wait tells
+-- what a wait tells; after it the seat's mark is free, or at a stall resting
 abbrev pub WaitedFor : View → Want → ℕ → Waited → Type 0
-WaitedFor v want at waited.Again = at < length v.seen
-WaitedFor v want at (waited.Stalled s) = IsStall v want s × (s.at ≡ at)
+WaitedFor v want at waited.Again = (at < length v.seen) × (v.mark ≡ Free)
+WaitedFor v want at (waited.Stalled s) = IsStall v want s × (s.at ≡ at) × (v.mark ≡ Resting)

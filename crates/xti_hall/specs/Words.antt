@@ -1,5 +1,5 @@
 -- What clauses say of a hall and of whose a seat is.
-use Rattle.std.specs.Prelude.{◌≡◌, ℕ}
+use Rattle.std.specs.Prelude.{◌≡◌, ℕ, Bool}
 use Rattle.xti_model.specs.declared.profile.Providers.{Providers}
 use Rattle.atomic_table.specs.Seated.{TableId}
 use Rattle.atomic_table.specs.declared.shared.Seat.{Seat}
@@ -9,9 +9,9 @@ use Rattle.xti_rule.specs.Rule.{Slot}
 use Rattle.xti_hall.specs.declared.hall.Hall.{Hall}
 use Rattle.xti_hall.specs.Seats.{SeatView}
 
--- these providers, and so many cells
-abbrev pub setting : Providers → ℕ → Setting
-setting p cells = record { providers = p; cells = cells }
+-- these providers, so many cells, and whether the history is kept
+abbrev pub setting : Providers → ℕ → Bool → Setting
+setting p cells keeps = record { providers = p; cells = cells; keeps = keeps }
 
 module _ {C : Type 0} where
   -- the providers of the hall, and the number of its cells

@@ -2,7 +2,7 @@
 
 ghost use Rattle.std.specs.Prelude.{◌≡◌};
 ghost use mathlib.Core.List.{IsPrefix};
-ghost use Rattle.xti_hall.specs.Seats.{AreOfOneHall, Meets};
+ghost use Rattle.xti_hall.specs.Seats.{AreOfOneHall, IsStanding, Meets};
 ghost use Rattle.xti_hall.specs.Words.{IsSameSeat};
 
 use crate::hall::Hall;
@@ -39,6 +39,7 @@ impl<C: Stands> Ended<C> {
         ensures hall { IsSameSeat other result × (self.new ≡ self.old) }
         ensures met { Meets other.view self.old.view result.view }
         ensures whole { IsPrefix other.view.seen self.old.view.seen }
+        ensures standing { IsStanding result.view }
     {
         let mut other = other;
         self.hall.tell(&mut self.seat, &mut other);

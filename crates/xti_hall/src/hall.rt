@@ -1,5 +1,6 @@
 //! The hall.
 
+ghost use Rattle.std.specs.Prelude.{◌≡◌};
 ghost use Rattle.xti_hall.specs.Sizes.{IsSized};
 
 use atomic_table::Table;
@@ -23,7 +24,9 @@ pub use seats::NoSeat;
 pub struct Hall<C: Stands> {
     table: Table<Option<Held<C>>, View, Setting, Ruled<C>, Global>,
     cells: u32,
+    keeps: bool,
     /// How many callers sleep for a turn, any turn.
     sleepers: AtomicU32,
     ghost sized: { IsSized table.shared.table_id table.shared.key cells },
+    ghost keeping: { table.shared.key.keeps ≡ keeps },
 }

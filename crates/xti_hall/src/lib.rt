@@ -5,6 +5,7 @@ mod ended;
 mod hall;
 mod marks;
 mod pen;
+mod record;
 mod seat;
 mod stall;
 

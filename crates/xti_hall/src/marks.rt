@@ -4,7 +4,7 @@ ghost use Rattle.std.specs.Prelude.{◌≡◌, ◌≤◌, length, count_by};
 ghost use Rattle.std.specs.List.{list_all};
 ghost use Rattle.xti_hall.specs.Stalls.{is_settled, waits, rests};
 
-use xti_rule::Mark;
+use xti_rule::{Bells, Mark};
 
 /// Whether nobody has the number, or its seat rests, or it waits since the history had this length.
 fn is_settled(mark: &Mark, at: u64) -> bool
@@ -17,7 +17,8 @@ fn is_settled(mark: &Mark, at: u64) -> bool
     }
 }
 
-fn waits(mark: &Mark) -> bool
+/// Whether the seat waits.
+pub(crate) fn waits(mark: &Mark) -> bool
     ensures { result ≡ waits mark.now }
 {
     match mark {
@@ -42,13 +43,29 @@ pub(crate) fn all_settled(marks: &[Mark], at: u64) -> bool
     marks.iter().all(|mark| is_settled(mark, at))
 }
 
-/// Whether a seat waits. Each mark is looked at, as that costs less than a branch for each.
-pub(crate) fn anyone_waits(marks: &[Mark]) -> bool {
-    let mut found = false;
-    for mark in marks {
-        found |= waits(mark);
+/// The seats that wait since another length than this, each by the bit of its number; `None` where a seat beside this one goes
+/// on by itself, as it neither rests nor waits, or was rung.
+pub(crate) fn left_behind(marks: &[Mark], bells: &Bells, own: u32, at: u64) -> Option<u64> {
+    let mut behind = 0;
+    for (number, mark) in marks.iter().enumerate() {
+        if number == own as usize {
+            continue;
+        }
+        let number = (number % 64) as u32;
+        match mark {
+            Mark::Absent | Mark::Resting => {}
+            Mark::Free => return None,
+            Mark::Waiting(_, since) => {
+                if bells.is_rung(number) {
+                    return None;
+                }
+                if *since != at {
+                    behind |= 1u64 << number;
+                }
+            }
+        }
     }
-    found
+    Some(behind)
 }
 
 /// How many seats wait.

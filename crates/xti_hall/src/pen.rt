@@ -1,33 +1,38 @@
-ghost use Rattle.std.specs.Prelude.{◌≡◌, ◌<◌, length, vec_len, vec_capacity};
+ghost use Rattle.std.specs.Prelude.{◌≡◌, length};
+ghost use Rattle.xti_rule.specs.Rule.{HasLog};
+ghost use Rattle.xti_hall.specs.Records.{HasRoom};
 
 use crate::seat::Seat;
 use std::marker::Model;
 use std::snapshot::Snapshot;
-use xti_rule::{Journal, Pass};
+use xti_rule::{Journal, Mark, Pass};
 
-/// The journal while a seat holds its turn, with room for one entry. It can't be let go: `commit` or `return_pen` gives it back.
+/// The journal while a seat holds its turn, with room for one entry where entries are kept. It can't be let go: `commit` or
+/// `return_pen` gives it back.
 pub struct Pen<C> {
     journal: Journal,
     of: Snapshot<Pass<C>>,
 }
 
 impl<C> Model for Pen<C> {
-    ghost use Rattle.std.specs.Prelude.{vec_len, vec_capacity, ◌<◌};
+    ghost use Rattle.xti_rule.specs.Rule.{HasLog};
     ghost use Rattle.xti_hall.specs.Pens.{PenView, pen_view};
+    ghost use Rattle.xti_hall.specs.Records.{HasRoom};
 
     ghost Value = { PenView };
 
-    ghost view = { λ p. pen_view p.of.value.table_id p.of.value.me.0.number p.journal };
+    ghost view = { λ p. pen_view p.of.value.table_id p.of.value.me.0 p.journal };
 
-    ghost invariant = { λ p. vec_len p.journal.entries < vec_capacity p.journal.entries };
+    ghost invariant = { λ p. HasRoom p.journal × HasLog p.of.value.me.0.setting p.journal p.of.value.me.0.history };
 }
 
 impl<C> Pen<C> {
     /// The pen of a seat.
     pub(crate) fn of(seat: &Seat<C>, journal: Journal) -> Pen<C>
-        requires room { vec_len journal.entries < vec_capacity journal.entries }
-        ensures seat { (result.hall ≡ seat.now.hall) × (result.number ≡ seat.now.view.number) }
-        ensures journal { (result.history ≡ journal.entries.items) × (result.marks ≡ journal.marks.items) }
+        requires room { HasRoom journal }
+        requires log { HasLog seat.now.view.setting journal seat.now.view.history }
+        ensures seat { (result.hall ≡ seat.now.hall) × (result.setting ≡ seat.now.view.setting) × (result.number ≡ seat.now.view.number) }
+        ensures journal { (result.history ≡ seat.now.view.history) × (result.marks ≡ journal.marks.items) }
     {
         Pen {
             journal,
@@ -35,19 +40,31 @@ impl<C> Pen<C> {
         }
     }
 
-    /// The journal. Its list of entries has room for one more.
+    /// The journal, which has room for one more entry.
     pub(crate) fn into_journal(self) -> Journal
-        ensures room { vec_len result.entries < vec_capacity result.entries }
-        ensures journal { (self.history ≡ result.entries.items) × (self.marks ≡ result.marks.items) }
+        ensures room { HasRoom result }
+        ensures journal { HasLog self.setting result self.history × (self.marks ≡ result.marks.items) }
     {
         let Pen { journal, of: _ } = self;
         journal
+    }
+
+    /// The seats that wait, each by the bit of its number, as far as it concerns whom a commit wakes. Takes no memory.
+    pub fn waiting(&self) -> u64 {
+        self.journal.bells.waiting()
+    }
+
+    /// The mark of each number. Takes no memory.
+    pub fn marks(&self) -> &[Mark]
+        ensures { result.now ≡ self.now.marks }
+    {
+        self.journal.marks.as_slice()
     }
 
     /// The length of the history. Takes no memory.
     pub fn at(&self) -> u64
         ensures { result ≡ length self.now.history }
     {
-        self.journal.entries.len() as u64
+        self.journal.length
     }
 }

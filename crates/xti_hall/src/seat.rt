@@ -43,7 +43,8 @@ impl<C> Seat<C> {
 
     /// How many bytes were taken of the seat's unfinished call; `None` exactly where it has none. Takes no memory.
     pub fn unfinished(&self) -> Option<u32>
-        ensures { result ≡ unfinished_bytes self.now.view.mine }
+        ensures bytes { result ≡ unfinished_bytes self.now.view.mine }
+        ensures standing { IsStanding self.now.view }
     {
         self.unfinished
     }

@@ -26,8 +26,10 @@ pub enum Waited {
 pub(crate) enum Sight {
     /// The history went on.
     Again,
-    /// It may park while the bell has this number.
-    Parks(u32),
+    /// It may park while its bell has this number.
+    Parks(u64),
+    /// Its mark is set now, and nobody goes on, so it looks once more.
+    Alone,
     /// Each seat that is out rests, or waits for what is blocked.
     Stalls(Stall),
 }

@@ -115,7 +115,7 @@ module _ {C : Type 0} (stands : C → List (ℕ × MCell) → Type 0) (p : Setti
       → HallRule stands p record { words = set s.words (i + 1) b; homes = homes'; views = set s.views id (with_held v (set v.held i h) o) }
   cell_step s r id i b v homes' c h o lt at live long elsewhere bit_is value mine0 mine1 rec has lends is_opened was =
       let w : View = with_held v (set v.held i h) o in let mineOk = r.each_seat id v at live in let turns' : ℕ → Turn = put r.turns i c in
-      let ws : ℕ = length s.words in let wide : ws ≡ p.cells + 3 = r.wide in let hs : ℕ = length v.held in let room : hs ≡ p.cells = mineOk.cells.room in
+      let ws : ℕ = length s.words in let wide : ws ≡ p.cells + 35 = r.wide in let hs : ℕ = length v.held in let room : hs ≡ p.cells = mineOk.cells.room in
       let vs : ℕ = length s.views in let there : id < vs = at_length s.views id v at in record {
         log = r.log;
         marks = r.marks;

@@ -14,7 +14,7 @@ use Rattle.xti_rule.specs.declared.view.Mark.TheVariants.{Absent}
 use Rattle.xti_rule.specs.declared.view.View.{View}
 use Rattle.xti_rule.specs.declared.view.Held.TheVariants.{Cell, Journal}
 use Rattle.xti_rule.specs.declared.view.Journal.{Journal as Book}
-use Rattle.xti_rule.specs.Rule.{Slot, free, HasAsNumber, SeatOk, HallRule, mark_of, MarkFits, newcomer, opening_marks}
+use Rattle.xti_rule.specs.Rule.{Slot, HasLog, free, HasAsNumber, SeatOk, HallRule, mark_of, MarkFits, newcomer, opening_marks}
 use Rattle.xti_rule.specs.Steps.{Seated, with_seen, looked}
 use Rattle.xti_rule.proofs.Frames.{has_as, pen_as, number_as, over}
 
@@ -41,11 +41,11 @@ module _ {C : Type 0} (stands : C → List (ℕ × MCell) → Type 0) (p : Setti
   H = HallRule stands p
 
   pub record Opens (ws : List ℕ) (xs : List (Slot C)) : Type 0 where
-    pub wide : length ws ≡ p.cells + 3
+    pub wide : length ws ≡ p.cells + 35
     pub zeros : (k : ℕ) → get_or ws k 0 ≡ 0
     pub deep : length xs ≡ p.cells + 1
     pub cells : (i : ℕ) → i < p.cells → (x : C) × (get_elem? xs i ≡ some (Some (Cell x))) × stands x ((i, part i (histories.opening p)) ∷ [])
-    pub book : (b : Book) × (get_elem? xs p.cells ≡ some (Some (Journal b))) × (b.entries.items ≡ []) × (b.marks.items ≡ opening_marks)
+    pub book : (b : Book) × (get_elem? xs p.cells ≡ some (Some (Journal b))) × HasLog p b [] × (b.marks.items ≡ opening_marks)
 
   pub starts : (ws : List ℕ) (xs : List (Slot C)) → Opens ws xs → H (opening ws xs (newcomer p))
   starts ws xs o = let v : View = newcomer p in record {
@@ -80,7 +80,7 @@ module _ {C : Type 0} (stands : C → List (ℕ × MCell) → Type 0) (p : Setti
       later zero le = absurd (omega arith)
       later (suc k) le = absent 32 k
 
-  -- a step that changes no word but the bell, and one view
+  -- a step that changes no word but a bell, and one view
   pub view_step : (s : State (Slot C) View) (r : H s) (id : ℕ) (ws : List ℕ) (v w : View) → length ws ≡ length s.words → ((k : ℕ) → k < p.cells + 2 → get_or ws k 0 ≡ get_or s.words k 0)
       → get_elem? s.views id ≡ some v → w.live ≡ true → w.held ≡ v.held → w.journal ≡ v.journal → ((k : ℕ) → HasAsNumber k v → HasAsNumber k w) → SeatOk p r.log r.turns r.marks r.pen r.owner id w
       → H record { words = ws; homes = s.homes; views = set s.views id w }
@@ -137,17 +137,17 @@ module _ {C : Type 0} (stands : C → List (ℕ × MCell) → Type 0) (p : Setti
     ),
   )
 
-  pub rings : (n id : ℕ) (me : Seated C) → me.0.live ≡ true → Allows H n id me (p.cells + 2) (λ k. (k + 1) % 2 ^ 64) (λ _ m'. m' ≡ me)
-  rings n id me live s r wide at small = let b : ℕ = (get_or s.words (p.cells + 2) 0 + 1) % 2 ^ 64 in (
+  pub rings : (n id : ℕ) (me : Seated C) (seat : ℕ) → seat < 33 → me.0.live ≡ true → Allows H n id me (p.cells + 2 + seat) (λ k. (k + 1) % 2 ^ 64) (λ _ m'. m' ≡ me)
+  rings n id me seat few live s r wide at small = let bell : ℕ = p.cells + 2 + seat in let b : ℕ = (get_or s.words bell 0 + 1) % 2 ^ 64 in (
     me.0,
     keeps,
     tt,
-    view_step s r id (set s.words (p.cells + 2) b) me.0 me.0 (length-set s.words (p.cells + 2) b) (λ k lt. get_or-set_other s.words (p.cells + 2) k b 0 (λ e. omega arith)) at live refl refl (λ k x. x) (r.each_seat id me.0 at live),
+    view_step s r id (set s.words bell b) me.0 me.0 (length-set s.words bell b) (λ k lt. get_or-set_other s.words bell k b 0 (λ e. omega arith)) at live refl refl (λ k x. x) (r.each_seat id me.0 at live),
     refl,
   )
 
-  pub rings_at : (n id i : ℕ) (me : Seated C) → i ≡ p.cells → me.0.live ≡ true → Allows H n id me (i + 2) (λ k. (k + 1) % 2 ^ 64) (λ _ m'. m' ≡ me)
-  rings_at n id i me is live = subst (λ (z : ℕ). Allows H n id me (z + 2) (λ k. (k + 1) % 2 ^ 64) (λ _ m'. m' ≡ me)) (sym is) (rings n id me live)
+  pub rings_at : (n id i : ℕ) (me : Seated C) (seat : ℕ) → i ≡ p.cells → seat < 33 → me.0.live ≡ true → Allows H n id me (i + 2 + seat) (λ k. (k + 1) % 2 ^ 64) (λ _ m'. m' ≡ me)
+  rings_at n id i me seat is few live = subst (λ (z : ℕ). Allows H n id me (z + 2 + seat) (λ k. (k + 1) % 2 ^ 64) (λ _ m'. m' ≡ me)) (sym is) (rings n id me seat few live)
 
 at_front : {A : Type 0} (l m : List A) (i : ℕ) (a : A) → get_elem? l i ≡ some a → get_elem? (l ++ m) i ≡ some a
 at_front l m i a e = Rattle.atomic_table.proofs.Lists.at_longer l m i a e
@@ -159,11 +159,11 @@ there (x ∷ xs) (suc i) h = there xs i (omega arith)
 
 -- the words, the cells and the journal of a new hall
 pub opens_with : {C : Type 0} (stands : C → List (ℕ × MCell) → Type 0) (p : Setting) (n : ℕ) (xs : List C) (ws : List ℕ) (slots : List (Slot C)) (b : Book) → n ≡ p.cells → length xs ≡ p.cells
-    → ((i : ℕ) (x : C) → get_elem? xs i ≡ some x → stands x ((i, part i (histories.opening p)) ∷ [])) → ws ≡ replicate (n + 3) 0 → slots ≡ map (λ x. Some (Cell x)) xs ++ Some (Journal b) ∷ [] → b.entries.items ≡ [] → b.marks.items ≡ opening_marks
+    → ((i : ℕ) (x : C) → get_elem? xs i ≡ some x → stands x ((i, part i (histories.opening p)) ∷ [])) → ws ≡ replicate (n + 35) 0 → slots ≡ map (λ x. Some (Cell x)) xs ++ Some (Journal b) ∷ [] → HasLog p b [] → b.marks.items ≡ opening_marks
     → HallRule stands p (opening ws slots (newcomer p))
 opens_with {C} stands p n xs ws slots b num many good words all clean marks = starts stands p ws slots record {
-  wide = ap length words ∙ (length-replicate (n + 3) 0 ∙ ap (λ (z : ℕ). z + 3) num);
-  zeros = λ k. ap (λ (l : List ℕ). get_or l k 0) words ∙ zero_at (n + 3) k;
+  wide = ap length words ∙ (length-replicate (n + 35) 0 ∙ ap (λ (z : ℕ). z + 35) num);
+  zeros = λ k. ap (λ (l : List ℕ). get_or l k 0) words ∙ zero_at (n + 35) k;
   deep = ap length all ∙ (length_push (map (λ (x : C). Some (Cell x)) xs) (Some (Journal b)) ∙ ap (λ (z : ℕ). z + 1) (length-map xs (λ (x : C). Some (Cell x)) ∙ many));
   cells = λ i lt. let x = there xs i (omega (arith, many)) in (x.0, ap (λ (l : List (Slot C)). get_elem? l i) all ∙ at_front (map (λ (y : C). Some (Cell y)) xs) (Some (Journal b) ∷ []) i (Some (Cell x.0)) (at_map (λ (y : C). Some (Cell y)) xs i x.0 x.1), good i x.0 x.1);
   book = (b, ap (λ (l : List (Slot C)). get_elem? l p.cells) all ∙ at_last (map (λ (y : C). Some (Cell y)) xs) (Some (Journal b)) p.cells (length-map xs (λ (x : C). Some (Cell x)) ∙ many), clean, marks);

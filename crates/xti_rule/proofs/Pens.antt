@@ -17,7 +17,7 @@ use Rattle.xti_rule.specs.Histories.{part, own, after, Legal}
 use Rattle.xti_rule.specs.declared.view.View.{View}
 use Rattle.xti_rule.specs.declared.view.Held.TheVariants.{Cell, Journal}
 use Rattle.xti_rule.specs.declared.view.Journal.{Journal as Book}
-use Rattle.xti_rule.specs.Rule.{Slot, HasAsNumber, PenIn, KnowsHistory, KnowsNumbers, SeatOk, HallRule, mark_of, MarkFits}
+use Rattle.xti_rule.specs.Rule.{Slot, HasLog, HasAsNumber, PenIn, KnowsHistory, KnowsNumbers, SeatOk, HallRule, mark_of, MarkFits}
 use Rattle.xti_rule.specs.Steps.{with_pen, given_back, gave_back, Seated, Began, began}
 use Rattle.xti_rule.specs.declared.view.Mark.{Mark}
 use Rattle.xti_rule.specs.Steps.{Marked}
@@ -63,7 +63,7 @@ module _ {C : Type 0} (stands : C → List (ℕ × MCell) → Type 0) (p : Setti
       → w.live ≡ true → w.held ≡ v.held → ((k : ℕ) → HasAsNumber k v → HasAsNumber k w) → SeatOk p r.log r.turns marks' pen' r.owner id w → (pen' ≡ suc id → w.journal ≡ true)
       → H record { words = set s.words (p.cells + 1) b; homes = homes'; views = set s.views id w }
   pen_step s r id b v w homes' pen' marks' at live long elsewhere shows value mine0 mine1 many fits unmarked live' cells numbers knows has =
-      let ws : ℕ = length s.words in let wide : ws ≡ p.cells + 3 = r.wide in record {
+      let ws : ℕ = length s.words in let wide : ws ≡ p.cells + 35 = r.wide in record {
         log = r.log;
         marks = marks';
         turns = r.turns;
@@ -109,11 +109,11 @@ module _ {C : Type 0} (stands : C → List (ℕ × MCell) → Type 0) (p : Setti
       exchanged f 0 1 (Goes stands p s (i + 1) id me told f)
       (λ hit. let ok = r.each_seat id v at live in let unheld : r.pen ≡ 0 = free_pen r.pen f r.journal.word hit in
       let here = subst (PenIn stands p s.homes r.log r.marks) unheld r.journal.value in let b : Book = here.0 in let h = ok.history in
-      let w : View = with_pen v b.entries.items b.marks.items in
+      let w : View = with_pen v r.log b.marks.items in
       let knows : SeatOk p r.log r.turns r.marks (suc id) r.owner id w = record {
         history = record { setting = h.setting; seen = h.seen; mine = h.mine; mine_seen = h.mine_seen; no_calls = h.no_calls; heard = h.heard };
         cells = record { room = ok.cells.room; held = ok.cells.held; opened_is = ok.cells.opened_is; is_opened = ok.cells.is_opened };
-        journal = record { held = λ _. (refl, here.2, here.3) };
+        journal = record { held = λ _. (refl, refl, here.3) };
         numbers = λ x. let k = ok.numbers x in record { owned = k.owned; below = k.below; small = k.small; marked = k.marked; spare = k.spare };
       } in
       let r' = pen_step s r id 1 v w (set s.homes i none) (suc id) r.marks at live (length-set s.homes i none) (λ k ne. set_else s.homes i k none ne) ((λ e. absurd (omega arith)), (λ j e. refl)) tt
@@ -125,17 +125,19 @@ module _ {C : Type 0} (stands : C → List (ℕ × MCell) → Type 0) (p : Setti
         (
           (λ _ k is. let same : i ≡ k = omega arith in subst (λ (z : ℕ). Began me z (w, (i, Some (Journal b)) ∷ me.1)) same (
             b,
+            r.log,
             refl,
+            subst (λ (z : Setting). HasLog z b r.log) (sym h.setting) here.2,
             record {
               journal = refl;
-              legal = subst (λ (z : Setting × List Entry). Legal z.0 z.1) (λ q. (sym h.setting q, sym here.2 q)) r.legal;
-              seen = prefix_of v.seen r.log b.entries.items h.seen (sym here.2);
-              mine = λ x. ap (own v.number) here.2 ∙ h.mine x;
-              spare = λ x q le. ap (own q) here.2 ∙ over 33 q (own q r.log ≡ []) (λ lt. ((ok.numbers x).spare q le lt).1) (λ big. r.workers q big);
+              legal = subst (λ (z : Setting). Legal z r.log) (sym h.setting) r.legal;
+              seen = h.seen;
+              mine = h.mine;
+              spare = λ x q le. over 33 q (own q r.log ≡ []) (λ lt. ((ok.numbers x).spare q le lt).1) (λ big. r.workers q big);
               marked = λ x. ap (λ (l : List Mark). mark_of l v.number) here.3 ∙ (ok.numbers x).marked;
               many = ap length here.3 ∙ r.many;
-              fits = λ q. subst (λ (z : Setting × (List Entry × List Mark)). MarkFits z.0 z.1.0 (mark_of z.1.1 q)) (λ y. (sym h.setting y, (sym here.2 y, sym here.3 y))) (r.marked q);
-              parts = λ q m e. (ok.cells.held q m e).1 ∙ (λ k. part q (after (sym h.setting k) (sym here.2 k)));
+              fits = λ q. subst (λ (z : Setting × List Mark). MarkFits z.0 r.log (mark_of z.1 q)) (λ y. (sym h.setting y, sym here.3 y)) (r.marked q);
+              parts = λ q m e. (ok.cells.held q m e).1 ∙ (λ k. part q (after (sym h.setting k) r.log));
             },
           )),
           λ miss. absurd (miss hit),
@@ -143,7 +145,7 @@ module _ {C : Type 0} (stands : C → List (ℕ × MCell) → Type 0) (p : Setti
       ))
       (λ miss. stays stands p s r (i + 1) id me told at ((λ hit. absurd (miss hit)), λ _. refl))
 
-  returns' : (sees : View → List Entry) (n id : ℕ) (v : View) (b : Book) (more : List (ℕ × Slot C)) → Sees p sees v → v.live ≡ true → v.numbered ≡ true → v.journal ≡ true → b.entries.items ≡ v.history → Marked v b.marks.items → v.setting ≡ p
+  returns' : (sees : View → List Entry) (n id : ℕ) (v : View) (b : Book) (more : List (ℕ × Slot C)) → Sees p sees v → v.live ≡ true → v.numbered ≡ true → v.journal ≡ true → HasLog v.setting b v.history → Marked v b.marks.items → v.setting ≡ p
       → Allows H n id (v, (p.cells, Some (Journal b)) ∷ more) (p.cells + 1) (λ _. 0) (λ _ m'. gave_back sees (v, (p.cells, Some (Journal b)) ∷ more) m')
   returns' sees n id v b more sight live numbered on is marked ab s r wide at small = let ok = r.each_seat id v at live in let i : ℕ = p.cells in let y : maybe.Option (Slot C) = some (Some (Journal b)) in let q = ok.journal.held on in
       let hs : ℕ = length s.homes in let deep : hs ≡ p.cells + 1 = r.deep in let k = ok.numbers numbered in let h = ok.history in
@@ -162,7 +164,7 @@ module _ {C : Type 0} (stands : C → List (ℕ × MCell) → Type 0) (p : Setti
         gives,
         tt,
         pen_step s r id 0 v w (set s.homes i y) 0 b.marks.items at live (length-set s.homes i y) (λ k ne. set_else s.homes i k y ne) ((λ e. refl), (λ j e. absurd (omega arith)))
-            (b, set_here s.homes i y (omega arith), is ∙ q.1, refl) (inr q.0) (inl refl) marked.many (λ j. fits j (ℕ_discrete j v.number))
+            (b, set_here s.homes i y (omega arith), subst (λ (z : Setting × List Entry). HasLog z.0 b z.1) (λ x. (ab x, q.1 x)) is, refl) (inr q.0) (inl refl) marked.many (λ j. fits j (ℕ_discrete j v.number))
             (λ j ne. marked.others j (λ e. ne (ap r.owner e ∙ k.owned)) ∙ ap (λ (l : List Mark). mark_of l j) q.2) live refl (λ k x. x) knows (λ e. absurd (omega arith)),
         λ m b' more' z. let e = fronts m b' more' z in λ t. (given_back v (sees v) (mark_of (e.0 t).marks.items v.number), e.1 t),
       )
@@ -182,7 +184,7 @@ module _ {C : Type 0} (stands : C → List (ℕ × MCell) → Type 0) (p : Setti
 
   -- me is the seat v with the journal b in its slot
   pub returns_at : (sees : View → List Entry) (n id i : ℕ) (v : View) (me : Seated C) (b : Book) (more : List (ℕ × Slot C)) → me ≡ (v, (p.cells, Some (Journal b)) ∷ more) → Sees p sees v → i ≡ p.cells → v.live ≡ true → v.numbered ≡ true → v.journal ≡ true
-      → b.entries.items ≡ v.history → Marked v b.marks.items → v.setting ≡ p → Allows H n id me (i + 1) (λ _. 0) (λ _ m'. gave_back sees me m')
+      → HasLog v.setting b v.history → Marked v b.marks.items → v.setting ≡ p → Allows H n id me (i + 1) (λ _. 0) (λ _ m'. gave_back sees me m')
   returns_at sees n id i v me b more e sight is live numbered on h marked ab =
       subst (λ (z : ℕ × Seated C). Allows H n id z.1 (z.0 + 1) (λ _. 0) (λ _ m'. gave_back sees z.1 m')) (λ k. (sym is k, sym e k)) (returns' sees n id v b more sight live numbered on h marked ab)
 

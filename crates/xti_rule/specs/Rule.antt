@@ -1,11 +1,12 @@
 -- The rule of a hall of n cells, whose seats step on the words and slots of one table.
 --
--- Word 0 has the length of the history, word 1 + i the turn of the cell i, word 1 + n that of the journal, and word 2 + n is
--- the bell, of which the rule says nothing. The word of a turn is 1 while a seat holds the turn, else 0.
--- Slot i has the value of the cell i, and slot n the journal: the history, and a mark for each number from 0 to 32. The slot
--- of a turn that is held is empty.
+-- Word 0 has the length of the history, word 1 + i the turn of the cell i, word 1 + n that of the journal, and word 2 + n + k
+-- is the bell of the seat with the number k, of which the rule says nothing. The word of a turn is 1 while a seat holds the
+-- turn, else 0.
+-- Slot i has the value of the cell i, and slot n the journal: the length of the history, its entries where they are kept, and a
+-- mark for each number from 0 to 32. The slot of a turn that is held is empty.
 -- Each seat has a view, which says what it knows (`View`). The rule speaks of the live views.
-use Rattle.std.specs.Prelude.{take, ◌≡◌, ℕ, zero, suc, ◌+◌, ◌<◌, ◌≤◌, true, false, List, [], ◌∷◌, length, replicate, Option, Some, None, ◌⊎◌}
+use Rattle.std.specs.Prelude.{take, ◌≡◌, ℕ, zero, suc, ◌+◌, ◌<◌, ◌≤◌, true, false, List, [], ◌∷◌, length, replicate, Option, Some, None, option_map, Bool, ◌⊎◌}
 use mathlib.Core.Option.{some}
 use mathlib.Core.Option as maybe
 use mathlib.Core.List.{IsPrefix}
@@ -42,6 +43,15 @@ abbrev pub by : Turn → ℕ
 by free = 0
 by (kept j) = suc j
 by (opened j) = suc j
+
+-- what is kept of a history
+abbrev pub recorded : Bool → List Entry → Option (List Entry)
+recorded true h = Some h
+recorded false h = None
+
+-- the journal is that of this history: it has its length, and its entries just where they are kept
+abbrev pub HasLog : Setting → Book → List Entry → Type 0
+HasLog p b h = (b.length ≡ length h) × (option_map (λ v. v.items) b.kept ≡ recorded p.keeps h)
 
 abbrev pub mark_of : List Mark → ℕ → Mark
 mark_of marks k = get_or marks k Absent
@@ -143,11 +153,11 @@ module _ {C : Type 0} (stands : C → List (ℕ × MCell) → Type 0) (p : Setti
     pub value : CellIn homes log i t
     pub has : (j : ℕ) → by t ≡ suc j → HasCell views j i
 
-  -- a journal at home has the history and the marks
+  -- a journal at home is that of the history, and has the marks
   abbrev pub PenIn : List (maybe.Option (Slot C)) → List Entry → List Mark → ℕ → Type 0
   PenIn homes log marks zero =
       (x : Book) × (get_elem? homes p.cells ≡ some (some (Some (Journal x))))
-      × (x.entries.items ≡ log) × (x.marks.items ≡ marks)
+      × HasLog p x log × (x.marks.items ≡ marks)
   PenIn homes log marks (suc j) = Unit {0}
 
   -- What the rule says of the journal, whose turn is free (0) or held by the seat `pen` - 1.
@@ -168,7 +178,7 @@ module _ {C : Type 0} (stands : C → List (ℕ × MCell) → Type 0) (p : Setti
     pub turns : ℕ → Turn
     pub pen : ℕ
     pub owner : ℕ → ℕ
-    pub wide : length s.words ≡ p.cells + 3
+    pub wide : length s.words ≡ p.cells + 35
     pub deep : length s.homes ≡ p.cells + 1
     pub count : get_or s.words 0 0 ≡ length log
     pub legal : Legal p log

@@ -11,8 +11,8 @@
 -- cut a seat in two           word 0                   the new one has the least spare number (`giver`, `given`), or none
 --                                                      (`note_of`)
 -- join a note                 word 0                   the seat was told what the other had seen (`told`); the note is spent
--- ring the bell               word 2 + n, plus 1       none
-use Rattle.std.specs.Prelude.{◌≡◌, ◌≢◌, ◌<◌, ◌≤◌, ℕ, ◌+◌, true, false, suc, List, [], ◌∷◌, length, replicate, set, Option, Some, None}
+-- ring a bell                 word 2 + n + k, plus 1   none
+use Rattle.std.specs.Prelude.{◌≡◌, ◌≢◌, ◌<◌, ◌≤◌, ℕ, ◌+◌, true, false, suc, List, [], ◌∷◌, ◌++◌, length, replicate, set, Option, Some, None}
 use mathlib.Core.Option.{some}
 use mathlib.Core.List.{IsPrefix}
 use lib.ListN.{get_elem?, get_or}
@@ -28,7 +28,10 @@ use Rattle.xti_rule.specs.declared.view.Held.TheVariants.{Cell, Journal}
 use Rattle.xti_rule.specs.declared.view.Journal.{Journal as Book}
 use Rattle.xti_rule.specs.declared.view.Mark.{Mark}
 use Rattle.xti_rule.specs.declared.view.Mark.TheVariants.{Absent}
-use Rattle.xti_rule.specs.Rule.{Slot, mark_of, MarkFits}
+use Rattle.xti_rule.specs.declared.view.Shown.{Shown}
+use Rattle.xti_rule.specs.declared.view.Shown.TheVariants.{Whole, Parts}
+use Rattle.xti_model.specs.Robin.{act_of}
+use Rattle.xti_rule.specs.Rule.{Slot, mark_of, MarkFits, HasLog}
 
 -- a seat: its view, and the slots that it has open
 abbrev pub Seated : Type 0 → Type 0
@@ -107,7 +110,8 @@ pub record Marked (v : View) (marks : List Mark) : Type 0 where
 module _ {C : Type 0} where
   abbrev pub Began : Seated C → ℕ → Seated C → Type 0
   Began m n m' =
-      (b : Book) × (m' ≡ (with_pen m.0 b.entries.items b.marks.items, (n, Some (Journal b)) ∷ m.1)) × Holds m'.0
+      (b : Book) × (h : List Entry) × (m' ≡ (with_pen m.0 h b.marks.items, (n, Some (Journal b)) ∷ m.1))
+      × HasLog m.0.setting b h × Holds m'.0
 
   -- a try at the journal's turn: taken where the word was 0, and nothing else
   abbrev pub began : Step (Slot C) → Seated C → ℕ → Seated C → Type 0
@@ -144,10 +148,19 @@ pub record Commits (v : View) (e : Entry) : Type 0 where
   pub covers : (i : ℕ)
       → Touches v.setting (after v.setting v.history) (doing v.history e) i → (m : MCell) × (at v i ≡ Some m)
 
--- the history is the one in the open slot of the journal
+-- the entry that is shown
+abbrev pub shown : Shown → Entry
+shown (Whole e) = e.value
+shown (Parts worker call go outcome state) = record { worker = worker; act = act_of go call.value; outcome = outcome.value; after = state }
+
+abbrev pub added : Option Shown → List Entry
+added None = []
+added (Some s) = shown s ∷ []
+
+-- the entry is the one that the journal in the open slot shows
 abbrev pub wrote : {C : Type 0} → Seated C → Seated C → Type 0
 wrote {C} m m' = (n : ℕ) (b : Book) (more : List (ℕ × Slot C))
-    → m.1 ≡ (n, Some (Journal b)) ∷ more → m' ≡ (committed m.0 b.entries.items, m.1)
+    → m.1 ≡ (n, Some (Journal b)) ∷ more → m' ≡ (committed m.0 (m.0.history ++ added b.last.value), m.1)
 
 abbrev pub with_seen : View → List Entry → View
 with_seen v h = record v { seen = h }
@@ -190,7 +203,7 @@ told v w = record v { heard = w.seen }
 
 abbrev pub spent : View
 spent = record {
-  setting = record { providers = usual; cells = 0 };
+  setting = record { providers = usual; cells = 0; keeps = false };
   live = false;
   numbered = false;
   number = 0;

@@ -2,16 +2,20 @@
 //! other, and that each kind of step keeps it. The hall's code stands in `xti_hall`.
 #![tactic(auto)]
 
+mod bells;
+mod last;
 mod rule;
 mod seats_out;
 mod setting;
 mod steps;
 mod view;
 
+pub use bells::Bells;
+pub use last::Last;
 pub use rule::{Pass, Ruled, Slot};
 pub use seats_out::marks_are_of_seats_out;
 pub use setting::{Recorded, Setting, Stands};
 pub use steps::{
     Begin, Commit, Give, Leave, Look, Note, Reopen, Return, ReturnUnseen, Ring, Settle, Take,
 };
-pub use view::{Held, Journal, Mark, View};
+pub use view::{Held, Journal, Mark, Shown, View};

@@ -3,13 +3,15 @@
 use std::marker::Model;
 use xti_model::Providers;
 
-/// The providers of a hall, and the number of its cells.
+/// The providers of a hall, the number of its cells, and whether its history is kept.
 #[derive(Drop)]
 pub struct Setting {
     /// The values of the providers.
     pub providers: Providers,
     /// How many cells the hall has.
     pub cells: u32,
+    /// Whether the entries of the history are kept, so that they can be handed out.
+    pub keeps: bool,
 }
 
 /// A cell of the definitions, for fields that contracts alone see. No value of it is made.

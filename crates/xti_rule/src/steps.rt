@@ -49,7 +49,7 @@ impl<C> Play<Option<Held<C>>, View> for Begin {
     ghost then = { began };
 }
 
-/// Adds 1 to the length, as the history in the open slot has an entry more.
+/// Adds 1 to the length, as the history has one entry more, which the journal in the open slot shows.
 pub struct Commit;
 
 impl<C> Play<Option<Held<C>>, View> for Commit {
@@ -85,7 +85,7 @@ impl<C> Play<Option<Held<C>>, View> for Look {
     ghost then = { λ st m r m'. looked m r m' };
 }
 
-/// Rings the bell.
+/// Rings the bell of a seat.
 pub struct Ring;
 
 impl<C> Play<Option<Held<C>>, View> for Ring {

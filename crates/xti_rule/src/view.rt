@@ -1,8 +1,12 @@
 //! What a hall's slots have, and what a seat knows.
 
+use crate::bells::Bells;
+use crate::last::Last;
 use crate::setting::{Recorded, Setting};
 use std::collections::LinkedList;
-use xti_model::Entry;
+use std::snapshot::Snapshot;
+use xti_base::State;
+use xti_model::{Call, Entry, Go, Outcome};
 use xti_wants::Want;
 
 /// How the seat with a number stands.
@@ -50,13 +54,39 @@ pub struct View {
     pub mark: Mark,
 }
 
-/// The history, and the mark of each number from 0 to 32.
+/// An entry as contracts see it.
+#[derive(Drop)]
+pub enum Shown {
+    /// This one.
+    Whole(Snapshot<Entry>),
+    /// That of a step of a call, by its parts.
+    Parts {
+        /// The number of the seat.
+        worker: u32,
+        /// The call.
+        call: Snapshot<Call>,
+        /// How far it had come.
+        go: Go,
+        /// What the step answered.
+        outcome: Snapshot<Outcome>,
+        /// The state after it.
+        after: State,
+    },
+}
+
+/// What is at hand of the history, and the mark of each number from 0 to 32.
 #[derive(Drop)]
 pub struct Journal {
-    /// The entries of the history.
-    pub entries: Vec<Entry>,
+    /// The length of the history.
+    pub length: u64,
+    /// The entries of the history, where they are kept.
+    pub kept: Option<Vec<Entry>>,
+    /// The entry that a commit adds, as contracts see it.
+    pub last: Last,
     /// The mark of each number.
     pub marks: Vec<Mark>,
+    /// Who is to be woken.
+    pub bells: Bells,
 }
 
 /// What a slot of a hall has.

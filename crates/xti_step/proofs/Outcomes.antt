@@ -38,11 +38,11 @@ use Rattle.xti_rule.specs.Histories.{part, cell_or_closed, own, after, Legal, To
 use Rattle.xti_rule.specs.Steps.{at, with_pen, without_pen, renew_from, Holds, Commits}
 use Rattle.xti_rule.proofs.Laws.{own-append, own-mine, after-more, legal-more}
 use Rattle.xti_rule.proofs.Lookups.{at_has}
-use Rattle.xti_hall.specs.Seats.{bare, wrote_entry}
+use Rattle.xti_hall.specs.Seats.{bare, entry_of, wrote_entry}
 use Rattle.xti_gather.specs.Lends.{Lends, Just}
 use Rattle.xti_gather.proofs.Loans.{lent-cell, loan-after}
 use Rattle.xti_gather.proofs.Wholes.{kept, whole-world, Of, sub-of}
-use Rattle.xti_step.specs.Steps.{MayGo, entry_of, Made, Waits}
+use Rattle.xti_step.specs.Steps.{MayGo, Made, Waits}
 
 -- a seat goes on lending while the journal comes and goes
 pub lends_same : (v v' : View) (l : Lending) → v'.setting ≡ v.setting → v'.held ≡ v.held → Lends v l → Lends v' l

@@ -13,7 +13,7 @@ use Rattle.xti_model.specs.Robin.{act_of}
 use Rattle.xti_model.specs.Step.{step}
 use Rattle.xti_rule.specs.declared.view.View.{View}
 use Rattle.xti_rule.specs.Histories.{after}
-use Rattle.xti_hall.specs.Seats.{HoldsNone}
+use Rattle.xti_hall.specs.Seats.{HoldsNone, entry_of}
 
 -- a seat between two calls holds neither a cell nor the journal
 abbrev pub HoldsNothing : View → Type 0
@@ -29,10 +29,6 @@ pub record Later (v v' : View) : Type 0 where
 -- the call begins where the seat has none unfinished, or it is the unfinished one with so many bytes taken
 abbrev pub MayGo : View → Call → Go → Type 0
 MayGo v c g = made_by (unfinished_from None None v.mine) (act_of g c) ≡ Some (record { call = c; so_far = g })
-
--- the seat's entry of a step of the call
-abbrev pub entry_of : View → Call → Go → Outcome → State → Entry
-entry_of v c g outcome state = record { worker = v.number; act = act_of g c; outcome = outcome; after = state }
 
 -- the entry is that of the definition's step after this history
 abbrev pub IsStepAfter : View → List Entry → Call → Go → Entry → Type 0

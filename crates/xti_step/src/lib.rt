@@ -17,6 +17,7 @@ macro_rules! or_drop {
 mod gate;
 mod spare;
 mod stepping;
+mod waking;
 
 pub use gate::{Gate, NoGate};
 pub use stepping::step;

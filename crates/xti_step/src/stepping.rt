@@ -1,26 +1,30 @@
 //! One step of a call.
 
-ghost use Rattle.std.specs.Prelude.{◌≡◌, IfOk, OnErr};
+ghost use Rattle.std.specs.Prelude.{◌≡◌, ◌⊎◌, IfOk, OnErr};
 ghost use Rattle.xti_model.specs.Robin.{act_of};
 ghost use Rattle.xti_rule.specs.declared.view.Mark.TheVariants.{Free};
 ghost use Rattle.xti_rule.specs.Steps.{without_pen, Holds, Commits};
 ghost use Rattle.xti_hall.specs.Pens.{IsPenOf};
-ghost use Rattle.xti_hall.specs.Seats.{bare, wrote_entry, HoldsNone};
+ghost use Rattle.xti_hall.specs.Seats.{bare, entry_of, wrote_entry, HoldsNone, IsStanding};
 ghost use Rattle.xti_hall.specs.Words.{setting_of, IsSeatOf, IsSameSeat};
-ghost use Rattle.xti_gather.specs.Cells.{whole};
+ghost use Rattle.xti_gather.specs.Cells.{IsWhole};
 ghost use Rattle.xti_gather.specs.Lends.{Lends, IsEmpty};
+ghost use Rattle.xti_gather.specs.Orders.{AreCells};
+ghost use Rattle.xti_sound.specs.Replies.{lengths_of, IsShortOutcome};
+ghost use Rattle.xti_step.specs.Copies.{AreCopies};
 ghost use Rattle.xti_step.specs.Steps.{HoldsNothing, Later, MayGo, Tells, SeenAt};
 
 use crate::gate::Gate;
 use crate::spare::Spare;
+use crate::waking::concerned;
 use std::alloc::{AllocError, Global};
 use std::sync::Wait;
-use xti_base::let_go;
+use xti_base::{State, let_go};
 use xti_core::apply;
 use xti_gather::{Cell, gather, leave_all};
 use xti_hall::{Hall, Pen, Seat};
 use xti_lent::Lent;
-use xti_model::{Act, Applied, Call, Entry, Go};
+use xti_model::{Act, Applied, Call, Cells, Entry, Go, Outcome};
 
 /// What the entry of a step shows of its call.
 fn act(call: &Call, go: Go) -> Result<Act, AllocError>
@@ -32,9 +36,32 @@ fn act(call: &Call, go: Go) -> Result<Act, AllocError>
     }
 }
 
-/// Gives the journal back without an entry, and then the cells; the act is let go.
-fn give_up(hall: &Hall<Cell>, seat: &mut Seat<Cell>, lent: &mut Lent, pen: Pen<Cell>, act: Act)
-    requires hall { IsSeatOf hall.now seat.old × (setting_of hall.now ≡ whole lent.old.providers) }
+/// What an entry that is kept shows of its call, and room for the caller's copy of the reply; none where entries aren't kept.
+fn copies(
+    alloc: Global,
+    hall: &Hall<Cell>,
+    call: &Call,
+    go: Go,
+) -> Result<Option<(Act, Spare)>, AllocError>
+    ensures { IfOk result (AreCopies (setting_of hall.now).keeps call.now go) }
+{
+    if !hall.keeps() {
+        return Ok(None);
+    }
+    let spare = Spare::of(alloc, call)?;
+    let act = or_drop!(act(call, go), spare);
+    Ok(Some((act, spare)))
+}
+
+/// Gives the journal back without an entry, and then the cells; what was copied is let go.
+fn give_up(
+    hall: &Hall<Cell>,
+    seat: &mut Seat<Cell>,
+    lent: &mut Lent,
+    pen: Pen<Cell>,
+    copies: Option<(Act, Spare)>,
+)
+    requires hall { IsSeatOf hall.now seat.old × IsWhole (setting_of hall.now) lent.old.providers }
     requires holds { Holds seat.old.view }
     requires pen { IsPenOf seat.old pen }
     requires lends { Lends seat.old.view lent.old }
@@ -45,76 +72,34 @@ fn give_up(hall: &Hall<Cell>, seat: &mut Seat<Cell>, lent: &mut Lent, pen: Pen<C
 {
     hall.return_pen(seat, pen);
     leave_all(hall, seat, lent);
-    let_go(act);
+    let_go(copies);
 }
 
-/// Writes the entry of the step that was made on the lent cells, gives the journal back, and then the cells.
-fn finish(hall: &Hall<Cell>, seat: &mut Seat<Cell>, lent: &mut Lent, pen: Pen<Cell>, entry: Entry)
-    requires hall { IsSeatOf hall.now seat.old × (setting_of hall.now ≡ whole lent.old.providers) }
-    requires holds { Holds seat.old.view }
-    requires pen { IsPenOf seat.old pen }
-    requires entry { Commits seat.old.view entry }
-    requires lends { Lends (without_pen (wrote_entry seat.old.view entry) Free) lent.old }
-    ensures hall { IsSameSeat seat.old seat.new }
-    ensures view { bare seat.new.view ≡ bare (without_pen (wrote_entry seat.old.view entry) Free) }
-    ensures none { HoldsNone seat.new.view }
-    ensures empty { IsEmpty lent.new × (lent.new.providers ≡ lent.old.providers) }
-{
-    hall.commit(seat, pen, entry);
-    leave_all(hall, seat, lent);
-}
-
-/// One step of a call by a seat that holds nothing, in a hall that has all cells. The call begins, or it is the seat's
-/// unfinished one with so many bytes taken.
-///
-/// It answers what the step answers, and the length of the history that it saw. Where the step was made, its entry is the
-/// next after that history; where it is blocked, it is so after just that history. Out of memory no entry was made. Nothing
-/// is lent before and after.
-pub fn step<G: Gate, R: Wait + Sync>(
-    rt: &R,
-    alloc: Global,
+/// Writes the entry of a step, and gives the journal back; what the step answered, which is copied where the entry is kept.
+fn write(
     hall: &Hall<Cell>,
     seat: &mut Seat<Cell>,
-    lent: &mut Lent,
-    gate: &G,
+    pen: Pen<Cell>,
+    copies: Option<(Act, Spare)>,
     call: &Call,
     go: Go,
-) -> Result<(Applied, u64), AllocError>
-    requires hall { IsSeatOf hall.now seat.old × (setting_of hall.now ≡ whole lent.old.providers) }
-    requires idle { HoldsNothing seat.old.view }
-    requires empty { IsEmpty lent.old }
-    requires go { MayGo seat.old.view call.now go }
+    outcome: Outcome,
+    after: State,
+    wakes: u64,
+) -> Outcome
+    requires hall { IsSeatOf hall.now seat.old }
+    requires holds { Holds seat.old.view }
+    requires pen { IsPenOf seat.old pen }
+    requires copies { AreCopies (setting_of hall.now).keeps call.now go copies }
+    requires short { IsShortOutcome (lengths_of call.now) outcome }
+    requires entry { Commits seat.old.view (entry_of seat.old.view call.now go outcome after) }
     ensures hall { IsSameSeat seat.old seat.new }
-    ensures idle { HoldsNothing seat.new.view }
-    ensures empty { IsEmpty lent.new × (lent.new.providers ≡ lent.old.providers) }
-    ensures later { Later seat.old.view seat.new.view }
-    ensures ok { IfOk result (λ r. Tells seat.old.view call.now go seat.new.view r.0) }
-    ensures at { IfOk result (λ r. SeenAt r.0 r.1 seat.new.view) }
-    ensures err { OnErr result (seat.new.view.mine ≡ seat.old.view.mine) }
+    ensures view { seat.new.view ≡ without_pen (wrote_entry seat.old.view (entry_of seat.old.view call.now go outcome after)) Free }
+    ensures standing { IsStanding seat.new.view }
+    ensures told { result ≡ outcome }
 {
-    let spare = Spare::of(alloc, call)?;
-    let act = or_drop!(act(call, go), spare);
-    gather(rt, hall, seat, lent, call);
-    gate.pause(rt, seat.number(), seat.steps(), seat, call);
-    let Ok(pen) = hall.begin(rt, seat) else {
-        leave_all(hall, seat, lent);
-        let_go(spare);
-        let_go(act);
-        return Err(AllocError);
-    };
-    let at = pen.at();
-    match apply(lent, call, go) {
-        Err(error) => {
-            give_up(hall, seat, lent, pen, act);
-            let_go(spare);
-            Err(error)
-        }
-        Ok(Applied::Blocked) => {
-            give_up(hall, seat, lent, pen, act);
-            let_go(spare);
-            Ok((Applied::Blocked, at))
-        }
-        Ok(Applied::Step { outcome, after }) => {
+    match copies {
+        Some((act, spare)) => {
             let told = spare.copy(&outcome);
             let entry = Entry {
                 worker: seat.number(),
@@ -122,7 +107,73 @@ pub fn step<G: Gate, R: Wait + Sync>(
                 outcome,
                 after,
             };
-            finish(hall, seat, lent, pen, entry);
+            hall.commit(seat, pen, entry, wakes);
+            told
+        }
+        None => {
+            hall.commit_unkept(seat, pen, call, go, &outcome, after, wakes);
+            outcome
+        }
+    }
+}
+
+/// One step of a call by a seat that holds nothing, in a hall that has all cells. The call begins, or it is the seat's
+/// unfinished one with so many bytes taken.
+///
+/// It answers what the step answers, and the length of the history that it saw. Where the step was made, its entry is the
+/// next after that history; where it is blocked, it is so after just that history. Out of memory no entry was made. Nothing
+/// is lent before and after. `first` has the cells of an earlier step, made or not, with which one of several cells begins.
+pub fn step<G: Gate, R: Wait + Sync>(
+    rt: &R,
+    alloc: Global,
+    hall: &Hall<Cell>,
+    seat: &mut Seat<Cell>,
+    lent: &mut Lent,
+    first: &mut Cells,
+    gate: &G,
+    call: &Call,
+    go: Go,
+) -> Result<(Applied, u64), AllocError>
+    requires hall { IsSeatOf hall.now seat.old × (IsWhole (setting_of hall.now) lent.old.providers) }
+    requires idle { HoldsNothing seat.old.view }
+    requires empty { IsEmpty lent.old }
+    requires first { AreCells lent.old.providers first.old }
+    requires go { MayGo seat.old.view call.now go }
+    ensures hall { IsSameSeat seat.old seat.new }
+    ensures idle { HoldsNothing seat.new.view }
+    ensures empty { IsEmpty lent.new × (lent.new.providers ≡ lent.old.providers) }
+    ensures first { AreCells lent.new.providers first.new }
+    ensures later { Later seat.old.view seat.new.view }
+    ensures standing { IsStanding seat.new.view }
+    ensures ok { IfOk result (λ r. Tells seat.old.view call.now go seat.new.view r.0) }
+    ensures free { IfOk result (λ r. seat.new.view.mark ≡ Free) }
+    ensures at { IfOk result (λ r. SeenAt r.0 r.1 seat.new.view) }
+    ensures err { OnErr result (seat.new.view.mine ≡ seat.old.view.mine) }
+    ensures mark { OnErr result ((seat.new.view.mark ≡ seat.old.view.mark) ⊎ (seat.new.view.mark ≡ Free)) }
+{
+    let worker = seat.number();
+    let copies = copies(alloc, hall, call, go)?;
+    gather(rt, hall, seat, lent, call, first);
+    gate.pause(rt, worker, seat.steps(), seat, call);
+    let Ok(pen) = hall.begin(rt, seat) else {
+        leave_all(hall, seat, lent);
+        let_go(copies);
+        return Err(AllocError);
+    };
+    let at = pen.at();
+    match apply(lent, call, go) {
+        Err(error) => {
+            give_up(hall, seat, lent, pen, copies);
+            Err(error)
+        }
+        Ok(Applied::Blocked) => {
+            give_up(hall, seat, lent, pen, copies);
+            Ok((Applied::Blocked, at))
+        }
+        Ok(Applied::Step { outcome, after }) => {
+            let wakes = concerned(&pen, lent, call);
+            let told = write(hall, seat, pen, copies, call, go, outcome, after, wakes);
+            leave_all(hall, seat, lent);
             Ok((
                 Applied::Step {
                     outcome: told,

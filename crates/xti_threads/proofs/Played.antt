@@ -63,7 +63,7 @@ fresh-others lines [] f = tt
 fresh-others lines (w ∷ ws) f = from_index (Told lines []) 1 ws (λ k d lt. subst (λ (n : ℕ). Told lines [] n (slice_index_or ws k d)) (let e : suc k ≡ 1 + k = omega arith in e) (f.each (suc k) d (omega (arith, lt))).told)
 
 -- main's seat before the first call
-pub sets-fresh : (x : Xti) (lines : List Line) (s : SeatView) (w : Worker) → IsOf x s → s.view ≡ newcomer (whole (providers_of x)) → Told lines [] 0 w → SetsUp x lines s w
+pub sets-fresh : (x : Xti) (lines : List Line) (s : SeatView) (w : Worker) → IsOf x s → s.view ≡ newcomer (whole (providers_of x) true) → Told lines [] 0 w → SetsUp x lines s w
 sets-fresh x lines s w of_x new told = record {
   seat = record {
     of_x = of_x;

@@ -1,11 +1,11 @@
 //! All seats meet at the end of the library, and its history is handed out.
 
-ghost use Rattle.std.specs.Prelude.{◌≡◌, ◌+◌, ◌<◌, List, vec_len};
+ghost use Rattle.std.specs.Prelude.{◌≡◌, ◌+◌, ◌<◌, List, true, vec_len};
 ghost use Rattle.xti_base.specs.declared.limits.TheConstants.{WORKERS};
 ghost use Rattle.xti_model.specs.declared.entry.Entry.{Entry};
 ghost use Rattle.xti_model.specs.Complete.{IsHistoryOf};
 ghost use Rattle.xti_calls.specs.declared.shared.Xti.{Xti as TheXti};
-ghost use Rattle.xti_calls.specs.Library.{providers_of};
+ghost use Rattle.xti_calls.specs.Library.{keeps_of, providers_of};
 ghost use Rattle.xti_threads.specs.Starting.{AllBack};
 ghost use Rattle.xti_threads.specs.Meeting.{IsSetUp, Leads};
 
@@ -22,7 +22,6 @@ fn meet_main(ended: &mut Ended, _lines: &[Line], seats: Vec<Seat>)
 {
     for seat in seats {
         let seat = ended.meet(seat);
-        let _number = seat.number();
     }
 }
 
@@ -34,6 +33,7 @@ pub(crate) fn meet_all<R: Wait>(
     main: Seat,
     seats: Vec<Seat>,
 ) -> Entries
+    requires keeps { keeps_of xti ≡ true }
     requires many { vec_len seats < WORKERS }
     requires back { (past : List Entry) × IsSetUp lines.now past × Leads xti past (vec_len seats + 1) main × AllBack xti lines.now past seats.items }
     ensures { IsHistoryOf (providers_of xti) lines.now result }

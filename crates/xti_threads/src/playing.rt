@@ -6,7 +6,7 @@ ghost use Rattle.xti_model.specs.declared.entry.Entry.{Entry};
 ghost use Rattle.xti_model.specs.Complete.{IsHistoryOf};
 ghost use Rattle.xti_rule.specs.Rule.{newcomer};
 ghost use Rattle.xti_gather.specs.Cells.{whole};
-ghost use Rattle.xti_calls.specs.Library.{IsOf, providers_of};
+ghost use Rattle.xti_calls.specs.Library.{IsOf, keeps_of, providers_of};
 ghost use Rattle.xti_replay.specs.Playable.{IsPlayable, are_playable};
 ghost use Rattle.xti_replay.specs.Progress.{AreFresh};
 ghost use Rattle.xti_threads.specs.Working.{AfterSetup};
@@ -44,7 +44,6 @@ fn seat_all<R: Wait>(
         let Ok(seat) = xti.split(rt, alloc, main) else {
             unreachable!()
         };
-        let _number = seat.number();
         jobs.push_reserved(Job { seat, worker });
     }
     Ok(jobs)
@@ -61,13 +60,13 @@ fn play_jobs<G: Gate, R: Threads + Wait + Sync>(
     mut main: Seat,
     jobs: Vec<Job>,
 ) -> Result<Entries, AllocError>
+    requires keeps { keeps_of xti ≡ true }
     requires many { vec_len jobs < WORKERS }
     requires lines { are_playable lines.now ≡ true }
     requires setup { (past : List Entry) × AfterSetup lines.now past setup.now × IsSetUp lines.now past × Before xti past (vec_len jobs + 1) main × AllJobs xti lines.now past jobs.items }
     ensures { IfOk result (IsHistoryOf (providers_of xti) lines.now) }
 {
     xti.rest(rt, &mut main);
-    let _number = main.number();
     let seats = run_all(rt, alloc, &xti, lines, setup, gate, jobs)?;
     Ok(meet_all(rt, xti, lines, main, seats))
 }
@@ -83,6 +82,7 @@ fn play_others<G: Gate, R: Threads + Wait + Sync>(
     mut main: Seat,
     workers: Vec<Worker>,
 ) -> Result<Entries, AllocError>
+    requires keeps { keeps_of xti ≡ true }
     requires many { vec_len workers < WORKERS }
     requires lines { are_playable lines.now ≡ true }
     requires setup { (past : List Entry) × AfterSetup lines.now past setup.now × IsSetUp lines.now past × Before xti past 1 main × AllTold lines.now past workers.items }
@@ -94,7 +94,8 @@ fn play_others<G: Gate, R: Threads + Wait + Sync>(
 
 /// The history that main's seat alone has made.
 fn read_alone<R: Wait>(rt: &R, xti: Xti, _lines: &[Line], main: Seat) -> Entries
-    requires { HasSetUp xti _lines.now main }
+    requires keeps { keeps_of xti ≡ true }
+    requires setup { HasSetUp xti _lines.now main }
     ensures { IsHistoryOf (providers_of xti) _lines.now result }
 {
     xti.end(rt, main).into_history()
@@ -110,8 +111,9 @@ fn play_workers<G: Gate, R: Threads + Wait + Sync>(
     mut main: Seat,
     mut workers: Vec<Worker>,
 ) -> Result<Entries, AllocError>
+    requires keeps { keeps_of xti ≡ true }
     requires lines { are_playable lines.now ≡ true }
-    requires main { IsOf xti main × (main.view ≡ newcomer (whole (providers_of xti))) }
+    requires main { IsOf xti main × (main.view ≡ newcomer (whole (providers_of xti) true)) }
     requires workers { AreFresh lines.now workers.items }
     ensures { IfOk result (IsHistoryOf (providers_of xti) lines.now) }
 {
@@ -131,8 +133,9 @@ fn play_lines<G: Gate, R: Threads + Wait + Sync>(
     gate: &G,
     main: Seat,
 ) -> Result<Entries, AllocError>
+    requires keeps { keeps_of xti ≡ true }
     requires lines { are_playable lines.now ≡ true }
-    requires main { IsOf xti main × (main.view ≡ newcomer (whole (providers_of xti))) }
+    requires main { IsOf xti main × (main.view ≡ newcomer (whole (providers_of xti) true)) }
     ensures { IfOk result (IsHistoryOf (providers_of xti) lines.now) }
 {
     let workers = fresh_workers(alloc, lines)?;
@@ -153,6 +156,6 @@ pub fn play<G: Gate, R: Threads + Wait + Sync>(
     requires { IsPlayable s.now }
     ensures { IfOk result (IsHistoryOf s.now.providers s.now.lines) }
 {
-    let (xti, main) = Xti::new(alloc, &s.providers)?;
+    let (xti, main) = Xti::new(alloc, &s.providers, true)?;
     play_lines(rt, alloc, xti, s.lines.as_slice(), gate, main)
 }

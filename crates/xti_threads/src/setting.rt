@@ -45,7 +45,6 @@ fn make_line<G: Gate, R: Wait + Sync>(
         return Setting::Finished;
     };
     let made = xti.call(rt, alloc, main, gate, &next);
-    let _number = main.number();
     match made {
         Ok(reply) => {
             if begin_line(alloc, lines, worker, next, reply) {

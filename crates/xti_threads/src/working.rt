@@ -62,7 +62,6 @@ fn make_line<G: Gate, R: Wait + Sync>(
         return false;
     };
     let made = xti.call(rt, alloc, seat, gate, &next);
-    let _number = seat.number();
     match made {
         Ok(reply) => begin_line(alloc, lines, worker, next, reply),
         Err(_) => {
@@ -134,6 +133,5 @@ pub(crate) fn work<G: Gate, R: Wait + Sync>(
         &mut worker,
     );
     xti.rest(rt, &mut seat);
-    let _number = seat.number();
     seat
 }

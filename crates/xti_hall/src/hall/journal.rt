@@ -1,21 +1,22 @@
-ghost use Rattle.std.specs.Prelude.{◌≡◌, ◌<◌, ◌∷◌, ◌++◌, [], false, IfOk, OnErr, vec_len, vec_capacity};
+ghost use Rattle.std.specs.Prelude.{◌≡◌, ◌<◌, ◌∷◌, ◌++◌, [], true, false, IfOk, OnErr};
 ghost use Rattle.xti_rule.specs.declared.view.Mark.TheVariants.{Free};
-ghost use Rattle.xti_rule.specs.Rule.{mark_of};
-ghost use Rattle.xti_rule.specs.Steps.{with_pen, without_pen, Holds, Commits};
+ghost use Rattle.xti_rule.specs.Rule.{mark_of, HasLog};
+ghost use Rattle.xti_rule.specs.Steps.{with_pen, without_pen, Holds, Commits, Marked, shown};
 ghost use Rattle.xti_hall.specs.Pens.{IsPenOf};
-ghost use Rattle.xti_hall.specs.Seats.{IsStanding, LookedAt, Looks, MayGoBack, wrote_entry, taken_in};
-ghost use Rattle.xti_hall.specs.Words.{IsSeatOf, IsSameSeat};
+ghost use Rattle.xti_hall.specs.Seats.{IsStanding, LookedAt, Looks, wrote_entry, entry_of, taken_in};
+ghost use Rattle.xti_hall.specs.Words.{IsSeatOf, IsSameSeat, setting_of};
 
 use super::Hall;
 use crate::ended::Ended;
-use crate::marks::anyone_waits;
 use crate::pen::Pen;
+use crate::record::{length, reserve, with_entry};
 use crate::seat::Seat;
 use std::alloc::{AllocError, Global};
+use std::snapshot::Snapshot;
 use std::sync::Wait;
-use xti_base::let_go;
-use xti_model::{Entries, Entry, Outcome};
-use xti_rule::{Journal, Mark, Stands};
+use xti_base::{State, let_go};
+use xti_model::{Call, Entries, Entry, Go, Outcome};
+use xti_rule::{Journal, Mark, Shown, Stands};
 
 /// How many bytes are taken of a call that goes on after this outcome.
 fn taken_in(outcome: &Outcome) -> Option<u32>
@@ -51,7 +52,15 @@ fn copy_of(alloc: Global, entries: &[Entry]) -> Result<Entries, AllocError>
 }
 
 impl<C: Stands> Hall<C> {
-    /// Takes the journal's turn and the room of one entry, and waits for the turn. Out of memory the journal isn't held.
+    /// Whether the entries of the history are kept. Takes no memory.
+    pub fn keeps(&self) -> bool
+        ensures { result ≡ (setting_of self.now).keeps }
+    {
+        self.keeps
+    }
+
+    /// Takes the journal's turn, and the room of one entry where entries are kept, and waits for the turn. Out of memory the
+    /// journal isn't held; and where the history has 2^64 - 1 entries, which counts as out of memory.
     pub fn begin<R: Wait>(&self, rt: &R, seat: &mut Seat<C>) -> Result<Pen<C>, AllocError>
         requires hall { IsSeatOf self.now seat.old }
         requires free { seat.old.view.journal ≡ false }
@@ -59,10 +68,11 @@ impl<C: Stands> Hall<C> {
         ensures ok { IfOk result (λ p. seat.new.view ≡ with_pen seat.old.view p.history p.marks) }
         ensures pen { IfOk result (λ p. Holds seat.new.view × IsPenOf seat.new p) }
         ensures err { OnErr result (LookedAt seat.old.view seat.new.view) }
+        ensures standing { IsStanding seat.new.view }
     {
         self.take_pen(rt, &mut seat.pass);
         let mut journal = self.take_journal(&mut seat.pass);
-        if journal.entries.reserve(1).is_err() {
+        if !reserve(&mut journal) {
             journal.marks[seat.number as usize] = Mark::Free;
             self.give_pen(&mut seat.pass, journal);
             return Err(AllocError);
@@ -78,50 +88,94 @@ impl<C: Stands> Hall<C> {
         requires pen { IsPenOf seat.old pen }
         ensures hall { IsSameSeat seat.old seat.new }
         ensures view { seat.new.view ≡ without_pen seat.old.view Free }
+        ensures standing { IsStanding seat.new.view }
     {
         self.give_marked(seat, pen.into_journal(), Mark::Free);
     }
 
-    /// Appends the entry, adds 1 to the length, gives the journal back, and rings the bell if a seat waits. The seat has then
-    /// seen the history that ends with the entry, and the recorded values of its cells are those after it. Takes no memory, and
-    /// waits for nobody.
-    pub fn commit(&self, seat: &mut Seat<C>, pen: Pen<C>, entry: Entry)
+    /// Appends the entry, adds 1 to the length, gives the journal back, and wakes those of the seats told that wait, each
+    /// told by the bit of its number; one that was woken already, and hasn't looked since, isn't woken again. The seat has then seen the history that ends with the entry, and the recorded values of
+    /// its cells are those after it. Takes no memory, and waits for nobody.
+    pub fn commit(&self, seat: &mut Seat<C>, pen: Pen<C>, entry: Entry, wakes: u64)
         requires hall { IsSeatOf self.now seat.old }
         requires holds { Holds seat.old.view }
         requires pen { IsPenOf seat.old pen }
         requires entry { Commits seat.old.view entry }
+        requires keeps { (setting_of self.now).keeps ≡ true }
         ensures hall { IsSameSeat seat.old seat.new }
         ensures view { seat.new.view ≡ without_pen (wrote_entry seat.old.view entry) Free }
-    {
-        let mut journal = pen.into_journal();
-        journal.marks[seat.number as usize] = Mark::Free;
-        let rings = anyone_waits(journal.marks.as_slice());
-        self.append(seat, journal, entry);
-        self.ring_if(seat, rings);
-    }
-
-    /// Appends the entry and gives the journal back.
-    fn append(&self, seat: &mut Seat<C>, journal: Journal, entry: Entry)
-        requires hall { IsSeatOf self.now seat.old }
-        requires holds { Holds seat.old.view }
-        requires journal { MayGoBack seat.old.view journal }
-        requires freed { mark_of journal.marks.items seat.old.view.number ≡ Free }
-        requires room { vec_len journal.entries < vec_capacity journal.entries }
-        requires entry { Commits seat.old.view entry }
-        ensures hall { IsSameSeat seat.old seat.new }
-        ensures view { seat.new.view ≡ without_pen (wrote_entry seat.old.view entry) Free }
+        ensures standing { IsStanding seat.new.view }
     {
         let unfinished = taken_in(&entry.outcome);
-        let _room = journal.entries.capacity();
+        let shown = Shown::Whole(Snapshot::of(&entry));
+        let mut journal = with_entry(pen.into_journal(), entry);
+        journal.marks[seat.number as usize] = Mark::Free;
+        let rings = journal.bells.ring(wakes);
+        self.append(seat, journal, shown, unfinished);
+        self.ring_all(seat, rings);
+    }
+
+    /// The same of a hall that doesn't keep its entries: the entry is that of a step of the call, and is not made. Takes no
+    /// memory, and waits for nobody.
+    pub fn commit_unkept(
+        &self,
+        seat: &mut Seat<C>,
+        pen: Pen<C>,
+        call: &Call,
+        go: Go,
+        outcome: &Outcome,
+        after: State,
+        wakes: u64,
+    )
+        requires hall { IsSeatOf self.now seat.old }
+        requires holds { Holds seat.old.view }
+        requires pen { IsPenOf seat.old pen }
+        requires entry { Commits seat.old.view (entry_of seat.old.view call.now go outcome.now after) }
+        requires keeps { (setting_of self.now).keeps ≡ false }
+        ensures hall { IsSameSeat seat.old seat.new }
+        ensures view { seat.new.view ≡ without_pen (wrote_entry seat.old.view (entry_of seat.old.view call.now go outcome.now after)) Free }
+        ensures standing { IsStanding seat.new.view }
+    {
+        let unfinished = taken_in(outcome);
+        let shown = Shown::Parts {
+            worker: seat.number(),
+            call: Snapshot::of(call),
+            go,
+            outcome: Snapshot::of(outcome),
+            after,
+        };
+        let mut journal = pen.into_journal();
+        journal.length += 1;
+        journal.marks[seat.number as usize] = Mark::Free;
+        let rings = journal.bells.ring(wakes);
+        self.append(seat, journal, shown, unfinished);
+        self.ring_all(seat, rings);
+    }
+
+    /// Adds the entry that is shown, with which the journal is, and gives the journal back.
+    fn append(&self, seat: &mut Seat<C>, journal: Journal, entry: Shown, unfinished: Option<u32>)
+        requires hall { IsSeatOf self.now seat.old }
+        requires holds { Holds seat.old.view }
+        requires log { HasLog seat.old.view.setting journal (seat.old.view.history ++ shown entry ∷ []) }
+        requires marks { Marked seat.old.view journal.marks.items }
+        requires freed { mark_of journal.marks.items seat.old.view.number ≡ Free }
+        requires entry { Commits seat.old.view (shown entry) }
+        requires unfinished { unfinished ≡ taken_in (shown entry).outcome }
+        ensures hall { IsSameSeat seat.old seat.new }
+        ensures view { seat.new.view ≡ without_pen (wrote_entry seat.old.view (shown entry)) Free }
+        ensures standing { IsStanding seat.new.view }
+    {
+        let _length = length(&journal);
         self.write(&mut seat.pass, journal, entry);
         seat.steps += 1;
         seat.unfinished = unfinished;
     }
 
-    /// Ends the hall: its history is handed out as it is, all of which the seat has then seen, and nobody steps any more. Takes no
-    /// memory.
+    /// Ends the hall, which must have kept its history: that is handed out as it is, all of which the seat has then seen, and
+    /// nobody steps any more. Takes no memory.
     pub fn end<R: Wait>(self, rt: &R, mut seat: Seat<C>) -> Ended<C>
         requires hall { IsSeatOf self seat }
+        requires keeps { (setting_of self).keeps ≡ true }
         requires free { seat.view.journal ≡ false }
         ensures hall { IsSameSeat seat result }
         ensures looks { Looks seat.view result.view }
@@ -129,7 +183,9 @@ impl<C: Stands> Hall<C> {
     {
         let journal = self.look(rt, &mut seat);
         let _length = self.length(&mut seat);
-        let history = Entries::from_vec(journal.entries);
+        let Journal { kept, .. } = journal;
+        let Some(entries) = kept else { unreachable!() };
+        let history = Entries::from_vec(entries);
         Ended {
             hall: self,
             seat,
@@ -137,7 +193,7 @@ impl<C: Stands> Hall<C> {
         }
     }
 
-    /// A copy of the history at this point, which is what the seat has then seen.
+    /// A copy of the history at this point, which is what the seat has then seen. The hall must keep it.
     pub fn history<R: Wait>(
         &self,
         rt: &R,
@@ -145,13 +201,19 @@ impl<C: Stands> Hall<C> {
         seat: &mut Seat<C>,
     ) -> Result<Entries, AllocError>
         requires hall { IsSeatOf self.now seat.old }
+        requires keeps { (setting_of self.now).keeps ≡ true }
         requires free { seat.old.view.journal ≡ false }
         ensures hall { IsSameSeat seat.old seat.new }
         ensures looks { Looks seat.old.view seat.new.view }
+        ensures standing { IsStanding seat.new.view }
+        ensures free { seat.new.view.mark ≡ Free }
         ensures history { IfOk result (λ h. h ≡ seat.new.view.seen) }
     {
         let journal = self.look(rt, seat);
-        let copy = copy_of(alloc, journal.entries.as_slice());
+        let copy = match &journal.kept {
+            Some(entries) => copy_of(alloc, entries.as_slice()),
+            None => unreachable!(),
+        };
         self.give_marked(seat, journal, Mark::Free);
         copy
     }

@@ -6,7 +6,7 @@
 //! the same holds of whoever holds the turn now. One that is woken tries to take the turn: it wakes the next when it gives the
 //! turn back, or whoever was faster does.
 
-ghost use Rattle.std.specs.Prelude.{◌≤◌, ◌+◌};
+ghost use Rattle.std.specs.Prelude.{◌<◌, ◌≤◌, ◌+◌};
 ghost use Rattle.xti_hall.specs.Words.{setting_of};
 
 use super::Hall;
@@ -15,10 +15,10 @@ use std::sync::atomic::Ordering;
 use xti_rule::Stands;
 
 /// So often the word of a turn is read before who waits for it sleeps.
-const LOOKS_AT_TURN: u32 = 200;
+const LOOKS_AT_TURN: u32 = 16_000;
 
-/// So often the length is read before a seat that waits for an entry parks.
-const LOOKS_AT_LENGTH: u32 = 1_000;
+/// So often a seat's bell is read before the seat sleeps.
+const LOOKS_AT_BELL: u32 = 100;
 
 impl<C: Stands> Hall<C> {
     /// Looks for a while whether this turn is given back; if it isn't, sleeps until one who gives it back wakes it. It may also
@@ -46,12 +46,17 @@ impl<C: Stands> Hall<C> {
         }
     }
 
-    /// Looks for a while whether the history is longer than this.
-    pub(super) fn linger_for_entry(&self, at: u64) {
-        for _ in 0..LOOKS_AT_LENGTH {
-            if self.table.shared.peek(0) > at {
+    /// Looks for a while whether the bell of this number rings; if it doesn't, sleeps until it does. It may also return for no
+    /// reason.
+    pub(super) fn linger_for_bell<R: Wait>(&self, rt: &R, number: u32, bell: u64)
+        requires number { number < 33 }
+    {
+        let word = self.cells as usize + 2 + number as usize;
+        for _ in 0..LOOKS_AT_BELL {
+            if self.table.shared.peek(word) != bell {
                 return;
             }
         }
+        self.table.shared.park(rt, word, (bell % (1 << 32)) as u32);
     }
 }

@@ -5,13 +5,14 @@ ghost use Rattle.xti_hall.specs.Seats.{StandInOrder};
 ghost use Rattle.xti_hall.specs.Words.{setting, setting_of, id_of};
 
 use super::Hall;
+use crate::record::empty;
 use crate::seat::Seat;
 use atomic_table::{Refused, Table};
 use std::alloc::{AllocError, Global};
 use std::sync::atomic::AtomicU32;
 use xti_base::let_go;
 use xti_model::Providers;
-use xti_rule::{Held, Journal, Mark, Setting, Stands};
+use xti_rule::{Held, Mark, Setting, Stands};
 
 /// The marks before any seat is cut in two.
 fn first_marks(alloc: Global) -> Result<Vec<Mark>, AllocError>
@@ -52,35 +53,35 @@ fn slots_of<C: Drop>(alloc: Global, cells: Vec<C>) -> Result<Vec<Option<Held<C>>
 }
 
 impl<C: Stands> Hall<C> {
-    /// A hall with an empty history, and the seat with number 0, whose spare numbers are 1 to 32. The cells stand for the
-    /// opening world of the providers, in order.
+    /// A hall with an empty history, whose entries are kept or not, and the seat with number 0, whose spare numbers are 1 to
+    /// 32. The cells stand for the opening world of the providers, in order.
     pub fn new(
         alloc: Global,
         p: &Providers,
         cells: Vec<C>,
+        keeps: bool,
     ) -> Result<(Hall<C>, Seat<C>), AllocError>
         requires few { vec_len cells < 2 ^ 32 }
-        requires stand { StandInOrder C.stands (setting p.now (vec_len cells)) cells.items }
-        ensures hall { IfOk result (λ r. setting_of r.0 ≡ setting p.now (vec_len cells)) }
+        requires stand { StandInOrder C.stands (setting p.now (vec_len cells) keeps) cells.items }
+        ensures hall { IfOk result (λ r. setting_of r.0 ≡ setting p.now (vec_len cells) keeps) }
         ensures hall_of_seat { IfOk result (λ r. r.1.hall ≡ id_of r.0) }
-        ensures seat { IfOk result (λ r. r.1.view ≡ newcomer (setting p.now (vec_len cells))) }
+        ensures seat { IfOk result (λ r. r.1.view ≡ newcomer (setting p.now (vec_len cells) keeps)) }
     {
         let setting = Setting {
             providers: *p,
             cells: cells.len() as u32,
+            keeps,
         };
-        let words = or_drop!(Vec::from_elem(alloc, 0u64, cells.len() + 3), cells);
+        let words = or_drop!(Vec::from_elem(alloc, 0u64, cells.len() + 35), cells);
         let marks = or_drop!(first_marks(alloc), cells, words);
         let mut slots = or_drop!(slots_of(alloc, cells), words, marks);
-        slots.push_reserved(Some(Held::Journal(Journal {
-            entries: Vec::new(alloc),
-            marks,
-        })));
+        slots.push_reserved(Some(Held::Journal(empty(alloc, keeps, marks))));
         match Table::new(alloc, words.as_slice(), slots, &setting) {
             Ok((table, pass)) => Ok((
                 Hall {
                     table,
                     cells: setting.cells,
+                    keeps,
                     sleepers: AtomicU32::new(0),
                 },
                 Seat {

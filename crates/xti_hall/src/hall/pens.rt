@@ -1,18 +1,18 @@
 //! The steps on the journal's turn.
 
-ghost use Rattle.std.specs.Prelude.{◌≡◌, ◌<◌, ◌++◌, ◌∷◌, [], true, MatchBool, Some, None, vec_len, vec_capacity};
+ghost use Rattle.std.specs.Prelude.{◌≡◌, ◌<◌, ◌++◌, ◌∷◌, [], true, MatchBool, Some, None};
 ghost use Rattle.atomic_table.specs.Table.{rest};
 ghost use Rattle.xti_rule.specs.declared.view.Held.TheVariants.{Journal as InJournal};
 ghost use Rattle.xti_rule.specs.declared.view.Journal.{Journal as Book};
-ghost use Rattle.xti_rule.specs.Rule.{mark_of};
-ghost use Rattle.xti_rule.specs.Steps.{without_pen, without_pen_unseen, committed, Began, Commits};
+ghost use Rattle.xti_rule.specs.Rule.{HasLog, mark_of};
+ghost use Rattle.xti_rule.specs.Steps.{without_pen, without_pen_unseen, committed, Began, Commits, Marked, shown};
 ghost use Rattle.xti_hall.specs.Seats.{Sits, HasJournal, MayGoBack};
 ghost use Rattle.xti_hall.specs.Words.{IsOf, IsSame, setting_of};
 
 use super::Hall;
+use crate::record::length;
 use std::sync::Wait;
-use xti_model::Entry;
-use xti_rule::{Begin, Commit, Held, Journal, Pass, Return, ReturnUnseen, Stands};
+use xti_rule::{Begin, Commit, Held, Journal, Last, Pass, Return, ReturnUnseen, Shown, Stands};
 
 impl<C: Stands> Hall<C> {
     /// One try at the journal's turn.
@@ -106,20 +106,21 @@ impl<C: Stands> Hall<C> {
         self.wake_for_turn(self.cells);
     }
 
-    /// Adds the entry to the history and 1 to the length, and gives the journal back.
-    pub(super) fn write(&self, pass: &mut Pass<C>, mut journal: Journal, entry: Entry)
+    /// Adds 1 to the length, as the journal is that of the history with the entry that is shown, and gives the journal back.
+    pub(super) fn write(&self, pass: &mut Pass<C>, mut journal: Journal, entry: Shown)
         requires hall { IsOf self.now pass.old }
         requires seat { Sits pass.old.me.0 }
         requires taken { HasJournal (setting_of self.now).cells pass.old.me }
-        requires journal { MayGoBack pass.old.me.0 journal }
-        requires room { vec_len journal.entries < vec_capacity journal.entries }
-        requires entry { Commits pass.old.me.0 entry }
+        requires log { HasLog pass.old.me.0.setting journal (pass.old.me.0.history ++ shown entry ∷ []) }
+        requires marks { Marked pass.old.me.0 journal.marks.items }
+        requires entry { Commits pass.old.me.0 (shown entry) }
         requires setting { pass.old.me.0.setting ≡ setting_of self.now }
         ensures hall { IsSame pass.old pass.new }
-        ensures view { pass.new.me ≡ (without_pen (committed pass.old.me.0 (journal.entries.items ++ entry ∷ [])) (mark_of journal.marks.items pass.old.me.0.number), rest pass.old.me.1) }
+        ensures view { pass.new.me ≡ (without_pen (committed pass.old.me.0 (pass.old.me.0.history ++ shown entry ∷ [])) (mark_of journal.marks.items pass.old.me.0.number), rest pass.old.me.1) }
     {
-        journal.entries.push_reserved(entry);
-        let _length = journal.entries.len();
+        let _length = length(&journal);
+        let last = Some(entry);
+        journal.last = Last::of(&last);
         self.put_journal(pass, journal);
         self.table.shared.fetch_add::<Commit>(pass, 0, 1);
         self.table

@@ -1,7 +1,7 @@
-ghost use Rattle.std.specs.Prelude.{◌≡◌, ◌<◌, ◌≤◌, false, MatchResult, List};
+ghost use Rattle.std.specs.Prelude.{◌≡◌, ◌<◌, ◌≤◌, false, IfOk, MatchResult, List};
 ghost use Rattle.xti_model.specs.declared.entry.Entry.{Entry};
 ghost use Rattle.xti_rule.specs.Steps.{giver, given, told, with_seen, Looked};
-ghost use Rattle.xti_hall.specs.Seats.{CutsOff, HasNoneToSpare, Meets};
+ghost use Rattle.xti_hall.specs.Seats.{CutsOff, HasNoneToSpare, IsStanding, Meets};
 ghost use Rattle.xti_hall.specs.Words.{IsSeatOf, IsSameSeat};
 
 use super::Hall;
@@ -43,6 +43,7 @@ impl<C: Stands> Hall<C> {
         requires free { seat.old.view.journal ≡ false }
         ensures hall { IsSameSeat seat.old seat.new }
         ensures seats { MatchResult result (λ s. CutsOff seat.old seat.new s) (λ _. HasNoneToSpare seat.old seat.new) }
+        ensures standing { IsStanding seat.new.view × IfOk result (λ s. IsStanding s.view) }
     {
         if seat.next >= 33 {
             return Err(NoSeat);
@@ -60,6 +61,7 @@ impl<C: Stands> Hall<C> {
         requires hall { IsSeatOf self.now seat × IsSeatOf self.now other.old }
         ensures hall { (result.hall ≡ seat.hall) × (result.id ≡ seat.id) × (other.new ≡ other.old) }
         ensures met { Meets seat.view other.old.view result.view }
+        ensures standing { IsStanding result.view }
     {
         let mut first = seat;
         self.tell(&mut first, other);

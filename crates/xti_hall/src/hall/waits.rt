@@ -1,18 +1,21 @@
 ghost use Rattle.std.specs.Prelude.{◌≡◌, ◌<◌, ◌≤◌, ◌+◌, true, false, length, take};
 ghost use Rattle.xti_rule.specs.declared.view.Mark.TheVariants.{Resting, Waiting};
-ghost use Rattle.xti_rule.specs.Rule.{MarkFits};
+ghost use Rattle.xti_rule.specs.Rule.{MarkFits, HasLog};
 ghost use Rattle.xti_rule.specs.Steps.{with_pen, without_pen, Holds};
-ghost use Rattle.xti_hall.specs.Seats.{HoldsNone, Looks};
+ghost use Rattle.xti_hall.specs.Seats.{HoldsNone, IsStanding, Looks};
 ghost use Rattle.xti_hall.specs.Stalls.{WasBlocked, Sees, WaitedFor};
 ghost use Rattle.xti_hall.specs.Words.{IsSeatOf, IsSameSeat};
 
 use super::Hall;
-use crate::marks::{all_settled, resting, waiting};
+use crate::marks::{all_settled, left_behind, resting, waiting, waits};
 use crate::seat::Seat;
 use crate::stall::{Sight, Stall, Waited};
 use std::sync::Wait;
 use xti_rule::{Journal, Mark, Ring, Stands};
 use xti_wants::Want;
+
+/// All seats, by their bits.
+const EVERYONE: u64 = u64::MAX;
 
 impl<C: Stands> Hall<C> {
     /// Takes the journal without the room of an entry.
@@ -20,7 +23,8 @@ impl<C: Stands> Hall<C> {
         requires hall { IsSeatOf self.now seat.old }
         requires free { seat.old.view.journal ≡ false }
         ensures hall { IsSameSeat seat.old seat.new }
-        ensures look { seat.new.view ≡ with_pen seat.old.view result.entries.items result.marks.items }
+        ensures look { seat.new.view ≡ with_pen seat.old.view seat.new.view.history result.marks.items }
+        ensures log { HasLog seat.new.view.setting result seat.new.view.history }
         ensures holds { Holds seat.new.view × (seat.new.view.numbered ≡ true) }
     {
         self.take_pen(rt, &mut seat.pass);
@@ -31,33 +35,41 @@ impl<C: Stands> Hall<C> {
     pub(super) fn give_marked(&self, seat: &mut Seat<C>, mut journal: Journal, mark: Mark)
         requires hall { IsSeatOf self.now seat.old }
         requires holds { Holds seat.old.view }
-        requires entries { journal.entries.items ≡ seat.old.view.history }
+        requires log { HasLog seat.old.view.setting journal seat.old.view.history }
         requires marks { journal.marks.items ≡ seat.old.view.marks }
         requires mark { MarkFits seat.old.view.setting seat.old.view.history mark }
         ensures hall { IsSameSeat seat.old seat.new }
         ensures view { seat.new.view ≡ without_pen seat.old.view mark }
+        ensures standing { IsStanding seat.new.view }
     {
+        journal.bells.looked(seat.number, waits(&mark));
         journal.marks[seat.number as usize] = mark;
         self.give_pen(&mut seat.pass, journal);
     }
 
-    /// Rings the bell, and wakes those who wait for it.
-    fn ring(&self, seat: &mut Seat<C>)
+    /// Rings the bell of the seat with this number, and wakes it.
+    fn ring(&self, seat: &mut Seat<C>, number: u32)
         requires hall { IsSeatOf self.now seat.old }
+        requires number { number < 33 }
         ensures { seat.new ≡ seat.old }
     {
-        let bell = self.cells as usize + 2;
+        let bell = self.cells as usize + 2 + number as usize;
         self.table.shared.fetch_add::<Ring>(&mut seat.pass, bell, 1);
         self.table.shared.wake_all(bell);
     }
 
-    /// The same, if someone is there to hear it.
-    pub(super) fn ring_if(&self, seat: &mut Seat<C>, heard: bool)
+    /// Rings the bells of these seats, each told by the bit of its number.
+    pub(super) fn ring_all(&self, seat: &mut Seat<C>, seats: u64)
         requires hall { IsSeatOf self.now seat.old }
         ensures { seat.new ≡ seat.old }
     {
-        if heard {
-            self.ring(seat);
+        for number in 0u32..33 {
+            if seats >> number == 0 {
+                return;
+            }
+            if seats & (1u64 << number) != 0 {
+                self.ring(seat, number);
+            }
         }
     }
 
@@ -68,14 +80,17 @@ impl<C: Stands> Hall<C> {
         requires nothing { HoldsNone seat.old.view }
         ensures hall { IsSameSeat seat.old seat.new }
         ensures mark { seat.new.view.mark ≡ Resting }
+        ensures standing { IsStanding seat.new.view }
         ensures looks { Looks seat.old.view seat.new.view }
     {
-        let journal = self.look(rt, seat);
+        let mut journal = self.look(rt, seat);
+        let rings = journal.bells.ring(EVERYONE);
         self.give_marked(seat, journal, Mark::Resting);
-        self.ring(seat);
+        self.ring_all(seat, rings);
     }
 
-    /// One look of a waiter. A stall is looked for where the seat's own mark is that of this wait.
+    /// One look of a waiter. A stall is looked for where the seat's own mark is that of this wait. Where it is none, though no
+    /// other seat goes on, those are woken that wait since an earlier length.
     fn look_once<R: Wait>(
         &self,
         rt: &R,
@@ -93,9 +108,10 @@ impl<C: Stands> Hall<C> {
         ensures looks { Looks seat.old.view seat.new.view }
         ensures free { seat.new.view.journal ≡ false }
         ensures want { WasBlocked seat.new.view at want }
+        ensures standing { IsStanding seat.new.view }
     {
-        let journal = self.look(rt, seat);
-        if journal.entries.len() as u64 > at {
+        let mut journal = self.look(rt, seat);
+        if journal.length > at {
             self.give_marked(seat, journal, Mark::Free);
             return Sight::Again;
         }
@@ -105,18 +121,33 @@ impl<C: Stands> Hall<C> {
                 waiting: waiting(journal.marks.as_slice()),
                 resting: resting(journal.marks.as_slice()),
             };
+            let rings = journal.bells.ring(EVERYONE);
             self.give_marked(seat, journal, Mark::Resting);
-            self.ring(seat);
+            self.ring_all(seat, rings);
             return Sight::Stalls(stall);
         }
-        let bell = self.table.shared.peek(self.cells as usize + 2);
+        let behind = left_behind(journal.marks.as_slice(), &journal.bells, seat.number, at);
+        let rings = match behind {
+            Some(seats) if set => journal.bells.ring(seats),
+            _ => 0,
+        };
+        let bell = self
+            .table
+            .shared
+            .peek(self.cells as usize + 2 + seat.number as usize);
         self.give_marked(seat, journal, Mark::Waiting(want, at));
-        Sight::Parks((bell % (1 << 32)) as u32)
+        self.ring_all(seat, rings);
+        if set || behind.is_none() {
+            Sight::Parks(bell)
+        } else {
+            Sight::Alone
+        }
     }
 
     /// Waits until the history is longer than `at`, or until each seat that is out rests, or waits for what is blocked in the
-    /// history as it is. For a while it looks at the length alone; then its mark is set, and all are looked at once more before
-    /// the seat parks, so the last seat to wait finds the stall itself. It holds nothing while it waits. Takes no memory.
+    /// history as it is. Its mark is set, and all are looked at once more unless another seat goes on, so the last seat to wait
+    /// finds the stall itself. It is woken by a commit that tells its number, by a stall, and where nobody else goes on; it may
+    /// find a longer history by itself too. It holds nothing while it waits. Takes no memory.
     pub fn wait<R: Wait>(&self, rt: &R, seat: &mut Seat<C>, want: Want, at: u64) -> Waited
         requires hall { IsSeatOf self.now seat.old }
         requires free { seat.old.view.journal ≡ false }
@@ -125,19 +156,17 @@ impl<C: Stands> Hall<C> {
         ensures hall { IsSameSeat seat.old seat.new }
         ensures waited { WaitedFor seat.new.view want at result }
         ensures looks { Looks seat.old.view seat.new.view }
+        ensures standing { IsStanding seat.new.view }
     {
-        self.linger_for_entry(at);
-        match self.look_once(rt, seat, want, at, false) {
-            Sight::Again => return Waited::Again,
-            Sight::Stalls(stall) => return Waited::Stalled(stall),
-            Sight::Parks(_) => {}
-        }
+        let mut set = false;
         for _ in rt.forever() {
-            match self.look_once(rt, seat, want, at, true) {
+            match self.look_once(rt, seat, want, at, set) {
                 Sight::Again => return Waited::Again,
                 Sight::Stalls(stall) => return Waited::Stalled(stall),
-                Sight::Parks(bell) => self.table.shared.park(rt, self.cells as usize + 2, bell),
+                Sight::Alone => {}
+                Sight::Parks(bell) => self.linger_for_bell(rt, seat.number, bell),
             }
+            set = true;
         }
         unreachable!()
     }

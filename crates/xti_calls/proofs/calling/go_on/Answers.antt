@@ -1,14 +1,15 @@
-use Rattle.std.proofs.Common.{◌∙◌, sym, subst}
+use Rattle.std.proofs.Common.{◌∙◌, ap, sym, subst}
+use Rattle.xti_hall.specs.Stalls.{waits}
 use Rattle.xti_model.specs.declared.entry.Applied.{Applied}
 use Rattle.xti_step.specs.Steps.{Tells, SeenAt}
-use Rattle.xti_calls.proofs.Going.{goes-done, goes-part, goes-on, goes-stopped, looks-idle, looks-later, still-blocked}
+use Rattle.xti_calls.proofs.Going.{goes-done, goes-part, goes-on, goes-stopped, looks-idle, looks-later, still-blocked, waits-no-more}
 use Rattle.xti_calls.proofs.calling.go_on.Goals as goal
 
 pub returns-in-Done-clause-made : goal.returns-in-Done-clause-made
 returns-in-Done-clause-made g c =
     let b = c.in-Ok-Step-default in
     let m = subst (λ (a : Applied). Tells c.loop.seat.view c.args.call.now c.loop.go c.step.new.seat.view a) b.field-0-0-is b.ensures.ok in
-    goes-done c.loop.invariant.goes m c.step.ensures.later c.in-Done.reply c.in-Done.is
+    goes-done c.loop.invariant.goes m c.step.ensures.later c.in-Done.reply c.in-Done.is b.ensures.free
 
 pub loop-preserved-in-Part : goal.loop-preserved-in-Part
 loop-preserved-in-Part g c =
@@ -19,6 +20,8 @@ loop-preserved-in-Part g c =
       idle = c.step.ensures.idle;
       empty = c.step.ensures.empty.0;
       providers = c.step.ensures.empty.1 ∙ c.loop.invariant.providers;
+      first = c.step.ensures.first;
+      mark = λ _. ap waits b.ensures.free;
       goes = goes-part c.loop.invariant.goes m c.step.ensures.later c.in-Part.taken c.in-Part.is;
     }
 
@@ -34,6 +37,8 @@ loop-preserved g c =
       idle = looks-idle v v' c.step.ensures.idle c.wait.ensures.looks;
       empty = c.step.ensures.empty.0;
       providers = c.step.ensures.empty.1 ∙ c.loop.invariant.providers;
+      first = c.step.ensures.first;
+      mark = λ _. ap waits c.in-Again.ensures.waited.1;
       goes = goes-on one c.wait.ensures.looks.mine (looks-later v v' c.wait.ensures.looks);
     }
 
@@ -52,4 +57,8 @@ returns-in-Stalled-clause-made g c =
       want = c.in-Some-want_of.want;
       want_is = c.in-Some-want_of.ensures;
       stall = stall.0;
+      rests = stall.2;
     }
+
+pub returns-in-Err-clause-mark : goal.returns-in-Err-clause-mark
+returns-in-Err-clause-mark g c = λ w. waits-no-more c.loop.seat.view.mark c.step.new.seat.view.mark c.in-Err.ensures.mark (c.loop.invariant.mark w)

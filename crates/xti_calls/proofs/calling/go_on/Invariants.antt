@@ -1,5 +1,7 @@
-use Rattle.std.proofs.Common.{◌≡◌}
+use Rattle.std.proofs.Common.{◌≡◌, false}
+use Rattle.xti_hall.specs.Stalls.{waits}
 use Rattle.xti_gather.specs.Lends.{IsEmpty}
+use Rattle.xti_gather.specs.Orders.{AreCells}
 use Rattle.xti_step.specs.Steps.{HoldsNothing}
 use Rattle.xti_calls.proofs.Going.{Goes}
 use Rattle.xti_calls.proofs.calling.go_on.Given as goal
@@ -11,5 +13,7 @@ invariant-loop g l = record {
   idle : HoldsNothing l.seat.view;
   empty : IsEmpty l.lent;
   providers : l.lent.providers ≡ l.initial.lent.providers;
+  first : AreCells l.lent.providers l.first;
+  mark : waits l.initial.seat.view.mark ≡ false → waits l.seat.view.mark ≡ false;
   goes : Goes l.initial.seat.view l.call l.initial.go l.go l.seat.view;
 }

@@ -5,4 +5,4 @@ use Rattle.xti_calls_tests.proofs.parts.begin.Goals as goal
 pub returns-in-Some-clause-unfinished : goal.returns-in-Some-clause-unfinished
 returns-in-Some-clause-unfinished g c =
     made_unfinished c.args.seat.now.view c.call-answer.new.seat.view c.args.call.now c.call-answer.result
-    c.in-Some.field-0 c.call-answer.ensures.made (sym c.unfinished.ensures ∙ c.in-Some.is)
+    c.in-Some.field-0 c.call-answer.ensures.made (sym c.unfinished.ensures.bytes ∙ c.in-Some.is)

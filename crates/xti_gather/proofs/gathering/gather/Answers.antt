@@ -1,4 +1,6 @@
-use Rattle.std.proofs.Common.{◌<◌, ◌+◌, List, ℕ, ◌∙◌, refl, sym, ap, subst}
+use Rattle.std.proofs.Common.{◌<◌, ◌+◌, List, ℕ, ◌∙◌, sym, ap, subst}
+use Rattle.std.specs.Prelude.{is_some}
+use Rattle.std.proofs.lemmas.Bool.{false≢true}
 use Rattle.xti_model.specs.declared.profile.Providers.{Providers}
 use Rattle.xti_rule.specs.declared.setting.Setting.{Setting}
 use Rattle.xti_lent.specs.Lending.{cell_lent}
@@ -13,16 +15,45 @@ use Rattle.xti_gather.proofs.gathering.gather.Goals as goal
 pub loop-init : goal.loop-init
 loop-init g c =
     let p = ap (λ (s : Setting). s.providers) (sym c.requires.hall.1 ∙ sym c.requires.hall.0.1) in
-    record { hall = refl; id = refl; rest = refl; lends = nothing_lends c.args.seat.now.view c.args.lent.now p c.requires.empty c.requires.none; providers = refl }
+    let t = c.enter_missing.ensures in
+    let before = nothing_lends c.args.seat.now.view c.args.lent.now p c.requires.empty c.requires.none in record {
+      hall = t.hall.0;
+      id = t.hall.1;
+      rest = t.rest;
+      lends = t.lends;
+      providers = same-providers c.args.seat.now.view c.enter_missing.new.seat.view c.args.lent.now c.enter_missing.new.lent before t.lends t.rest;
+    }
+
+pub enter-requires-clause-lends : goal.enter-requires-clause-lends
+enter-requires-clause-lends g c =
+    let p = ap (λ (s : Setting). s.providers) (sym c.requires.hall.1 ∙ sym c.requires.hall.0.1) in
+    nothing_lends c.args.seat.now.view c.args.lent.now p c.requires.empty c.requires.none
+
+pub enter-requires-clause-order : goal.enter-requires-clause-order
+enter-requires-clause-order g c = λ _ n lent. absurd (false≢true (ap is_some (sym (c.requires.empty.none n)) ∙ lent))
+
+pub enter_missing-requires-clause-lends : goal.enter_missing-requires-clause-lends
+enter_missing-requires-clause-lends g c =
+    let p = ap (λ (s : Setting). s.providers) (sym c.requires.hall.1 ∙ sym c.requires.hall.0.1) in
+    nothing_lends c.args.seat.now.view c.args.lent.now p c.requires.empty c.requires.none
+
+pub enter_missing-requires-clause-order : goal.enter_missing-requires-clause-order
+enter_missing-requires-clause-order g c = λ n m lent _ _. absurd (false≢true (ap is_some (sym (c.requires.empty.none n)) ∙ lent))
+
+pub returns-in_default-missing-clause-first : goal.returns-in_default-missing-clause-first
+returns-in_default-missing-clause-first g c =
+    let inv = c.loop.invariant in
+    subst (λ (p : Providers). AreCells p c.touch-cells.result) inv.providers
+    (subst (λ (ns : List ℕ). AreCells c.loop.lent.providers ns) (sym c.touch-cells.ensures) (lends-cells c.loop.seat.view c.loop.lent c.args.call.now inv.lends))
 
 pub touch-cells-requires-clause-sound : goal.touch-cells-requires-clause-sound
 touch-cells-requires-clause-sound g c = lends-sound c.loop.seat.view c.loop.lent c.loop.invariant.lends
 
-pub returns-in_default-clause-just : goal.returns-in_default-clause-just
-returns-in_default-clause-just g c =
+pub returns-in_default-missing-clause-just : goal.returns-in_default-missing-clause-just
+returns-in_default-missing-clause-just g c =
     let inv = c.loop.invariant in
     subst (λ (p : Providers). Just p (cell_lent c.give_back.new.lent) c.args.call.now) inv.providers
-    (just_lent c.loop.lent.providers c.args.call.now (cell_lent c.loop.lent) (cell_lent c.give_back.new.lent) c.touch-cells.result c.touch-cells.ensures c.give_back.ensures.kept c.give_back.ensures.only c.in_default.ensures)
+    (just_lent c.loop.lent.providers c.args.call.now (cell_lent c.loop.lent) (cell_lent c.give_back.new.lent) c.touch-cells.result c.touch-cells.ensures c.give_back.ensures.kept c.give_back.ensures.only c.in_default-missing.ensures)
 
 pub leave_unless_in_order-requires-clause-cell : goal.leave_unless_in_order-requires-clause-cell
 leave_unless_in_order-requires-clause-cell g c =
@@ -30,8 +61,8 @@ leave_unless_in_order-requires-clause-cell g c =
     let cells = subst (λ (ns : List ℕ). AreCells p ns) (sym c.touch-cells.ensures) (lends-cells c.loop.seat.view c.loop.lent c.args.call.now c.loop.invariant.lends) in
     all-among (λ n. n < places p + 1) c.touch-cells.result c.in-Some-missing.least cells c.in-Some-missing.ensures.among
 
-pub enter_missing-requires-clause-cells : goal.enter_missing-requires-clause-cells
-enter_missing-requires-clause-cells g c =
+pub enter_missing-requires-in-loop-clause-cells : goal.enter_missing-requires-in-loop-clause-cells
+enter_missing-requires-in-loop-clause-cells g c =
     let inv = c.loop.invariant in
     let cells = subst (λ (ns : List ℕ). AreCells c.loop.lent.providers ns) (sym c.touch-cells.ensures) (lends-cells c.loop.seat.view c.loop.lent c.args.call.now inv.lends) in
     let t = c.leave_unless_in_order.ensures in

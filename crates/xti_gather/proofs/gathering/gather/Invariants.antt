@@ -5,9 +5,9 @@ use Rattle.xti_gather.proofs.gathering.gather.Given as goal
 
 abbrev pub invariant-loop : goal.invariant-loop
 invariant-loop g l = record {
-  hall : l.seat.hall ≡ l.initial.seat.hall;
-  id : l.seat.id ≡ l.initial.seat.id;
-  rest : bare l.seat.view ≡ bare l.initial.seat.view;
+  hall : l.seat.hall ≡ l.fn.seat.hall;
+  id : l.seat.id ≡ l.fn.seat.id;
+  rest : bare l.seat.view ≡ bare l.fn.seat.view;
   lends : Lends l.seat.view l.lent;
-  providers : l.lent.providers ≡ l.initial.lent.providers;
+  providers : l.lent.providers ≡ l.fn.lent.providers;
 }

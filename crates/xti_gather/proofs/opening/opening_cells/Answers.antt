@@ -26,4 +26,4 @@ pub returns-clause-stand : goal.returns-clause-stand
 returns-clause-stand c =
     let count : vec_len c.loop-place.cells ≡ length c.loop-place.cells.items = search rules in
     let full : length c.loop-place.cells.items ≡ places c.args.p.now = (let a = c.loop-place.auto.place-end in omega (arith, count, c.loop-place.invariant.many, c.loop-place-test.false, a)) in
-    all_stand c.args.p.now c.loop-place.cells.items c.push_reserved-2.new.self.items c.in_ok-registry.registry c.loop-place.invariant.closed full (ap (λ (k : Known). k.switch) c.in_ok-registry.ensures.ok ∙ c.in_ok-fresh.ensures) c.push_reserved-2.ensures.items
+    λ _. all_stand c.args.p.now c.loop-place.cells.items c.push_reserved-2.new.self.items c.in_ok-registry.registry c.loop-place.invariant.closed full (ap (λ (k : Known). k.switch) c.in_ok-registry.ensures.ok ∙ c.in_ok-fresh.ensures) c.push_reserved-2.ensures.items

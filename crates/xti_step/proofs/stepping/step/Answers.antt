@@ -1,20 +1,18 @@
-use Rattle.std.proofs.Common.{◌∙◌, ℕ, sym, ap, subst}
+use Rattle.std.proofs.Common.{◌∙◌, ℕ, refl, sym, ap, subst}
 use Rattle.xti_base.specs.declared.kinds.State.{State}
-use Rattle.xti_model.specs.declared.entry.Act.{Act}
 use Rattle.xti_model.specs.declared.entry.Applied.{Applied}
 use Rattle.xti_model.specs.declared.entry.Outcome.{Outcome}
 use Rattle.xti_model.specs.declared.profile.Providers.{Providers}
 use Rattle.xti_end.specs.Taken.{taken}
-use Rattle.xti_sound.specs.Replies.{Lengths, IsShortOutcome}
 use Rattle.xti_lent.specs.Lending.{Lending, cell_lent, cells}
 use Rattle.xti_rule.specs.declared.view.View.{View}
-use Rattle.xti_rule.specs.declared.view.Mark.TheVariants.{Free}
-use Rattle.xti_rule.specs.Steps.{at, without_pen, Commits}
-use Rattle.xti_hall.specs.Seats.{bare, wrote_entry}
+use Rattle.xti_rule.specs.Steps.{at}
+use Rattle.xti_hall.specs.Seats.{bare}
 use Rattle.xti_gather.specs.Lends.{Lends, Just}
 use Rattle.xti_gather.proofs.Wholes.{lends-fit}
 use Rattle.xti_gather.proofs.Holdings.{just_held}
 use Rattle.xti_step.proofs.Outcomes.{Ready, lends_same, lends_unchanged, ready_lent, ready_short, ready_commits, ready_lends, ready_made, ready_waits}
+use Rattle.xti_step.proofs.Standings.{stands-still}
 use Rattle.xti_step.proofs.stepping.step.Goals as goal
 
 pub pause-requires-clause-cells : goal.pause-requires-clause-cells
@@ -37,107 +35,110 @@ apply-requires-clause-lent g c = (subst (λ (p : Providers). Just p (cell_lent c
 
 pub give_up-requires-clause-lends : goal.give_up-requires-clause-lends
 give_up-requires-clause-lends g c =
-    let r : Ready c.args.seat.now.view c.gather.new.seat.view c.begin.new.seat.view c.gather.new.lent c.args.call.now c.args.go c.in-Ok-begin.pen.history c.in-Ok-begin.pen.marks = record {
+    let r : Ready c.args.seat.now.view c.gather.new.seat.view c.begin.new.seat.view c.gather.new.lent c.args.call.now c.args.go c.in-Ok.pen.history c.in-Ok.pen.marks = record {
       may = c.requires.go;
       rest = c.gather.ensures.rest;
       lends = c.gather.ensures.lends;
       just = subst (λ (p : Providers). Just p (cell_lent c.gather.new.lent) c.args.call.now) (sym c.gather.ensures.providers) c.gather.ensures.just;
-      pen = c.in-Ok-begin.ensures.ok;
-      holds = c.in-Ok-begin.ensures.pen.0;
-      numbered = ap (λ (z : View). z.numbered) c.in-Ok-begin.ensures.ok ∙ c.number.ensures.standing.numbered;
+      pen = c.in-Ok.ensures.ok;
+      holds = c.in-Ok.ensures.pen.0;
+      numbered = ap (λ (z : View). z.numbered) c.in-Ok.ensures.ok ∙ (ap (λ (z : View). z.numbered) c.gather.ensures.rest ∙ c.number-worker.ensures.standing.numbered);
     } in
-    lends_unchanged c.begin.new.seat.view c.gather.new.lent c.apply.new.lent (ready_lent r) c.in-Err-apply.ensures.kept c.in-Err-apply.ensures.err
+    lends_unchanged c.begin.new.seat.view c.gather.new.lent c.apply.new.lent (ready_lent r) c.in-Err.ensures.kept c.in-Err.ensures.err
 
 pub give_up-requires-in-Ok-Blocked-clause-lends : goal.give_up-requires-in-Ok-Blocked-clause-lends
 give_up-requires-in-Ok-Blocked-clause-lends g c =
-    let r : Ready c.args.seat.now.view c.gather.new.seat.view c.begin.new.seat.view c.gather.new.lent c.args.call.now c.args.go c.in-Ok-begin.pen.history c.in-Ok-begin.pen.marks = record {
+    let r : Ready c.args.seat.now.view c.gather.new.seat.view c.begin.new.seat.view c.gather.new.lent c.args.call.now c.args.go c.in-Ok.pen.history c.in-Ok.pen.marks = record {
       may = c.requires.go;
       rest = c.gather.ensures.rest;
       lends = c.gather.ensures.lends;
       just = subst (λ (p : Providers). Just p (cell_lent c.gather.new.lent) c.args.call.now) (sym c.gather.ensures.providers) c.gather.ensures.just;
-      pen = c.in-Ok-begin.ensures.ok;
-      holds = c.in-Ok-begin.ensures.pen.0;
-      numbered = ap (λ (z : View). z.numbered) c.in-Ok-begin.ensures.ok ∙ c.number.ensures.standing.numbered;
+      pen = c.in-Ok.ensures.ok;
+      holds = c.in-Ok.ensures.pen.0;
+      numbered = ap (λ (z : View). z.numbered) c.in-Ok.ensures.ok ∙ (ap (λ (z : View). z.numbered) c.gather.ensures.rest ∙ c.number-worker.ensures.standing.numbered);
     } in
     let still = c.in-Ok-Blocked.ensures.still (ap (λ (z : Applied). taken z (cells c.apply.new.lent)) c.in-Ok-Blocked.field-0-is) in
     subst (λ (z : Lending). Lends c.begin.new.seat.view z) (sym still) (ready_lent r)
 
-pub copy-told-requires : goal.copy-told-requires
-copy-told-requires g c =
-    let r : Ready c.args.seat.now.view c.gather.new.seat.view c.begin.new.seat.view c.gather.new.lent c.args.call.now c.args.go c.in-Ok-begin.pen.history c.in-Ok-begin.pen.marks = record {
+pub write-told-requires-clause-short : goal.write-told-requires-clause-short
+write-told-requires-clause-short g c =
+    let r : Ready c.args.seat.now.view c.gather.new.seat.view c.begin.new.seat.view c.gather.new.lent c.args.call.now c.args.go c.in-Ok.pen.history c.in-Ok.pen.marks = record {
       may = c.requires.go;
       rest = c.gather.ensures.rest;
       lends = c.gather.ensures.lends;
       just = subst (λ (p : Providers). Just p (cell_lent c.gather.new.lent) c.args.call.now) (sym c.gather.ensures.providers) c.gather.ensures.just;
-      pen = c.in-Ok-begin.ensures.ok;
-      holds = c.in-Ok-begin.ensures.pen.0;
-      numbered = ap (λ (z : View). z.numbered) c.in-Ok-begin.ensures.ok ∙ c.number.ensures.standing.numbered;
+      pen = c.in-Ok.ensures.ok;
+      holds = c.in-Ok.ensures.pen.0;
+      numbered = ap (λ (z : View). z.numbered) c.in-Ok.ensures.ok ∙ (ap (λ (z : View). z.numbered) c.gather.ensures.rest ∙ c.number-worker.ensures.standing.numbered);
     } in
     let e = ap (λ (z : Applied). taken z (cells c.apply.new.lent)) (sym c.in-Ok-Step.field-0-is) ∙ c.in-Ok-Step.ensures.step in
-    subst (λ (n : Lengths). IsShortOutcome n c.in-Ok-Step.outcome) (sym c.in_ok-spare.ensures) (ready_short r c.apply.new.lent c.in-Ok-Step.outcome c.in-Ok-Step.after c.in-Ok-Step.ensures.kept e)
+    ready_short r c.apply.new.lent c.in-Ok-Step.outcome c.in-Ok-Step.after c.in-Ok-Step.ensures.kept e
 
-pub finish-requires-clause-entry : goal.finish-requires-clause-entry
-finish-requires-clause-entry g c =
-    let r : Ready c.args.seat.now.view c.gather.new.seat.view c.begin.new.seat.view c.gather.new.lent c.args.call.now c.args.go c.in-Ok-begin.pen.history c.in-Ok-begin.pen.marks = record {
+pub write-told-requires-clause-entry : goal.write-told-requires-clause-entry
+write-told-requires-clause-entry g c =
+    let r : Ready c.args.seat.now.view c.gather.new.seat.view c.begin.new.seat.view c.gather.new.lent c.args.call.now c.args.go c.in-Ok.pen.history c.in-Ok.pen.marks = record {
       may = c.requires.go;
       rest = c.gather.ensures.rest;
       lends = c.gather.ensures.lends;
       just = subst (λ (p : Providers). Just p (cell_lent c.gather.new.lent) c.args.call.now) (sym c.gather.ensures.providers) c.gather.ensures.just;
-      pen = c.in-Ok-begin.ensures.ok;
-      holds = c.in-Ok-begin.ensures.pen.0;
-      numbered = ap (λ (z : View). z.numbered) c.in-Ok-begin.ensures.ok ∙ c.number.ensures.standing.numbered;
+      pen = c.in-Ok.ensures.ok;
+      holds = c.in-Ok.ensures.pen.0;
+      numbered = ap (λ (z : View). z.numbered) c.in-Ok.ensures.ok ∙ (ap (λ (z : View). z.numbered) c.gather.ensures.rest ∙ c.number-worker.ensures.standing.numbered);
     } in
-    let k : ℕ = c.number-in-Ok-Step.result in
+    let k : ℕ = c.begin.new.seat.view.number in
     let o : Outcome = c.in-Ok-Step.outcome in
     let s : State = c.in-Ok-Step.after in
     let e = ap (λ (z : Applied). taken z (cells c.apply.new.lent)) (sym c.in-Ok-Step.field-0-is) ∙ c.in-Ok-Step.ensures.step in
-    subst (λ (z : Act). Commits c.begin.new.seat.view (record { worker = k; act = z; outcome = o; after = s })) (sym c.in-Ok.ensures) (ready_commits r c.apply.new.lent k o s c.number-in-Ok-Step.ensures.number c.in-Ok-Step.ensures.kept e)
+    ready_commits r c.apply.new.lent k o s refl c.in-Ok-Step.ensures.kept e
 
-pub finish-requires-clause-lends : goal.finish-requires-clause-lends
-finish-requires-clause-lends g c =
-    let r : Ready c.args.seat.now.view c.gather.new.seat.view c.begin.new.seat.view c.gather.new.lent c.args.call.now c.args.go c.in-Ok-begin.pen.history c.in-Ok-begin.pen.marks = record {
+pub leave_all-requires-in-Ok-Step-clause-lends : goal.leave_all-requires-in-Ok-Step-clause-lends
+leave_all-requires-in-Ok-Step-clause-lends g c =
+    let r : Ready c.args.seat.now.view c.gather.new.seat.view c.begin.new.seat.view c.gather.new.lent c.args.call.now c.args.go c.in-Ok.pen.history c.in-Ok.pen.marks = record {
       may = c.requires.go;
       rest = c.gather.ensures.rest;
       lends = c.gather.ensures.lends;
       just = subst (λ (p : Providers). Just p (cell_lent c.gather.new.lent) c.args.call.now) (sym c.gather.ensures.providers) c.gather.ensures.just;
-      pen = c.in-Ok-begin.ensures.ok;
-      holds = c.in-Ok-begin.ensures.pen.0;
-      numbered = ap (λ (z : View). z.numbered) c.in-Ok-begin.ensures.ok ∙ c.number.ensures.standing.numbered;
+      pen = c.in-Ok.ensures.ok;
+      holds = c.in-Ok.ensures.pen.0;
+      numbered = ap (λ (z : View). z.numbered) c.in-Ok.ensures.ok ∙ (ap (λ (z : View). z.numbered) c.gather.ensures.rest ∙ c.number-worker.ensures.standing.numbered);
     } in
-    let k : ℕ = c.number-in-Ok-Step.result in
+    let k : ℕ = c.begin.new.seat.view.number in
     let o : Outcome = c.in-Ok-Step.outcome in
     let s : State = c.in-Ok-Step.after in
     let e = ap (λ (z : Applied). taken z (cells c.apply.new.lent)) (sym c.in-Ok-Step.field-0-is) ∙ c.in-Ok-Step.ensures.step in
-    subst (λ (z : Act). Lends (without_pen (wrote_entry c.begin.new.seat.view (record { worker = k; act = z; outcome = o; after = s })) Free) c.apply.new.lent) (sym c.in-Ok.ensures) (ready_lends r c.apply.new.lent k o s c.number-in-Ok-Step.ensures.number e c.in-Ok-Step.ensures.kept)
+    subst (λ (z : View). Lends z c.apply.new.lent) (sym c.write-told.ensures.view) (ready_lends r c.apply.new.lent k o s refl e c.in-Ok-Step.ensures.kept)
 
 pub returns-in-Ok-Blocked-clause-ok : goal.returns-in-Ok-Blocked-clause-ok
 returns-in-Ok-Blocked-clause-ok g c =
-    let r : Ready c.args.seat.now.view c.gather.new.seat.view c.begin.new.seat.view c.gather.new.lent c.args.call.now c.args.go c.in-Ok-begin.pen.history c.in-Ok-begin.pen.marks = record {
+    let r : Ready c.args.seat.now.view c.gather.new.seat.view c.begin.new.seat.view c.gather.new.lent c.args.call.now c.args.go c.in-Ok.pen.history c.in-Ok.pen.marks = record {
       may = c.requires.go;
       rest = c.gather.ensures.rest;
       lends = c.gather.ensures.lends;
       just = subst (λ (p : Providers). Just p (cell_lent c.gather.new.lent) c.args.call.now) (sym c.gather.ensures.providers) c.gather.ensures.just;
-      pen = c.in-Ok-begin.ensures.ok;
-      holds = c.in-Ok-begin.ensures.pen.0;
-      numbered = ap (λ (z : View). z.numbered) c.in-Ok-begin.ensures.ok ∙ c.number.ensures.standing.numbered;
+      pen = c.in-Ok.ensures.ok;
+      holds = c.in-Ok.ensures.pen.0;
+      numbered = ap (λ (z : View). z.numbered) c.in-Ok.ensures.ok ∙ (ap (λ (z : View). z.numbered) c.gather.ensures.rest ∙ c.number-worker.ensures.standing.numbered);
     } in
     let e = ap (λ (z : Applied). taken z (cells c.apply.new.lent)) (sym c.in-Ok-Blocked.field-0-is) ∙ c.in-Ok-Blocked.ensures.step in
     ready_waits r c.apply.new.lent c.give_up-in-Ok-Blocked.new.seat.view c.in-Ok-Blocked.ensures.kept e c.give_up-in-Ok-Blocked.ensures.view
 
 pub returns-in-Ok-Step-clause-ok : goal.returns-in-Ok-Step-clause-ok
 returns-in-Ok-Step-clause-ok g c =
-    let r : Ready c.args.seat.now.view c.gather.new.seat.view c.begin.new.seat.view c.gather.new.lent c.args.call.now c.args.go c.in-Ok-begin.pen.history c.in-Ok-begin.pen.marks = record {
+    let r : Ready c.args.seat.now.view c.gather.new.seat.view c.begin.new.seat.view c.gather.new.lent c.args.call.now c.args.go c.in-Ok.pen.history c.in-Ok.pen.marks = record {
       may = c.requires.go;
       rest = c.gather.ensures.rest;
       lends = c.gather.ensures.lends;
       just = subst (λ (p : Providers). Just p (cell_lent c.gather.new.lent) c.args.call.now) (sym c.gather.ensures.providers) c.gather.ensures.just;
-      pen = c.in-Ok-begin.ensures.ok;
-      holds = c.in-Ok-begin.ensures.pen.0;
-      numbered = ap (λ (z : View). z.numbered) c.in-Ok-begin.ensures.ok ∙ c.number.ensures.standing.numbered;
+      pen = c.in-Ok.ensures.ok;
+      holds = c.in-Ok.ensures.pen.0;
+      numbered = ap (λ (z : View). z.numbered) c.in-Ok.ensures.ok ∙ (ap (λ (z : View). z.numbered) c.gather.ensures.rest ∙ c.number-worker.ensures.standing.numbered);
     } in
-    let k : ℕ = c.number-in-Ok-Step.result in
+    let k : ℕ = c.begin.new.seat.view.number in
     let o : Outcome = c.in-Ok-Step.outcome in
     let s : State = c.in-Ok-Step.after in
     let e = ap (λ (z : Applied). taken z (cells c.apply.new.lent)) (sym c.in-Ok-Step.field-0-is) ∙ c.in-Ok-Step.ensures.step in
-    let all = c.finish.ensures.view ∙ ap (λ (z : Act). bare (without_pen (wrote_entry c.begin.new.seat.view (record { worker = k; act = z; outcome = o; after = s })) Free)) c.in-Ok.ensures in
-    ready_made r c.apply.new.lent k o c.copy-told.result s c.finish.new.seat.view c.number-in-Ok-Step.ensures.number c.in-Ok-Step.ensures.kept e c.copy-told.ensures all
+    let all = c.leave_all-in-Ok-Step.ensures.rest ∙ ap bare c.write-told.ensures.view in
+    ready_made r c.apply.new.lent k o c.write-told.result s c.leave_all-in-Ok-Step.new.seat.view refl c.in-Ok-Step.ensures.kept e c.write-told.ensures.told all
+
+pub returns-in-Ok-Step-clause-standing : goal.returns-in-Ok-Step-clause-standing
+returns-in-Ok-Step-clause-standing g c = stands-still c.write-told.new.seat.view c.leave_all-in-Ok-Step.new.seat.view c.leave_all-in-Ok-Step.ensures.rest c.write-told.ensures.standing

@@ -40,7 +40,7 @@ loop-seat-preserved c =
             let k = i.known.2 x past u l all in
             let h = subst (EachFrom (CameBack x c.args._lines.now past) (n + 1)) c.in-Some.ensures.steps.0 k.0 in
             let whole = subst (λ (s : SeatView). IsPrefix c.in-Some.seat.view.seen s.view.seen) i.ended c.meet-seat.ensures.whole in
-            let new = back-follows (n + 1) c.in-Some.seat c.loop-seat.ended.view c.meet-seat.result.view ended.view.seen u (omega arith) h.0 (leads-own ended l) whole (ap (λ (s : SeatView). s.view.seen) i.ended) c.meet-seat.ensures.met c.number-number.ensures.standing in
+            let new = back-follows (n + 1) c.in-Some.seat c.loop-seat.ended.view c.meet-seat.result.view ended.view.seen u (omega arith) h.0 (leads-own ended l) whole (ap (λ (s : SeatView). s.view.seen) i.ended) c.meet-seat.ensures.met c.meet-seat.ensures.standing in
             (h.1, follow-more c.args._lines.now ended.view.seen n k.1 new),
       );
     }
@@ -58,7 +58,7 @@ loop-seat-preserved-in-Some c =
             let k = i.known.2 x past u l all in
             let h = subst (EachFrom (CameBack x c.args._lines.now past) (n + 1)) c.in-Some.ensures.steps.0 k.0 in
             let whole = subst (λ (s : SeatView). IsPrefix c.in-Some.seat.view.seen s.view.seen) i.ended c.meet-seat.ensures.whole in
-            let new = back-follows (n + 1) c.in-Some.seat c.loop-seat.ended.view c.meet-seat.result.view ended.view.seen u (omega arith) h.0 (leads-own ended l) whole (ap (λ (s : SeatView). s.view.seen) i.ended) c.meet-seat.ensures.met c.number-number.ensures.standing in
+            let new = back-follows (n + 1) c.in-Some.seat c.loop-seat.ended.view c.meet-seat.result.view ended.view.seen u (omega arith) h.0 (leads-own ended l) whole (ap (λ (s : SeatView). s.view.seen) i.ended) c.meet-seat.ensures.met c.meet-seat.ensures.standing in
             (h.1, follow-more c.args._lines.now ended.view.seen n k.1 new),
       );
     }

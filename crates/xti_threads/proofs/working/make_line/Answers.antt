@@ -24,16 +24,16 @@ pub returns-in-Ok-clause-on : goal.returns-in-Ok-clause-on
 returns-in-Ok-clause-on g c = λ ok past z k.
     let b = works-between z k c.requires.whole in
     let next = between-next b c.in-Ok-Some.field-0 c.in-Ok-Some.next c.in-Ok-Some.field-0-is c.in-Ok-Some.ensures in
-    works-on k b c.in-Ok-Some.next next c.call-made.new.seat c.call-made.ensures.seat c.number-number.ensures.standing c.call-made.ensures.later c.in-Ok.reply c.begin_line.new.worker c.in-Ok.ensures.made (c.begin_line.ensures ok)
+    works-on k b c.in-Ok-Some.next next c.call-made.new.seat c.call-made.ensures.seat c.call-made.ensures.standing c.call-made.ensures.later c.in-Ok.reply c.begin_line.new.worker c.in-Ok.ensures.made (c.begin_line.ensures ok)
 
 pub returns-in-Ok-clause-back : goal.returns-in-Ok-clause-back
 returns-in-Ok-clause-back g c = λ past z k.
     let b = works-between z k c.requires.whole in
     let next = between-next b c.in-Ok-Some.field-0 c.in-Ok-Some.next c.in-Ok-Some.field-0-is c.in-Ok-Some.ensures in
-    works-answered k b c.in-Ok-Some.next next c.call-made.new.seat c.call-made.ensures.seat c.number-number.ensures.standing c.call-made.ensures.later c.in-Ok.reply c.in-Ok.ensures.made
+    works-answered k b c.in-Ok-Some.next next c.call-made.new.seat c.call-made.ensures.seat c.call-made.ensures.standing c.call-made.ensures.later c.in-Ok.reply c.in-Ok.ensures.made
 
 pub returns-in-Err-clause-back : goal.returns-in-Err-clause-back
 returns-in-Err-clause-back g c = λ past z k.
     let b = works-between z k c.requires.whole in
     let next = between-next b c.in-Ok-Some.field-0 c.in-Ok-Some.next c.in-Ok-Some.field-0-is c.in-Ok-Some.ensures in
-    works-halted k b c.in-Ok-Some.next next c.call-made.new.seat c.call-made.ensures.seat c.number-number.ensures.standing c.call-made.ensures.later c.in-Err.field-0 c.in-Err.ensures.made
+    works-halted k b c.in-Ok-Some.next next c.call-made.new.seat c.call-made.ensures.seat c.call-made.ensures.standing c.call-made.ensures.later c.in-Err.field-0 c.in-Err.ensures.made

@@ -8,4 +8,4 @@ use Rattle.xti_calls.proofs.shared.Xti.new.Goals as goal
 pub invariant_of-result : goal.invariant_of-result
 invariant_of-result c =
     subst (λ (v : View). IsReady v c.nothing_lent-lent.result) (sym c.in_ok-hall.ensures.seat.1)
-    (newcomer_ready (whole c.args.p.now) c.nothing_lent-lent.result c.nothing_lent-lent.ensures.empty c.nothing_lent-lent.ensures.providers)
+    (newcomer_ready (whole c.args.p.now c.args.keeps) c.nothing_lent-lent.result c.nothing_lent-lent.ensures.empty c.nothing_lent-lent.ensures.providers)

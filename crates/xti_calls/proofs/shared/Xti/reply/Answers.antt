@@ -6,9 +6,9 @@ use Rattle.xti_calls.proofs.shared.Xti.reply.Goals as goal
 
 pub returns-in-Ok-clause-made : goal.returns-in-Ok-clause-made
 returns-in-Ok-clause-made g c =
-    (c.in-Ok.ensures.made, answered_may_be c.steps_answer_in_form.ensures.form c.args.seat.now.view c.args.call c.call-reply.new.seat.view c.in-Ok.reply c.number-number.ensures.standing c.in-Ok.ensures.made)
+    (c.in-Ok.ensures.made, answered_may_be c.steps_answer_in_form.ensures.form c.args.seat.now.view c.args.call c.call-reply.new.seat.view c.in-Ok.reply c.call-reply.ensures.standing c.in-Ok.ensures.made)
 
 pub returns-in-Ok-clause-short : goal.returns-in-Ok-clause-short
 returns-in-Ok-clause-short g c =
     let ok = ap (λ (a : Setting). valid a.providers) (c.call-reply.ensures.later.setting ∙ c.requires.seat.1) ∙ c.args.self.now.valid_providers in
-    answered_short c.args.seat.now.view c.args.call c.call-reply.new.seat.view c.in-Ok.reply ok c.number-number.ensures.standing c.in-Ok.ensures.made
+    answered_short c.args.seat.now.view c.args.call c.call-reply.new.seat.view c.in-Ok.reply ok c.call-reply.ensures.standing c.in-Ok.ensures.made

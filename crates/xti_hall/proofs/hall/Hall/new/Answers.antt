@@ -8,8 +8,8 @@ use Rattle.xti_hall.specs.Seats.{StandInOrder}
 use Rattle.xti_hall.specs.Words.{setting}
 use Rattle.xti_hall.proofs.hall.Hall.new.Goals as goal
 
-pub new-requires-2 : goal.new-requires-2
-new-requires-2 g c = let p : Setting = record { providers = c.args.p.now; cells = c.len.result } in let xs = c.args.cells.items in let many : vec_len c.args.cells ≡ length xs = search rules in
-    let b : Book = record { entries = c.new.result; marks = c.in-Ok-first_marks.made } in
-    opens_with (g.C.Stands.stands p) p c.len-2.result xs c.as_slice.result.now c.push_reserved.new.self.items b (c.len-2.ensures ∙ sym c.len.ensures) (sym many ∙ sym c.len.ensures) (subst (λ (n : ℕ). StandInOrder g.C.Stands.stands (setting c.args.p.now n) xs) (sym c.len.ensures) c.requires.stand) (search rules)
-    (c.push_reserved.ensures.items ∙ ap (λ z. z ++ Some (Journal b) ∷ []) c.in-Ok-slots_of.ensures.0) c.new.ensures.items c.in-Ok-first_marks.ensures
+pub new-requires : goal.new-requires
+new-requires g c = let p : Setting = record { providers = c.args.p.now; cells = c.len.result; keeps = c.args.keeps } in let xs = c.args.cells.items in let many : vec_len c.args.cells ≡ length xs = search rules in
+    let b : Book = c.empty.result in
+    opens_with (g.C.Stands.stands p) p c.len-2.result xs c.as_slice.result.now c.push_reserved.new.self.items b (c.len-2.ensures ∙ sym c.len.ensures) (sym many ∙ sym c.len.ensures) (subst (λ (n : ℕ). StandInOrder g.C.Stands.stands (setting c.args.p.now n c.args.keeps) xs) (sym c.len.ensures) c.requires.stand) (search rules)
+    (c.push_reserved.ensures.items ∙ ap (λ z. z ++ Some (Journal b) ∷ []) c.in-Ok-slots_of.ensures.0) c.empty.ensures.log (ap (λ v. v.items) c.empty.ensures.marks ∙ c.in-Ok-first_marks.ensures)

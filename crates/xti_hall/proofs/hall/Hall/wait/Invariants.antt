@@ -1,4 +1,4 @@
-use Rattle.std.proofs.Common.{◌≡◌, false}
+use Rattle.std.proofs.Common.{◌≡◌, true, false}
 use Rattle.xti_rule.specs.declared.view.Mark.TheVariants.{Waiting}
 use Rattle.xti_hall.specs.Seats.{Looks}
 use Rattle.xti_hall.specs.Stalls.{WasBlocked}
@@ -11,6 +11,6 @@ invariant-loop g l = record {
   setting : l.seat.view.setting ≡ l.initial.seat.view.setting;
   free : l.seat.view.journal ≡ false;
   want : WasBlocked l.seat.view l.at l.want;
-  mark : l.seat.view.mark ≡ Waiting l.want l.at;
+  mark : l.set ≡ true → l.seat.view.mark ≡ Waiting l.want l.at;
   looks : Looks l.fn.seat.view l.seat.view;
 }

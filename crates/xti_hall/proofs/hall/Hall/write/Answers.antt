@@ -1,22 +1,26 @@
-use Rattle.std.proofs.Common.{rules, arith, ap, sym, ◌∙◌, ◌++◌, ◌∷◌, []}
+use Rattle.std.proofs.Common.{arith, ap, sym, ◌∙◌, ◌≡◌, ◌+◌, ◌++◌, ◌∷◌, [], length, length-append}
+use Rattle.xti_model.specs.declared.entry.Entry.{Entry}
+use Rattle.xti_rule.specs.Steps.{added, shown}
 use Rattle.xti_rule.proofs.Pens.{returns_at, after_return, sees_all}
 use Rattle.xti_rule.proofs.Commits.{commits_at, written, marked_more}
 use Rattle.xti_hall.proofs.hall.Hall.write.Goals as goal
 
 pub fetch_add-requires : goal.fetch_add-requires
-fetch_add-requires g c = let sized = c.args.self.now.sized in let s = c.requires.seat in let j = c.requires.journal in (
-  c.put_journal.ensures.hall.0 ∙ c.requires.hall,
-  omega arith,
-  commits_at (g.C.Stands.stands c.args.self.now.table.shared.key) c.args.self.now.table.shared.key _ _ _ _ _ c.args.entry _ c.put_journal.ensures.view s.live s.numbered c.requires.taken.0 (c.push_reserved.ensures.items ∙ ap (λ z. z ++ c.args.entry ∷ []) j.0) (let e = c.len-length.ensures in let r = c.len-length.type_inv in search rules) c.requires.setting c.requires.entry,
-)
+fetch_add-requires g c = let sized = c.args.self.now.sized in let s = c.requires.seat in
+    let e : Entry = shown c.args.entry in let h = c.args.pass.now.me.0.history in
+    let more : length (h ++ e ∷ []) ≡ length h + 1 = length-append h (e ∷ []) in let long = c.requires.log.0 in let top = c.length-length.type_inv in let is = c.length-length.ensures in (
+      c.put_journal.ensures.hall.0 ∙ c.requires.hall,
+      omega arith,
+      commits_at (g.C.Stands.stands c.args.self.now.table.shared.key) c.args.self.now.table.shared.key _ _ _ _ _ e _ c.put_journal.ensures.view s.live s.numbered c.requires.taken.0 (ap added c.of-journal.ensures) (omega (arith, more, long, top, is)) c.requires.setting c.requires.entry,
+    )
 
 pub store-requires : goal.store-requires
-store-requires g c = let sized = c.args.self.now.sized in let s = c.requires.seat in let j = c.requires.journal in
-    let is = c.push_reserved.ensures.items ∙ ap (λ z. z ++ c.args.entry ∷ []) j.0 in let w = written _ _ _ _ _ _ c.put_journal.ensures.view c.fetch_add.ensures.2 _ is in (
+store-requires g c = let sized = c.args.self.now.sized in let s = c.requires.seat in
+    let w = written _ _ _ _ _ _ c.put_journal.ensures.view c.fetch_add.ensures.2 _ (ap added c.of-journal.ensures) in (
       c.fetch_add.ensures.0 ∙ (c.put_journal.ensures.hall.0 ∙ c.requires.hall),
       omega arith,
-      returns_at (g.C.Stands.stands c.args.self.now.table.shared.key) c.args.self.now.table.shared.key (λ v. v.history) _ _ _ _ _ _ _ w (sees_all c.args.self.now.table.shared.key _) (sym sized.2) s.live s.numbered c.requires.taken.0 is (marked_more _ _ _ j.1) c.requires.setting,
+      returns_at (g.C.Stands.stands c.args.self.now.table.shared.key) c.args.self.now.table.shared.key (λ v. v.history) _ _ _ _ _ _ _ w (sees_all c.args.self.now.table.shared.key _) (sym sized.2) s.live s.numbered c.requires.taken.0 c.requires.log (marked_more _ _ _ c.requires.marks) c.requires.setting,
     )
 
 pub returns-clause-view : goal.returns-clause-view
-returns-clause-view g c = after_return (λ v. v.history) _ _ _ _ _ _ (written _ _ _ _ _ _ c.put_journal.ensures.view c.fetch_add.ensures.2 _ c.push_reserved.ensures.items) c.store.ensures.2
+returns-clause-view g c = after_return (λ v. v.history) _ _ _ _ _ _ (written _ _ _ _ _ _ c.put_journal.ensures.view c.fetch_add.ensures.2 _ (ap added c.of-journal.ensures)) c.store.ensures.2
