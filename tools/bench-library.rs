@@ -3,9 +3,10 @@
 
 use std::alloc::{AllocError, Global};
 use std::env;
+use std::fs;
 use std::io::{self, Print};
 use std::process::{Abort, ExitCode};
-use std::rt::Env;
+use std::rt::{Env, Files};
 use std::sync::Wait;
 use std::time::{Clock, Duration, Instant};
 use xti_base::{Fd, Octets, Prov};
@@ -64,14 +65,15 @@ fn typed<R: Wait + Sync + Abort>(
     assert!(rt; datagram.udata.as_slice().len() == bytes.len());
 }
 
-/// The time of the rounds by the calls in their typed forms.
+/// The time of the rounds by the calls in their typed forms, over a library that keeps its history or doesn't.
 fn time_typed<R: Wait + Sync + Abort + Clock>(
     rt: &R,
     alloc: Global,
     task: Task,
     bytes: &[u8],
+    keeps: bool,
 ) -> io::Result<Duration> {
-    let (xti, mut seat) = Xti::new(alloc, &Providers::usual())?;
+    let (xti, mut seat) = Xti::new(alloc, &Providers::usual(), keeps)?;
     let from = endpoint(rt, alloc, &xti, &mut seat, FROM);
     let to = endpoint(rt, alloc, &xti, &mut seat, TO);
     let max = Max {
@@ -109,14 +111,15 @@ fn calls(
     Ok((send, receive))
 }
 
-/// The time of the rounds by `Xti::call`, with calls that are made once.
+/// The time of the rounds by `Xti::call`, with calls that are made once, over a library that keeps its history or doesn't.
 fn time_calls<R: Wait + Sync + Abort + Clock>(
     rt: &R,
     alloc: Global,
     task: Task,
     bytes: &[u8],
+    keeps: bool,
 ) -> io::Result<Duration> {
-    let (xti, mut seat) = Xti::new(alloc, &Providers::usual())?;
+    let (xti, mut seat) = Xti::new(alloc, &Providers::usual(), keeps)?;
     let from = endpoint(rt, alloc, &xti, &mut seat, FROM);
     let to = endpoint(rt, alloc, &xti, &mut seat, TO);
     let (send, receive) = calls(alloc, from, to, bytes, task.max)?;
@@ -243,8 +246,8 @@ fn time_kept<R: Wait + Sync + Abort + Clock>(
     start.elapsed(rt)
 }
 
-/// Reads the words, times the rounds, and prints nanoseconds.
-fn run<R: Wait + Sync + Abort + Clock + Env + Print + Clone + AllocGlobal>(
+/// Reads the words, times the rounds, and prints nanoseconds, and then what the system says of the process, its memory among it.
+fn run<R: Wait + Sync + Abort + Clock + Env + Files + Print + Clone + AllocGlobal>(
     rt: &R,
 ) -> io::Result<()> {
     let alloc = rt.alloc();
@@ -253,7 +256,7 @@ fn run<R: Wait + Sync + Abort + Clock + Env + Print + Clone + AllocGlobal>(
         words.push(word)?;
     }
     let [way, rounds, size, max] = words.as_slice() else {
-        panic!(rt; "usage: typed|calls|kept|steps ROUNDS SIZE MAX")
+        panic!(rt; "usage: typed|typed-unkept|calls|calls-unkept|kept|steps ROUNDS SIZE MAX")
     };
     let task = Task {
         rounds: rounds.as_str().parse::<u64>().unwrap_or(0),
@@ -262,12 +265,16 @@ fn run<R: Wait + Sync + Abort + Clock + Env + Print + Clone + AllocGlobal>(
     };
     let bytes = Vec::from_elem(alloc, 7u8, task.size)?;
     let spent = match way.as_str() {
-        "typed" => time_typed(rt, alloc, task, bytes.as_slice())?,
-        "calls" => time_calls(rt, alloc, task, bytes.as_slice())?,
+        "typed" => time_typed(rt, alloc, task, bytes.as_slice(), true)?,
+        "typed-unkept" => time_typed(rt, alloc, task, bytes.as_slice(), false)?,
+        "calls" => time_calls(rt, alloc, task, bytes.as_slice(), true)?,
+        "calls-unkept" => time_calls(rt, alloc, task, bytes.as_slice(), false)?,
         "kept" => time_kept(rt, alloc, task, bytes.as_slice())?,
         _ => time_steps(rt, alloc, task, bytes.as_slice())?,
     };
     println!(rt; "{}", spent.as_nanos())?;
+    let status = fs::read_to_string(rt, "/proc/self/status")?;
+    println!(rt; "{}", status.as_str())?;
     Ok(())
 }
 

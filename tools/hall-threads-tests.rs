@@ -16,6 +16,9 @@ use xti_registry::Registry;
 use xti_rule::Stands;
 use xti_wants::{Want, WantKind};
 
+/// All seats, each by the bit of its number: whoever waits is woken by each step.
+const EVERYONE: u64 = u64::MAX;
+
 /// An endpoint, or the switch's table.
 #[derive(Drop)]
 enum Cell {
@@ -29,7 +32,7 @@ impl Stands for Cell {
     ghost stands = { λ p x l. Unit {0} };
 }
 
-/// The hall of the opening world, and its first seat.
+/// The hall of the opening world, which keeps its history, and its first seat.
 fn open_hall(alloc: Global, p: &Providers) -> Option<(Hall<Cell>, Seat<Cell>)> {
     let mut cells = Vec::with_capacity(alloc, p.places() as usize + 1).ok()?;
     for place in 0..p.places() {
@@ -38,7 +41,7 @@ fn open_hall(alloc: Global, p: &Providers) -> Option<(Hall<Cell>, Seat<Cell>)> {
     }
     let registry = Box::new(alloc, Registry::fresh(alloc, p).ok()?).ok()?;
     cells.push(Cell::Switch(registry)).ok()?;
-    Hall::new(alloc, p, cells).ok()
+    Hall::new(alloc, p, cells, true).ok()
 }
 
 fn among(cells: &Cells, n: u32) -> bool {
@@ -117,7 +120,7 @@ fn step<R: Wait>(
                 outcome,
                 after,
             };
-            hall.commit(seat, pen, entry);
+            hall.commit(seat, pen, entry, EVERYONE);
             match told {
                 Outcome::Done(reply) => Ok(reply),
                 Outcome::Part { taken } => Ok(Reply::Sent { n: taken }),

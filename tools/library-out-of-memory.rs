@@ -55,7 +55,7 @@ fn run<R: Threads + Wait + Sync + Abort + Print + Eprint + Clone + AllocGlobal>(
 ) -> Result<(), AllocError> {
     let alloc = rt.alloc();
     let providers = providers();
-    let (xti, seat) = again(|| Xti::new(alloc, &providers))?;
+    let (xti, seat) = again(|| Xti::new(alloc, &providers, true))?;
     let mut seat = match name {
         "datagrams" => datagrams(rt, alloc, &xti, seat)?,
         "connection" => connection(rt, alloc, &xti, seat)?,

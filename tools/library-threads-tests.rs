@@ -65,7 +65,7 @@ fn listener<R: Wait + Sync>(rt: &R, alloc: Global, xti: &Xti, mut seat: Seat, fd
 #[test]
 fn a_listener_and_a_caller(rt: HostRuntime) {
     let alloc = rt.alloc();
-    let Ok((xti, mut first)) = Xti::new(alloc, &Providers::usual()) else { unreachable!() };
+    let Ok((xti, mut first)) = Xti::new(alloc, &Providers::usual(), true) else { unreachable!() };
     let Ok(fd) = xti.t_open(&rt, alloc, &mut first, b"ticotsord", false) else { unreachable!() };
     let Ok(_) = xti.t_bind(&rt, alloc, &mut first, fd, b"srv", 1, 64) else { unreachable!() };
     let Ok(second) = xti.split(&rt, alloc, &mut first) else { unreachable!() };
@@ -86,7 +86,7 @@ fn a_listener_and_a_caller(rt: HostRuntime) {
 #[test]
 fn a_receive_that_nobody_answers(rt: HostRuntime) {
     let alloc = rt.alloc();
-    let Ok((xti, mut seat)) = Xti::new(alloc, &Providers::usual()) else { unreachable!() };
+    let Ok((xti, mut seat)) = Xti::new(alloc, &Providers::usual(), true) else { unreachable!() };
     let Ok(fd) = xti.t_open(&rt, alloc, &mut seat, b"ticlts", false) else { unreachable!() };
     let Ok(_) = xti.t_bind(&rt, alloc, &mut seat, fd, b"a", 0, 64) else { unreachable!() };
     let Err(Fail::Halt(Halt::Stalled { taken: 0, stall })) = xti.t_rcvudata(&rt, alloc, &mut seat, fd, MOST) else { unreachable!() };

@@ -53,6 +53,8 @@ done"""
 
 def kit():
     """The kit's folder."""
+    if not shutil.which("rt"):
+        sys.exit("the Rattle kit's command rt is not on PATH: README.md says what the kit is")
     page = subprocess.run(["rt", "doc"], capture_output=True, text=True, check=True).stdout.strip()
     return pathlib.Path(page).resolve().parent
 
