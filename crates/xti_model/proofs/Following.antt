@@ -17,26 +17,19 @@ use Rattle.xti_model.specs.Step.{Step}
 use Rattle.xti_model.specs.History.{Going, is_own, own, unfinished, step_going}
 use Rattle.xti_model.specs.Resolve.{Placed, placed, placed_from, if_own, is_of, lines_of, begun, answer_of, or_else, answer_to, opens, listens, opened_fd, listened_number, with_numbers}
 use Rattle.xti_model.specs.Robin.{begin_line, next_line, next_or, next_going, is_through, act_of, turn_of, turn_going, turn, next_turn, robin_from}
-use Rattle.xti_model.specs.Complete.{begun_calls, resolved_in, Follows, Each}
+use Rattle.xti_model.specs.Complete.{begun_calls, resolved_in, Each}
+use Rattle.xti_model.specs.Following.{HasBegunAll, IsSettled, IsFollowed}
 use Rattle.xti_model.proofs.Appending.{own-append, begun-append, begun_calls-append, answer_of-more, take-one_more, all-append, all-then, map-same}
 use Rattle.xti_model.proofs.Legality.{GoesOn, unfinished-goes_on}
 use Rattle.xti_model.proofs.Turns.{MayGo, next_turn-each, robin_from-keeps}
 
--- the worker has begun all its lines among these
-abbrev pub HasBegun : List Line → List Entry → ℕ → Type 0
-HasBegun lines past worker = length (lines_of lines worker) ≤ length (begun past worker)
-
--- what the names of the line stand for is settled
-abbrev pub IsSettled : List Entry → Placed → Type 0
-IsSettled past l = HasBegun l.earlier past l.line.worker × HasBegun l.earlier past 0
-
-pub has_begun-more : (lines : List Line) (past more : List Entry) (worker : ℕ) → HasBegun lines past worker → HasBegun lines (past ++ more) worker
+pub has_begun-more : (lines : List Line) (past more : List Entry) (worker : ℕ) → HasBegunAll lines past worker → HasBegunAll lines (past ++ more) worker
 has_begun-more lines past more worker h = rw (begun-append past more worker, length-append (begun past worker) (begun more worker)) (omega arith)
 
 pub settled-more : (past more : List Entry) (l : Placed) → IsSettled past l → IsSettled (past ++ more) l
 settled-more past more l h = (has_begun-more l.earlier past more l.line.worker h.0, has_begun-more l.earlier past more 0 h.1)
 
-pub answer_to-more : (earlier : List Line) (worker : ℕ) (past more : List Entry) (test : NamedCall → Bool) → HasBegun earlier past worker → HasBegun earlier past 0 →
+pub answer_to-more : (earlier : List Line) (worker : ℕ) (past more : List Entry) (test : NamedCall → Bool) → HasBegunAll earlier past worker → HasBegunAll earlier past 0 →
     answer_to earlier worker (past ++ more) test ≡ answer_to earlier worker past test
 answer_to-more earlier worker past more test h z = λ i. or_else (own_answer i) (setup_answer i)
   where
@@ -125,7 +118,7 @@ Continues lines past worker (act.Begin c) = (l : Placed) × (next_line lines pas
 
 -- the names of the next line are settled: its worker has begun those before it, and so has worker 0
 pub next-settled : (lines : List Line) (past : List Entry) (worker : ℕ) → MayGo lines past worker → (l : Placed) → next_line lines past worker ≡ Some l → IsSettled past l
-next-settled lines past worker may l e = (subst (HasBegun l.earlier past) (sym place.0) own_begun, setup may.setup)
+next-settled lines past worker may l e = (subst (HasBegunAll l.earlier past) (sym place.0) own_begun, setup may.setup)
   where
     place : IsPlace [] worker (length (begun past worker)) l
     place = subst (λ o. IfSome o (IsPlace [] worker (length (begun past worker)))) e (placed-place [] lines worker (length (begun past worker)))
@@ -133,11 +126,11 @@ next-settled lines past worker may l e = (subst (HasBegun l.earlier past) (sym p
     within : IsWithin lines 0 l
     within = subst (λ o. IfSome o (IsWithin lines 0)) e (placed-within [] lines worker 0 (length (begun past worker)))
 
-    own_begun : HasBegun l.earlier past worker
+    own_begun : HasBegunAll l.earlier past worker
     own_begun = omega (arith, place.1)
 
-    setup : (worker ≡ 0) ⊎ (is_through lines past 0 ≡ true) → HasBegun l.earlier past 0
-    setup (inl z) = subst (HasBegun l.earlier past) z own_begun
+    setup : (worker ≡ 0) ⊎ (is_through lines past 0 ≡ true) → HasBegunAll l.earlier past 0
+    setup (inl z) = subst (HasBegunAll l.earlier past) z own_begun
     setup (inr h) = omega (arith, within, through-begun lines past 0 h, placed-lines [] lines 0)
 
 pub next-continues : (lines : List Line) (past : List Entry) (worker : ℕ) → MayGo lines past worker → (u : Option Going) → GoesOn u →
@@ -162,11 +155,6 @@ turn-continues p lines w past worker may = next (next_going lines past worker) (
         IfSome (option_and_then (turn_going p w worker) g) (λ t. Continues lines past t.entry.worker t.entry.act)
     next None h = tt
     next (Some g) h = stepped g h (step_going p w g)
-
--- a worker has followed its lines, and their names are settled
-pub record IsFollowed (lines : List Line) (past : List Entry) (worker : ℕ) : Type 0 where
-  pub follows : Follows past lines worker
-  pub settled : AllByRecursion (IsSettled past) (take (length (begun past worker)) (placed lines worker))
 
 -- more entries, which begin the next lines
 pub followed-grown : (lines : List Line) (past more : List Entry) (worker : ℕ) (next : List Placed) →

@@ -12,7 +12,8 @@ use Rattle.xti_model.specs.Resolve.{Placed, placed, lines_of, begun, is_begin}
 use Rattle.xti_model.specs.Robin.{is_through, numbers, robin_from}
 use Rattle.xti_model.specs.Work.{script_bytes}
 use Rattle.xti_model.specs.Complete.{Follows, Each, workers, is_worker, is_setup, setup_first, Complete}
-use Rattle.xti_model.proofs.Following.{IsSettled, HasBegun, IsFollowed, IsPlace, IsWithin, placed-place, placed-within, placed-lines, through-begun, robin_from-follows, each-of_all}
+use Rattle.xti_model.specs.Following.{IsSettled, HasBegunAll, IsFollowed}
+use Rattle.xti_model.proofs.Following.{IsPlace, IsWithin, placed-place, placed-within, placed-lines, through-begun, robin_from-follows, each-of_all}
 use Rattle.xti_model.proofs.Turns.{robin_from-ends}
 use Rattle.xti_model.proofs.Completing.{IsRun, all_work, turn-run, ends-so}
 use Rattle.xti_model.specs.Complete.{IsHistoryOf}
@@ -67,14 +68,14 @@ module _ {p : Providers} {lines : List Line} {past : List Entry} (h : IsHistoryO
       by false i = let u : 33 ≤ worker = grind (arith, nat_tests) in let none = own-none past worker u h.workers_only in rw none refl
 
   -- worker 0, a worker without entries, or one after the setup
-  setup-begun : (worker n : ℕ) (l : Placed) → n < length (begun past worker) → slice_get (placed lines worker) n ≡ Some l → HasBegun l.earlier past l.line.worker → l.line.worker ≡ worker → HasBegun l.earlier past 0
+  setup-begun : (worker n : ℕ) (l : Placed) → n < length (begun past worker) → slice_get (placed lines worker) n ≡ Some l → HasBegunAll l.earlier past l.line.worker → l.line.worker ≡ worker → HasBegunAll l.earlier past 0
   setup-begun worker n l lt e own_begun same = by_phase (worker == 0) refl h.phase
     where
       within : IsWithin lines 0 l
       within = subst (λ o. IfSome o (IsWithin lines 0)) e (placed-within [] lines worker 0 n)
 
-      by_phase : (b : Bool) → (worker == 0) ≡ b → (list_all is_setup past ≡ true) ⊎ ((setup_first past ≡ true) × (is_through lines past 0 ≡ true)) → HasBegun l.earlier past 0
-      by_phase true z f = subst (HasBegun l.earlier past) (same ∙ eqb-true worker 0 z) own_begun
+      by_phase : (b : Bool) → (worker == 0) ≡ b → (list_all is_setup past ≡ true) ⊎ ((setup_first past ≡ true) × (is_through lines past 0 ≡ true)) → HasBegunAll l.earlier past 0
+      by_phase true z f = subst (HasBegunAll l.earlier past) (same ∙ eqb-true worker 0 z) own_begun
       by_phase false z (inl all) =
           let u : 1 ≤ worker = grind (arith, nat_tests) in
           let none : length (begun past worker) ≡ 0 = ap (λ es. length (filter (λ e. is_begin e.act) es)) (own-alone past worker u all) in
@@ -90,8 +91,8 @@ module _ {p : Providers} {lines : List Line} {past : List Entry} (h : IsHistoryO
       settled : (n : ℕ) (l : Placed) → n < length (begun past worker) → slice_get (placed lines worker) n ≡ Some l → IsSettled past l
       settled n l lt e =
           let place : IsPlace [] worker n l = subst (λ o. IfSome o (IsPlace [] worker n)) e (placed-place [] lines worker n) in
-          let here : HasBegun l.earlier past worker = omega (arith, place.1) in
-          let own_begun : HasBegun l.earlier past l.line.worker = subst (HasBegun l.earlier past) (sym place.0) here in
+          let here : HasBegunAll l.earlier past worker = omega (arith, place.1) in
+          let own_begun : HasBegunAll l.earlier past l.line.worker = subst (HasBegunAll l.earlier past) (sym place.0) here in
           (own_begun, setup-begun worker n l lt e own_begun place.0)
 
   pub history-run : IsRun p lines (after p past) past

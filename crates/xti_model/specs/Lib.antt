@@ -19,6 +19,7 @@ pub mod Robin
 pub mod Touched
 pub mod Work
 pub mod Complete
+pub mod Following
 pub mod Streams
 pub mod Families
 pub mod StateTable

@@ -11,7 +11,7 @@ use Rattle.xti_model.specs.declared.script.Line.{Line}
 use Rattle.xti_model.specs.History.{unfinished_from}
 use Rattle.xti_model.specs.Robin.{is_through}
 use Rattle.xti_model.proofs.Appending.{own-append}
-use Rattle.xti_model.proofs.Following.{IsFollowed}
+use Rattle.xti_model.specs.Following.{IsFollowed}
 use Rattle.xti_model.proofs.Phases.{through-same}
 use Rattle.xti_rule.specs.Histories.{own}
 use Rattle.xti_hall.specs.Seats.{SeatView, IsStanding, Looks}

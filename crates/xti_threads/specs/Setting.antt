@@ -1,7 +1,7 @@
 -- Main's seat while it makes worker 0's calls.
 use Rattle.std.specs.Prelude.{◌≡◌, List}
 use Rattle.xti_model.specs.declared.script.Line.{Line}
-use Rattle.xti_model.proofs.Following.{IsFollowed}
+use Rattle.xti_model.specs.Following.{IsFollowed}
 use Rattle.xti_hall.specs.Seats.{SeatView, IsStanding}
 use Rattle.xti_calls.specs.declared.shared.Xti.{Xti}
 use Rattle.xti_calls.specs.Library.{IsOf}

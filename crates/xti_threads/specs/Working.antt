@@ -9,7 +9,7 @@ use Rattle.xti_model.specs.declared.entry.Reply.{Reply}
 use Rattle.xti_model.specs.declared.script.Line.{Line}
 use Rattle.xti_model.specs.Robin.{is_through}
 use Rattle.xti_model.specs.Complete.{is_setup}
-use Rattle.xti_model.proofs.Following.{IsFollowed}
+use Rattle.xti_model.specs.Following.{IsFollowed}
 use Rattle.xti_hall.specs.Seats.{SeatView, IsStanding}
 use Rattle.xti_calls.specs.declared.shared.Xti.{Xti}
 use Rattle.xti_calls.specs.Library.{IsOf}
