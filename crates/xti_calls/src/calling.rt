@@ -9,6 +9,7 @@ ghost use Rattle.xti_hall.specs.Stalls.{waits};
 ghost use Rattle.xti_hall.specs.Words.{setting_of, IsSeatOf, IsSameSeat};
 ghost use Rattle.xti_gather.specs.Cells.{IsWhole};
 ghost use Rattle.xti_gather.specs.Lends.{IsEmpty};
+ghost use Rattle.xti_gather.specs.Orders.{AreCells};
 ghost use Rattle.xti_step.specs.Steps.{HoldsNothing, Later};
 ghost use Rattle.xti_calls.specs.Calling.{IsAt, IsUnfinished, Answered, Halted, going_at, where_left};
 
@@ -40,14 +41,15 @@ fn taken_before(go: Go) -> u32
     }
 }
 
-/// The steps of a call from this one on, waiting where it is blocked. Each but the first begins with the cells of the one before
-/// it.
+/// The steps of a call from this one on, waiting where it is blocked. `first` has the cells of the seat's last step, with which
+/// each begins.
 fn go_on<G: Gate, R: Wait + Sync>(
     rt: &R,
     alloc: Global,
     hall: &Hall<Cell>,
     seat: &mut Seat<Cell>,
     lent: &mut Lent,
+    first: &mut Cells,
     gate: &G,
     call: &Call,
     from: Go,
@@ -55,11 +57,13 @@ fn go_on<G: Gate, R: Wait + Sync>(
     requires hall { IsSeatOf hall.now seat.old × (IsWhole (setting_of hall.now) lent.old.providers) }
     requires idle { HoldsNothing seat.old.view }
     requires empty { IsEmpty lent.old }
+    requires first { AreCells lent.old.providers first.old }
     requires from { IsAt seat.old.view call.now from }
     requires left { HasLeft call.now from }
     ensures hall { IsSameSeat seat.old seat.new }
     ensures idle { HoldsNothing seat.new.view }
     ensures empty { IsEmpty lent.new × (lent.new.providers ≡ lent.old.providers) }
+    ensures first { AreCells lent.new.providers first.new }
     ensures later { Later seat.old.view seat.new.view }
     ensures standing { IsStanding seat.new.view }
     ensures mark { waits seat.old.view.mark ≡ false → waits seat.new.view.mark ≡ false }
@@ -69,9 +73,8 @@ fn go_on<G: Gate, R: Wait + Sync>(
 {
     blocked_calls_have_wants();
     let mut go = from;
-    let mut first = Cells::new();
     for _ in rt.forever() {
-        match step(rt, alloc, hall, seat, lent, &mut first, gate, call, go) {
+        match step(rt, alloc, hall, seat, lent, first, gate, call, go) {
             Err(_) => {
                 return Err(Halt::OutOfMemory {
                     taken: taken_before(go),
@@ -109,16 +112,19 @@ pub fn call<G: Gate, R: Wait + Sync>(
     hall: &Hall<Cell>,
     seat: &mut Seat<Cell>,
     lent: &mut Lent,
+    first: &mut Cells,
     gate: &G,
     call: &Call,
 ) -> Result<Reply, Halt>
     requires hall { IsSeatOf hall.now seat.old × (IsWhole (setting_of hall.now) lent.old.providers) }
     requires idle { HoldsNothing seat.old.view }
     requires empty { IsEmpty lent.old }
+    requires first { AreCells lent.old.providers first.old }
     requires none { unfinished_from None None seat.old.view.mine ≡ None }
     ensures hall { IsSameSeat seat.old seat.new }
     ensures idle { HoldsNothing seat.new.view }
     ensures empty { IsEmpty lent.new × (lent.new.providers ≡ lent.old.providers) }
+    ensures first { AreCells lent.new.providers first.new }
     ensures later { Later seat.old.view seat.new.view }
     ensures standing { IsStanding seat.new.view }
     ensures mark { waits seat.old.view.mark ≡ false → waits seat.new.view.mark ≡ false }
@@ -126,7 +132,7 @@ pub fn call<G: Gate, R: Wait + Sync>(
         (Answered seat.old.view call.now Begin seat.new.view)
         (Halted seat.old.view call.now Begin seat.new.view) }
 {
-    go_on(rt, alloc, hall, seat, lent, gate, call, Go::Begin)
+    go_on(rt, alloc, hall, seat, lent, first, gate, call, Go::Begin)
 }
 
 /// The steps that are left of the seat's unfinished call, which this must be, waiting where it is blocked.
@@ -136,16 +142,19 @@ pub fn resume<G: Gate, R: Wait + Sync>(
     hall: &Hall<Cell>,
     seat: &mut Seat<Cell>,
     lent: &mut Lent,
+    first: &mut Cells,
     gate: &G,
     call: &Call,
 ) -> Result<Reply, Halt>
     requires hall { IsSeatOf hall.now seat.old × (IsWhole (setting_of hall.now) lent.old.providers) }
     requires idle { HoldsNothing seat.old.view }
     requires empty { IsEmpty lent.old }
+    requires first { AreCells lent.old.providers first.old }
     requires unfinished { IsUnfinished seat.old.view call.now }
     ensures hall { IsSameSeat seat.old seat.new }
     ensures idle { HoldsNothing seat.new.view }
     ensures empty { IsEmpty lent.new × (lent.new.providers ≡ lent.old.providers) }
+    ensures first { AreCells lent.new.providers first.new }
     ensures later { Later seat.old.view seat.new.view }
     ensures standing { IsStanding seat.new.view }
     ensures mark { waits seat.old.view.mark ≡ false → waits seat.new.view.mark ≡ false }
@@ -156,5 +165,15 @@ pub fn resume<G: Gate, R: Wait + Sync>(
     let Some(taken) = seat.unfinished() else {
         unreachable!()
     };
-    go_on(rt, alloc, hall, seat, lent, gate, call, Go::More(taken))
+    go_on(
+        rt,
+        alloc,
+        hall,
+        seat,
+        lent,
+        first,
+        gate,
+        call,
+        Go::More(taken),
+    )
 }

@@ -1,6 +1,6 @@
 //! The library: a hall and its seats.
 
-ghost use Rattle.std.specs.Prelude.{◌≡◌, None, length, true, IfOk, OnErr, MatchResult};
+ghost use Rattle.std.specs.Prelude.{◌≡◌, ◌⊎◌, None, length, true, IfOk, OnErr, MatchResult};
 ghost use mathlib.Core.List.{IsPrefix};
 ghost use Rattle.xti_model.specs.declared.entry.Go.TheVariants.{Begin};
 ghost use Rattle.xti_model.specs.History.{unfinished_from};
@@ -26,7 +26,8 @@ use xti_lent::Lent;
 use xti_model::{Applied, Call, Cells, Entries, Go, Providers, Reply};
 use xti_step::{Gate, step};
 
-/// One caller's token: a seat of the library's hall, which holds nothing between two calls, with room for the cells of a step.
+/// One caller's token: a seat of the library's hall, which holds nothing between two calls, with room for the cells of a step
+/// and the numbers of those of the last one.
 ///
 /// A seat makes its calls one after the other, and begins one only where none is unfinished (`unfinished` is `None`). Other
 /// seats make theirs beside it. Each step takes its turn at the endpoints that it touches and at the history, so a call that
@@ -35,6 +36,7 @@ use xti_step::{Gate, step};
 pub struct Seat {
     seat: HallSeat<Cell>,
     lent: Lent,
+    first: Cells,
 }
 
 impl Model for Seat {
@@ -45,7 +47,7 @@ impl Model for Seat {
 
     ghost view = { λ s. s.seat };
 
-    ghost invariant = { λ s. IsReady s.seat.view s.lent };
+    ghost invariant = { λ s. IsReady s.seat.view s.lent s.first };
 }
 
 impl Seat {
@@ -100,9 +102,9 @@ impl Ended {
         ensures whole { IsPrefix other.view.seen self.old.view.seen }
         ensures standing { IsStanding result.view }
     {
-        let Seat { seat, lent } = other;
+        let Seat { seat, lent, first } = other;
         let seat = self.hall.meet(seat);
-        Seat { seat, lent }
+        Seat { seat, lent, first }
     }
 
     /// The history. Takes no memory.
@@ -128,7 +130,8 @@ impl Xti {
     {
         let (hall, seat) = open_hall(alloc, p, keeps)?;
         let lent = nothing_lent(alloc, p);
-        Ok((Xti { hall }, Seat { seat, lent }))
+        let first = Cells::new();
+        Ok((Xti { hall }, Seat { seat, lent, first }))
     }
 
     /// Whether the history is kept, so that it can be handed out. Takes no memory.
@@ -160,6 +163,7 @@ impl Xti {
         ensures ok { IfOk result (Tells seat.old.view call.now go seat.new.view) }
         ensures free { IfOk result (λ _. seat.new.view.mark ≡ Free) }
         ensures err { OnErr result (seat.new.view.mine ≡ seat.old.view.mine) }
+        ensures mark { OnErr result ((seat.new.view.mark ≡ seat.old.view.mark) ⊎ (seat.new.view.mark ≡ Free)) }
     {
         let (applied, _at) = step(
             rt,
@@ -167,7 +171,7 @@ impl Xti {
             &self.hall,
             &mut seat.seat,
             &mut seat.lent,
-            &mut Cells::new(),
+            &mut seat.first,
             gate,
             call,
             go,
@@ -203,6 +207,7 @@ impl Xti {
             &self.hall,
             &mut seat.seat,
             &mut seat.lent,
+            &mut seat.first,
             gate,
             made,
         )
@@ -235,6 +240,7 @@ impl Xti {
             &self.hall,
             &mut seat.seat,
             &mut seat.lent,
+            &mut seat.first,
             gate,
             call,
         )
@@ -252,7 +258,11 @@ impl Xti {
     {
         let fresh = self.hall.split(rt, &mut seat.seat)?;
         let lent = nothing_lent(alloc, seat.lent.providers());
-        Ok(Seat { seat: fresh, lent })
+        Ok(Seat {
+            seat: fresh,
+            lent,
+            first: Cells::new(),
+        })
     }
 
     /// Until its next call gives the journal back, the seat counts as resting.
@@ -276,9 +286,9 @@ impl Xti {
         ensures met { Meets seat.view other.old.view result.view }
         ensures standing { IsStanding result.view }
     {
-        let Seat { seat, lent } = seat;
+        let Seat { seat, lent, first } = seat;
         let seat = self.hall.meet(seat, &mut other.seat);
-        Seat { seat, lent }
+        Seat { seat, lent, first }
     }
 
     /// Ends the library, which must have kept its history: that is handed out and not copied, all of which the seat has then
@@ -291,7 +301,7 @@ impl Xti {
         ensures standing { IsStanding result.view }
     {
         let Xti { hall } = self;
-        let Seat { seat, lent } = seat;
+        let Seat { seat, lent, .. } = seat;
         let_go(lent);
         Ended {
             hall: hall.end(rt, seat),

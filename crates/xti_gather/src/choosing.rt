@@ -1,6 +1,6 @@
 //! Which cells a step gives back, and which it enters next.
 
-ghost use Rattle.std.specs.Prelude.{◌≡◌, ◌<◌, ◌≤◌, ◌+◌, ℕ, true, false, not, nat_lt, MatchBool, MatchOption};
+ghost use Rattle.std.specs.Prelude.{◌≡◌, ◌<◌, ◌≤◌, ◌+◌, ◌&&◌, ℕ, true, false, not, nat_lt, MatchBool, MatchOption};
 ghost use Rattle.std.specs.List.{find, list_all};
 ghost use Rattle.xti_model.specs.World.{is_among, places};
 ghost use Rattle.xti_lent.specs.Fit.{AllLent};
@@ -36,24 +36,24 @@ fn first_beside(places: &[u32], cells: &Cells) -> Option<u32>
         .find(|place| !is_among(cells, *place))
 }
 
-/// A cell that is lent and is not one of these; `None` exactly where there is none.
+/// Whether the cell is lent and is not one of these.
+fn is_surplus(lent: &Lent, cells: &Cells, cell: u32) -> bool
+    ensures { result ≡ (is_lent lent.now cell && not (is_among cells.now cell)) }
+{
+    lent.has(cell) && !is_among(cells, cell)
+}
+
+/// A cell that is lent and is not one of these, first the switch, for which most others wait; `None` exactly where there is none.
 pub(crate) fn surplus(lent: &Lent, cells: &Cells) -> Option<u32>
     requires { IsLoan lent.now }
     ensures { MatchOption result (LentWithin lent.now cells.now)
         (λ n. (is_lent lent.now n ≡ true) × (is_among cells.now n ≡ false)) }
 {
-    if let Some(place) = first_beside(lent.places(), cells) {
-        return Some(place);
-    }
     let switch = lent.providers().switch_number();
-    if !lent.has(switch) {
-        return None;
+    if is_surplus(lent, cells, switch) {
+        return Some(switch);
     }
-    if is_among(cells, switch) {
-        None
-    } else {
-        Some(switch)
-    }
+    first_beside(lent.places(), cells)
 }
 
 /// The least of these cells that is not lent; `None` exactly where all are.

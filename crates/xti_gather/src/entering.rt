@@ -44,6 +44,48 @@ pub(crate) fn enter<R: Wait>(
     lend_cell(lent, cell, value);
 }
 
+/// One try at a cell, which is lent where its turn is free; whether it is lent then, as it may have been before.
+fn try_enter(hall: &Hall<Cell>, seat: &mut Seat<Cell>, lent: &mut Lent, cell: u32) -> bool
+    requires hall { IsSeatOf hall.now seat.old × (IsWhole (setting_of hall.now) lent.old.providers) }
+    requires free { seat.old.view.journal ≡ false }
+    requires lends { Lends seat.old.view lent.old }
+    requires cell { cell < places lent.old.providers + 1 }
+    ensures hall { IsSameSeat seat.old seat.new }
+    ensures rest { bare seat.new.view ≡ bare seat.old.view }
+    ensures lends { Lends seat.new.view lent.new }
+{
+    if lent.has(cell) {
+        return true;
+    }
+    match hall.try_enter(seat, cell) {
+        Some(value) => {
+            lend_cell(lent, cell, value);
+            true
+        }
+        None => false,
+    }
+}
+
+/// Enters those of these cells that are missing, in their order, up to the first whose turn is held. Waits for nobody.
+pub(crate) fn try_missing(hall: &Hall<Cell>, seat: &mut Seat<Cell>, lent: &mut Lent, cells: &Cells)
+    requires hall { IsSeatOf hall.now seat.old × (IsWhole (setting_of hall.now) lent.old.providers) }
+    requires free { seat.old.view.journal ≡ false }
+    requires lends { Lends seat.old.view lent.old }
+    requires cells { AreCells lent.old.providers cells.now }
+    ensures hall { IsSameSeat seat.old seat.new }
+    ensures rest { bare seat.new.view ≡ bare seat.old.view }
+    ensures lends { Lends seat.new.view lent.new }
+{
+    for place in 0..cells.len() {
+        let Some(cell) = cells.get(place) else {
+            unreachable!()
+        };
+        if !try_enter(hall, seat, lent, cell) {
+            return;
+        }
+    }
+}
+
 /// Enters those of these cells that are missing, in rising order.
 pub(crate) fn enter_missing<R: Wait>(
     rt: &R,

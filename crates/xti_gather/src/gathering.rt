@@ -10,7 +10,7 @@ ghost use Rattle.xti_gather.specs.Orders.{AreCells, TouchesAlone};
 
 use crate::cell::Cell;
 use crate::choosing::missing;
-use crate::entering::{enter, enter_missing};
+use crate::entering::{enter, enter_missing, try_missing};
 use crate::leaving::{give_back, leave_unless_in_order};
 use std::sync::Wait;
 use xti_core::touch;
@@ -46,11 +46,11 @@ fn own_place(call: &Call, lent: &Lent) -> Option<u32>
 /// Enters the cells that the call touches, and no others, and lends them.
 ///
 /// A call that touches one cell alone enters it. Another begins with the cells in `first`, those of an earlier step, as it may
-/// well touch the same. The lent cells tell what the call touches, as far as they go. Those that it doesn't touch are given
-/// back, those that are missing are entered in rising order, and the lent cells are asked again. Where a missing cell has a
-/// lower number than one that is lent, all are given back first. How often it asks has no bound, since others change what the
-/// cells tell. `first` then has the cells of this step; a call that touches one cell alone leaves it as it was. Takes no
-/// memory.
+/// well touch the same: it tries each, and waits for none. The lent cells tell what the call touches, as far as they go. Those
+/// that it doesn't touch are given back, those that are missing are entered in rising order, and the lent cells are asked again.
+/// Where a missing cell has a lower number than one that is lent, all are given back first. How often it asks has no bound,
+/// since others change what the cells tell. `first` then has the cells of this step; a call that touches one cell alone leaves
+/// it as it was. Takes no memory.
 pub fn gather<R: Wait>(
     rt: &R,
     hall: &Hall<Cell>,
@@ -75,7 +75,7 @@ pub fn gather<R: Wait>(
         enter(rt, hall, seat, lent, own);
         return;
     }
-    enter_missing(rt, hall, seat, lent, first);
+    try_missing(hall, seat, lent, first);
     for _ in rt.forever() {
         let cells = touch(call, lent);
         give_back(hall, seat, lent, &cells);

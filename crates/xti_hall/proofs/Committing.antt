@@ -7,7 +7,7 @@ use Rattle.xti_rule.specs.Histories.{own}
 use Rattle.xti_rule.specs.declared.view.Mark.{Mark}
 use Rattle.xti_rule.specs.declared.view.View.{View}
 use Rattle.xti_rule.specs.Steps.{Seated, without_pen, committed, Holds, Commits}
-use Rattle.xti_rule.proofs.Laws.{own-append, own-other, legal-more}
+use Rattle.xti_rule.proofs.Laws.{own-append, own-other, legal-more, bytes-more}
 use Rattle.xti_hall.specs.Seats.{FitsSeat, Sits, hand, IsStanding, unfinished_bytes}
 
 -- an entry of another worker is none of this number
@@ -19,6 +19,7 @@ stands-after v e mark holds c numbered below = record {
   numbered = numbered;
   below = below;
   legal = legal-more v.setting v.history e holds.legal c.right;
+  bytes = bytes-more v.history e holds.bytes c.bytes;
   mine = refl;
   spare = λ k le. let same = c.mine in other-more k v.history e (λ is. omega (arith, le, below, same, is)) (holds.spare numbered k le);
 }

@@ -21,7 +21,7 @@ nothing_at (suc n) (suc i) = nothing_at n i
 pub is_newcomer : (v f0 f1 f2 f3 : View) (h : List Entry) (marks : List Mark) (mark : Mark) → f0 ≡ given v → f1 ≡ with_pen f0 h marks → f2 ≡ f1 → f3 ≡ without_pen_unseen f2 mark → mark ≡ Free → IsNewcomerOf v f3
 is_newcomer v f0 f1 f2 f3 h marks mark a b c d e =
     let all : f3 ≡ without_pen_unseen (with_pen (given v) h marks) Free = d ∙ ((λ i. without_pen_unseen ((c ∙ b) i) (e i)) ∙ (λ i. without_pen_unseen (with_pen (a i) h marks) Free)) in
-    subst (IsNewcomerOf v) (sym all) record { setting = refl; number = refl; next = refl; seen = refl; mine = refl; held = nothing_at v.setting.cells; journal = refl; mark = refl }
+    subst (IsNewcomerOf v) (sym all) record { setting = refl; number = refl; next = refl; seen = refl; mine = refl; held = nothing_at v.setting.cells; journal = refl; mark = refl; refused = refl }
 
 -- a seat that was told what another had seen, and then saw the history
 pub meets : (v w j m : View) (n : ℕ) (h : List Entry) → j ≡ told v w → m ≡ with_seen j h → Looked j n h → Meets v w m
@@ -36,6 +36,7 @@ meets v w j m n h e s k =
       held = refl;
       journal = refl;
       mark = refl;
+      refused = refl;
       first = l.seen;
       second = l.heard;
     }

@@ -12,6 +12,7 @@ entered v v' i m e lt = subst (λ (z : View). Entered v i m z) (sym e) record {
   here = get_or-set_same v.held i (Some m) None lt;
   others = λ j n. get_or-set_other v.held i j (Some m) None n;
   rest = refl;
+  refused = refl;
 }
 
 pub left : (v v' : View) (i : ℕ) → v' ≡ with_held v (set v.held i None) 0 → Left v i v'
@@ -19,6 +20,7 @@ left v v' i e = subst (λ (z : View). Left v i z) (sym e) record {
   here = gone v.held i;
   others = λ j n. get_or-set_other v.held i j None None n;
   rest = refl;
+  refused = refl;
 }
   where
     gone : (hs : List (Option MCell)) (i : ℕ) → get_or (set hs i None) i None ≡ None

@@ -11,6 +11,7 @@ use Rattle.xti_model.specs.declared.call.Call.{Call}
 use Rattle.xti_model.specs.declared.entry.Go.{Go}
 use Rattle.xti_model.specs.declared.entry.Outcome.{Outcome}
 use Rattle.xti_model.specs.Robin.{act_of}
+use Rattle.xti_model.specs.SentBytes.{AllSendBytes}
 use Rattle.xti_model.specs.declared.entry.Outcome.TheVariants.{Done, Part}
 use Rattle.xti_model.specs.History.{unfinished_from}
 use Rattle.xti_model.specs.Wants.{taken_before}
@@ -22,7 +23,7 @@ use Rattle.xti_rule.specs.declared.view.Journal.{Journal}
 use Rattle.xti_rule.specs.declared.view.Mark.{Mark}
 use Rattle.xti_rule.specs.declared.view.Mark.TheVariants.{Free}
 use Rattle.xti_rule.specs.Rule.{Slot, HasLog}
-use Rattle.xti_rule.specs.Steps.{Seated, Fresh, giver, committed, Marked, at, with_held, with_pen, without_pen, Holds}
+use Rattle.xti_rule.specs.Steps.{Seated, Fresh, giver, committed, Marked, at, with_pen, without_pen, Holds}
 
 -- which hall made the seat, which of the hall's seats it is, and what it knows
 pub record SeatView : Type 0 where
@@ -41,12 +42,13 @@ pub record Sits (v : View) : Type 0 where
   pub shut : v.opened ≡ 0
   pub small : v.number < 33
 
--- What is true of every seat: it has a number, below its spare ones; what it has seen is a legal history, its own entries are
--- its own part of that, and its spare numbers and those over 32 have none.
+-- What is true of every seat: it has a number, below its spare ones; what it has seen is a legal history, in which what is sent
+-- on connections is bytes; its own entries are its own part of that, and its spare numbers and those over 32 have none.
 pub record IsStanding (v : View) : Type 0 where
   pub numbered : v.numbered ≡ true
   pub below : v.number < v.next
   pub legal : Legal v.setting v.seen
+  pub bytes : AllSendBytes v.seen
   pub mine : own v.number v.seen ≡ v.mine
   pub spare : (k : ℕ) → v.next ≤ k → own k v.seen ≡ []
 
@@ -85,9 +87,9 @@ taken_in (Part n) = Some n
 abbrev pub HoldsNone : View → Type 0
 HoldsNone v = (i : ℕ) → at v i ≡ None
 
--- all but the cells held
+-- all but the cells held, and the tries that found a turn held
 abbrev pub bare : View → View
-bare v = with_held v [] 0
+bare v = record v { held = []; opened = 0; refused = [] }
 
 -- the values stand for the cells of the opening world, in order
 abbrev pub StandInOrder : {C : Type 0} → (Setting → C → List (ℕ × MCell) → Type 0) → Setting → List C → Type 0
@@ -98,6 +100,7 @@ pub record Entered (v : View) (i : ℕ) (m : MCell) (v' : View) : Type 0 where
   pub here : at v' i ≡ Some m
   pub others : (j : ℕ) → j ≢ i → at v' j ≡ at v j
   pub rest : bare v' ≡ bare v
+  pub refused : v'.refused ≡ v.refused
 
 -- a value that stands for the cell i was entered, and is its part of the world as the other cells that are held are
 abbrev pub Enters : {C : Type 0} → (Setting → C → List (ℕ × MCell) → Type 0) → View → ℕ → C → View → Type 0
@@ -112,6 +115,7 @@ pub record Left (v : View) (i : ℕ) (v' : View) : Type 0 where
   pub here : at v' i ≡ None
   pub others : (j : ℕ) → j ≢ i → at v' j ≡ at v j
   pub rest : bare v' ≡ bare v
+  pub refused : v'.refused ≡ v.refused
 
 -- the journal was taken and given back without an entry
 abbrev pub LookedAt : View → View → Type 0
@@ -129,6 +133,7 @@ pub record IsNewcomerOf (v w : View) : Type 0 where
   pub held : HoldsNone w
   pub journal : w.journal ≡ false
   pub mark : w.mark ≡ Free
+  pub refused : w.refused ≡ []
 
 -- a new seat was cut off: where the old one had a spare number, which it then has no more
 abbrev pub CutsOff : SeatView → SeatView → SeatView → Type 0
@@ -146,6 +151,7 @@ pub record Looks (v v' : View) : Type 0 where
   pub mine : v'.mine ≡ v.mine
   pub held : v'.held ≡ v.held
   pub journal : v'.journal ≡ v.journal
+  pub refused : v'.refused ≡ v.refused
   pub seen : IsPrefix v.seen v'.seen
 
 -- the seat has taken the journal out, and has seen all of the history in it, which is this one
@@ -171,5 +177,6 @@ pub record Meets (v w v' : View) : Type 0 where
   pub held : v'.held ≡ v.held
   pub journal : v'.journal ≡ v.journal
   pub mark : v'.mark ≡ v.mark
+  pub refused : v'.refused ≡ v.refused
   pub first : IsPrefix v.seen v'.seen
   pub second : IsPrefix w.seen v'.seen

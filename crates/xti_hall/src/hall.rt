@@ -3,9 +3,9 @@
 ghost use Rattle.std.specs.Prelude.{◌≡◌};
 ghost use Rattle.xti_hall.specs.Sizes.{IsSized};
 
+use crate::sleepers::Sleepers;
 use atomic_table::Table;
 use std::alloc::Global;
-use std::sync::atomic::AtomicU32;
 use xti_rule::{Held, Ruled, Setting, Stands, View};
 
 mod cells;
@@ -17,6 +17,7 @@ mod seats;
 mod turns;
 mod waits;
 
+pub use journal::Rings;
 pub use seats::NoSeat;
 
 /// Cells and a journal, each with a turn. Threads share it by a reference, and each steps with a seat of its own.
@@ -25,8 +26,7 @@ pub struct Hall<C: Stands> {
     table: Table<Option<Held<C>>, View, Setting, Ruled<C>, Global>,
     cells: u32,
     keeps: bool,
-    /// How many callers sleep for a turn, any turn.
-    sleepers: AtomicU32,
+    sleepers: Sleepers,
     ghost sized: { IsSized table.shared.table_id table.shared.key cells },
     ghost keeping: { table.shared.key.keeps ≡ keeps },
 }

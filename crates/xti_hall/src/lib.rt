@@ -7,10 +7,11 @@ mod marks;
 mod pen;
 mod record;
 mod seat;
+mod sleepers;
 mod stall;
 
 pub use ended::Ended;
-pub use hall::{Hall, NoSeat};
+pub use hall::{Hall, NoSeat, Rings};
 pub use pen::Pen;
 pub use seat::Seat;
 pub use stall::{Stall, Waited};

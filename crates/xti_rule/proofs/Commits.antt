@@ -12,9 +12,10 @@ use Rattle.atomic_table.proofs.Lists.{at_set, set_here}
 use Rattle.xti_model.specs.declared.entry.Entry.{Entry}
 use Rattle.xti_model.specs.World.{Cell as MCell}
 use Rattle.xti_model.specs.History.{doing}
+use Rattle.xti_model.specs.SentBytes.{BeginsBytes}
 use Rattle.xti_rule.specs.declared.setting.Setting.{Setting}
 use Rattle.xti_rule.specs.Histories.{World, Blocked, part, own, next_world, Touches, after, Right}
-use Rattle.xti_rule.proofs.Laws.{own-append, own-other, after-more, legal-more, untouched}
+use Rattle.xti_rule.proofs.Laws.{own-append, own-other, after-more, legal-more, bytes-more, untouched}
 use Rattle.xti_rule.specs.declared.view.View.{View}
 use Rattle.xti_rule.specs.declared.view.Held.TheVariants.{Cell, Journal}
 use Rattle.xti_rule.specs.declared.view.Journal.{Journal as Book}
@@ -71,10 +72,10 @@ module _ {C : Type 0} (stands : C → List (ℕ × MCell) → Type 0) (p : Setti
   abbrev H : State (Slot C) View → Type 0
   H = HallRule stands p
 
-  commit_step : (s : State (Slot C) View) (r : H s) (id : ℕ) (v : View) (e : Entry) → get_elem? s.views id ≡ some v → v.live ≡ true → v.numbered ≡ true → v.journal ≡ true → e.worker ≡ v.number → Right p r.log e
+  commit_step : (s : State (Slot C) View) (r : H s) (id : ℕ) (v : View) (e : Entry) → get_elem? s.views id ≡ some v → v.live ≡ true → v.numbered ≡ true → v.journal ≡ true → e.worker ≡ v.number → Right p r.log e → BeginsBytes e.act
       → ((i : ℕ) → Touches p (after p r.log) (doing r.log e) i → (m : MCell) × (get_elem? v.held i ≡ some (Some m)))
       → H record { words = set s.words 0 (length r.log + 1); homes = s.homes; views = set s.views id (committed v (r.log ++ e ∷ [])) }
-  commit_step s r id v e at live numbered on self right covers =
+  commit_step s r id v e at live numbered on self right sent covers =
       let log' : List Entry = r.log ++ e ∷ [] in let w : View = committed v log' in let mineOk = r.each_seat id v at live in let pen = mineOk.journal.held on in let mh = mineOk.history in let mn = mineOk.numbers numbered in
       let ws : ℕ = length s.words in let wide : ws ≡ p.cells + 35 = r.wide in let there : id < length s.views = at_length s.views id v at in
       let world' : after p log' ≡ next_world p (after p r.log) (doing r.log e) = after-more p r.log e in
@@ -91,6 +92,7 @@ module _ {C : Type 0} (stands : C → List (ℕ × MCell) → Type 0) (p : Setti
         deep = r.deep;
         count = get_or-set_same s.words 0 (length r.log + 1) 0 (omega arith) ∙ sym (length-append r.log (e ∷ []));
         legal = legal-more p r.log e r.legal right;
+        bytes = bytes-more r.log e r.bytes sent;
         workers = λ k far. alien k (λ z. omega arith) ∙ r.workers k far;
         many = r.many;
         marked = λ k. fits_more p r.log e (mark_of r.marks k) (r.marked k);
@@ -143,13 +145,13 @@ module _ {C : Type 0} (stands : C → List (ℕ × MCell) → Type 0) (p : Setti
       value homes log' k (kept j) e q = q
       value homes log' k (opened j) e q = tt
 
-  commits' : (n id : ℕ) (v : View) (b : Book) (e : Entry) (more : List (ℕ × Slot C)) → v.live ≡ true → v.numbered ≡ true → v.journal ≡ true → e.worker ≡ v.number → added b.last.value ≡ e ∷ [] → Right p v.history e → ((i : ℕ) → Touches p (after p v.history) (doing v.history e) i → (m : MCell) × (get_elem? v.held i ≡ some (Some m)))
+  commits' : (n id : ℕ) (v : View) (b : Book) (e : Entry) (more : List (ℕ × Slot C)) → v.live ≡ true → v.numbered ≡ true → v.journal ≡ true → e.worker ≡ v.number → added b.last.value ≡ e ∷ [] → Right p v.history e → BeginsBytes e.act → ((i : ℕ) → Touches p (after p v.history) (doing v.history e) i → (m : MCell) × (get_elem? v.held i ≡ some (Some m)))
       → length v.history + 1 < 2 ^ 64
       → Allows H n id (v, (p.cells, Some (Journal b)) ∷ more) 0 (λ k. (k + 1) % 2 ^ 64) (λ _ m'. wrote (v, (p.cells, Some (Journal b)) ∷ more) m')
-  commits' n id v b e more live numbered on self is right covers small s r wide at fits = let ok = r.each_seat id v at live in let pen = ok.journal.held on in let f : ℕ = get_or s.words 0 0 in
+  commits' n id v b e more live numbered on self is right sent covers small s r wide at fits = let ok = r.each_seat id v at live in let pen = ok.journal.held on in let f : ℕ = get_or s.words 0 0 in
       let log' : List Entry = r.log ++ e ∷ [] in let same : v.history ++ added b.last.value ≡ log' = ap (λ z. v.history ++ z) is ∙ ap (λ z. z ++ e ∷ []) pen.1 in let long : length v.history ≡ length r.log = ap length pen.1 in let count : f ≡ length r.log = r.count in
       let word : (f + 1) % 2 ^ 64 ≡ length r.log + 1 = mod-eq_of_lt (omega arith) ∙ (omega arith) in
-      let r' = commit_step s r id v e at live numbered on self (subst (λ z. Right p z e) pen.1 right) (λ i t. covers i (subst (λ z. Touches p (after p z) (doing z e) i) (sym pen.1) t)) in (
+      let r' = commit_step s r id v e at live numbered on self (subst (λ z. Right p z e) pen.1 right) sent (λ i t. covers i (subst (λ z. Touches p (after p z) (doing z e) i) (sym pen.1) t)) in (
         committed v (v.history ++ added b.last.value),
         keeps,
         tt,
@@ -169,7 +171,7 @@ module _ {C : Type 0} (stands : C → List (ℕ × MCell) → Type 0) (p : Setti
   pub commits_at : (n id : ℕ) (v : View) (me : Seated C) (b : Book) (e : Entry) (more : List (ℕ × Slot C)) → me ≡ (v, (p.cells, Some (Journal b)) ∷ more) → v.live ≡ true → v.numbered ≡ true → v.journal ≡ true → added b.last.value ≡ e ∷ [] → length v.history + 1 < 2 ^ 64
       → v.setting ≡ p → Commits v e → Allows H n id me 0 (λ k. (k + 1) % 2 ^ 64) (λ _ m'. wrote me m')
   commits_at n id v me b e more is live numbered on h small ab c = subst (λ (z : Seated C). Allows H n id z 0 (λ k. (k + 1) % 2 ^ 64) (λ _ m'. wrote z m')) (sym is)
-      (commits' n id v b e more live numbered on c.mine h (subst (λ (z : Setting). Right z v.history e) ab c.right) (λ i t. let q = c.covers i (subst (λ (z : Setting). Touches z (after z v.history) (doing v.history e) i) (sym ab) t) in (q.0, at_has v.held i q.0 q.1)) small)
+      (commits' n id v b e more live numbered on c.mine h (subst (λ (z : Setting). Right z v.history e) ab c.right) c.bytes (λ i t. let q = c.covers i (subst (λ (z : Setting). Touches z (after z v.history) (doing v.history e) i) (sym ab) t) in (q.0, at_has v.held i q.0 q.1)) small)
 
 pub written : {C : Type 0} (k : ℕ) (v : View) (me m' : Seated C) (b : Book) (more : List (ℕ × Slot C)) → me ≡ (v, (k, Some (Journal b)) ∷ more) → wrote me m' → (e : Entry) → added b.last.value ≡ e ∷ [] → m' ≡ (committed v (v.history ++ e ∷ []), (k, Some (Journal b)) ∷ more)
 written k v me m' b more is r e adds = r k b more (ap (λ z. z.1) is) ∙ (λ i. (committed (is i).0 ((is i).0.history ++ adds i), (is i).1))

@@ -126,6 +126,7 @@ module _ {C : Type 0} (stands : C → List (ℕ × MCell) → Type 0) (p : Setti
         deep = long ∙ r.deep;
         count = get_or-set_other s.words (i + 1) 0 b 0 (λ e. omega arith) ∙ r.count;
         legal = r.legal;
+        bytes = r.bytes;
         workers = r.workers;
         many = r.many;
         marked = r.marked;

@@ -4,6 +4,7 @@ use Rattle.std.specs.Prelude.{Option, Some, None}
 use Rattle.std.proofs.lemmas.Bool.{eq-eqb, ne_eqb, eqb-true}
 use Rattle.std.proofs.lemmas.List.Elements.{filter-append}
 use Rattle.xti_model.specs.declared.entry.Entry.{Entry}
+use Rattle.xti_model.specs.SentBytes.{BeginsBytes, AllSendBytes}
 use Rattle.xti_model.specs.World.{cell_at, is_among, without}
 use Rattle.xti_model.specs.History.{Going, is_own, LegalFrom, left_by, step_at, doing}
 use Rattle.xti_model.specs.declared.profile.Providers.{Providers}
@@ -32,6 +33,11 @@ legal-more p past e l r = legal-snoc p.providers (opening p) [] past e l r
 legal-front-from : (p : Providers) (w : World) (past xs ys : List Entry) → LegalFrom p w past (xs ++ ys) → LegalFrom p w past xs
 legal-front-from p w past [] ys l = tt
 legal-front-from p w past (x ∷ xs) ys l = (l.0, legal-front-from p (left_by w (step_at p w past x)) (past ++ x ∷ []) xs ys l.1)
+
+-- an entry that sends bytes, after others that do
+pub bytes-more : (past : List Entry) (e : Entry) → AllSendBytes past → BeginsBytes e.act → AllSendBytes (past ++ e ∷ [])
+bytes-more [] e h b = (b, tt)
+bytes-more (x ∷ xs) e h b = (h.0, bytes-more xs e h.1 b)
 
 -- a beginning of a legal history is legal
 pub legal-front : (p : Setting) (xs ys : List Entry) → IsPrefix xs ys → Legal p ys → Legal p xs

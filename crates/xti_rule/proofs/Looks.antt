@@ -58,6 +58,7 @@ module _ {C : Type 0} (stands : C → List (ℕ × MCell) → Type 0) (p : Setti
     deep = length-map xs some ∙ o.deep;
     count = o.zeros 0;
     legal = tt;
+    bytes = tt;
     workers = λ _ _. refl;
     many = ap suc (length-replicate 32 Absent);
     marked = opening_fits p;
@@ -94,6 +95,7 @@ module _ {C : Type 0} (stands : C → List (ℕ × MCell) → Type 0) (p : Setti
     deep = r.deep;
     count = same 0 (omega arith) ∙ r.count;
     legal = r.legal;
+    bytes = r.bytes;
     workers = r.workers;
     many = r.many;
     marked = r.marked;
@@ -128,6 +130,7 @@ module _ {C : Type 0} (stands : C → List (ℕ × MCell) → Type 0) (p : Setti
         length_is = r.count;
         heard = h.heard;
         legal = subst (λ z. Legal z r.log) (sym h.setting) r.legal;
+        bytes = r.bytes;
         seen = h.seen;
         mine = h.mine;
         spare = λ x k le. over 33 k (own k r.log ≡ []) (λ lt. ((ok.numbers x).spare k le lt).1) (λ big. r.workers k big);

@@ -73,6 +73,7 @@ module _ {C : Type 0} (stands : C → List (ℕ × MCell) → Type 0) (p : Setti
         deep = long ∙ r.deep;
         count = get_or-set_other s.words (p.cells + 1) 0 b 0 (λ e. omega arith) ∙ r.count;
         legal = r.legal;
+        bytes = r.bytes;
         workers = r.workers;
         many = many;
         marked = fits;
@@ -131,6 +132,7 @@ module _ {C : Type 0} (stands : C → List (ℕ × MCell) → Type 0) (p : Setti
             record {
               journal = refl;
               legal = subst (λ (z : Setting). Legal z r.log) (sym h.setting) r.legal;
+              bytes = r.bytes;
               seen = h.seen;
               mine = h.mine;
               spare = λ x q le. over 33 q (own q r.log ≡ []) (λ lt. ((ok.numbers x).spare q le lt).1) (λ big. r.workers q big);

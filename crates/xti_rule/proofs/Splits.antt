@@ -77,6 +77,7 @@ module _ {C : Type 0} (stands : C → List (ℕ × MCell) → Type 0) (p : Setti
     deep = r.deep;
     count = r.count;
     legal = r.legal;
+    bytes = r.bytes;
     workers = r.workers;
     many = r.many;
     marked = r.marked;
@@ -176,6 +177,7 @@ module _ {C : Type 0} (stands : C → List (ℕ × MCell) → Type 0) (p : Setti
         deep = r.deep;
         count = r.count;
         legal = r.legal;
+        bytes = r.bytes;
         workers = r.workers;
         many = r.many;
         marked = r.marked;

@@ -14,8 +14,9 @@ use Rattle.xti_rule.specs.Histories.{part, after, Legal}
 use Rattle.xti_rule.specs.declared.view.View.{View}
 use Rattle.xti_rule.specs.declared.view.Held.TheVariants.{Cell}
 use Rattle.xti_rule.specs.Rule.{Slot, Turn, free, kept, opened, bit, by, CellIn, SeatOk, HallRule}
-use Rattle.xti_rule.specs.Steps.{with_held, Fresh, Seated, Took, entered, settled, reopened, left}
+use Rattle.xti_rule.specs.Steps.{with_held, Fresh, Seated, Took, entered, refused_at, tried, settled, reopened, left}
 use Rattle.xti_rule.proofs.Frames.{at_length, cell_step}
+use Rattle.xti_rule.proofs.Looks.{view_step}
 
 abbrev pub D : Type 0
 D = View
@@ -125,3 +126,31 @@ enters {C} S p n id i me live lt shut s r wide at small = let f : ℕ = get_or s
       ((λ _ k is. let same : i ≡ k = omega arith in subst (λ (z : ℕ). Took S me z (w, (i, Some (Cell x)) ∷ me.1)) same (x, m, refl, subst (λ (z : Setting). S z x ((i, m) ∷ [])) (sym (r.each_seat id v at live).history.setting) here.2, fresh (S p) p _ r' id w ok', (let room : length v.held ≡ p.cells = (r.each_seat id v at live).cells.room in omega arith))), λ miss. absurd (miss hit)),
     ))
     (λ miss. stays (S p) p s r (i + 1) id me told at ((λ hit. absurd (miss hit)), λ _. refl))
+
+-- where the turn is held, a try is recorded
+pub refuses : {C : Type 0} (S : Setting → C → List (ℕ × MCell) → Type 0) (p : Setting) (s : State (Slot C) View) (r : HallRule (S p) p s) (id i : ℕ) (v : View)
+    → get_elem? s.views id ≡ some v → v.live ≡ true → HallRule (S p) p record { words = s.words; homes = s.homes; views = set s.views id (refused_at v i) }
+refuses S p s r id i v at live = let ok = r.each_seat id v at live in let h = ok.history in
+    view_step (S p) p s r id s.words v (refused_at v i) refl (λ _ _. refl) at live refl refl (λ k x. x) record {
+      history = record { setting = h.setting; seen = h.seen; mine = h.mine; mine_seen = h.mine_seen; no_calls = h.no_calls; heard = h.heard };
+      cells = record { room = ok.cells.room; held = ok.cells.held; opened_is = ok.cells.opened_is; is_opened = ok.cells.is_opened };
+      journal = record { held = ok.journal.held };
+      numbers = λ x. let k = ok.numbers x in record { owned = k.owned; below = k.below; small = k.small; marked = k.marked; spare = k.spare };
+    }
+
+-- a try at a cell's turn that isn't made again
+pub tries : {C : Type 0} (S : Setting → C → List (ℕ × MCell) → Type 0) (p : Setting) (n id i : ℕ) (me : Seated C) → me.0.live ≡ true → i < p.cells → me.0.opened ≡ 0
+    → Allows (HallRule (S p) p) n id me (i + 1) (λ n. either (eqb n 0) 1 n) (tried S (step n (i + 1) 0 1 none) me)
+tries {C} S p n id i me live lt shut s r wide at small = let f : ℕ = get_or s.words (i + 1) 0 in let v : View = me.0 in
+    let told = tried S (step n (i + 1) 0 1 none) me in
+    let e = enters S p n id i me live lt shut s r wide at small in
+    exchanged f 0 1 (Goes (S p) p s (i + 1) id me told f)
+    (λ hit. let one : either (eqb f 0) 1 f ≡ 1 = exchanged f 0 1 (λ x. x ≡ 1) (λ _. refl) (λ miss. absurd (miss hit)) in
+    (e.0, e.1, e.2, subst (λ (x : ℕ). HallRule (S p) p (stepped s (i + 1) x id me.1 e.0 e.1)) one e.3, (e.4.0, λ miss. absurd (miss hit))))
+    (λ miss. (
+      refused_at v i,
+      keeps,
+      tt,
+      subst (λ (z : List ℕ). HallRule (S p) p record { words = z; homes = s.homes; views = set s.views id (refused_at v i) }) (sym (set-get_or s.words (i + 1) 0)) (refuses S p s r id i v at live),
+      ((λ hit. absurd (miss hit)), λ _ k is. let same : i ≡ k = omega arith in ap (λ (z : ℕ). (refused_at v z, me.1)) same),
+    ))

@@ -13,6 +13,7 @@ use mathlib.Core.List.{IsPrefix}
 use lib.ListN.{get_or, get_elem?}
 use Rattle.atomic_table.specs.Table.{State}
 use Rattle.xti_model.specs.declared.entry.Entry.{Entry}
+use Rattle.xti_model.specs.SentBytes.{AllSendBytes}
 use Rattle.xti_model.specs.World.{Cell as MCell}
 use Rattle.xti_rule.specs.declared.setting.Setting.{Setting}
 use Rattle.xti_rule.specs.Histories.{part, own, after, Legal, Blocked}
@@ -82,6 +83,7 @@ newcomer p = record {
   history = [];
   marks = [];
   mark = Free;
+  refused = [];
 }
 
 -- the seat j has a recorded value for the cell i
@@ -168,7 +170,8 @@ module _ {C : Type 0} (stands : C → List (ℕ × MCell) → Type 0) (p : Setti
     pub value : PenIn homes log marks pen
     pub has : (j : ℕ) → pen ≡ suc j → HasPen views j
 
-  -- There is a history `log`, which is legal and whose length is word 0, with no entries of numbers over 32. There are 33
+  -- There is a history `log`, which is legal, in which what is sent on connections is bytes, and whose length is word 0, with no
+  -- entries of numbers over 32. There are 33
   -- marks, of which those that wait have a want that was blocked at their length. Each cell, the journal and each live view are
   -- as above. Each number is that of a seat, or may still be handed out by one: so the mark of a number is absent just where no
   -- seat has it, or where the seat that was cut off with it has not yet given the journal back.
@@ -182,6 +185,7 @@ module _ {C : Type 0} (stands : C → List (ℕ × MCell) → Type 0) (p : Setti
     pub deep : length s.homes ≡ p.cells + 1
     pub count : get_or s.words 0 0 ≡ length log
     pub legal : Legal p log
+    pub bytes : AllSendBytes log
     pub workers : (k : ℕ) → 33 ≤ k → own k log ≡ []
     pub many : length marks ≡ 33
     pub marked : (k : ℕ) → MarkFits p log (mark_of marks k)

@@ -2,7 +2,8 @@
 --
 -- kind                        word or slot             view that changes
 -- make the hall               all                      that of seat 0 (`newcomer`)
--- take a turn                 its word, 0 to 1         the taker holds it (`entered`, `began`)
+-- take a turn                 its word, 0 to 1         the taker holds it (`entered`, `began`); a try that isn't made again
+--                                                      and finds it held changes no word, and is recorded (`tried`)
 -- put the value in or out     the slot                 which slot is open, and no more (`settled`, `reopened`)
 -- give a turn back            its word, 1 to 0         the giver holds it no more (`left`); of the journal, it gets its mark,
 --                                                      and has seen the history (`returned`) or no more (`returned_unseen`)
@@ -20,6 +21,7 @@ use Rattle.atomic_table.specs.Table.{Me, Step, rest}
 use Rattle.xti_model.specs.declared.entry.Entry.{Entry}
 use Rattle.xti_model.specs.World.{Cell as MCell}
 use Rattle.xti_model.specs.History.{doing}
+use Rattle.xti_model.specs.SentBytes.{BeginsBytes, AllSendBytes}
 use Rattle.xti_model.specs.Profile.{usual}
 use Rattle.xti_rule.specs.Histories.{World, part, own, after, Legal, Right, Touches}
 use Rattle.xti_rule.specs.declared.setting.Setting.{Setting}
@@ -51,6 +53,10 @@ Fresh v =
     (h : List Entry) × Legal v.setting h × IsPrefix v.seen h
     × ((i : ℕ) (m : MCell) → get_elem? v.held i ≡ some (Some m) → m ≡ part i (after v.setting h))
 
+-- a try at the turn of the cell i found it held
+abbrev pub refused_at : View → ℕ → View
+refused_at v i = record v { refused = v.refused ++ record { cell = i; held = v.held } ∷ [] }
+
 module _ {C : Type 0} where
   -- the cell i was taken, with its value
   abbrev pub Took : (Setting → C → List (ℕ × MCell) → Type 0) → Seated C → ℕ → Seated C → Type 0
@@ -61,6 +67,12 @@ module _ {C : Type 0} where
   -- a try at a cell's turn: taken where the word was 0, and nothing else
   abbrev pub entered : (Setting → C → List (ℕ × MCell) → Type 0) → Step (Slot C) → Seated C → ℕ → Seated C → Type 0
   entered stands st m r m' = (r ≡ 0 → (i : ℕ) → st.word ≡ i + 1 → Took stands m i m') × (r ≢ 0 → m' ≡ m)
+
+  -- a try that isn't made again: where the turn was held, that is recorded
+  abbrev pub tried : (Setting → C → List (ℕ × MCell) → Type 0) → Step (Slot C) → Seated C → ℕ → Seated C → Type 0
+  tried stands st m r m' =
+      (r ≡ 0 → (i : ℕ) → st.word ≡ i + 1 → Took stands m i m')
+      × (r ≢ 0 → (i : ℕ) → st.word ≡ i + 1 → m' ≡ (refused_at m.0 i, m.1))
 
   abbrev pub settled : Seated C → Seated C → Type 0
   settled m m' = m' ≡ (with_held m.0 m.0.held 0, rest m.1)
@@ -87,12 +99,13 @@ without_pen v mark = given_back v v.history mark
 abbrev pub without_pen_unseen : View → Mark → View
 without_pen_unseen v mark = given_back v v.seen mark
 
--- The history that the view records is legal and begins with all that was seen. The seat's own entries in it are `mine`, and
+-- The history that the view records is legal, sends bytes on connections and begins with all that was seen. The seat's own entries in it are `mine`, and
 -- its spare numbers and those over 32 have none. Of the marks that it records, its own is that of its number, and each that
 -- waits has a want that was blocked. The recorded values of the cells are their parts of the world after that history.
 pub record Holds (v : View) : Type 0 where
   pub journal : v.journal ≡ true
   pub legal : Legal v.setting v.history
+  pub bytes : AllSendBytes v.history
   pub seen : IsPrefix v.seen v.history
   pub mine : v.numbered ≡ true → own v.number v.history ≡ v.mine
   pub spare : v.numbered ≡ true → (k : ℕ) → v.next ≤ k → own k v.history ≡ []
@@ -141,10 +154,12 @@ renew w hs = renew_from 0 w hs
 abbrev pub committed : View → List Entry → View
 committed v h = record v { seen = h; mine = own v.number h; held = renew (after v.setting h) v.held; history = h }
 
--- the entry is the seat's own, it may follow the recorded history, and every cell that its step touches is held
+-- the entry is the seat's own, it may follow the recorded history, what it sends on a connection is bytes, and every cell that
+-- its step touches is held
 pub record Commits (v : View) (e : Entry) : Type 0 where
   pub mine : e.worker ≡ v.number
   pub right : Right v.setting v.history e
+  pub bytes : BeginsBytes e.act
   pub covers : (i : ℕ)
       → Touches v.setting (after v.setting v.history) (doing v.history e) i → (m : MCell) × (at v i ≡ Some m)
 
@@ -165,13 +180,15 @@ wrote {C} m m' = (n : ℕ) (b : Book) (more : List (ℕ × Slot C))
 abbrev pub with_seen : View → List Entry → View
 with_seen v h = record v { seen = h }
 
--- The number found is the length of a legal history, which begins with all that was seen and heard. The seat's own entries in
+-- The number found is the length of a legal history, which sends bytes on connections and begins with all that was seen and
+-- heard. The seat's own entries in
 -- it are `mine`, its spare numbers and those over 32 have none, and the recorded values are their parts of the world after it.
 -- While the seat holds the journal, it is the history that its view records.
 pub record Looked (v : View) (n : ℕ) (h : List Entry) : Type 0 where
   pub length_is : n ≡ length h
   pub heard : IsPrefix v.heard h
   pub legal : Legal v.setting h
+  pub bytes : AllSendBytes h
   pub seen : IsPrefix v.seen h
   pub mine : v.numbered ≡ true → own v.number h ≡ v.mine
   pub spare : v.numbered ≡ true → (k : ℕ) → v.next ≤ k → own k h ≡ []
@@ -191,7 +208,7 @@ giver v = record v { next = v.next + 1 }
 -- the new seat with that number, which is not out yet
 abbrev pub given : View → View
 given v =
-    record v { number = v.next; next = 33; mine = []; held = nothing v; opened = 0; journal = false; mark = Absent }
+    record v { number = v.next; next = 33; mine = []; held = nothing v; opened = 0; journal = false; mark = Absent; refused = [] }
 
 -- a note of what a seat has seen
 abbrev pub note_of : View → View
@@ -217,4 +234,5 @@ spent = record {
   history = [];
   marks = [];
   mark = Absent;
+  refused = [];
 }

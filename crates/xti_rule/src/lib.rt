@@ -16,6 +16,6 @@ pub use rule::{Pass, Ruled, Slot};
 pub use seats_out::marks_are_of_seats_out;
 pub use setting::{Recorded, Setting, Stands};
 pub use steps::{
-    Begin, Commit, Give, Leave, Look, Note, Reopen, Return, ReturnUnseen, Ring, Settle, Take,
+    Begin, Commit, Give, Leave, Look, Note, Reopen, Return, ReturnUnseen, Ring, Settle, Take, Try,
 };
-pub use view::{Held, Journal, Mark, Shown, View};
+pub use view::{Held, Journal, Mark, Refusal, Shown, View};

@@ -13,6 +13,15 @@ impl<C: Stands> Play<Option<Held<C>>, View> for Take {
     ghost then = { entered C.stands };
 }
 
+/// Takes a cell's turn, and its slot with the value; where the turn is held, the seat's view has that recorded.
+pub struct Try;
+
+impl<C: Stands> Play<Option<Held<C>>, View> for Try {
+    ghost use Rattle.xti_rule.specs.Steps.{tried};
+
+    ghost then = { tried C.stands };
+}
+
 /// Gives a cell's slot back empty, and keeps the turn.
 pub struct Settle;
 

@@ -22,6 +22,15 @@ pub enum Mark {
     Resting,
 }
 
+/// A try at a cell's turn that found it held: the cell, and the recorded values of the cells that the seat then held. No value
+/// of it is made.
+pub struct Refusal {
+    /// The cell that was tried.
+    pub cell: u32,
+    /// For each cell its recorded value, where the seat held its turn.
+    pub held: LinkedList<Option<Recorded>>,
+}
+
 /// What a seat knows. No value of it is made.
 pub struct View {
     /// What the hall is of.
@@ -52,6 +61,8 @@ pub struct View {
     pub marks: LinkedList<Mark>,
     /// The seat's own mark.
     pub mark: Mark,
+    /// The tries that found a turn held, in order.
+    pub refused: LinkedList<Refusal>,
 }
 
 /// An entry as contracts see it.

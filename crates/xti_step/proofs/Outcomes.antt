@@ -7,6 +7,7 @@ use lib.ListN.{get_or}
 use Rattle.xti_base.specs.declared.kinds.State.{State}
 use Rattle.xti_model.specs.declared.call.Call.{Call}
 use Rattle.xti_model.specs.declared.entry.Go.{Go}
+use Rattle.xti_model.specs.declared.entry.Go.TheVariants.{Begin, More}
 use Rattle.xti_model.specs.declared.entry.Entry.{Entry}
 use Rattle.xti_model.specs.declared.entry.Outcome.{Outcome}
 use Rattle.xti_model.specs.declared.entry.Applied.{Applied}
@@ -14,6 +15,7 @@ use Rattle.xti_model.specs.declared.entry.Applied.TheVariants as applied
 use Rattle.xti_model.specs.declared.profile.Providers.{Providers}
 use Rattle.xti_model.specs.Profile.{valid}
 use Rattle.xti_model.specs.Robin.{act_of}
+use Rattle.xti_model.specs.SentBytes.{SendsBytes, BeginsBytes}
 use Rattle.xti_model.specs.World.{World, Cell, is_among, places}
 use Rattle.xti_model.specs.Step.{Step, step}
 use Rattle.xti_model.specs.Touched.{touched}
@@ -103,9 +105,14 @@ lends_unchanged v l l' lends still e = record {
 abbrev pub entry : ℕ → Call → Go → Outcome → State → Entry
 entry k c g o s = record { worker = k; act = act_of g c; outcome = o; after = s }
 
+begins-bytes : (g : Go) (c : Call) → SendsBytes c → BeginsBytes (act_of g c)
+begins-bytes Begin c h = h
+begins-bytes (More n) c h = tt
+
 -- all that a step knows once it has the journal: the seat at first, with its cells, and with the journal
 pub record Ready (v0 v1 v2 : View) (l : Lending) (c : Call) (g : Go) (h : List Entry) (ms : List Mark) : Type 0 where
   pub may : MayGo v0 c g
+  pub sends : SendsBytes c
   pub rest : bare v1 ≡ bare v0
   pub lends : Lends v1 l
   pub just : Just l.providers (cell_lent l) c
@@ -177,6 +184,7 @@ module _ {v0 v1 v2 : View} {l : Lending} {c : Call} {g : Go} {h : List Entry} {m
       let w = ready_step l' (applied.Step o s) still e in
       let d = ready_doing k o s is in record {
         mine = is;
+        bytes = begins-bytes g c r.sends;
         right = subst (λ (z : Option Step). Fits z (entry k c g o s)) (w ∙ sym (ap (option_and_then (step_going v2.setting.providers W)) d)) (refl, refl);
         covers = λ i t.
             let u : is_among (touched v2.setting.providers W c) i ≡ true = subst (λ (z : Option Going). Touches v2.setting W z i) d t in

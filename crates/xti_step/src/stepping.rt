@@ -22,9 +22,9 @@ use std::sync::Wait;
 use xti_base::{State, let_go};
 use xti_core::apply;
 use xti_gather::{Cell, gather, leave_all};
-use xti_hall::{Hall, Pen, Seat};
+use xti_hall::{Hall, Pen, Rings, Seat};
 use xti_lent::Lent;
-use xti_model::{Act, Applied, Call, Cells, Entry, Go, Outcome};
+use xti_model::{Act, Applied, Call, Cells, Entry, Go, Outcome, calls_send_bytes};
 
 /// What the entry of a step shows of its call.
 fn act(call: &Call, go: Go) -> Result<Act, AllocError>
@@ -86,7 +86,7 @@ fn write(
     outcome: Outcome,
     after: State,
     wakes: u64,
-) -> Outcome
+) -> (Outcome, Rings)
     requires hall { IsSeatOf hall.now seat.old }
     requires holds { Holds seat.old.view }
     requires pen { IsPenOf seat.old pen }
@@ -96,7 +96,7 @@ fn write(
     ensures hall { IsSameSeat seat.old seat.new }
     ensures view { seat.new.view ≡ without_pen (wrote_entry seat.old.view (entry_of seat.old.view call.now go outcome after)) Free }
     ensures standing { IsStanding seat.new.view }
-    ensures told { result ≡ outcome }
+    ensures told { result.0 ≡ outcome }
 {
     match copies {
         Some((act, spare)) => {
@@ -107,12 +107,12 @@ fn write(
                 outcome,
                 after,
             };
-            hall.commit(seat, pen, entry, wakes);
-            told
+            let rings = hall.commit(seat, pen, entry, wakes);
+            (told, rings)
         }
         None => {
-            hall.commit_unkept(seat, pen, call, go, &outcome, after, wakes);
-            outcome
+            let rings = hall.commit_unkept(seat, pen, call, go, &outcome, after, wakes);
+            (outcome, rings)
         }
     }
 }
@@ -151,6 +151,7 @@ pub fn step<G: Gate, R: Wait + Sync>(
     ensures err { OnErr result (seat.new.view.mine ≡ seat.old.view.mine) }
     ensures mark { OnErr result ((seat.new.view.mark ≡ seat.old.view.mark) ⊎ (seat.new.view.mark ≡ Free)) }
 {
+    calls_send_bytes(call);
     let worker = seat.number();
     let copies = copies(alloc, hall, call, go)?;
     gather(rt, hall, seat, lent, call, first);
@@ -172,8 +173,9 @@ pub fn step<G: Gate, R: Wait + Sync>(
         }
         Ok(Applied::Step { outcome, after }) => {
             let wakes = concerned(&pen, lent, call);
-            let told = write(hall, seat, pen, copies, call, go, outcome, after, wakes);
+            let (told, rings) = write(hall, seat, pen, copies, call, go, outcome, after, wakes);
             leave_all(hall, seat, lent);
+            hall.wake(seat, rings);
             Ok((
                 Applied::Step {
                     outcome: told,

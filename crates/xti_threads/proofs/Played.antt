@@ -11,7 +11,7 @@ use Rattle.xti_model.specs.Resolve.{begun, is_begin}
 use Rattle.xti_model.specs.Robin.{is_through}
 use Rattle.xti_model.specs.Complete.{Follows, IsHistoryOf, is_setup}
 use Rattle.xti_model.proofs.GoingOn.{own-alone}
-use Rattle.xti_model.proofs.Following.{IsFollowed}
+use Rattle.xti_model.specs.Following.{IsFollowed}
 use Rattle.xti_rule.specs.declared.setting.Setting.{Setting}
 use Rattle.xti_rule.specs.declared.view.View.{View}
 use Rattle.xti_rule.specs.Histories.{own, Legal}
@@ -69,7 +69,7 @@ sets-fresh x lines s w of_x new told = record {
     of_x = of_x;
     number_is = ap (λ (v : View). v.number) new;
     next_is = ap (λ (v : View). v.next) new;
-    standing = subst IsStanding (sym new) (record { numbered = refl; below = omega arith; legal = tt; mine = refl; spare = λ k le. refl });
+    standing = subst IsStanding (sym new) (record { numbered = refl; below = omega arith; legal = tt; bytes = tt; mine = refl; spare = λ k le. refl });
     follows = subst (λ (v : View). IsFollowed lines v.mine 0) (sym new) (record { follows = refl; settled = tt });
   };
   told = subst (λ (v : View). Told lines v.mine 0 w) (sym new) told;
@@ -123,6 +123,7 @@ before-split next next' s s' b same v n = record {
     numbered = b.standing.numbered;
     below = omega (arith, b.standing.below);
     legal = b.standing.legal;
+    bytes = b.standing.bytes;
     mine = b.standing.mine;
     spare = λ k le. b.standing.spare k (omega (arith, le));
   });

@@ -1,6 +1,6 @@
-ghost use Rattle.std.specs.Prelude.{◌≡◌, ◌<◌, false, ℕ, Some};
+ghost use Rattle.std.specs.Prelude.{◌≡◌, ◌<◌, false, ℕ, Some, None, IfSome, IfNone};
 ghost use Rattle.xti_model.specs.World.{Cell as MCell};
-ghost use Rattle.xti_rule.specs.Steps.{at};
+ghost use Rattle.xti_rule.specs.Steps.{at, refused_at};
 ghost use Rattle.xti_hall.specs.Seats.{Enters, MayLeave, Left};
 ghost use Rattle.xti_hall.specs.Words.{setting_of, IsSeatOf, IsSameSeat};
 
@@ -23,6 +23,25 @@ impl<C: Stands> Hall<C> {
     {
         self.take(rt, &mut seat.pass, cell);
         self.take_out(&mut seat.pass, cell)
+    }
+
+    /// One try at a cell's turn, and its value where the turn was free. `None` exactly where it was held at that step; the seat's
+    /// view has then one refusal more, with the cell and the recorded values of the cells held. Cells may be tried in any order.
+    /// Takes no memory, and waits for nobody.
+    pub fn try_enter(&self, seat: &mut Seat<C>, cell: u32) -> Option<C>
+        requires hall { IsSeatOf self.now seat.old }
+        requires cell { cell < (setting_of self.now).cells }
+        requires other { at seat.old.view cell ≡ None }
+        requires free { seat.old.view.journal ≡ false }
+        ensures hall { IsSameSeat seat.old seat.new }
+        ensures value { IfSome result (λ x. Enters C.stands seat.old.view cell x seat.new.view) }
+        ensures refused { IfNone result (seat.new.view ≡ refused_at seat.old.view cell) }
+    {
+        if self.try_once(&mut seat.pass, cell) {
+            Some(self.take_out(&mut seat.pass, cell))
+        } else {
+            None
+        }
     }
 
     /// Gives a cell back. The value stands for what is recorded for the cell: what it had at `enter`, or what the seat's

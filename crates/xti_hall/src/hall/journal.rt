@@ -51,6 +51,12 @@ fn copy_of(alloc: Global, entries: &[Entry]) -> Result<Entries, AllocError>
     Ok(Entries::from_vec(copy))
 }
 
+/// Whom a commit wakes, once `wake` is called. No clause speaks of it.
+#[derive(Drop)]
+pub struct Rings {
+    seats: u64,
+}
+
 impl<C: Stands> Hall<C> {
     /// Whether the entries of the history are kept. Takes no memory.
     pub fn keeps(&self) -> bool
@@ -94,9 +100,10 @@ impl<C: Stands> Hall<C> {
     }
 
     /// Appends the entry, adds 1 to the length, gives the journal back, and wakes those of the seats told that wait, each
-    /// told by the bit of its number; one that was woken already, and hasn't looked since, isn't woken again. The seat has then seen the history that ends with the entry, and the recorded values of
-    /// its cells are those after it. Takes no memory, and waits for nobody.
-    pub fn commit(&self, seat: &mut Seat<C>, pen: Pen<C>, entry: Entry, wakes: u64)
+    /// told by the bit of its number; one that was woken already, and hasn't looked since, isn't woken again. The seat has then
+    /// seen the history that ends with the entry, and the recorded values of its cells are those after it. Takes no memory, and
+    /// waits for nobody.
+    pub fn commit(&self, seat: &mut Seat<C>, pen: Pen<C>, entry: Entry, wakes: u64) -> Rings
         requires hall { IsSeatOf self.now seat.old }
         requires holds { Holds seat.old.view }
         requires pen { IsPenOf seat.old pen }
@@ -110,9 +117,11 @@ impl<C: Stands> Hall<C> {
         let shown = Shown::Whole(Snapshot::of(&entry));
         let mut journal = with_entry(pen.into_journal(), entry);
         journal.marks[seat.number as usize] = Mark::Free;
-        let rings = journal.bells.ring(wakes);
+        let rings = Rings {
+            seats: journal.bells.ring(wakes),
+        };
         self.append(seat, journal, shown, unfinished);
-        self.ring_all(seat, rings);
+        rings
     }
 
     /// The same of a hall that doesn't keep its entries: the entry is that of a step of the call, and is not made. Takes no
@@ -126,7 +135,7 @@ impl<C: Stands> Hall<C> {
         outcome: &Outcome,
         after: State,
         wakes: u64,
-    )
+    ) -> Rings
         requires hall { IsSeatOf self.now seat.old }
         requires holds { Holds seat.old.view }
         requires pen { IsPenOf seat.old pen }
@@ -147,9 +156,19 @@ impl<C: Stands> Hall<C> {
         let mut journal = pen.into_journal();
         journal.length += 1;
         journal.marks[seat.number as usize] = Mark::Free;
-        let rings = journal.bells.ring(wakes);
+        let rings = Rings {
+            seats: journal.bells.ring(wakes),
+        };
         self.append(seat, journal, shown, unfinished);
-        self.ring_all(seat, rings);
+        rings
+    }
+
+    /// Wakes those whom a commit tells. Takes no memory, and waits for nobody.
+    pub fn wake(&self, seat: &mut Seat<C>, rings: Rings)
+        requires hall { IsSeatOf self.now seat.old }
+        ensures { seat.new ≡ seat.old }
+    {
+        self.ring_all(seat, rings.seats);
     }
 
     /// Adds the entry that is shown, with which the journal is, and gives the journal back.

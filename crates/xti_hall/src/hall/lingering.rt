@@ -11,7 +11,6 @@ ghost use Rattle.xti_hall.specs.Words.{setting_of};
 
 use super::Hall;
 use std::sync::Wait;
-use std::sync::atomic::Ordering;
 use xti_rule::Stands;
 
 /// So often the word of a turn is read before who waits for it sleeps.
@@ -32,16 +31,16 @@ impl<C: Stands> Hall<C> {
                 return;
             }
         }
-        self.sleepers.fetch_add(1, Ordering::SeqCst);
+        self.sleepers.add(turn, self.cells);
         self.table.shared.park(rt, word, 1);
-        self.sleepers.fetch_sub(1, Ordering::SeqCst);
+        self.sleepers.remove(turn, self.cells);
     }
 
     /// Wakes one that sleeps for this turn, which was just given back.
     pub(super) fn wake_for_turn(&self, turn: u32)
         requires turn { turn ≤ (setting_of self.now).cells }
     {
-        if self.sleepers.load(Ordering::SeqCst) != 0 {
+        if self.sleepers.are_some(turn, self.cells) {
             self.table.shared.wake_one(turn as usize + 1);
         }
     }

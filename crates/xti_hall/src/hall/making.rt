@@ -7,9 +7,9 @@ ghost use Rattle.xti_hall.specs.Words.{setting, setting_of, id_of};
 use super::Hall;
 use crate::record::empty;
 use crate::seat::Seat;
+use crate::sleepers::Sleepers;
 use atomic_table::{Refused, Table};
 use std::alloc::{AllocError, Global};
-use std::sync::atomic::AtomicU32;
 use xti_base::let_go;
 use xti_model::Providers;
 use xti_rule::{Held, Mark, Setting, Stands};
@@ -82,7 +82,7 @@ impl<C: Stands> Hall<C> {
                     table,
                     cells: setting.cells,
                     keeps,
-                    sleepers: AtomicU32::new(0),
+                    sleepers: Sleepers::none(),
                 },
                 Seat {
                     pass,

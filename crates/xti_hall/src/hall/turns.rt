@@ -7,13 +7,13 @@ ghost use lib.ListN.{get_elem?};
 ghost use Rattle.atomic_table.specs.Table.{rest};
 ghost use Rattle.xti_model.specs.World.{Cell as MCell};
 ghost use Rattle.xti_rule.specs.declared.view.Held.TheVariants.{Cell};
-ghost use Rattle.xti_rule.specs.Steps.{Took, with_held};
+ghost use Rattle.xti_rule.specs.Steps.{Took, refused_at, with_held};
 ghost use Rattle.xti_hall.specs.Seats.{Sits};
 ghost use Rattle.xti_hall.specs.Words.{IsOf, IsSame, setting_of};
 
 use super::Hall;
 use std::sync::Wait;
-use xti_rule::{Held, Leave, Pass, Reopen, Settle, Stands, Take};
+use xti_rule::{Held, Leave, Pass, Reopen, Settle, Stands, Take, Try};
 
 impl<C: Stands> Hall<C> {
     /// One try at a cell's turn.
@@ -27,6 +27,20 @@ impl<C: Stands> Hall<C> {
         self.table
             .shared
             .compare_exchange::<Take>(pass, cell as usize + 1, 0, 1)
+            == 0
+    }
+
+    /// One try at a cell's turn that isn't made again. Where the turn is held, that is recorded.
+    pub(super) fn try_once(&self, pass: &mut Pass<C>, cell: u32) -> bool
+        requires hall { IsOf self.now pass.old }
+        requires cell { cell < (setting_of self.now).cells }
+        requires seat { Sits pass.old.me.0 }
+        ensures hall { IsSame pass.old pass.new }
+        ensures took { MatchBool result (Took C.stands pass.old.me cell pass.new.me) (pass.new.me ≡ (refused_at pass.old.me.0 cell, pass.old.me.1)) }
+    {
+        self.table
+            .shared
+            .compare_exchange::<Try>(pass, cell as usize + 1, 0, 1)
             == 0
     }
 

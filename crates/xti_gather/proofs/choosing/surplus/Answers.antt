@@ -1,21 +1,31 @@
-use Rattle.std.proofs.Common.{◌∙◌, not, sym, ap}
+use Rattle.std.proofs.Common.{◌≡◌, ◌∙◌, ◌&&◌, ℕ, Bool, true, false, Option, Some, None, not, refl, sym, ap}
+use Rattle.std.specs.Prelude.{MatchOption}
 use Rattle.std.specs.List.{find}
-use Rattle.xti_model.specs.World.{is_among, switch_number}
+use Rattle.xti_model.specs.World.{is_among}
 use Rattle.xti_lent.specs.Lending.{is_lent}
-use Rattle.xti_gather.proofs.Numbers.{not-both}
+use Rattle.xti_gather.specs.Orders.{LentWithin}
 use Rattle.xti_gather.proofs.Orders.{none-beside-lent, beside-lent}
 use Rattle.xti_gather.proofs.choosing.surplus.Goals as goal
 
-pub returns-in-Some : goal.returns-in-Some
-returns-in-Some c =
-    beside-lent c.args.lent.now c.args.cells.now c.in-Some.place c.requires (sym (c.in-Some.ensures ∙ ap (find (λ n. not (is_among c.args.cells.now n))) c.places.ensures))
+-- a cell that is lent and not surplus is one of them
+kept : (a b : Bool) → (a && not b) ≡ false → a ≡ true → b ≡ true
+kept true true e i = refl
+kept true false e i = absurd (cc)
+kept false b e i = absurd (cc)
 
-pub returns-then-not-has : goal.returns-then-not-has
-returns-then-not-has c =
-    none-beside-lent c.args.lent.now c.args.cells.now (sym (c.in_default.ensures ∙ ap (find (λ n. not (is_among c.args.cells.now n))) c.places.ensures))
-    (λ i. absurd (not-both (is_lent c.args.lent.now (switch_number c.args.lent.now.providers)) i (ap (is_lent c.args.lent.now) (sym c.switch_number-switch.ensures) ∙ (sym c.has.ensures ∙ c.if-not-has.true))))
+pub returns-then-is_surplus : goal.returns-then-is_surplus
+returns-then-is_surplus c = by (is_lent c.args.lent.now c.switch_number-switch.result) (is_among c.args.cells.now c.switch_number-switch.result) refl refl (sym c.is_surplus.ensures ∙ c.if-is_surplus.true)
+  where
+    by : (a b : Bool) → is_lent c.args.lent.now c.switch_number-switch.result ≡ a → is_among c.args.cells.now c.switch_number-switch.result ≡ b → (is_lent c.args.lent.now c.switch_number-switch.result && not (is_among c.args.cells.now c.switch_number-switch.result)) ≡ true
+        → (is_lent c.args.lent.now c.switch_number-switch.result ≡ true) × (is_among c.args.cells.now c.switch_number-switch.result ≡ false)
+    by true false e f t = (e, f)
+    by true true e f t = absurd (let q : true ≡ false = sym t ∙ (λ i. e i && not (f i)) in cc)
+    by false b e f t = absurd (let q : true ≡ false = sym t ∙ (λ i. e i && not (f i)) in cc)
 
-pub returns-then-is_among : goal.returns-then-is_among
-returns-then-is_among c =
-    none-beside-lent c.args.lent.now c.args.cells.now (sym (c.in_default.ensures ∙ ap (find (λ n. not (is_among c.args.cells.now n))) c.places.ensures))
-    (λ i. ap (is_among c.args.cells.now) (sym c.switch_number-switch.ensures) ∙ (sym c.is_among.ensures ∙ c.if-is_among.true))
+pub returns : goal.returns
+returns c = by c.first_beside.result (sym (c.first_beside.ensures ∙ ap (find (λ n. not (is_among c.args.cells.now n))) c.places.ensures))
+  where
+    by : (o : Option ℕ) → find (λ n. not (is_among c.args.cells.now n)) c.args.lent.now.numbers ≡ o → MatchOption o (LentWithin c.args.lent.now c.args.cells.now) (λ n. (is_lent c.args.lent.now n ≡ true) × (is_among c.args.cells.now n ≡ false))
+    by (Some n) e = beside-lent c.args.lent.now c.args.cells.now n c.requires e
+    by None e = none-beside-lent c.args.lent.now c.args.cells.now e
+        (λ i. ap (is_among c.args.cells.now) (sym c.switch_number-switch.ensures) ∙ kept (is_lent c.args.lent.now c.switch_number-switch.result) (is_among c.args.cells.now c.switch_number-switch.result) (sym c.is_surplus.ensures ∙ c.if-is_surplus.false) (ap (is_lent c.args.lent.now) c.switch_number-switch.ensures ∙ i))

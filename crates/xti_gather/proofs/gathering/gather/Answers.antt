@@ -15,13 +15,13 @@ use Rattle.xti_gather.proofs.gathering.gather.Goals as goal
 pub loop-init : goal.loop-init
 loop-init g c =
     let p = ap (λ (s : Setting). s.providers) (sym c.requires.hall.1 ∙ sym c.requires.hall.0.1) in
-    let t = c.enter_missing.ensures in
+    let t = c.try_missing.ensures in
     let before = nothing_lends c.args.seat.now.view c.args.lent.now p c.requires.empty c.requires.none in record {
       hall = t.hall.0;
       id = t.hall.1;
       rest = t.rest;
       lends = t.lends;
-      providers = same-providers c.args.seat.now.view c.enter_missing.new.seat.view c.args.lent.now c.enter_missing.new.lent before t.lends t.rest;
+      providers = same-providers c.args.seat.now.view c.try_missing.new.seat.view c.args.lent.now c.try_missing.new.lent before t.lends t.rest;
     }
 
 pub enter-requires-clause-lends : goal.enter-requires-clause-lends
@@ -32,13 +32,10 @@ enter-requires-clause-lends g c =
 pub enter-requires-clause-order : goal.enter-requires-clause-order
 enter-requires-clause-order g c = λ _ n lent. absurd (false≢true (ap is_some (sym (c.requires.empty.none n)) ∙ lent))
 
-pub enter_missing-requires-clause-lends : goal.enter_missing-requires-clause-lends
-enter_missing-requires-clause-lends g c =
+pub try_missing-requires-clause-lends : goal.try_missing-requires-clause-lends
+try_missing-requires-clause-lends g c =
     let p = ap (λ (s : Setting). s.providers) (sym c.requires.hall.1 ∙ sym c.requires.hall.0.1) in
     nothing_lends c.args.seat.now.view c.args.lent.now p c.requires.empty c.requires.none
-
-pub enter_missing-requires-clause-order : goal.enter_missing-requires-clause-order
-enter_missing-requires-clause-order g c = λ n m lent _ _. absurd (false≢true (ap is_some (sym (c.requires.empty.none n)) ∙ lent))
 
 pub returns-in_default-missing-clause-first : goal.returns-in_default-missing-clause-first
 returns-in_default-missing-clause-first g c =
@@ -61,8 +58,8 @@ leave_unless_in_order-requires-clause-cell g c =
     let cells = subst (λ (ns : List ℕ). AreCells p ns) (sym c.touch-cells.ensures) (lends-cells c.loop.seat.view c.loop.lent c.args.call.now c.loop.invariant.lends) in
     all-among (λ n. n < places p + 1) c.touch-cells.result c.in-Some-missing.least cells c.in-Some-missing.ensures.among
 
-pub enter_missing-requires-in-loop-clause-cells : goal.enter_missing-requires-in-loop-clause-cells
-enter_missing-requires-in-loop-clause-cells g c =
+pub enter_missing-requires-clause-cells : goal.enter_missing-requires-clause-cells
+enter_missing-requires-clause-cells g c =
     let inv = c.loop.invariant in
     let cells = subst (λ (ns : List ℕ). AreCells c.loop.lent.providers ns) (sym c.touch-cells.ensures) (lends-cells c.loop.seat.view c.loop.lent c.args.call.now inv.lends) in
     let t = c.leave_unless_in_order.ensures in

@@ -7,7 +7,7 @@ use Rattle.xti_end.specs.Taken.{taken}
 use Rattle.xti_lent.specs.Lending.{Lending, cell_lent, cells}
 use Rattle.xti_rule.specs.declared.view.View.{View}
 use Rattle.xti_rule.specs.Steps.{at}
-use Rattle.xti_hall.specs.Seats.{bare}
+use Rattle.xti_hall.specs.Seats.{SeatView, bare}
 use Rattle.xti_gather.specs.Lends.{Lends, Just}
 use Rattle.xti_gather.proofs.Wholes.{lends-fit}
 use Rattle.xti_gather.proofs.Holdings.{just_held}
@@ -37,6 +37,7 @@ pub give_up-requires-clause-lends : goal.give_up-requires-clause-lends
 give_up-requires-clause-lends g c =
     let r : Ready c.args.seat.now.view c.gather.new.seat.view c.begin.new.seat.view c.gather.new.lent c.args.call.now c.args.go c.in-Ok.pen.history c.in-Ok.pen.marks = record {
       may = c.requires.go;
+      sends = c.calls_send_bytes.ensures;
       rest = c.gather.ensures.rest;
       lends = c.gather.ensures.lends;
       just = subst (λ (p : Providers). Just p (cell_lent c.gather.new.lent) c.args.call.now) (sym c.gather.ensures.providers) c.gather.ensures.just;
@@ -50,6 +51,7 @@ pub give_up-requires-in-Ok-Blocked-clause-lends : goal.give_up-requires-in-Ok-Bl
 give_up-requires-in-Ok-Blocked-clause-lends g c =
     let r : Ready c.args.seat.now.view c.gather.new.seat.view c.begin.new.seat.view c.gather.new.lent c.args.call.now c.args.go c.in-Ok.pen.history c.in-Ok.pen.marks = record {
       may = c.requires.go;
+      sends = c.calls_send_bytes.ensures;
       rest = c.gather.ensures.rest;
       lends = c.gather.ensures.lends;
       just = subst (λ (p : Providers). Just p (cell_lent c.gather.new.lent) c.args.call.now) (sym c.gather.ensures.providers) c.gather.ensures.just;
@@ -64,6 +66,7 @@ pub write-told-requires-clause-short : goal.write-told-requires-clause-short
 write-told-requires-clause-short g c =
     let r : Ready c.args.seat.now.view c.gather.new.seat.view c.begin.new.seat.view c.gather.new.lent c.args.call.now c.args.go c.in-Ok.pen.history c.in-Ok.pen.marks = record {
       may = c.requires.go;
+      sends = c.calls_send_bytes.ensures;
       rest = c.gather.ensures.rest;
       lends = c.gather.ensures.lends;
       just = subst (λ (p : Providers). Just p (cell_lent c.gather.new.lent) c.args.call.now) (sym c.gather.ensures.providers) c.gather.ensures.just;
@@ -78,6 +81,7 @@ pub write-told-requires-clause-entry : goal.write-told-requires-clause-entry
 write-told-requires-clause-entry g c =
     let r : Ready c.args.seat.now.view c.gather.new.seat.view c.begin.new.seat.view c.gather.new.lent c.args.call.now c.args.go c.in-Ok.pen.history c.in-Ok.pen.marks = record {
       may = c.requires.go;
+      sends = c.calls_send_bytes.ensures;
       rest = c.gather.ensures.rest;
       lends = c.gather.ensures.lends;
       just = subst (λ (p : Providers). Just p (cell_lent c.gather.new.lent) c.args.call.now) (sym c.gather.ensures.providers) c.gather.ensures.just;
@@ -95,6 +99,7 @@ pub leave_all-requires-in-Ok-Step-clause-lends : goal.leave_all-requires-in-Ok-S
 leave_all-requires-in-Ok-Step-clause-lends g c =
     let r : Ready c.args.seat.now.view c.gather.new.seat.view c.begin.new.seat.view c.gather.new.lent c.args.call.now c.args.go c.in-Ok.pen.history c.in-Ok.pen.marks = record {
       may = c.requires.go;
+      sends = c.calls_send_bytes.ensures;
       rest = c.gather.ensures.rest;
       lends = c.gather.ensures.lends;
       just = subst (λ (p : Providers). Just p (cell_lent c.gather.new.lent) c.args.call.now) (sym c.gather.ensures.providers) c.gather.ensures.just;
@@ -112,6 +117,7 @@ pub returns-in-Ok-Blocked-clause-ok : goal.returns-in-Ok-Blocked-clause-ok
 returns-in-Ok-Blocked-clause-ok g c =
     let r : Ready c.args.seat.now.view c.gather.new.seat.view c.begin.new.seat.view c.gather.new.lent c.args.call.now c.args.go c.in-Ok.pen.history c.in-Ok.pen.marks = record {
       may = c.requires.go;
+      sends = c.calls_send_bytes.ensures;
       rest = c.gather.ensures.rest;
       lends = c.gather.ensures.lends;
       just = subst (λ (p : Providers). Just p (cell_lent c.gather.new.lent) c.args.call.now) (sym c.gather.ensures.providers) c.gather.ensures.just;
@@ -126,6 +132,7 @@ pub returns-in-Ok-Step-clause-ok : goal.returns-in-Ok-Step-clause-ok
 returns-in-Ok-Step-clause-ok g c =
     let r : Ready c.args.seat.now.view c.gather.new.seat.view c.begin.new.seat.view c.gather.new.lent c.args.call.now c.args.go c.in-Ok.pen.history c.in-Ok.pen.marks = record {
       may = c.requires.go;
+      sends = c.calls_send_bytes.ensures;
       rest = c.gather.ensures.rest;
       lends = c.gather.ensures.lends;
       just = subst (λ (p : Providers). Just p (cell_lent c.gather.new.lent) c.args.call.now) (sym c.gather.ensures.providers) c.gather.ensures.just;
@@ -137,8 +144,8 @@ returns-in-Ok-Step-clause-ok g c =
     let o : Outcome = c.in-Ok-Step.outcome in
     let s : State = c.in-Ok-Step.after in
     let e = ap (λ (z : Applied). taken z (cells c.apply.new.lent)) (sym c.in-Ok-Step.field-0-is) ∙ c.in-Ok-Step.ensures.step in
-    let all = c.leave_all-in-Ok-Step.ensures.rest ∙ ap bare c.write-told.ensures.view in
-    ready_made r c.apply.new.lent k o c.write-told.result s c.leave_all-in-Ok-Step.new.seat.view refl c.in-Ok-Step.ensures.kept e c.write-told.ensures.told all
+    let all = ap (λ (z : SeatView). bare z.view) c.wake.ensures ∙ (c.leave_all-in-Ok-Step.ensures.rest ∙ ap bare c.write-told.ensures.view) in
+    ready_made r c.apply.new.lent k o c.write-told.result.0 s c.wake.new.seat.view refl c.in-Ok-Step.ensures.kept e c.write-told.ensures.told all
 
 pub returns-in-Ok-Step-clause-standing : goal.returns-in-Ok-Step-clause-standing
-returns-in-Ok-Step-clause-standing g c = stands-still c.write-told.new.seat.view c.leave_all-in-Ok-Step.new.seat.view c.leave_all-in-Ok-Step.ensures.rest c.write-told.ensures.standing
+returns-in-Ok-Step-clause-standing g c = stands-still c.write-told.new.seat.view c.wake.new.seat.view (ap (λ (z : SeatView). bare z.view) c.wake.ensures ∙ c.leave_all-in-Ok-Step.ensures.rest) c.write-told.ensures.standing

@@ -1,0 +1,7 @@
+use Rattle.std.proofs.Common.{arith}
+use Rattle.xti_rule.proofs.Turns.{tries}
+use Rattle.xti_hall.proofs.hall.Hall.try_once.Goals as goal
+
+pub compare_exchange-requires : goal.compare_exchange-requires
+compare_exchange-requires g c = let sized = c.args.self.now.sized in let s = c.requires.seat in
+    (c.requires.hall, omega arith, tries g.C.Stands.stands c.args.self.now.table.shared.key _ _ _ c.args.pass.now.me s.live c.requires.cell s.shut)
