@@ -8,7 +8,7 @@ use std::rt::Env;
 use std::sync::Wait;
 use std::thread::Threads;
 use std::{env, io};
-use xti_io::{StdSink, StdSource};
+use xti_io::{Failed, Sink, StdSink, StdSource};
 use xti_run::{NoGate, Words, program};
 
 const VERSION: &str = "xti 0.2.0\n";
@@ -64,13 +64,40 @@ fn help_or_version(words: &[String]) -> Option<&'static str> {
     }
 }
 
-/// Runs the words over standard input and output; the usage goes to standard error where they are no command.
+/// A sink that says on standard error why an input is refused.
+#[derive(Drop)]
+struct Console<'a, R, S: Sink> {
+    rt: &'a R,
+    sink: S,
+}
+
+impl<'a, R: Eprint, S: Sink> Sink for Console<'a, R, S> {
+    ghost held = { λ s. S.held s.sink };
+
+    ghost faults = { λ s. S.faults s.sink };
+
+    fn write(&mut self, piece: &[u8]) -> Result<usize, Failed> {
+        self.sink.write(piece)
+    }
+
+    fn explain(&mut self, reason: &[u8]) {
+        let line = str::from_utf8(reason).unwrap_or("");
+        // Nothing is left to tell where standard error fails too.
+        let _ = eprint!(self.rt; "{line}\n");
+    }
+}
+
+/// Runs the words over standard input and output. The usage goes to standard error where they are no command, and where the
+/// input is refused a line that says why.
 fn run_command<R: Threads + Wait + Sync + Input + Print + Eprint + AllocGlobal>(
     rt: &R,
     words: &Words,
 ) -> u8 {
     let mut source = StdSource::new(rt.reader());
-    let mut sink = StdSink::new(io::writer(rt));
+    let mut sink = Console {
+        rt,
+        sink: StdSink::new(io::writer(rt)),
+    };
     let status = program(rt, rt.alloc(), words, &mut source, &mut sink, &NoGate).0;
     if status == 1 {
         // Nothing is left to tell where standard error fails too.

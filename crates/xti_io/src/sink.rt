@@ -20,6 +20,13 @@ pub trait Sink {
         requires { 0 < length piece.now }
         ensures bytes { Writes (held self.old) (held self.new) result piece.now }
         ensures cause { HasCause (faults self.old) (faults self.new) result };
+
+    /// Is told why the input was refused, once the text that says where is taken: a line without its end. It is no part of
+    /// what the sink holds. A sink that has nobody to tell passes over it.
+    fn explain(&mut self, _reason: &[u8])
+        ensures held { held self.new ≡ held self.old }
+        ensures faults { faults self.new ≡ faults self.old }
+    {}
 }
 
 /// Why not all was written.

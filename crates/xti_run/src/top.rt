@@ -1,7 +1,8 @@
 //! The top call.
 
 ghost use Rattle.std.specs.Prelude.{◌≡◌, ◌≢◌, ◌<◌, ◌≤◌, ◌+◌, ◌⊎◌, ℕ, List, Some, None, IfOk, OnOk, IfErr, OnErr, length, ◌==◌, true};
-ghost use Rattle.xti_io.specs.Faults.{Rose};
+ghost use Rattle.xti_io.specs.Faults.{Rose, HasCause};
+ghost use Rattle.xti_io.specs.Sink.{Takes, TakesUpTo};
 ghost use Rattle.xti_io.specs.Source.{GivesUpTo};
 ghost use Rattle.xti_model.specs.declared.script.Script.{Script};
 ghost use Rattle.xti_model.specs.declared.entry.Entry.{Entry};
@@ -29,13 +30,14 @@ use xti_check::{Judgement, judge};
 use xti_command::{Command, Reading, Words, WordsFail, plain_words_are_commands};
 use xti_frames::{FramesFail, show_frames};
 use xti_generate::{generate, generated_scripts_have_texts};
-use xti_io::{ReadEnd, Sink, Source, read_all, write_all};
+use xti_io::{ReadEnd, Sink, Source, WriteEnd, read_all, write_all};
 use xti_laws_journals::{
     legal_journals_keep_order, runs_have_few_entries, runs_make_journals,
     whole_runs_make_legal_journals,
 };
 use xti_link::{LinkFail, read_link};
 use xti_model::{Entry, Script, Stalls, robin_goes_on, robin_is_legal};
+use xti_reasons::{Kind, Reason, reason};
 use xti_replay::Run;
 use xti_script::{ScriptFail, never_both, read_script};
 use xti_step::Gate;
@@ -57,11 +59,12 @@ impl From<AllocError> for Status {
     }
 }
 
-/// A status, and what is written before it.
+/// A status, and what is written before it; why the input is refused, where it is.
 #[derive(Drop)]
 struct Answer {
     status: u8,
     text: Octets,
+    reason: Reason,
 }
 
 #[tactic(auto, unfolding(crate::specs::Program::refused_line))]
@@ -140,7 +143,11 @@ fn whole_run(
     let stalls = run.stalls()?;
     let status = journal_status(&stalls);
     let text = report.end(alloc, &stalls)?;
-    Ok(Answer { status, text })
+    Ok(Answer {
+        status,
+        text,
+        reason: Reason::none(),
+    })
 }
 
 /// What is answered to a script that has a text, whose workers take turns.
@@ -169,17 +176,25 @@ fn threaded<T: Threads + Wait + Sync, G: Gate>(
 }
 
 /// What is answered to an input that is no valid script.
-fn refused_script(alloc: Global, fail: ScriptFail) -> Result<Answer, AllocError>
+fn refused_script(alloc: Global, script: &[u8], fail: ScriptFail) -> Result<Answer, AllocError>
     ensures { IfOk result (λ a. (input : List ℕ) → IsBad input fail → IsRefusedInput input a.status a.text) }
 {
     match fail {
         ScriptFail::Bad { line } => {
             let text = line_text(alloc, line)?;
-            Ok(Answer { status: 2, text })
+            Ok(Answer {
+                status: 2,
+                text,
+                reason: reason(alloc, Kind::Script, script, line),
+            })
         }
         ScriptFail::TooMany { line } => {
             let text = line_text(alloc, line)?;
-            Ok(Answer { status: 2, text })
+            Ok(Answer {
+                status: 2,
+                text,
+                reason: reason(alloc, Kind::Script, script, line),
+            })
         }
         ScriptFail::OutOfMemory => Err(AllocError),
     }
@@ -191,7 +206,7 @@ fn replay_answer(alloc: Global, summary: bool, input: Octets) -> Result<Answer, 
 {
     match read_script(alloc, input.as_slice()) {
         Ok(script) => played(alloc, summary, &script, input),
-        Err(fail) => refused_script(alloc, fail),
+        Err(fail) => refused_script(alloc, input.as_slice(), fail),
     }
 }
 
@@ -207,7 +222,7 @@ fn run_answer<T: Threads + Wait + Sync, G: Gate>(
 {
     match read_script(alloc, input.as_slice()) {
         Ok(script) => threaded(rt, alloc, summary, &script, gate, input),
-        Err(fail) => refused_script(alloc, fail),
+        Err(fail) => refused_script(alloc, input.as_slice(), fail),
     }
 }
 
@@ -221,7 +236,11 @@ fn generated_answer(alloc: Global, seed: u64, summary: bool) -> Result<Answer, A
         return played(alloc, summary, &script, Octets::new(alloc));
     }
     let text = write_script(alloc, &script)?;
-    Ok(Answer { status: 0, text })
+    Ok(Answer {
+        status: 0,
+        text,
+        reason: Reason::none(),
+    })
 }
 
 /// What `check` answers to an input within the limit.
@@ -231,11 +250,23 @@ fn check_answer(alloc: Global, input: &[u8]) -> Result<Answer, AllocError>
 {
     legal_journals_keep_order();
     match judge(alloc, input)? {
-        Judgement::Legal { text } => Ok(Answer { status: 0, text }),
-        Judgement::Wrong { text } => Ok(Answer { status: 7, text }),
+        Judgement::Legal { text } => Ok(Answer {
+            status: 0,
+            text,
+            reason: Reason::none(),
+        }),
+        Judgement::Wrong { text } => Ok(Answer {
+            status: 7,
+            text,
+            reason: Reason::none(),
+        }),
         Judgement::Refused { line } => {
             let text = line_text(alloc, line)?;
-            Ok(Answer { status: 2, text })
+            Ok(Answer {
+                status: 2,
+                text,
+                reason: reason(alloc, Kind::Journal, input, line),
+            })
         }
     }
 }
@@ -245,10 +276,18 @@ fn frames_answer(alloc: Global, input: &[u8]) -> Result<Answer, AllocError>
     ensures { IfOk result (λ a. IsListed input.now a.status a.text ⊎ IsRefusedByte input.now a.status a.text) }
 {
     match show_frames(alloc, input) {
-        Ok(text) => Ok(Answer { status: 0, text }),
+        Ok(text) => Ok(Answer {
+            status: 0,
+            text,
+            reason: Reason::none(),
+        }),
         Err(FramesFail::WrongByte { at }) => {
             let text = byte_text(alloc, at)?;
-            Ok(Answer { status: 2, text })
+            Ok(Answer {
+                status: 2,
+                text,
+                reason: Reason::none(),
+            })
         }
         Err(FramesFail::OutOfMemory) => Err(AllocError),
     }
@@ -261,11 +300,19 @@ fn link_answer(alloc: Global, input: &[u8]) -> Result<Answer, AllocError>
     match read_link(alloc, input) {
         Ok(events) => {
             let text = show_link(alloc, &events)?;
-            Ok(Answer { status: 0, text })
+            Ok(Answer {
+                status: 0,
+                text,
+                reason: Reason::none(),
+            })
         }
         Err(LinkFail::Bad { line }) => {
             let text = line_text(alloc, line)?;
-            Ok(Answer { status: 2, text })
+            Ok(Answer {
+                status: 2,
+                text,
+                reason: reason(alloc, Kind::Link, input, line),
+            })
         }
         Err(LinkFail::OutOfMemory) => Err(AllocError),
     }
@@ -297,6 +344,7 @@ fn words_answer(alloc: Global) -> Result<Answer, AllocError>
     Ok(Answer {
         status: 1,
         text: Octets::copy_of(alloc, b"refused words\n")?,
+        reason: Reason::none(),
     })
 }
 
@@ -307,6 +355,7 @@ fn size_answer(alloc: Global) -> Result<Answer, AllocError>
     Ok(Answer {
         status: 2,
         text: Octets::copy_of(alloc, b"refused size\n")?,
+        reason: Reason::none(),
     })
 }
 
@@ -353,6 +402,22 @@ fn output<T: Threads + Wait + Sync, R: Source, G: Gate>(
     }
 }
 
+/// Hands over a text, and then tells the sink why the input is refused, where it is.
+fn hand_over<W: Sink>(sink: &mut W, text: &[u8], reason: &Reason) -> Result<(), WriteEnd>
+    ensures ok { OnOk result (Takes (W.held sink.old) (W.held sink.new) text.now) }
+    ensures fault { IfErr result (λ e. TakesUpTo e (W.held sink.old) (W.held sink.new) text.now) }
+    ensures cause { HasCause (W.faults sink.old) (W.faults sink.new) result }
+{
+    match write_all(sink, text) {
+        Ok(()) if reason.as_bytes().is_empty() => Ok(()),
+        Ok(()) => {
+            sink.explain(reason.as_bytes());
+            Ok(())
+        }
+        Err(end) => Err(end),
+    }
+}
+
 /// Runs the command of the words over a source and a sink, and answers how it ended.
 ///
 /// `replay` reads a script, makes the calls of its workers by turns, and writes the journal, or with `--summary` one line of
@@ -367,7 +432,8 @@ fn output<T: Threads + Wait + Sync, R: Source, G: Gate>(
 /// each worker's calls stand in script order, each once; it ends only where each worker is finished or blocked; and what an
 /// end of a connection received is a prefix of what the other sent.
 ///
-/// The words are looked at first, then the source is read, and the whole text is made before the first write.
+/// The words are looked at first, then the source is read, and the whole text is made before the first write. Where a script, a
+/// journal or a link script is refused the sink is then told why, which no clause speaks of.
 /// Only `run` waits or makes threads, and all of its threads are finished when it returns.
 pub fn program<T: Threads + Wait + Sync, R: Source, W: Sink, G: Gate>(
     rt: &T,
@@ -413,7 +479,7 @@ pub fn program<T: Threads + Wait + Sync, R: Source, W: Sink, G: Gate>(
     plain_words_are_commands();
     match output(rt, alloc, words, source, gate) {
         Err(status) => status,
-        Ok(answer) => match write_all(sink, answer.text.as_slice()) {
+        Ok(answer) => match hand_over(sink, answer.text.as_slice(), &answer.reason) {
             Ok(()) => Status(answer.status),
             Err(_) => Status(6),
         },
