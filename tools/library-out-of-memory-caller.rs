@@ -49,13 +49,15 @@ pub struct Refusals {
     pub resumed: usize,
 }
 
-/// One caller: a seat, how many bytes it received so far, and how often it was refused memory.
+/// One caller: a seat, how many steps the other seats made, where it is told, how many bytes it received so far, and how often
+/// it was refused memory.
 #[derive(Drop)]
 pub struct Caller<'a, R> {
     pub rt: &'a R,
     pub alloc: Global,
     pub xti: &'a Xti,
     pub seat: Seat,
+    pub others: Option<u64>,
     pub received: usize,
     pub refusals: Refusals,
 }
@@ -67,6 +69,7 @@ impl<'a, R: Wait + Sync + Abort> Caller<'a, R> {
             alloc,
             xti,
             seat,
+            others: None,
             received: 0,
             refusals: Refusals {
                 again: 0,
@@ -141,7 +144,10 @@ impl<'a, R: Wait + Sync + Abort> Caller<'a, R> {
                     assert!(self.rt; self.seat.unfinished().is_none(), "answered and unfinished");
                     return Ok(Some(reply));
                 }
-                Err(Halt::OutOfMemory { taken }) => taken,
+                Err(Halt::OutOfMemory { taken }) => {
+                    self.look()?;
+                    taken
+                }
                 Err(Halt::Stalled { taken, stall }) => {
                     assert!(self.rt; stall.waiting == 1, "another seat waits too");
                     assert!(self.rt;
@@ -161,6 +167,19 @@ impl<'a, R: Wait + Sync + Abort> Caller<'a, R> {
             }
         }
         Err(AllocError)
+    }
+
+    /// After a halt the history has the steps that were made, and no other, where it is told how many the others made.
+    fn look(&mut self) -> Result<(), AllocError> {
+        let Some(others) = self.others else {
+            return Ok(());
+        };
+        let made = others + self.seat.steps();
+        let (rt, alloc, xti) = (self.rt, self.alloc, self.xti);
+        let seat = &mut self.seat;
+        let history = again(|| xti.history(rt, alloc, &mut *seat))?;
+        assert!(rt; history.as_slice().len() as u64 == made, "the history lacks a step");
+        Ok(())
     }
 
     /// Until its next call the seat counts as resting.

@@ -54,7 +54,7 @@ fn parts(alloc: Global, start: usize, lengths: &[usize]) -> Result<Gather, Alloc
 }
 
 /// Says how many bytes came, and how often the callers were refused memory.
-fn say<R: Eprint>(rt: &R, bytes: usize, all: &[Refusals]) {
+pub fn say<R: Eprint>(rt: &R, bytes: usize, all: &[Refusals]) {
     let (mut again, mut resumed) = (0, 0);
     for refusals in all {
         again += refusals.again;

@@ -28,4 +28,6 @@ mod requests;
 #[cfg(test)]
 mod seats;
 #[cfg(test)]
+mod stalls;
+#[cfg(test)]
 mod structures;

@@ -4,6 +4,8 @@
 #[cfg(test)]
 mod bad_input;
 #[cfg(test)]
+mod each_fault;
+#[cfg(test)]
 mod faults;
 #[cfg(test)]
 mod running;

@@ -4,6 +4,8 @@
 #[cfg(test)]
 mod cases;
 #[cfg(test)]
+mod damaged_frames;
+#[cfg(test)]
 mod endpoints;
 #[cfg(test)]
 mod frames;
