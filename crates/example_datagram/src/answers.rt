@@ -57,10 +57,12 @@ pub fn answer(applied: Applied) -> Result<Reply, Failure> {
 
 /// The descriptor that t_open answered.
 pub fn descriptor(reply: Reply) -> Result<Fd, Failure> {
-    match reply {
-        Reply::Opened { fd } => Ok(fd),
+    let fd = match &reply {
+        Reply::Opened { fd } => Ok(*fd),
         _ => Err(Failure::OtherAnswer),
-    }
+    };
+    drop(reply);
+    fd
 }
 
 /// The bytes of a datagram, as text.

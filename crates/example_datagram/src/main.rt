@@ -1,4 +1,7 @@
-//! A program that uses the library from code: it sends a datagram and receives it. README.md shows its function `exchange`.
+//! A program that uses the library from code: it sends a datagram and receives it.
+//!
+//! A value of many parts, as a world or a reply, is lent, or let go by `drop`: that is proved once for its type, and not once for
+//! each place where it is let go.
 #![tactic(auto)]
 
 mod answers;
@@ -6,31 +9,59 @@ mod calls;
 
 use crate::answers::{Failure, answer, descriptor, received};
 use crate::calls::{bind, open, receive, send};
+use std::alloc::Global;
 use std::io::Print;
 use std::process::ExitCode;
+use xti_base::Fd;
 use xti_core::World;
-use xti_model::{Go, Providers, usual_is_valid};
+use xti_model::{Call, Go, Providers, Reply, usual_is_valid};
 
-/// Sends a datagram to its own address, receives it, and asks for one more, of which there is none.
-fn exchange<R: Print + AllocGlobal>(rt: &R) -> Result<(), Failure> {
-    let alloc = rt.alloc();
-    usual_is_valid();
-    let mut world = World::fresh(alloc, &Providers::usual())?;
-    let fd = descriptor(answer(world.step(&open(), Go::Begin)?)?)?;
-    answer(world.step(&bind(alloc, fd, b"a")?, Go::Begin)?)?;
-    answer(world.step(&send(alloc, fd, b"a", b"hello")?, Go::Begin)?)?;
-    for _ in 0..2 {
-        match answer(world.step(&receive(fd), Go::Begin)?) {
-            Ok(reply) => println!(rt; "received {}", received(&reply)?)?,
-            Err(Failure::Refused(errno)) => println!(rt; "refused with {}", errno.name())?,
-            Err(other) => return Err(other),
-        }
-    }
+/// Makes a call in one step.
+fn make(world: &mut World, call: Call) -> Result<Reply, Failure> {
+    let applied = world.step(&call, Go::Begin);
+    drop(call);
+    answer(applied?)
+}
+
+/// Prints the datagram of a reply.
+fn show<R: Print>(rt: &R, reply: &Reply) -> Result<(), Failure> {
+    println!(rt; "received {}", received(reply)?)?;
     Ok(())
 }
 
+/// Receives a datagram and prints it, or the error with which that is refused.
+fn receive_one<R: Print>(rt: &R, world: &mut World, fd: Fd) -> Result<(), Failure> {
+    match make(world, receive(fd)) {
+        Ok(reply) => {
+            let shown = show(rt, &reply);
+            drop(reply);
+            shown
+        }
+        Err(Failure::Refused(errno)) => Ok(println!(rt; "refused with {}", errno.name())?),
+        Err(other) => Err(other),
+    }
+}
+
+/// Sends a datagram to its own address, receives it, and asks for one more, of which there is none.
+fn exchange<R: Print>(rt: &R, alloc: Global, world: &mut World) -> Result<(), Failure> {
+    let fd = descriptor(make(world, open())?)?;
+    drop(make(world, bind(alloc, fd, b"a")?)?);
+    drop(make(world, send(alloc, fd, b"a", b"hello")?)?);
+    receive_one(rt, world, fd)?;
+    receive_one(rt, world, fd)
+}
+
+/// The same in a world of its own.
+fn run<R: Print + AllocGlobal>(rt: &R) -> Result<(), Failure> {
+    usual_is_valid();
+    let mut world = World::fresh(rt.alloc(), &Providers::usual())?;
+    let ended = exchange(rt, rt.alloc(), &mut world);
+    drop(world);
+    ended
+}
+
 fn main(rt: HostRuntime) -> ExitCode {
-    match exchange(&rt) {
+    match run(&rt) {
         Ok(()) => ExitCode::SUCCESS,
         Err(_) => ExitCode::FAILURE,
     }
