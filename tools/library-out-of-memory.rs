@@ -4,9 +4,11 @@
 
 mod caller;
 mod conversations;
+mod scripts;
 
 use crate::caller::again;
 use crate::conversations::{connection, datagrams, expedited, mixed};
+use crate::scripts::{play, script_of};
 use std::alloc::{AllocError, Global};
 use std::env;
 use std::io::{self, Eprint, ErrorKind, Print, Write};
@@ -17,7 +19,7 @@ use std::thread::Threads;
 use xti_base::{Items, Octets};
 use xti_calls::{Seat, Xti};
 use xti_journal::write_journal;
-use xti_model::{Journal, Providers};
+use xti_model::{Journal, Providers, Script};
 
 /// The status where memory stays refused.
 const OUT_OF_MEMORY: u8 = 4;
@@ -48,18 +50,23 @@ fn providers() -> Providers {
     providers
 }
 
-/// Makes the conversation with this name, and writes the journal of the history that it leaves.
+/// Makes the conversation with this name, or the calls of the script, and writes the journal of the history that it leaves.
 fn run<R: Threads + Wait + Sync + Abort + Print + Eprint + Clone + AllocGlobal>(
     rt: &R,
     name: &str,
+    script: Option<&Script>,
 ) -> Result<(), AllocError> {
     let alloc = rt.alloc();
-    let providers = providers();
+    let providers = match script {
+        Some(script) => script.providers,
+        None => providers(),
+    };
     let (xti, seat) = again(|| Xti::new(alloc, &providers, true))?;
-    let mut seat = match name {
-        "datagrams" => datagrams(rt, alloc, &xti, seat)?,
-        "connection" => connection(rt, alloc, &xti, seat)?,
-        "expedited" => expedited(rt, alloc, &xti, seat)?,
+    let mut seat = match (name, script) {
+        (_, Some(script)) => play(rt, alloc, &xti, seat, script.lines.as_slice())?,
+        ("datagrams", _) => datagrams(rt, alloc, &xti, seat)?,
+        ("connection", _) => connection(rt, alloc, &xti, seat)?,
+        ("expedited", _) => expedited(rt, alloc, &xti, seat)?,
         _ => mixed(rt, alloc, &xti, seat)?,
     };
     let text = again(|| journal(rt, alloc, &xti, &mut seat, &providers))?;
@@ -67,10 +74,10 @@ fn run<R: Threads + Wait + Sync + Abort + Print + Eprint + Clone + AllocGlobal>(
     Ok(())
 }
 
-/// The program's word.
-fn word<R: Env + AllocGlobal>(rt: &R) -> Result<String, AllocError> {
+/// The program's word of this place, or an empty one.
+fn word<R: Env + AllocGlobal>(rt: &R, place: usize) -> Result<String, AllocError> {
     match env::args(rt) {
-        Ok(words) => match words.skip(1).next() {
+        Ok(words) => match words.skip(place).next() {
             Some(word) => Ok(word),
             None => Ok(String::new(rt.alloc())),
         },
@@ -79,11 +86,21 @@ fn word<R: Env + AllocGlobal>(rt: &R) -> Result<String, AllocError> {
     }
 }
 
+/// What the program's words ask for: a conversation by its name, or `script` and the text of one.
+fn talk<R: Threads + Wait + Sync + Abort + Print + Eprint + Env + Clone + AllocGlobal>(
+    rt: &R,
+) -> Result<(), AllocError> {
+    let name = again(|| word(rt, 1))?;
+    if name.as_str() != "script" {
+        return run(rt, name.as_str(), None);
+    }
+    let text = again(|| word(rt, 2))?;
+    let script = script_of(rt.alloc(), text.as_str())?;
+    run(rt, name.as_str(), Some(&script))
+}
+
 fn main(rt: HostRuntime) -> ExitCode {
-    let Ok(name) = again(|| word(&rt)) else {
-        return ExitCode::from(OUT_OF_MEMORY);
-    };
-    match run(&rt, name.as_str()) {
+    match talk(&rt) {
         Ok(()) => ExitCode::SUCCESS,
         Err(_) => ExitCode::from(OUT_OF_MEMORY),
     }
