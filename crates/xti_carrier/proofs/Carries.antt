@@ -1,5 +1,5 @@
 -- Opening both endpoints, and carrying from one to the other.
-use Rattle.std.proofs.Common.{◌≡◌, ℕ, ◌≤◌, inl, inr, List, [], length, take, Some, refl, sym, ap, subst, ◌∙◌}
+use Rattle.std.proofs.Common.{◌≡◌, ℕ, ◌≤◌, inl, inr, List, [], length, take, Some, Result, Ok, Err, OnErr, refl, sym, ap, subst, ◌∙◌}
 use Rattle.std.proofs.lemmas.List.{take_all}
 use Rattle.xti_base.specs.declared.kinds.Fd.{Fd}
 use Rattle.xti_model.specs.declared.call.Call.{Call}
@@ -101,3 +101,19 @@ pub received : (w v : Standing) (from : Fd) (address : List ℕ) (to : Fd) (byte
 unfolding waiting
 received w v from address to bytes came (inl r) most e = given (at_receiver bytes) w v to receiver_fd bytes came most (receives bytes most) e r.2
 received w v from address to bytes came (inr r) most e = given (at_sender bytes) w v to sender_fd bytes came most (receives_back bytes most) e r.2
+
+waits_at : (old w : Standing) (fd known : Fd) (bytes : List ℕ) → length bytes ≤ 517 → Answers old (receiving_call known) (UData [] [] (take 517 bytes) 0) ready → w ≡ old → fd ≡ known → Gives w fd bytes ready
+waits_at old w fd known bytes most a e f =
+    let there : Gives old known bytes ready = record { reply = UData [] [] (take 517 bytes) 0; answers = a; tells = ap (λ (l : List ℕ). Some l) (take_all 517 bytes most) } in
+    subst (λ (x : Standing). Gives x fd bytes ready) (sym e) (subst (λ (x : Fd). Gives old x bytes ready) (sym f) there)
+
+-- what waits can be taken
+pub waits : (w : Standing) (from : Fd) (address : List ℕ) (to : Fd) (bytes : List ℕ) (r : IsRoute from address to) → length bytes ≤ 517 → w ≡ waiting from address to r bytes → Gives w to bytes ready
+unfolding waiting
+waits w from address to bytes (inl r) most e = waits_at (at_receiver bytes) w to receiver_fd bytes most (receives bytes most) e r.2
+waits w from address to bytes (inr r) most e = waits_at (at_sender bytes) w to sender_fd bytes most (receives_back bytes most) e r.2
+
+-- what is said of an error
+pub on_any_err : {T E P : Type 0} (r : Result T E) → P → OnErr r P
+on_any_err (Ok x) p = tt
+on_any_err (Err e) p = p

@@ -1,6 +1,6 @@
 //! Calls that are done by one step.
 
-ghost use Rattle.std.specs.Prelude.{◌≡◌, IsSome, Some, IfOk, OnOk};
+ghost use Rattle.std.specs.Prelude.{◌≡◌, IsSome, Some, IfOk, OnOk, OnErr};
 ghost use Rattle.xti_carrier.specs.Calls.{opening_call, binding_call, sending_call, receiving_call};
 ghost use Rattle.xti_carrier.specs.Answers.{reply_of, opened_of, datagram_of, IsAnswered, IsMade, Answers, Opens, IsOpened, Gives, IsGiven};
 
@@ -28,10 +28,11 @@ fn reply(applied: Applied) -> Reply
     }
 }
 
-// Makes a call that is done by one step, and answers what it does.
+// Makes a call that is done by one step, and answers what it does. After an error the world is as before.
 fn make(world: &mut World, call: &Call) -> Result<Reply, AllocError>
     requires { IsAnswered world.old call.now }
-    ensures { IfOk result (λ reply. Answers world.old call.now reply world.new) }
+    ensures answers { IfOk result (λ reply. Answers world.old call.now reply world.new) }
+    ensures err { OnErr result (world.new ≡ world.old) }
 {
     let applied = world.step(call, Go::Begin)?;
     Ok(reply(applied))
@@ -40,7 +41,8 @@ fn make(world: &mut World, call: &Call) -> Result<Reply, AllocError>
 // The same of a call that is let go.
 fn make_once(world: &mut World, call: Call) -> Result<Reply, AllocError>
     requires { IsAnswered world.old call }
-    ensures { IfOk result (λ reply. Answers world.old call reply world.new) }
+    ensures answers { IfOk result (λ reply. Answers world.old call reply world.new) }
+    ensures err { OnErr result (world.new ≡ world.old) }
 {
     let made = make(world, &call);
     let_go(call);
@@ -50,7 +52,8 @@ fn make_once(world: &mut World, call: Call) -> Result<Reply, AllocError>
 // The same of a call whose answer tells nothing.
 fn make_plain(world: &mut World, call: Call) -> Result<(), AllocError>
     requires { IsAnswered world.old call }
-    ensures { OnOk result (IsMade world.old call world.new) }
+    ensures made { OnOk result (IsMade world.old call world.new) }
+    ensures err { OnErr result (world.new ≡ world.old) }
 {
     let reply = make_once(world, call)?;
     let_go(reply);
@@ -100,7 +103,7 @@ pub(crate) fn bind_one(
     make_plain(world, call)
 }
 
-/// Sends a datagram to an address.
+/// Sends a datagram to an address. After an error the world is as before.
 pub(crate) fn send_one(
     alloc: Global,
     world: &mut World,
@@ -109,16 +112,18 @@ pub(crate) fn send_one(
     bytes: &[u8],
 ) -> Result<(), AllocError>
     requires { IsAnswered world.old (sending_call fd address.now bytes.now) }
-    ensures { OnOk result (IsMade world.old (sending_call fd address.now bytes.now) world.new) }
+    ensures made { OnOk result (IsMade world.old (sending_call fd address.now bytes.now) world.new) }
+    ensures err { OnErr result (world.new ≡ world.old) }
 {
     let call = send(alloc, fd, address, bytes)?;
     make_plain(world, call)
 }
 
-/// Receives a datagram, and answers its bytes.
+/// Receives a datagram, and answers its bytes. After an error the world is as before.
 pub(crate) fn receive_one(world: &mut World, fd: Fd) -> Result<Octets, AllocError>
     requires { IsGiven world.old fd }
-    ensures { IfOk result (λ bytes. Gives world.old fd bytes world.new) }
+    ensures gives { IfOk result (λ bytes. Gives world.old fd bytes world.new) }
+    ensures err { OnErr result (world.new ≡ world.old) }
 {
     let reply = make_once(world, receive(fd))?;
     Ok(datagram(reply))

@@ -1,6 +1,7 @@
 //! The carrier between two datagram endpoints.
 
-ghost use Rattle.std.specs.Prelude.{◌≡◌, ◌≤◌, length, IfOk, OnOk};
+ghost use Rattle.std.specs.Prelude.{◌≡◌, ◌≤◌, length, IfOk, OnOk, OnErr};
+ghost use Rattle.xti_carrier.specs.Carriers.{StandsLeft};
 ghost use Rattle.xti_carrier.specs.Ready.{sender_fd, receiver_fd, start, ready, IsRoute};
 
 use crate::answers::{bind_one, open_one, receive_one, send_one};
@@ -24,7 +25,8 @@ pub struct DatagramCarrier {
     pub(crate) receiver: Fd,
 }
 
-// One t_sndudata from an endpoint to the address of the other, and one t_rcvudata there.
+// One t_sndudata from an endpoint to the address of the other, and one t_rcvudata there. After an error nothing was sent, or the
+// datagram waits there.
 fn carry_between(
     alloc: Global,
     world: &mut World,
@@ -39,6 +41,7 @@ fn carry_between(
     requires most { length bytes.now ≤ 517 }
     ensures same { IfOk result (λ came. came ≡ bytes.now) }
     ensures stays_ready { OnOk result (world.new ≡ ready) }
+    ensures left { OnErr result (StandsLeft to bytes.now world.new) }
 {
     send_one(alloc, world, from, address, bytes)?;
     let came = receive_one(world, to)?;
@@ -83,9 +86,11 @@ impl DatagramCarrier {
 }
 
 impl Carrier for DatagramCarrier {
-    ghost use Rattle.xti_carrier.specs.Carriers.{IsReady};
+    ghost use Rattle.xti_carrier.specs.Carriers.{IsReady, IsWaiting};
 
     ghost is_ready = { λ carrier. IsReady carrier };
+
+    ghost holds = { λ bytes carrier. IsWaiting bytes carrier };
 
     fn carry(
         &mut self,

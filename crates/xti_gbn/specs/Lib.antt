@@ -1,3 +1,4 @@
+pub mod Carrying
 pub mod Wire
 pub mod Numbered
 pub mod Sending

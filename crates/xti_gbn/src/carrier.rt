@@ -1,7 +1,8 @@
 //! What carries bytes from end to end.
 
-ghost use Rattle.std.specs.Prelude.{◌≡◌, ◌≤◌, ◌<◌, ◌^◌, IfOk, OnOk, length};
+ghost use Rattle.std.specs.Prelude.{◌≡◌, ◌≤◌, ◌<◌, ◌^◌, ◌⊎◌, ℕ, List, IfOk, OnOk, OnErr, length};
 ghost use Rattle.xti_gbn.specs.declared.wire.Wire.TheVariants.{Data};
+ghost use Rattle.xti_gbn.specs.Carrying.{IsLeft};
 ghost use Rattle.xti_gbn.specs.Wire.{packet_text, acknowledgement_text, IsWire, IsPacketText, IsAcknowledgementText};
 
 use crate::wire::{Packet, Wire, WireFail, read_wire, write_wire};
@@ -13,7 +14,11 @@ pub trait Carrier {
     /// Whether it is ready to carry.
     ghost is_ready: { Self → Type 0 };
 
+    /// Whether these bytes wait in it, which were to be carried and have not come out.
+    ghost holds: { List ℕ → Self → Type 0 };
+
     /// Carries 1 to 517 bytes, to the receiver or back to the sender, and answers what came out there: the same bytes.
+    /// After an error it is ready still, or the bytes wait in it.
     fn carry(
         &mut self,
         alloc: Global,
@@ -24,7 +29,8 @@ pub trait Carrier {
         requires some { 1 ≤ length bytes.now }
         requires most { length bytes.now ≤ 517 }
         ensures same { IfOk result (λ came. came ≡ bytes.now) }
-        ensures stays_ready { OnOk result (is_ready self.new) };
+        ensures stays_ready { OnOk result (is_ready self.new) }
+        ensures left { OnErr result (is_ready self.new ⊎ holds bytes.now self.new) };
 }
 
 // The packet whose bytes these are.
@@ -63,6 +69,7 @@ pub(crate) fn carry_packet<C: Carrier>(
     requires text { IsPacketText text.now }
     ensures packet { IfOk result (λ p. IsWire (Data p) × (text.now ≡ packet_text p)) }
     ensures stays_ready { OnOk result (C.is_ready carrier.new) }
+    ensures left { OnErr result (IsLeft C.is_ready C.holds carrier.new) }
 {
     let came = carrier.carry(alloc, true, text)?;
     read_packet(alloc, came.as_slice())
@@ -77,6 +84,7 @@ pub(crate) fn carry_acknowledgement<C: Carrier>(
     requires ready { C.is_ready carrier.old }
     ensures number { IfOk result (λ n. n ≡ number) }
     ensures stays_ready { OnOk result (C.is_ready carrier.new) }
+    ensures left { OnErr result (IsLeft C.is_ready C.holds carrier.new) }
 {
     let text = write_wire(alloc, &Wire::Ack(number))?;
     let came = carrier.carry(alloc, false, text.as_slice())?;

@@ -1,8 +1,9 @@
 //! Both ends of a link, and what was put between them.
 
-ghost use Rattle.std.specs.Prelude.{◌≡◌, ◌++◌, ◌∷◌, [], ◌+◌, ◌-◌, ◌*◌, ◌^◌, ◌<◌, ◌≤◌, length, map, All, IfOk, OnOk};
+ghost use Rattle.std.specs.Prelude.{◌≡◌, ◌++◌, ◌∷◌, [], ◌+◌, ◌-◌, ◌*◌, ◌^◌, ◌<◌, ◌≤◌, length, map, All, IfOk, OnOk, OnErr};
 ghost use Rattle.xti_gbn.specs.declared.events.LinkEvent.TheVariants.{Offer, Timeout, Data, Ack};
 ghost use Rattle.xti_gbn.specs.declared.events.TheConstants.{MOST_EVENTS};
+ghost use Rattle.xti_gbn.specs.Carrying.{IsLeft};
 ghost use Rattle.xti_gbn.specs.Wire.{most_body, packet_text, HasSmall};
 ghost use Rattle.xti_gbn.specs.Events.{IsSmallEvent};
 ghost use Rattle.xti_gbn.specs.Receiving.{taken_body, expected_after};
@@ -121,6 +122,7 @@ impl Ends {
         requires ready { C.is_ready carrier.old }
         ensures steps { IfOk result (λ line. Steps (Data place) self.old line self.new) }
         ensures stays_ready { OnOk result (C.is_ready carrier.new) }
+        ensures left { OnErr result (IsLeft C.is_ready C.holds carrier.new) }
     {
         let Some(text) = self.packets.get(place as usize) else {
             return text_line(alloc, "none");
@@ -141,6 +143,7 @@ impl Ends {
         requires ready { C.is_ready carrier.old }
         ensures steps { IfOk result (λ line. Steps (Ack place) self.old line self.new) }
         ensures stays_ready { OnOk result (C.is_ready carrier.new) }
+        ensures left { OnErr result (IsLeft C.is_ready C.holds carrier.new) }
     {
         let Some(number) = self.acknowledgements.get(place as usize) else {
             return text_line(alloc, "none");
@@ -164,6 +167,7 @@ impl Ends {
         requires ready { C.is_ready carrier.old }
         ensures steps { IfOk result (λ line. Steps event.now self.old line self.new) }
         ensures stays_ready { OnOk result (C.is_ready carrier.new) }
+        ensures left { OnErr result (IsLeft C.is_ready C.holds carrier.new) }
     {
         match event {
             LinkEvent::Offer(body) => self.offer(alloc, body.as_slice()),

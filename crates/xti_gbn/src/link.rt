@@ -1,8 +1,9 @@
 //! The run of both ends.
 
-ghost use Rattle.std.specs.Prelude.{◌≡◌, ◌≤◌, ◌+◌, ◌++◌, ℕ, List, length, All, IfOk, OnOk};
+ghost use Rattle.std.specs.Prelude.{◌≡◌, ◌≤◌, ◌+◌, ◌++◌, ℕ, List, length, All, IfOk, OnOk, OnErr};
 ghost use Rattle.xti_gbn.specs.declared.events.LinkEvent.{LinkEvent};
 ghost use Rattle.xti_gbn.specs.declared.events.TheConstants.{MOST_EVENTS};
+ghost use Rattle.xti_gbn.specs.Carrying.{IsLeft};
 ghost use Rattle.xti_gbn.specs.Events.{IsSmallEvent};
 ghost use Rattle.xti_gbn.specs.Sending.{window};
 ghost use Rattle.xti_gbn.specs.Link.{after, unacknowledged};
@@ -17,7 +18,7 @@ use std::alloc::{AllocError, Global};
 use xti_base::Parts;
 
 /// Runs both ends of a link: the report is that of the link's definition over these events, whatever carries between the ends.
-/// At most 10,000 events, each body of at most 512 bytes. After an error the carrier may not be ready.
+/// At most 10,000 events, each body of at most 512 bytes. After an error the carrier is ready still, or bytes wait in it.
 pub fn run_link<C: Carrier>(
     alloc: Global,
     events: &Events,
@@ -28,6 +29,7 @@ pub fn run_link<C: Carrier>(
     requires ready { C.is_ready carrier.old }
     ensures report { IfOk result (λ report. report ≡ report_of events.now) }
     ensures stays_ready { OnOk result (C.is_ready carrier.new) }
+    ensures left { OnErr result (IsLeft C.is_ready C.holds carrier.new) }
 {
     let mut ends = Ends::new(alloc);
     let mut lines = Parts::new(alloc);

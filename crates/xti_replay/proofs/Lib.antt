@@ -12,3 +12,4 @@ pub mod Fresh
 pub mod Histories
 pub mod WholeRuns
 pub mod Few
+pub mod Errors

@@ -19,8 +19,9 @@ use Rattle.xti_replay.specs.declared.workers.Part.{Part}
 use Rattle.xti_replay.specs.declared.workers.Worker.{Worker}
 use Rattle.xti_replay.specs.declared.run.Run.{Run}
 use Rattle.xti_replay.specs.Progress.{Told, IsKept, AreKept, Asked, part_going, is_finished}
+use Rattle.xti_replay.specs.Asking.{HasGoneOn}
 use Rattle.xti_replay.specs.Turns.{LeavesOutFinished, AreTurns}
-use Rattle.xti_replay.specs.Runs.{StandsAfter, AsksOthers, HasAsked, GoesOn, put_back}
+use Rattle.xti_replay.specs.Runs.{StandsAfter, AsksOthers, HasAsked, GoesOn, Remains, put_back}
 use Rattle.xti_replay.specs.Spots.{Spot}
 use Rattle.xti_replay.proofs.Each.{at-worker}
 use Rattle.xti_replay.proofs.Lines.{next_spot, going_at, next-spots, place-spot}
@@ -83,6 +84,23 @@ has-asked past n number left rest r s entry f w items small asked at turns = sub
     by : (o : Option Turn) → Asked r.lines.now n past r.world s.world s.workers.items entry o → HasAsked past number rest r s entry o
     by None a = (a.0, a.1, a.2, put past a.2)
     by (Some t) a = (a.0, a.1, a.2 ∙ sym head, a.3, put (past ++ t.entry ∷ []) a.3)
+
+-- it failed
+pub first-failed : (past : List Entry) (n number : ℕ) (left rest : List ℕ) (r s : Run) (f : ℕ → Option Turn) → number ∷ rest ≡ n ∷ left → AreKept r.lines.now past r.workers.items
+    → ((s.world ≡ r.world) × (s.workers.items ≡ r.workers.items)) ⊎ HasGoneOn s.world (f n) → Remains past r s (f number)
+unfolding head_of
+first-failed past n number left rest r s f items k (inl h) = inl (h.0, subst (AreKept r.lines.now past) (sym h.1) k)
+first-failed past n number left rest r s f items k (inr h) = inr (subst (λ (m : ℕ). HasGoneOn s.world (f m)) (sym (ap (head_of n) items)) h)
+
+-- its turn was over, and then it was not put back
+pub first-lost : (past : List Entry) (n number : ℕ) (left rest : List ℕ) (r s : Run) (entry : Option Entry) (f : ℕ → Option Turn) → number ∷ rest ≡ n ∷ left
+    → Asked r.lines.now n past r.world s.world s.workers.items entry (f n) → Remains past r s (f number)
+unfolding head_of
+first-lost past n number left rest r s entry f items asked = subst (λ (m : ℕ). Remains past r s (f m)) (sym (ap (head_of n) items)) (by (f n) asked)
+  where
+    by : (o : Option Turn) → Asked r.lines.now n past r.world s.world s.workers.items entry o → Remains past r s o
+    by None a = inl (a.1, a.2)
+    by (Some t) a = inr (t, refl, a.1)
 
 -- Those that were asked so far had no step.
 
@@ -269,6 +287,13 @@ asked-turn past base r s many i entry e k through a n h lines some = by (turn_in
             (subst (LeavesOutFinished base.lines.now later (n.after ++ (n.before ++ n.number ∷ []))) (sym items)
             (leaves-append base.lines.now later n.after (n.before ++ n.number ∷ []) n.rest _ (leaves-later base.lines.now past later n.after n.rest stay n.to_ask)
             (leaves-append base.lines.now later n.before (n.number ∷ []) n.lasts _ (leaves-later base.lines.now past later n.before n.lasts stay n.asked) (leaves-one base.lines.now later n.number))))
+
+-- the next one that was asked failed
+pub others-failed : (past : List Entry) (base r s : Run) (many i : ℕ) → is_through base.lines.now past 0 ≡ true → (a : AreAsked past base r many i) (n : IsNextAsked past base r many i) → Remains past r s (turn_in past r n.number)
+    → Remains past base s (next_in past base)
+others-failed past base r s many i through a n (inl h) = inl (h.0 ∙ a.world, subst (λ (ls : List Line). AreKept ls past s.workers.items) a.lines h.1)
+others-failed past base r s many i through a n (inr h) =
+    inr (h.0, next-others past base through ∙ n.left ∙ (first-cons (turn_in past base) n.number n.after).1 h.0 (sym (turn-same past base r many i n.number a) ∙ h.1), h.2)
 
 pub asked-all : (past : List Entry) (base r : Run) (many i : ℕ) → StandsAfter past base → is_through base.lines.now past 0 ≡ true → AreAsked past base r many i → many ≤ i → GoesOn past base r None (next_in past base)
 asked-all past base r many i k through a le = by a.firsts refl

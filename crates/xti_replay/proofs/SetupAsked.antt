@@ -9,8 +9,9 @@ use Rattle.xti_model.specs.Robin.{is_through, last_worker, order_after, Turn, fi
 use Rattle.xti_replay.specs.declared.workers.Worker.{Worker}
 use Rattle.xti_replay.specs.declared.run.Run.{Run}
 use Rattle.xti_replay.specs.Progress.{IsKept, AreKept, Asked, is_finished}
+use Rattle.xti_replay.specs.Asking.{HasGoneOn}
 use Rattle.xti_replay.specs.Turns.{LeavesOutFinished, AreTurns}
-use Rattle.xti_replay.specs.Runs.{StandsAfter, GoesOn}
+use Rattle.xti_replay.specs.Runs.{StandsAfter, GoesOn, Remains}
 use Rattle.xti_replay.proofs.Each.{at-worker}
 use Rattle.xti_replay.proofs.Steps.{through-other}
 use Rattle.xti_replay.proofs.Turns.{leaves-later}
@@ -25,6 +26,12 @@ next-first past r h = ap (λ (b : Bool). first_turn (turn_in past r) (if b then 
     by : (o : Option Turn) → ◌≡◌ {A = Option Turn} (elim o [ None ↦ None | Some t ↦ Some t ]) o
     by None = refl
     by (Some t) = refl
+
+-- worker 0 was asked, and failed
+pub setup-failed : (past : List Entry) (r s : Run) → StandsAfter past r → is_through r.lines.now past 0 ≡ false → ((s.world ≡ r.world) × (s.workers.items ≡ r.workers.items)) ⊎ HasGoneOn s.world (turn_in past r 0)
+    → Remains past r s (next_in past r)
+setup-failed past r s k through (inl h) = inl (h.0, subst (AreKept r.lines.now past) (sym h.1) k.kept)
+setup-failed past r s k through (inr h) = inr (h.0, next-first past r through ∙ h.1, h.2)
 
 pub setup-asked : (past : List Entry) (r s : Run) (entry : Option Entry) → StandsAfter past r → is_through r.lines.now past 0 ≡ false → Asked r.lines.now 0 past r.world s.world s.workers.items entry (turn_in past r 0) → s.lines.now ≡ r.lines.now → s.turns ≡ r.turns
     → GoesOn past r s entry (next_in past r)

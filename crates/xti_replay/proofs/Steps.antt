@@ -24,6 +24,7 @@ use Rattle.xti_core.specs.Standing.{Standing}
 use Rattle.xti_replay.specs.declared.workers.Part.{Part}
 use Rattle.xti_replay.specs.declared.workers.Worker.{Worker}
 use Rattle.xti_replay.specs.Spots.{Spot}
+use Rattle.xti_replay.specs.Asking.{HasGoneOn}
 use Rattle.xti_replay.specs.Known.{HasLearnt, meanings_before}
 use Rattle.xti_replay.specs.Progress.{Told, IsNext, MayAsk, IsKnown, IsKept, AreKept, IsReady, IsFound, MayTake, IsAdvance, Makes, Asked, part_going, going_of, call_of, so_far_of, next_act, act_by, begun_call}
 use Rattle.xti_replay.proofs.Lines.{beginning, HasNext, next-at, through-at, next-by, next-call, own-other, told-other, next-other, told-begun, told-more}
@@ -91,6 +92,21 @@ turn-by : (p : Providers) (lines : List Line) (cells : World) (past : List Entry
     → turn p lines cells past number ≡ Some (turn_of number g s)
 turn-by p lines cells past number g s n made =
     ap (option_and_then (turn_going p cells number)) n ∙ ap (option_map (turn_of number g)) (sym (made ∙ ap (option_and_then (step_going p cells)) n))
+
+-- the world has gone on by the worker's step
+pub has-stepped : (p : Providers) (lines : List Line) (number : ℕ) (past : List Entry) (before after : Standing) (w : Worker) (outcome : Outcome) (state : State) → IsReady lines past number w
+    → Some (record { outcome = outcome; after = state; world = after.cells }) ≡ option_and_then (step_going p before.cells) (going_of w) → HasGoneOn after (turn p lines before.cells past number)
+has-stepped p lines number past before after w outcome state r made = by (next_going lines past number) refl
+  where
+    done : Step
+    done = record { outcome = outcome; after = state; world = after.cells }
+
+    stepped : Some done ≡ option_and_then (step_going p before.cells) (next_going lines past number)
+    stepped = made ∙ ap (option_and_then (step_going p before.cells)) r.going
+
+    by : (g : Option Going) → next_going lines past number ≡ g → HasGoneOn after (turn p lines before.cells past number)
+    by None n = absurd (none-some done (sym (stepped ∙ ap (option_and_then (step_going p before.cells)) n)))
+    by (Some g) n = (turn_of number g done, turn-by p lines before.cells past number g done n stepped, refl)
 
 pub advance-begun : (lines : List Line) (past : List Entry) (e : Entry) (number : ℕ) (c : Call) (w new : Worker) (s : Spot) → Told lines past number w → HasNext lines past number w s → e.worker ≡ number → e.act ≡ act.Begin c
     → IsAdvance lines w new (act.Begin c) e.outcome → Told lines (past ++ e ∷ []) number new
@@ -242,6 +258,12 @@ asked-by lines number past before after ws vs w new entry p k at items m = by (t
       subst (AreKept lines (past ++ t.entry ∷ [])) (sym items)
           (kept-step lines past ws number new t.entry k m.2 (λ z. subst (λ (n : ℕ). is_through lines past n ≡ false) (sym m.2 ∙ z) (through t e)) m.3 (subst (IsKnown lines (past ++ t.entry ∷ []) number) (sym m.4) tt)),
     )
+
+-- the worker that was asked failed
+pub asked-failed : (before after : Standing) (ws vs : List Worker) (number : ℕ) (w new : Worker) (o : Option Turn) → w ≡ get_or ws number w → vs ≡ set ws number new
+    → ((after ≡ before) × (new ≡ w)) ⊎ HasGoneOn after o → ((after ≡ before) × (vs ≡ ws)) ⊎ HasGoneOn after o
+asked-failed before after ws vs number w new o at items (inl h) = inl (h.0, items ∙ ap (set ws number) (h.1 ∙ at) ∙ set-get_or ws number w)
+asked-failed before after ws vs number w new o at items (inr h) = inr h
 
 -- Next calls are found.
 

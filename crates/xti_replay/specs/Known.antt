@@ -65,6 +65,15 @@ Adds kind place call outcome old new = (name : List ℕ) → known_in new name �
 abbrev pub AddsName : List ℕ → Known → Table → Table → Type 0
 AddsName name known old new = (other : List ℕ) → known_in new other ≡ or_known (known_in old other) (if bytes_eq name other then Some known else None)
 
+-- each name stands for what it did
+abbrev pub TellsSame : Table → Table → Type 0
+TellsSame old new = (name : List ℕ) → known_in new name ≡ known_in old name
+
+-- in both tables
+pub record TellSame (old new : Names) : Type 0 where
+  pub endpoints : TellsSame old.endpoints new.endpoints
+  pub sequences : TellsSame old.sequences new.sequences
+
 pub record HasLearnt (place : ℕ) (call : NamedCall) (outcome : Outcome) (old new : Names) : Type 0 where
   pub endpoints : Adds endpoints place call outcome old.endpoints new.endpoints
   pub sequences : Adds sequences place call outcome old.sequences new.sequences

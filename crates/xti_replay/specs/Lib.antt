@@ -8,3 +8,7 @@ pub mod Stalling
 pub mod Turns
 pub mod Runs
 pub mod Families
+pub use Rattle.xti_model.specs.Complete
+pub use Rattle.xti_model.specs.History
+pub use Rattle.xti_model.specs.Robin
+pub use Rattle.xti_model.specs.Work

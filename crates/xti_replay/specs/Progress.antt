@@ -17,7 +17,7 @@ use Rattle.xti_replay.specs.declared.workers.Part.{Part}
 use Rattle.xti_replay.specs.declared.workers.Worker.{Worker}
 use Rattle.xti_replay.specs.declared.names.Names.{Names}
 use Rattle.xti_replay.specs.Spots.{places_of}
-use Rattle.xti_replay.specs.Known.{Knows, HasLearnt}
+use Rattle.xti_replay.specs.Known.{Knows, HasLearnt, TellSame}
 
 -- a call that is part way, as the definitions have it
 abbrev pub part_going : Option Part → Option Going
@@ -181,6 +181,10 @@ LearnsNextLine lines outcome old new = LearnsLine lines (next_place old) outcome
 -- the worker's names have what its next entry tells
 abbrev pub LearnsEntry : List Line → Act → Outcome → Worker → Worker → Type 0
 LearnsEntry lines a outcome old new = Learns lines (next_place old) a outcome old.names new.names
+
+-- no line was begun, and each name stands for what it did; or the entry's line was begun, and what that tells was learnt
+abbrev pub HasBegunOrNot : List Line → Act → Outcome → Worker → Worker → Type 0
+HasBegunOrNot lines a outcome old new = ((new.begun ≡ old.begun) × TellSame old.names new.names) ⊎ ((new.begun ≡ old.begun + begun_by a) × LearnsEntry lines a outcome old new)
 
 -- what an entry of a worker makes of what is told of it
 pub record IsAdvance (lines : List Line) (w new : Worker) (a : Act) (outcome : Outcome) : Type 0 where

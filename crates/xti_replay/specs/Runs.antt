@@ -1,5 +1,5 @@
 -- A run of a script beside its entries so far.
-use Rattle.std.specs.Prelude.{ℕ, ◌≡◌, ◌<◌, true, false, List, [], ◌∷◌, ◌++◌, Option, Some, None, if◌then◌else◌}
+use Rattle.std.specs.Prelude.{ℕ, ◌≡◌, ◌<◌, ◌⊎◌, true, false, List, [], ◌∷◌, ◌++◌, Option, Some, None, if◌then◌else◌}
 use Rattle.std.specs.List.{AllByRecursion}
 use Rattle.xti_base.specs.declared.limits.TheConstants.{WORKERS}
 use Rattle.xti_model.specs.declared.entry.Entry.{Entry}
@@ -9,6 +9,7 @@ use Rattle.xti_model.specs.declared.script.StallLine.{StallLine}
 use Rattle.xti_model.specs.History.{after}
 use Rattle.xti_model.specs.Robin.{is_through, last_worker, robin_from, most_steps, Turn, turn, next_turn}
 use Rattle.xti_replay.specs.declared.run.Run.{Run}
+use Rattle.xti_replay.specs.Asking.{HasGoneOn}
 use Rattle.xti_replay.specs.Progress.{AreKept, made_by}
 use Rattle.xti_replay.specs.Stalls.{stalls_after}
 use Rattle.xti_replay.specs.Turns.{AreTurns}
@@ -37,6 +38,14 @@ next_turn_of r past = next_turn r.world.providers r.lines.now r.world.cells past
 abbrev pub TakesNextTurn : Run → Run → Option Entry → Type 0
 TakesNextTurn old new entry = (past : List Entry) → StandsAfter past old → GoesOn past old new entry (next_turn_of old past)
 
+-- no step was made: the world is as before, and each worker stands as the entries so far have it; or the step of this turn was made, in the world alone
+abbrev pub Remains : List Entry → Run → Run → Option Turn → Type 0
+Remains past old new next = ((new.world ≡ old.world) × AreKept old.lines.now past new.workers.items) ⊎ HasGoneOn new.world next
+
+-- so much is left of the run where its next turn failed, whatever history it stood after
+abbrev pub FailsNextTurn : Run → Run → Type 0
+FailsNextTurn old new = (past : List Entry) → StandsAfter past old → Remains past old new (next_turn_of old past)
+
 -- the run stands after some history in which worker 0 is finished
 abbrev pub StandsPastSetup : Run → Type 0
 StandsPastSetup r = (past : List Entry) × StandsAfter past r × (is_through r.lines.now past 0 ≡ true)
@@ -44,6 +53,10 @@ StandsPastSetup r = (past : List Entry) × StandsAfter past r × (is_through r.l
 -- the same of a run in which worker 0 is finished
 abbrev pub TakesTurnOfOthers : Run → Run → Option Entry → Type 0
 TakesTurnOfOthers old new entry = (past : List Entry) → StandsAfter past old → is_through old.lines.now past 0 ≡ true → GoesOn past old new entry (next_turn_of old past)
+
+-- so much is left of it where that turn failed
+abbrev pub FailsTurnOfOthers : Run → Run → Type 0
+FailsTurnOfOthers old new = (past : List Entry) → StandsAfter past old → is_through old.lines.now past 0 ≡ true → Remains past old new (next_turn_of old past)
 
 -- these are the run's stall lines, whatever history it stands after
 abbrev pub AreStallsOf : Run → List StallLine → Type 0
@@ -71,6 +84,11 @@ HasAsked past number rest old new entry (Some t) =
 abbrev pub AsksFirst : Run → Run → Option Entry → Type 0
 AsksFirst old new entry =
     (past : List Entry) (number : ℕ) (rest : List ℕ) → AsksOthers past old → old.turns.items ≡ number ∷ rest → HasAsked past number rest old new entry (turn old.world.providers old.lines.now old.world.cells past number)
+
+-- so much is left of the run where the worker that comes first failed
+abbrev pub FailsFirst : Run → Run → Type 0
+FailsFirst old new =
+    (past : List Entry) (number : ℕ) (rest : List ℕ) → AsksOthers past old → old.turns.items ≡ number ∷ rest → Remains past old new (turn old.world.providers old.lines.now old.world.cells past number)
 
 -- the run is one of the script, after these entries; at most so many steps more lead to all
 pub record Leads (s : Script) (all : List Entry) (more : ℕ) (past : List Entry) (r : Run) : Type 0 where

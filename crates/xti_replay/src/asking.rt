@@ -1,10 +1,10 @@
 //! A worker is asked for its next step.
 
-ghost use Rattle.std.specs.Prelude.{◌≡◌, ◌<◌, List, None, false, IfOk, OnOk};
+ghost use Rattle.std.specs.Prelude.{◌≡◌, ◌<◌, List, None, false, IfOk, OnOk, OnErr};
 ghost use Rattle.xti_base.specs.declared.limits.TheConstants.{WORKERS};
 ghost use Rattle.xti_model.specs.declared.entry.Act.TheVariants.{More};
 ghost use Rattle.xti_model.specs.declared.entry.Entry.{Entry};
-ghost use Rattle.xti_replay.specs.Asking.{FindsNext, MakesTurn, TakesTurn};
+ghost use Rattle.xti_replay.specs.Asking.{FailsAsked, FailsTurn, FindsNext, MakesTurn, TakesTurn};
 ghost use Rattle.xti_replay.specs.Progress.{AreKept, MayAsk, IsReady, begun_call, made_by};
 
 use crate::workers::Worker;
@@ -39,6 +39,7 @@ fn make(
     requires none { entry.old.act ≡ More }
     ensures makes { IfOk result (λ made. MakesTurn lines.now number world.old world.new worker.old worker.new (made_by made entry.new)) }
     ensures left { IfOk result (λ made. made ≡ false → entry.new.act ≡ More) }
+    ensures err { OnErr result (FailsTurn lines.now number world.old world.new worker.old worker.old worker.new) }
     ensures providers { world.new.providers ≡ world.old.providers }
 {
     let Some(call) = worker.call() else {
@@ -95,6 +96,7 @@ fn begin(
     requires whole { worker.old.part ≡ None }
     ensures makes { IfOk result (λ made. MakesTurn lines.now number world.old world.new (record worker.old { next = begun_call entry.old.act }) worker.new (made_by made entry.new)) }
     ensures left { IfOk result (λ made. made ≡ false → entry.new.act ≡ More) }
+    ensures err { OnErr result (FailsTurn lines.now number world.old world.new (record worker.old { next = begun_call entry.old.act }) worker.old worker.new) }
     ensures providers { world.new.providers ≡ world.old.providers }
 {
     let Act::Begin(call) = &entry.act else {
@@ -128,6 +130,7 @@ pub(crate) fn ask(
     requires none { entry.old.act ≡ More }
     ensures asked { IfOk result (λ made. TakesTurn lines.now number world.old world.new workers.old workers.new (made_by made entry.new)) }
     ensures left { IfOk result (λ made. made ≡ false → entry.new.act ≡ More) }
+    ensures err { OnErr result (FailsAsked lines.now number world.old world.new workers.old workers.new) }
     ensures providers { world.new.providers ≡ world.old.providers }
 {
     let worker = &workers[number];

@@ -1,9 +1,9 @@
 //! What the names of a script stand for.
 
-ghost use Rattle.std.specs.Prelude.{◌≡◌, List, ℕ, [], Some, None, OnOk};
+ghost use Rattle.std.specs.Prelude.{◌≡◌, List, ℕ, [], Some, None, OnOk, OnErr};
 ghost use Rattle.std.specs.Option.{option_copied};
 ghost use Rattle.xti_model.specs.Resolve.{opened_fd, listened_number};
-ghost use Rattle.xti_replay.specs.Known.{known_in, number_before, AddsName, HasLearnt};
+ghost use Rattle.xti_replay.specs.Known.{known_in, number_before, AddsName, HasLearnt, TellsSame, TellSame};
 
 use std::alloc::{AllocError, Global};
 use std::collections::HashMap;
@@ -98,7 +98,8 @@ fn listened_number(outcome: &Outcome) -> u32
 
 /// The name stands for this, where it stands for nothing yet.
 fn add(alloc: Global, table: &mut Table, name: &[u8], known: Known) -> Result<(), AllocError>
-    ensures { OnOk result (AddsName name.now known table.old table.new) }
+    ensures added { OnOk result (AddsName name.now known table.old table.new) }
+    ensures err { OnErr result (TellsSame table.old table.new) }
 {
     if table.get(name).is_none() {
         table.insert(Vec::from_slice(alloc, name)?, known)?;
@@ -119,6 +120,7 @@ impl Names {
     }
 
     /// Learns what the entry of a line at this place answered, where the line defines a name.
+    /// After an error each name stands for what it did.
     pub fn learn(
         &mut self,
         alloc: Global,
@@ -126,7 +128,8 @@ impl Names {
         call: &NamedCall,
         outcome: &Outcome,
     ) -> Result<(), AllocError>
-        ensures { OnOk result (HasLearnt place call.now outcome.now self.old self.new) }
+        ensures learnt { OnOk result (HasLearnt place call.now outcome.now self.old self.new) }
+        ensures err { OnErr result (TellSame self.old self.new) }
     {
         match call {
             NamedCall::TOpen { name, .. } => {

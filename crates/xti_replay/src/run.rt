@@ -1,12 +1,12 @@
 //! A run of a script in which the workers take turns.
 
-ghost use Rattle.std.specs.Prelude.{◌≡◌, List, IfOk, OnOk, true, false};
+ghost use Rattle.std.specs.Prelude.{◌≡◌, List, None, IfOk, OnOk, OnErr, true, false};
 ghost use Rattle.std.specs.Option.{option_copied};
 ghost use Rattle.xti_model.specs.declared.entry.Act.TheVariants.{More};
 ghost use Rattle.xti_model.specs.declared.entry.Entry.{Entry};
 ghost use Rattle.xti_model.specs.Complete.{IsHistoryOf};
 ghost use Rattle.xti_replay.specs.Playable.{IsPlayable};
-ghost use Rattle.xti_replay.specs.Runs.{gone_on, IsRunOf, StandsAfter, StandsPastSetup, AsksOthers, AsksFirst, TakesNextTurn, TakesTurnOfOthers, AreStallsOf, made_of};
+ghost use Rattle.xti_replay.specs.Runs.{gone_on, IsRunOf, StandsAfter, StandsPastSetup, AsksOthers, AsksFirst, FailsFirst, FailsNextTurn, FailsTurnOfOthers, TakesNextTurn, TakesTurnOfOthers, AreStallsOf, made_of};
 ghost use Rattle.xti_replay.specs.Progress.{made_by};
 
 use crate::asking::ask;
@@ -78,6 +78,8 @@ impl<'a> Run<'a> {
         requires asks { (past : List Entry) × AsksOthers past self.old }
         requires none { self.old.entry.act ≡ More }
         ensures asked { IfOk result (λ made. AsksFirst self.old self.new (made_by made self.new.entry)) }
+        ensures err { OnErr result (FailsFirst self.old self.new) }
+        ensures made { self.new.made ≡ self.old.made }
         ensures left { IfOk result (λ made. made ≡ false → self.new.entry.act ≡ More) }
         ensures providers { self.new.world.providers ≡ self.old.world.providers }
         ensures lines { self.new.lines.now ≡ self.old.lines.now }
@@ -102,6 +104,8 @@ impl<'a> Run<'a> {
         requires stands { StandsPastSetup self.old }
         requires none { self.old.entry.act ≡ More }
         ensures goes_on { IfOk result (λ made. TakesTurnOfOthers self.old self.new (made_by made self.new.entry)) }
+        ensures err { OnErr result (FailsTurnOfOthers self.old self.new) }
+        ensures made { self.new.made ≡ self.old.made }
         ensures providers { self.new.world.providers ≡ self.old.world.providers }
         ensures lines { self.new.lines.now ≡ self.old.lines.now }
     {
@@ -118,6 +122,8 @@ impl<'a> Run<'a> {
         requires stands { (past : List Entry) × StandsAfter past self.old }
         requires none { self.old.entry.act ≡ More }
         ensures goes_on { IfOk result (λ made. TakesNextTurn self.old self.new (made_by made self.new.entry)) }
+        ensures err { OnErr result (FailsNextTurn self.old self.new) }
+        ensures made { self.new.made ≡ self.old.made }
         ensures providers { self.new.world.providers ≡ self.old.world.providers }
         ensures lines { self.new.lines.now ≡ self.old.lines.now }
     {
@@ -135,9 +141,13 @@ impl<'a> Run<'a> {
     }
 
     /// Makes the next step of the run, and keeps the entry of it; none where nobody can make a step.
+    /// After an error none is kept: no step was made, and the world and each worker's lines and names are as before; or the step
+    /// was made, in the world alone.
     pub fn step(&mut self) -> Result<(), AllocError>
         requires { (past : List Entry) × StandsAfter past self.old }
         ensures goes_on { OnOk result (TakesNextTurn self.old self.new (made_of self.new)) }
+        ensures err { OnErr result (FailsNextTurn self.old self.new) }
+        ensures none { OnErr result (made_of self.new ≡ None) }
         ensures providers { self.new.world.providers ≡ self.old.world.providers }
         ensures lines { self.new.lines.now ≡ self.old.lines.now }
     {
@@ -155,10 +165,12 @@ impl<'a> Run<'a> {
         if self.made { Some(&self.entry) } else { None }
     }
 
-    /// The next entry of the run; `None` where nobody can make a step.
+    /// The next entry of the run; `None` where nobody can make a step. After an error the run is as `step` leaves it.
     pub fn next(&mut self) -> Result<Option<Entry>, AllocError>
         requires { (past : List Entry) × StandsAfter past self.old }
         ensures goes_on { IfOk result (λ entry. TakesNextTurn self.old self.new entry) }
+        ensures err { OnErr result (FailsNextTurn self.old self.new) }
+        ensures none { OnErr result (made_of self.new ≡ None) }
         ensures handed_out { IfOk result (λ _. made_of self.new ≡ None) }
         ensures providers { self.new.world.providers ≡ self.old.world.providers }
         ensures lines { self.new.lines.now ≡ self.old.lines.now }

@@ -1,12 +1,12 @@
 //! What is kept of each worker.
 
-ghost use Rattle.std.specs.Prelude.{◌≡◌, ◌+◌, ◌<◌, ◌++◌, ◌∷◌, [], List, ℕ, None, Some, slice_get, length, IfOk, OnOk};
+ghost use Rattle.std.specs.Prelude.{◌≡◌, ◌+◌, ◌<◌, ◌++◌, ◌∷◌, [], List, ℕ, None, Some, slice_get, length, IfOk, OnOk, OnErr};
 ghost use Rattle.std.specs.Option.{option_copied};
 ghost use Rattle.xti_model.specs.declared.entry.Act.TheVariants.{More};
 ghost use Rattle.xti_model.specs.declared.entry.Go.TheVariants as go;
 ghost use Rattle.xti_model.specs.History.{going_after};
-ghost use Rattle.xti_replay.specs.Known.{known_in};
-ghost use Rattle.xti_replay.specs.Progress.{is_finished, turns_with, next_place, HaveHistory, IsNextCall, MayTake, KeepsAllButLines, KeepsLinesAndCalls, KeepsAllButPart, LearnsNextLine, LearnsEntry, begun_by, left_after, next_act, part_call, part_going, going_of, call_of, so_far_of, begun_call};
+ghost use Rattle.xti_replay.specs.Known.{known_in, TellSame};
+ghost use Rattle.xti_replay.specs.Progress.{is_finished, turns_with, next_place, HaveHistory, IsNextCall, MayTake, KeepsAllButLines, KeepsLinesAndCalls, KeepsAllButPart, LearnsNextLine, LearnsEntry, HasBegunOrNot, begun_by, left_after, next_act, part_call, part_going, going_of, call_of, so_far_of, begun_call};
 
 use crate::names::Names;
 use crate::resolving::Scope;
@@ -58,9 +58,10 @@ impl Worker {
         }
     }
 
-    /// The line at this place is the worker's too.
+    /// The line at this place is the worker's too. After an error its lines are as before.
     pub fn hand(&mut self, place: usize) -> Result<(), AllocError>
         ensures places { OnOk result (self.new.places.items ≡ self.old.places.items ++ place ∷ []) }
+        ensures err { OnErr result (self.new.places.items ≡ self.old.places.items) }
         ensures others { KeepsAllButLines self.old self.new }
     {
         self.places.push(place)?;
@@ -182,6 +183,7 @@ impl Worker {
         ensures others { KeepsLinesAndCalls self.old self.new }
         ensures count { OnOk result (self.new.begun ≡ self.old.begun + 1) }
         ensures names { OnOk result (LearnsNextLine lines.now outcome.now self.old self.new) }
+        ensures err { OnErr result ((self.new.begun ≡ self.old.begun) × TellSame self.old.names self.new.names) }
     {
         let place = self.places[self.begun];
         let line = &lines[place];
@@ -204,6 +206,7 @@ impl Worker {
     #[inline(never)]
     fn keep_part(&mut self, call: &Call, taken: u32) -> Result<(), AllocError>
         ensures part { OnOk result (part_going self.new.part ≡ Some (record { call = call.now; so_far = go.More taken })) }
+        ensures err { OnErr result (self.new ≡ self.old) }
         ensures others { KeepsAllButPart self.old self.new }
     {
         let call = call.copy()?;
@@ -215,6 +218,7 @@ impl Worker {
     #[inline(always)]
     fn begin_part(&mut self, call: &Call, outcome: &Outcome) -> Result<(), AllocError>
         ensures part { OnOk result (part_going self.new.part ≡ going_after (Some call.now) outcome.now) }
+        ensures err { OnErr result (self.new ≡ self.old) }
         ensures others { KeepsAllButPart self.old self.new }
     {
         match outcome {
@@ -246,6 +250,7 @@ impl Worker {
     #[inline(always)]
     pub(crate) fn keep_left(&mut self, act: &Act, outcome: &Outcome) -> Result<(), AllocError>
         ensures part { OnOk result (part_going self.new.part ≡ left_after self.old.part act.now outcome.now) }
+        ensures err { OnErr result (self.new ≡ self.old) }
         ensures others { KeepsAllButPart self.old self.new }
     {
         match act {
@@ -258,6 +263,8 @@ impl Worker {
     }
 
     /// An entry of the worker is made: its next line is begun, or its call goes on.
+    /// After an error its lines, its next call and its call that is part way are as before. No line is begun, and each name
+    /// stands for what it did; or the line is begun, and its answer learnt.
     #[inline(always)]
     pub fn advance(
         &mut self,
@@ -272,6 +279,8 @@ impl Worker {
         ensures count { OnOk result (self.new.begun ≡ self.old.begun + begun_by act.now) }
         ensures part { OnOk result (part_going self.new.part ≡ left_after self.old.part act.now outcome.now) }
         ensures names { OnOk result (LearnsEntry lines.now act.now outcome.now self.old self.new) }
+        ensures err_part { OnErr result (self.new.part ≡ self.old.part) }
+        ensures err { OnErr result (HasBegunOrNot lines.now act.now outcome.now self.old self.new) }
     {
         if let Act::Begin(_) = act {
             self.begin(alloc, lines, outcome)?;

@@ -1,7 +1,8 @@
 //! The words of printed lines, each written after the text that separates it from the word before.
 #![tactic(auto)]
 
-ghost use Rattle.std.specs.Prelude.{◌≡◌, ◌*◌, ◌+◌, ◌/◌, ◌%◌, ◌∷◌, [], ◌++◌, ◌<◌, ◌≤◌, OnOk, length, codes, decimal};
+ghost use Rattle.std.specs.Prelude.{◌≡◌, ◌*◌, ◌+◌, ◌/◌, ◌%◌, ◌∷◌, [], ◌++◌, ◌<◌, ◌≤◌, OnOk, OnErr, length, codes, decimal};
+ghost use Rattle.std.specs.Io.{StartsWith};
 ghost use Rattle.std.specs.List.{flat_map};
 ghost use Rattle.std.specs.Vec.{vec_len, vec_capacity};
 ghost use Rattle.xti_text.specs.Words.{number_word, signed_word, hex_digit, hex_pair, octets_word};
@@ -35,19 +36,21 @@ static HEX_PAIRS: [u8; 512] = *b"000102030405060708090a0b0c0d0e0f101112131415161
        c0c1c2c3c4c5c6c7c8c9cacbcccdcecfd0d1d2d3d4d5d6d7d8d9dadbdcdddedf\
        e0e1e2e3e4e5e6e7e8e9eaebecedeeeff0f1f2f3f4f5f6f7f8f9fafbfcfdfeff";
 
-/// Appends a text.
+/// Appends a text. After an error the buffer is as before.
 #[inline(always)]
 pub fn put_text(out: &mut Vec<u8>, text: &str) -> Result<(), AllocError>
-    ensures { OnOk result (out.new.items ≡ out.old.items ++ text.now) }
+    ensures items { OnOk result (out.new.items ≡ out.old.items ++ text.now) }
+    ensures err { OnErr result (out.new.items ≡ out.old.items) }
 {
     out.extend_from_slice(text.as_bytes())
 }
 
-/// Appends a number in decimal digits, without leading zeros.
+/// Appends a number in decimal digits, without leading zeros. After an error the buffer still begins with what it had.
 // A key is short and known where it is written: it is copied there, and not by a call. The room for all is asked once.
 #[inline(always)]
 pub fn put_number(out: &mut Vec<u8>, key: &str, n: u64) -> Result<(), AllocError>
-    ensures { OnOk result (out.new.items ≡ out.old.items ++ number_word key.now n) }
+    ensures items { OnOk result (out.new.items ≡ out.old.items ++ number_word key.now n) }
+    ensures kept { OnErr result (StartsWith out.new.items out.old.items) }
 {
     if n >= 100_000 || out.capacity() - out.len() < key.len() + FIVE {
         return put_long(out, key, n);
@@ -61,9 +64,11 @@ pub fn put_number(out: &mut Vec<u8>, key: &str, n: u64) -> Result<(), AllocError
     Ok(())
 }
 
-/// Appends a number in decimal digits, with `-` before it where it is below 0.
+/// Appends a number in decimal digits, with `-` before it where it is below 0. After an error the buffer still begins with what it
+/// had.
 pub fn put_signed(out: &mut Vec<u8>, key: &str, n: i64) -> Result<(), AllocError>
-    ensures { OnOk result (out.new.items ≡ out.old.items ++ signed_word key.now n) }
+    ensures items { OnOk result (out.new.items ≡ out.old.items ++ signed_word key.now n) }
+    ensures kept { OnErr result (StartsWith out.new.items out.old.items) }
 {
     let mut buffer = Buffer::new();
     put_text(out, key)?;
@@ -73,7 +78,8 @@ pub fn put_signed(out: &mut Vec<u8>, key: &str, n: i64) -> Result<(), AllocError
 // A longer number, or one for which room is made.
 #[inline(never)]
 fn put_long(out: &mut Vec<u8>, key: &str, n: u64) -> Result<(), AllocError>
-    ensures { OnOk result (out.new.items ≡ out.old.items ++ key.now ++ decimal n) }
+    ensures items { OnOk result (out.new.items ≡ out.old.items ++ key.now ++ decimal n) }
+    ensures kept { OnErr result (StartsWith out.new.items out.old.items) }
 {
     let mut buffer = Buffer::new();
     put_text(out, key)?;
@@ -149,19 +155,22 @@ fn hex_digit(d: u8) -> u8
     if d < 10 { b'0' + d } else { b'a' + (d - 10) }
 }
 
-/// Appends bytes as `x:` and two hexadecimal digits for each.
+/// Appends bytes as `x:` and two hexadecimal digits for each. After an error the buffer still begins with what it had.
 #[inline(always)]
 pub fn put_octets(out: &mut Vec<u8>, key: &str, bytes: &[u8]) -> Result<(), AllocError>
-    ensures { OnOk result (out.new.items ≡ out.old.items ++ octets_word key.now bytes.now) }
+    ensures items { OnOk result (out.new.items ≡ out.old.items ++ octets_word key.now bytes.now) }
+    ensures kept { OnErr result (StartsWith out.new.items out.old.items) }
 {
     put_text(out, key)?;
     put_pairs(out, "x:", bytes)
 }
 
-/// Appends two hexadecimal digits for each byte, after a text that ends in `x:`, as " addr=x:".
+/// Appends two hexadecimal digits for each byte, after a text that ends in `x:`, as " addr=x:". After an error the buffer still
+/// begins with what it had.
 #[inline(always)]
 pub fn put_pairs(out: &mut Vec<u8>, key: &str, bytes: &[u8]) -> Result<(), AllocError>
-    ensures { OnOk result (out.new.items ≡ out.old.items ++ key.now ++ flat_map hex_pair bytes.now) }
+    ensures items { OnOk result (out.new.items ≡ out.old.items ++ key.now ++ flat_map hex_pair bytes.now) }
+    ensures kept { OnErr result (StartsWith out.new.items out.old.items) }
 {
     put_text(out, key)?;
     if bytes.is_empty() {
@@ -174,7 +183,8 @@ pub fn put_pairs(out: &mut Vec<u8>, key: &str, bytes: &[u8]) -> Result<(), Alloc
 // Mostly the bytes are few, and there is room: nothing else is called then.
 #[inline(never)]
 fn put_hex(out: &mut Vec<u8>, bytes: &[u8]) -> Result<(), AllocError>
-    ensures { OnOk result (out.new.items ≡ out.old.items ++ flat_map hex_pair bytes.now) }
+    ensures items { OnOk result (out.new.items ≡ out.old.items ++ flat_map hex_pair bytes.now) }
+    ensures kept { OnErr result (StartsWith out.new.items out.old.items) }
 {
     if bytes.len() >= FEW || out.capacity() - out.len() < PAIRS_OF_SIXTEEN {
         return put_many(out, bytes);
@@ -186,7 +196,8 @@ fn put_hex(out: &mut Vec<u8>, bytes: &[u8]) -> Result<(), AllocError>
 #[inline(always)]
 fn put_few(out: &mut Vec<u8>, bytes: &[u8]) -> Result<(), AllocError>
     requires { length bytes.now < 16 }
-    ensures { OnOk result (out.new.items ≡ out.old.items ++ flat_map hex_pair bytes.now) }
+    ensures items { OnOk result (out.new.items ≡ out.old.items ++ flat_map hex_pair bytes.now) }
+    ensures err { OnErr result (out.new.items ≡ out.old.items) }
 {
     let start = out.len();
     out.extend_from_slice(&[0; PAIRS_OF_SIXTEEN])?;
@@ -222,7 +233,8 @@ fn pair_of(b: u8) -> [u8; 2]
 // Room for all the digits is asked once.
 #[inline(never)]
 fn put_many(out: &mut Vec<u8>, bytes: &[u8]) -> Result<(), AllocError>
-    ensures { OnOk result (out.new.items ≡ out.old.items ++ flat_map hex_pair bytes.now) }
+    ensures items { OnOk result (out.new.items ≡ out.old.items ++ flat_map hex_pair bytes.now) }
+    ensures kept { OnErr result (StartsWith out.new.items out.old.items) }
 {
     out.reserve(2 * bytes.len())?;
     let mut rest = bytes;

@@ -1,4 +1,4 @@
-use Rattle.std.proofs.Common.{◌≡◌, ◌∙◌, Option, None, Some, refl, ap, sym, subst}
+use Rattle.std.proofs.Common.{◌≡◌, ◌∙◌, Option, None, Some, inl, inr, refl, ap, sym, subst}
 use Rattle.std.specs.Prelude.{option_and_then}
 use Rattle.xti_model.specs.declared.entry.Act.{Act}
 use Rattle.xti_model.specs.declared.entry.Go.TheVariants as go
@@ -7,7 +7,8 @@ use Rattle.xti_model.specs.Robin.{turn}
 use Rattle.xti_model.specs.declared.call.Call.{Call}
 use Rattle.xti_replay.specs.declared.workers.Worker.{Worker}
 use Rattle.xti_replay.specs.Progress.{Makes, MayTake, begun_call, going_of}
-use Rattle.xti_replay.proofs.Steps.{can-take, fills, begun-act, begins-none, set-idle}
+use Rattle.xti_replay.proofs.Errors.{on_any_err}
+use Rattle.xti_replay.proofs.Steps.{can-take, fills, has-stepped, begun-act, begins-none, set-idle}
 use Rattle.xti_replay.proofs.asking.begin.Goals as goal
 
 pub returns-in_default-clause-makes : goal.returns-in_default-clause-makes
@@ -32,3 +33,15 @@ returns-clause-makes c = λ past ready.
     fills c.args.world.now.providers c.args.lines.now c.args.number past c.args.world.now c.step_into.new.self begun c.args.worker.now c.advance.new.self _ c.args.entry.now.act c.step_into.new.outcome c.step_into.new.after ready refl
     ((rw c.if-not-branch.false at c.in_ok-step_into.ensures.step) ∙ going) (begun-act c.args.entry.now.act) (set-idle c.args.worker.now (begun_call c.args.entry.now.act) c.requires.idle) c.advance.ensures.next
     (record { places = c.advance.ensures.places; count = c.in_ok-advance.ensures.count; part = c.in_ok-advance.ensures.part; names = c.in_ok-advance.ensures.names })
+
+pub returns-in_err-step_into-clause-err : goal.returns-in_err-step_into-clause-err
+returns-in_err-step_into-clause-err c = on_any_err c.from_residual.result (λ past ready. inl (c.in_err-step_into.ensures.err, refl))
+
+pub returns-in_err-advance-clause-err : goal.returns-in_err-advance-clause-err
+returns-in_err-advance-clause-err c = on_any_err c.from_residual-in_err-advance.result (λ past ready.
+    let begun : Worker = record c.args.worker.now { next = begun_call c.args.entry.now.act } in
+    let begins : begun_call c.args.entry.now.act ≡ Some c.in-Begin.call = ap begun_call c.in-Begin.is in
+    let going : step_going c.args.world.now.providers c.args.world.now.cells (record { call = c.in-Begin.call; so_far = go.Begin }) ≡ option_and_then (step_going c.args.world.now.providers c.args.world.now.cells) (going_of begun) =
+    ap (λ (o : Option Call). option_and_then (step_going c.args.world.now.providers c.args.world.now.cells) (going_of (record c.args.worker.now { next = o }))) (sym begins) in
+    inr (has-stepped c.args.world.now.providers c.args.lines.now c.args.number past c.args.world.now c.step_into.new.self begun c.step_into.new.outcome c.step_into.new.after ready
+    ((rw c.if-not-branch.false at c.in_ok-step_into.ensures.step) ∙ going)))

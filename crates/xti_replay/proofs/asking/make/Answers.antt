@@ -1,7 +1,8 @@
-use Rattle.std.proofs.Common.{refl, sym, subst, ◌∙◌}
+use Rattle.std.proofs.Common.{refl, sym, subst, inl, inr, ◌∙◌}
 use Rattle.xti_model.specs.declared.entry.Act.{Act}
 use Rattle.xti_replay.specs.Progress.{MayTake, going_of}
-use Rattle.xti_replay.proofs.Steps.{can-take, fills, step-going}
+use Rattle.xti_replay.proofs.Errors.{on_any_err}
+use Rattle.xti_replay.proofs.Steps.{can-take, fills, has-stepped, step-going}
 use Rattle.xti_replay.proofs.asking.make.Goals as goal
 
 pub advance-requires : goal.advance-requires
@@ -15,3 +16,11 @@ returns-clause-makes c = λ past ready.
     ((rw c.if-not-branch.false at c.in_ok-step_into.ensures.step) ∙ step-going c.args.world.now.providers c.args.world.now.cells (going_of c.args.worker.now) c.in-Some.call.now c.so_far.result c.in-Some.ensures c.so_far.ensures)
     (c.replace.ensures.after ∙ c.take_act.ensures.act) c.take_act.ensures.left c.advance.ensures.next
     (record { places = c.advance.ensures.places; count = c.in_ok-advance.ensures.count; part = c.in_ok-advance.ensures.part; names = c.in_ok-advance.ensures.names })
+
+pub returns-in_err-step_into-clause-err : goal.returns-in_err-step_into-clause-err
+returns-in_err-step_into-clause-err c = on_any_err c.from_residual.result (λ past ready. inl (c.in_err-step_into.ensures.err, refl))
+
+pub returns-in_err-advance-clause-err : goal.returns-in_err-advance-clause-err
+returns-in_err-advance-clause-err c = on_any_err c.from_residual-in_err-advance.result (λ past ready.
+    inr (has-stepped c.args.world.now.providers c.args.lines.now c.args.number past c.args.world.now c.step_into.new.self c.args.worker.now c.step_into.new.outcome c.step_into.new.after ready
+    ((rw c.if-not-branch.false at c.in_ok-step_into.ensures.step) ∙ step-going c.args.world.now.providers c.args.world.now.cells (going_of c.args.worker.now) c.in-Some.call.now c.so_far.result c.in-Some.ensures c.so_far.ensures)))

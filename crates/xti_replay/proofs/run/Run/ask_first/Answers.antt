@@ -2,7 +2,8 @@ use Rattle.std.proofs.Common.{sym, inr, subst, ◌∙◌}
 use Rattle.std.specs.List.{AllByRecursion}
 use Rattle.xti_model.specs.Robin.{turn}
 use Rattle.xti_replay.specs.Progress.{made_by}
-use Rattle.xti_replay.proofs.OthersAsked.{IsOther, has-asked}
+use Rattle.xti_replay.proofs.Errors.{on_any_err}
+use Rattle.xti_replay.proofs.OthersAsked.{IsOther, has-asked, first-failed, first-lost}
 use Rattle.xti_replay.proofs.run.Run.ask_first.Goals as goal
 
 pub returns-clause-asked : goal.returns-clause-asked
@@ -11,3 +12,15 @@ returns-clause-asked c = λ past number rest k items.
     (record { alloc = c.args.self.now.alloc; lines = c.args.self.now.lines; world = c.ask.new.world; workers = c.ask.new.workers; turns = c.put_back.new.turns; entry = c.ask.new.entry; made = c.args.self.now.made }) (made_by c.in_ok-made.made c.ask.new.entry)
     (turn c.args.self.now.world.providers c.args.self.now.lines.now c.args.self.now.world.cells past) c.index.result.now (sym items ∙ c.in-Some.ensures.items) (subst (AllByRecursion IsOther) items k.within).0.1
     (c.in_ok-made.ensures.asked past k.kept (inr k.through)) c.index.ensures c.in_ok-put_back.ensures
+
+pub returns-in_err-made-clause-err : goal.returns-in_err-made-clause-err
+returns-in_err-made-clause-err c = on_any_err c.from_residual.result (λ past number rest k items.
+    first-failed past c.in-Some.number number c.pop_front.new.self.items rest c.args.self.now
+    (record { alloc = c.args.self.now.alloc; lines = c.args.self.now.lines; world = c.ask.new.world; workers = c.ask.new.workers; turns = c.pop_front.new.self; entry = c.ask.new.entry; made = c.args.self.now.made })
+    (turn c.args.self.now.world.providers c.args.self.now.lines.now c.args.self.now.world.cells past) (sym items ∙ c.in-Some.ensures.items) k.kept (c.in_err-made.ensures.err past k.kept (inr k.through)))
+
+pub returns-in_err-put_back-clause-err : goal.returns-in_err-put_back-clause-err
+returns-in_err-put_back-clause-err c = on_any_err c.from_residual-in_err-put_back.result (λ past number rest k items.
+    first-lost past c.in-Some.number number c.pop_front.new.self.items rest c.args.self.now
+    (record { alloc = c.args.self.now.alloc; lines = c.args.self.now.lines; world = c.ask.new.world; workers = c.ask.new.workers; turns = c.put_back.new.turns; entry = c.ask.new.entry; made = c.args.self.now.made }) (made_by c.in_ok-made.made c.ask.new.entry)
+    (turn c.args.self.now.world.providers c.args.self.now.lines.now c.args.self.now.world.cells past) (sym items ∙ c.in-Some.ensures.items) (c.in_ok-made.ensures.asked past k.kept (inr k.through)))

@@ -7,4 +7,4 @@ use Rattle.xti_replay.proofs.OthersAsked.{AreAsked}
 use Rattle.xti_replay.proofs.run.Run.ask_others.Given as goal
 
 abbrev pub invariant-loop-asked : goal.invariant-loop-asked
-invariant-loop-asked l = (l.self.entry.act ≡ act.More) × ((past : List Entry) → StandsAfter past l.fn.self → is_through l.fn.self.lines.now past 0 ≡ true → AreAsked past l.fn.self l.self (length l.fn.self.turns.items) l._asked)
+invariant-loop-asked l = (l.self.entry.act ≡ act.More) × ((past : List Entry) → StandsAfter past l.fn.self → is_through l.fn.self.lines.now past 0 ≡ true → AreAsked past l.fn.self l.self (length l.fn.self.turns.items) l._asked) × (l.self.made ≡ l.fn.self.made)
