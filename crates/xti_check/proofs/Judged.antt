@@ -18,10 +18,10 @@ use Rattle.xti_model.specs.Step.{Step}
 use Rattle.xti_model.specs.History.{Going, own, call_after, going_after, unfinished, unfinished_from, made_by, doing, step_going, step_at, left_by, after, Fits}
 use Rattle.xti_model.proofs.Legality.{after-snoc}
 use Rattle.xti_model.proofs.Working.{call_from, unfinished_from-snoc, IsCallOf, call_of-from, own-more}
-use Rattle.xti_journal.specs.JournalText.{answer_text}
-use Rattle.xti_journal_reader.specs.Grammar.{IsEntry}
-use Rattle.xti_answers.specs.Answers.{AreNumbers}
-use Rattle.xti_answers.proofs.Entries.{is_answer_letter, no-answer, step-text}
+use Rattle.xti_journal_text.specs.JournalText.{answer_text}
+use Rattle.xti_journal.specs.Grammar.{IsEntry}
+use Rattle.xti_laws_texts.specs.Texts.{AreNumbers}
+use Rattle.xti_laws_texts.proofs.Entries.{is_answer_letter, no-answer, step-text}
 use Rattle.xti_check.specs.Judging.{HasNumbers}
 use Rattle.xti_check.specs.Verdicts.{wanted_act, step_text, wanted, stalling, IsBlockedAt}
 

@@ -10,9 +10,9 @@ use Rattle.xti_model.specs.declared.script.StallLine.{StallLine}
 use Rattle.xti_model.specs.World.{opening}
 use Rattle.xti_model.specs.History.{step_at, after, Fits, Legal, doing}
 use Rattle.xti_model.proofs.Legality.{legal-snoc}
-use Rattle.xti_journal.specs.JournalText.{answer_text}
-use Rattle.xti_journal_reader.specs.Grammar.{AreEntries, AreStallsAfter, AreStalls, HasText}
-use Rattle.xti_answers.proofs.Entries.{entry-form}
+use Rattle.xti_journal_text.specs.JournalText.{answer_text}
+use Rattle.xti_journal.specs.Grammar.{AreEntries, AreStallsAfter, AreStalls, HasText}
+use Rattle.xti_laws_texts.proofs.Entries.{entry-form}
 use Rattle.xti_check.specs.declared.judging.Judge.{Judge}
 use Rattle.xti_check.specs.declared.verdict.Verdict.TheVariants as verdict
 use Rattle.xti_check.specs.Verdicts.{IsVerdict, AreRightStalls, IsRightStall, wanted, stalling}

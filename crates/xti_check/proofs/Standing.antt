@@ -18,7 +18,7 @@ use Rattle.xti_model.specs.declared.script.StallLine.{StallLine}
 use Rattle.xti_model.specs.World.{World}
 use Rattle.xti_model.specs.Step.{Step, step}
 use Rattle.xti_model.specs.History.{Going, going_after, unfinished, made_by, doing, step_going, after}
-use Rattle.xti_journal.specs.JournalText.{answer_text}
+use Rattle.xti_journal_text.specs.JournalText.{answer_text}
 use Rattle.xti_end.specs.Taken.{taken}
 use Rattle.xti_check.specs.declared.going.Part.{Part}
 use Rattle.xti_check.specs.declared.going.Going.{Going as Made}

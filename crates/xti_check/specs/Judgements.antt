@@ -1,8 +1,8 @@
 -- What is said of an input.
 use Rattle.std.specs.Prelude.{◌≡◌, ℕ, List, ◌++◌, length, codes, decimal}
 use Rattle.xti_model.specs.declared.script.Journal.{Journal}
-use Rattle.xti_journal_reader.specs.Grammar.{IsJournal}
-use Rattle.xti_journal_reader.specs.Refused.{IsRefusedAt}
+use Rattle.xti_journal.specs.Grammar.{IsJournal}
+use Rattle.xti_journal.specs.Refused.{IsRefusedAt}
 use Rattle.xti_check.specs.declared.judgement.Judgement.{Judgement}
 use Rattle.xti_check.specs.declared.judgement.Judgement.TheVariants.{Legal, Wrong, Refused}
 use Rattle.xti_check.specs.declared.verdict.Verdict.TheVariants as verdict

@@ -8,11 +8,11 @@ use Rattle.xti_model.specs.declared.script.StallLine.{StallLine}
 use Rattle.xti_model.specs.Step.{Step}
 use Rattle.xti_model.specs.History.{unfinished, doing, step_at, after, Fits, Legal}
 use Rattle.xti_check.specs.Parts.{going_of}
-use Rattle.xti_journal.specs.JournalText.{answer_text}
+use Rattle.xti_journal_text.specs.JournalText.{answer_text}
 use Rattle.xti_model.specs.declared.script.Journal.{Journal}
 use Rattle.xti_check.specs.declared.judging.Judge.{Judge}
 use Rattle.xti_check.specs.declared.verdict.Verdict.{Verdict}
-use Rattle.xti_answers.specs.Answers.{AreNumbers}
+use Rattle.xti_laws_texts.specs.Texts.{AreNumbers}
 use Rattle.xti_check.specs.Verdicts.{wanted, stalling, IsRightStall, IsVerdict}
 
 -- it stands after these entries: at the world that they leave, and with the unfinished call of each worker

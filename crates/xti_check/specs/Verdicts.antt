@@ -9,7 +9,7 @@ use Rattle.xti_model.specs.declared.script.StallLine.{StallLine}
 use Rattle.xti_model.specs.World.{World}
 use Rattle.xti_model.specs.Step.{Step}
 use Rattle.xti_model.specs.History.{Going, unfinished, made_by, doing, step_going, step_at, after, Fits, Legal}
-use Rattle.xti_journal.specs.JournalText.{answer_text}
+use Rattle.xti_journal_text.specs.JournalText.{answer_text}
 use Rattle.xti_check.specs.declared.verdict.Verdict.{Verdict}
 use Rattle.xti_check.specs.declared.verdict.Verdict.TheVariants as verdict
 

@@ -2,13 +2,13 @@
 
 ghost use Rattle.std.specs.Prelude.{◌≡◌, ◌++◌, IfOk, OnOk};
 ghost use Rattle.xti_model.specs.declared.script.Journal.{Journal};
-ghost use Rattle.xti_journal_reader.specs.Grammar.{IsJournal};
+ghost use Rattle.xti_journal.specs.Grammar.{IsJournal};
 ghost use Rattle.xti_check.specs.Judgements.{legal_text, wrong_text, IsJudgement, IsOfJournal};
 
 use crate::verdict::{Verdict, check};
 use std::alloc::{AllocError, Global};
 use xti_base::Octets;
-use xti_journal_reader::{JournalFail, read_journal};
+use xti_journal::{JournalFail, read_journal};
 use xti_text::{put_number, put_text};
 
 /// What is said of an input.

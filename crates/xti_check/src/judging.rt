@@ -13,7 +13,7 @@ use std::alloc::{AllocError, Global};
 use xti_base::limits::WORKERS;
 use xti_base::{Octets, State, let_go};
 use xti_core::World;
-use xti_journal::write_answer;
+use xti_journal_text::write_answer;
 use xti_model::{Act, Applied, Entry, Outcome, Providers, StallLine};
 
 /// A judge of a journal, after the lines that were right.

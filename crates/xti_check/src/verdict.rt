@@ -1,14 +1,14 @@
 //! The verdict on a journal.
 
 ghost use Rattle.std.specs.Prelude.{◌≡◌, [], None, IfOk};
-ghost use Rattle.xti_journal_reader.specs.Grammar.{HasText};
+ghost use Rattle.xti_journal.specs.Grammar.{HasText};
 ghost use Rattle.xti_check.specs.Judging.{StandsAfter, JudgesEntries};
 ghost use Rattle.xti_check.specs.Verdicts.{IsVerdict};
 
 use crate::judging::Judge;
 use std::alloc::{AllocError, Global};
 use xti_base::Octets;
-use xti_journal::write_answer;
+use xti_journal_text::write_answer;
 use xti_model::Journal;
 
 /// What is said of a journal.

@@ -1,9 +1,9 @@
 -- A generated script is the script of its canonical text.
 use Rattle.std.proofs.Common.{◌≡◌, refl, ℕ, ◌%◌}
 use Rattle.xti_model.specs.Profile.{usual}
-use Rattle.xti_script.specs.Grammar.{IsScript, HasText}
-use Rattle.xti_canonical.specs.Canonical.{script_text}
-use Rattle.xti_canonical.proofs.ScriptTexts.{script_written}
+use Rattle.xti_script_reader.specs.Grammar.{IsScript, HasText}
+use Rattle.xti_script.specs.Canonical.{script_text}
+use Rattle.xti_script.proofs.ScriptTexts.{script_written}
 use Rattle.xti_generate.specs.declared.sizes.TheConstants.{MOST_SENT}
 use Rattle.xti_generate.specs.Generated.{generated}
 use Rattle.xti_generate.proofs.LinesAreRead.{generated_lines_read}

@@ -3,7 +3,7 @@ use Rattle.std.proofs.Common.{◌≡◌, refl, ◌∙◌, ℕ, Bool, true, false
 use Rattle.std.specs.List.{list_any}
 use Rattle.std.proofs.lemmas.List.Folds.{list_any-append}
 use Rattle.xti_model.specs.declared.script.Line.{Line}
-use Rattle.xti_script.specs.Names.{Defining, after, defines, is_defined}
+use Rattle.xti_script_reader.specs.Names.{Defining, after, defines, is_defined}
 
 or_left : (a b : Bool) → a ≡ true → (a || b) ≡ true
 or_left true b h = refl

@@ -8,7 +8,7 @@ use Rattle.std.proofs.lemmas.List.Sums.{sum_by-append, sum_by-cons}
 use Rattle.xti_model.specs.declared.script.NamedCall.TheVariants as call
 use Rattle.xti_model.specs.declared.script.Line.{Line}
 use Rattle.xti_model.specs.Work.{argument_bytes, script_bytes}
-use Rattle.xti_script.specs.Grammar.{IsSmall}
+use Rattle.xti_script_reader.specs.Grammar.{IsSmall}
 use Rattle.xti_generate.specs.declared.sizes.TheConstants.{RING, MOST_SENT, ACCEPTING, CONNECTING, ROUNDS}
 use Rattle.xti_generate.specs.Generated.{line, listening, accepting, connecting, ring_name, next, round_bytes, connection_setup, datagram_round, send_round, receive_round, setups, datagram_rounds, ring, receive_rounds, send_rounds, accepting_side, connecting_side, generated_lines}
 

@@ -13,17 +13,17 @@ use Rattle.xti_model.specs.declared.script.Line.{Line}
 use Rattle.xti_model.specs.Resolve.{opens, listens}
 use Rattle.xti_words.specs.Values.{counted}
 use Rattle.xti_words.proofs.WordBytes.{AreBytes}
-use Rattle.xti_script.specs.Kinds.{Kind as kind}
-use Rattle.xti_script.specs.FieldValue.Value.{Name}
-use Rattle.xti_script.specs.Fields.{field}
-use Rattle.xti_script.specs.Calls.{form_of}
-use Rattle.xti_script.specs.Names.{Spot, after, is_defined, is_new}
-use Rattle.xti_canonical.specs.Canonical.{written_call}
-use Rattle.xti_canonical.proofs.Numbers.{Lacks}
-use Rattle.xti_canonical.proofs.Pieces.{lacks_by}
-use Rattle.xti_canonical.proofs.ValueTexts.{Reads, bytes_reads, options_reads, number_reads, provider_reads, mode_reads, name_reads}
-use Rattle.xti_canonical.proofs.Lines.{LineReads}
-use Rattle.xti_canonical.proofs.ScriptTexts.{LinesRead, both_read}
+use Rattle.xti_script_reader.specs.Kinds.{Kind as kind}
+use Rattle.xti_script_reader.specs.FieldValue.Value.{Name}
+use Rattle.xti_script_reader.specs.Fields.{field}
+use Rattle.xti_script_reader.specs.Calls.{form}
+use Rattle.xti_script_reader.specs.Names.{Spot, after, is_defined, is_new}
+use Rattle.xti_script.specs.Canonical.{written_call}
+use Rattle.xti_script.proofs.Numbers.{Lacks}
+use Rattle.xti_script.proofs.Pieces.{lacks_by}
+use Rattle.xti_script.proofs.ValueTexts.{Reads, bytes_reads, options_reads, number_reads, provider_reads, mode_reads, name_reads}
+use Rattle.xti_script.proofs.Lines.{LineReads}
+use Rattle.xti_script.proofs.ScriptTexts.{LinesRead, both_read}
 use Rattle.xti_generate.specs.declared.sizes.TheConstants.{RING, MOST_SENT, ACCEPTING, CONNECTING, ROUNDS}
 use Rattle.xti_generate.specs.Generated.{opening, binding, listening, accepting, connecting, sending, sending_to, receiving, receiving_datagram, line, ring_name, next, round_bytes, ring_setup, connection_setup, datagram_round, send_round, receive_round, setups, datagram_rounds, ring, receive_rounds, send_rounds, accepting_side, connecting_side, generated_lines}
 use Rattle.xti_generate.proofs.KnownNames.{still_known, just_known, AreSilent, silent_both, not_known}
@@ -60,21 +60,21 @@ known_reads s name h w = name_reads s kind.Endpoint name refl h w.spaceless w.en
 
 module _ (earlier : List Line) (worker : ℕ) (small : worker ≤ LAST_WORKER) where
   opening_reads : (name : List ℕ) (prov : Prov) → is_new opens (after earlier worker) name ≡ true → IsWord name → LineReads earlier (line worker (opening name prov))
-  unfolding written_call form_of field
+  unfolding written_call form field
   opening_reads name prov h w = record {
     is_worker = small;
     call = (name_reads (after earlier worker) kind.NewEndpoint name refl h w.spaceless w.endless, (provider_reads (after earlier worker) prov, (mode_reads (after earlier worker) false, tt)));
   }
 
   binding_reads : (name addr : List ℕ) (qlen : ℕ) → is_defined opens (after earlier worker) name ≡ true → IsWord name → AreBytes addr → qlen < 4294967296 → LineReads earlier (line worker (binding name addr qlen))
-  unfolding written_call form_of field
+  unfolding written_call form field
   binding_reads name addr qlen h w b q = record {
     is_worker = small;
     call = (known_reads (after earlier worker) name h w, (bytes_reads (after earlier worker) addr b, (number_reads (after earlier worker) qlen q, (number_reads (after earlier worker) MOST_ADDRESS (omega arith), tt))));
   }
 
   listening_reads : (name seq : List ℕ) → is_defined opens (after earlier worker) name ≡ true → IsWord name → is_new listens (after earlier worker) seq ≡ true → IsWord seq → LineReads earlier (line worker (listening name seq))
-  unfolding written_call form_of field
+  unfolding written_call form field
   listening_reads name seq h w i v = record {
     is_worker = small;
     call = (
@@ -88,7 +88,7 @@ module _ (earlier : List Line) (worker : ℕ) (small : worker ≤ LAST_WORKER) w
 
   accepting_reads : (name resfd seq : List ℕ) → is_defined opens (after earlier worker) name ≡ true → IsWord name → is_defined opens (after earlier worker) resfd ≡ true → IsWord resfd
       → is_defined listens (after earlier worker) seq ≡ true → IsWord seq → LineReads earlier (line worker (accepting name resfd seq))
-  unfolding written_call form_of field
+  unfolding written_call form field
   accepting_reads name resfd seq h w i v j u = record {
     is_worker = small;
     call = (
@@ -104,7 +104,7 @@ module _ (earlier : List Line) (worker : ℕ) (small : worker ≤ LAST_WORKER) w
   }
 
   connecting_reads : (name addr : List ℕ) → is_defined opens (after earlier worker) name ≡ true → IsWord name → AreBytes addr → LineReads earlier (line worker (connecting name addr))
-  unfolding written_call form_of field
+  unfolding written_call form field
   connecting_reads name addr h w b = record {
     is_worker = small;
     call = (
@@ -123,39 +123,39 @@ module _ (earlier : List Line) (worker : ℕ) (small : worker ≤ LAST_WORKER) w
   }
 
   sending_reads : (name bytes : List ℕ) → is_defined opens (after earlier worker) name ≡ true → IsWord name → AreBytes bytes → LineReads earlier (line worker (sending name bytes))
-  unfolding written_call form_of field
+  unfolding written_call form field
   sending_reads name bytes h w b = record {
     is_worker = small;
     call = (known_reads (after earlier worker) name h w, (bytes_reads (after earlier worker) bytes b, (number_reads (after earlier worker) 0 (omega arith), tt)));
   }
 
   sending_to_reads : (name addr bytes : List ℕ) → is_defined opens (after earlier worker) name ≡ true → IsWord name → AreBytes addr → AreBytes bytes → LineReads earlier (line worker (sending_to name addr bytes))
-  unfolding written_call form_of field
+  unfolding written_call form field
   sending_to_reads name addr bytes h w a b = record {
     is_worker = small;
     call = (known_reads (after earlier worker) name h w, (bytes_reads (after earlier worker) addr a, (options_reads (after earlier worker) [] no_bytes, (bytes_reads (after earlier worker) bytes b, tt))));
   }
 
   receiving_reads : (name : List ℕ) → is_defined opens (after earlier worker) name ≡ true → IsWord name → LineReads earlier (line worker (receiving name))
-  unfolding written_call form_of field
+  unfolding written_call form field
   receiving_reads name h w = record {
     is_worker = small;
     call = (known_reads (after earlier worker) name h w, (number_reads (after earlier worker) MOST_SENT (omega arith), tt));
   }
 
   receiving_datagram_reads : (name : List ℕ) → is_defined opens (after earlier worker) name ≡ true → IsWord name → LineReads earlier (line worker (receiving_datagram name))
-  unfolding written_call form_of field
+  unfolding written_call form field
   receiving_datagram_reads name h w = record {
     is_worker = small;
     call = (known_reads (after earlier worker) name h w, (number_reads (after earlier worker) MOST_SENT (omega arith), (number_reads (after earlier worker) MOST_ADDRESS (omega arith), (number_reads (after earlier worker) MOST_OPTIONS (omega arith), tt))));
   }
 
   releasing_reads : (name : List ℕ) → is_defined opens (after earlier worker) name ≡ true → IsWord name → LineReads earlier (line worker (call.TSndRel name))
-  unfolding written_call form_of field
+  unfolding written_call form field
   releasing_reads name h w = record { is_worker = small; call = (known_reads (after earlier worker) name h w, tt) }
 
   taking_release_reads : (name : List ℕ) → is_defined opens (after earlier worker) name ≡ true → IsWord name → LineReads earlier (line worker (call.TRcvRel name))
-  unfolding written_call form_of field
+  unfolding written_call form field
   taking_release_reads name h w = record { is_worker = small; call = (known_reads (after earlier worker) name h w, tt) }
 
 -- ---- rounds

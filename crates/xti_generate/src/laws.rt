@@ -2,8 +2,8 @@
 
 ghost use Rattle.std.specs.Prelude.{◌≡◌, ℕ};
 ghost use Rattle.xti_model.specs.Profile.{usual};
-ghost use Rattle.xti_script.specs.Grammar.{HasText, IsScript};
-ghost use Rattle.xti_canonical.specs.Canonical.{script_text};
+ghost use Rattle.xti_script_reader.specs.Grammar.{HasText, IsScript};
+ghost use Rattle.xti_script.specs.Canonical.{script_text};
 ghost use Rattle.xti_generate.specs.Generated.{generated};
 
 /// A generated script is the script of its canonical text, and so has a text; its providers have their usual values.

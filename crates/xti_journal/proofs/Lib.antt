@@ -1,2 +1,13 @@
-mod Spaces
-mod Writes
+pub mod NumberLaws
+pub mod Splits
+pub mod ValueLaws
+pub mod FieldLaws
+pub mod CallText
+pub mod LineLaws
+pub mod TextLines
+pub mod OneEntry
+pub mod Kept
+pub mod BodyLaws
+pub mod Ruled
+pub mod HeadLaws
+pub mod Whole

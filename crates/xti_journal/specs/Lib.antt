@@ -1,2 +1,14 @@
-pub mod JournalText
-pub mod Writing
+pub mod Kinds
+pub mod FieldValue
+pub mod Fields
+pub mod Calls
+pub mod Grammar
+pub mod Refused
+pub mod Values
+pub mod Reading
+pub mod Unread
+pub mod Known
+pub mod Read
+pub mod Line
+pub mod Head
+pub use Rattle.xti_journal_text.specs.JournalText

@@ -1,258 +1,232 @@
-//! Calls with their numbers, each after a space.
+//! Reading calls from their fields. A call is written where the caller has it.
 
-ghost use Rattle.std.specs.Prelude.{◌≡◌, ◌++◌, OnOk, IsTrue, codes};
-ghost use Rattle.xti_journal.specs.JournalText.{call_text, act_text};
-ghost use Rattle.xti_model.specs.Families.{is_address_or_options, is_connection_request, is_connection_receipt, is_send, is_receive};
+ghost use Rattle.std.specs.Prelude.{◌≡◌, true};
+ghost use Rattle.xti_journal.specs.Calls.{form};
+ghost use Rattle.xti_verbs.specs.Families.{is_plain, is_local, is_connecting, is_data, is_datagram};
+ghost use Rattle.xti_journal.specs.Reading.{act_read, begun};
+ghost use Rattle.xti_journal.specs.Unread.{unread, Gives};
 
-use crate::words::{
-    put_address_and_options, put_address_limits, put_mode, put_most, put_pairs, put_parts,
-    put_sizes,
-};
-use std::alloc::AllocError;
+use crate::fields::{FieldFail, Fields};
+use xti_base::{build_or_drop, write_over};
 use xti_model::{Act, Call};
-use xti_text::{put_number, put_text};
+use xti_verbs::Verb;
 
-// A call that names an address, asks for addresses or settles options.
-fn put_address_or_options(out: &mut Vec<u8>, call: &Call) -> Result<(), AllocError>
-    requires { IsTrue (is_address_or_options call.now) }
-    ensures { OnOk result (out.new.items ≡ out.old.items ++ codes " " ++ call_text call.now) }
+/// Writes a call that says no more than which endpoint.
+#[tactic(auto, unfolding(crate::specs::Fields::field, crate::specs::Calls::form))]
+fn read_plain(verb: Verb, fields: &mut Fields, act: &mut Act) -> Result<(), FieldFail>
+    requires family { is_plain verb ≡ true }
+    requires keys { fields.old.keys.now ≡ form verb }
+    ensures { Gives (λ _. act_read act.new) (begun verb (unread fields.old)) fields.new.words result }
 {
-    match call {
-        Call::TBind {
-            fd,
-            addr,
-            qlen,
-            amax,
-        } => {
-            put_number(out, " bind ", fd.0 as u64)?;
-            put_pairs(out, " addr=x:", addr)?;
-            put_number(out, " qlen=", *qlen as u64)?;
-            put_number(out, " amax=", *amax as u64)
-        }
-        Call::TGetProtAddr { fd, amax, pmax } => {
-            put_number(out, " getprotaddr ", fd.0 as u64)?;
-            put_number(out, " amax=", *amax as u64)?;
-            put_number(out, " pmax=", *pmax as u64)
-        }
-        Call::TOptMgmt {
-            fd,
-            action,
-            opt,
-            omax,
-        } => {
-            put_number(out, " optmgmt ", fd.0 as u64)?;
-            put_number(out, " ", *action as u64)?;
-            put_pairs(out, " opt=x:", opt)?;
-            put_number(out, " omax=", *omax as u64)
-        }
+    let fd = read_or_end!(fields.fd());
+    let call = match verb {
+        Verb::Close => Call::TClose { fd },
+        Verb::Unbind => Call::TUnbind { fd },
+        Verb::SndRel => Call::TSndRel { fd },
+        Verb::RcvRel => Call::TRcvRel { fd },
+        Verb::Look => Call::TLookAt { fd },
+        Verb::GetState => Call::TGetState { fd },
+        Verb::Sync => Call::TSync { fd },
+        Verb::GetInfo => Call::TGetInfo { fd },
         _ => unreachable!(),
-    }
+    };
+    write_over(act, Act::Begin(call));
+    Ok(())
 }
 
-// A call that asks for a connection, takes one or ends one.
-fn put_connection_request(out: &mut Vec<u8>, call: &Call) -> Result<(), AllocError>
-    requires { IsTrue (is_connection_request call.now) }
-    ensures { OnOk result (out.new.items ≡ out.old.items ++ codes " " ++ call_text call.now) }
+/// Writes a call that opens an endpoint, or sets or asks what belongs to it.
+#[tactic(auto, unfolding(crate::specs::Fields::field, crate::specs::Calls::form))]
+fn read_local(verb: Verb, fields: &mut Fields, act: &mut Act) -> Result<(), FieldFail>
+    requires family { is_local verb ≡ true }
+    requires keys { fields.old.keys.now ≡ form verb }
+    ensures { Gives (λ _. act_read act.new) (begun verb (unread fields.old)) fields.new.words result }
 {
-    match call {
-        Call::TConnect {
-            fd,
-            addr,
-            opt,
-            udata,
-            amax,
-            omax,
-            umax,
-        } => {
-            put_number(out, " connect ", fd.0 as u64)?;
-            put_address_and_options(out, addr, opt)?;
-            put_pairs(out, " udata=x:", udata)?;
-            put_most(out, *amax, *omax, *umax)
-        }
-        Call::TAccept {
-            fd,
-            resfd,
-            seq,
-            opt,
-            udata,
-        } => {
-            put_number(out, " accept ", fd.0 as u64)?;
-            put_number(out, " ", resfd.0 as u64)?;
-            put_number(out, " ", seq.0 as u64)?;
-            put_pairs(out, " opt=x:", opt)?;
-            put_pairs(out, " udata=x:", udata)
-        }
-        Call::TSndDis { fd, seq, udata } => {
-            put_number(out, " snddis ", fd.0 as u64)?;
-            put_number(out, " ", seq.0 as u64)?;
-            put_pairs(out, " udata=x:", udata)
-        }
+    let call = match verb {
+        Verb::Open => build_or_drop!(Call::TOpen {
+            prov = fields.provider(),
+            nonblock = fields.mode(),
+        }),
+        Verb::Bind => build_or_drop!(Call::TBind {
+            fd = fields.fd(),
+            addr: fields.bytes(),
+            qlen = fields.number(),
+            amax = fields.number(),
+        }),
+        Verb::SetMode => build_or_drop!(Call::SetMode {
+            fd = fields.fd(),
+            nonblock = fields.mode(),
+        }),
+        Verb::GetProtAddr => build_or_drop!(Call::TGetProtAddr {
+            fd = fields.fd(),
+            amax = fields.number(),
+            pmax = fields.number(),
+        }),
+        Verb::OptMgmt => build_or_drop!(Call::TOptMgmt {
+            fd = fields.fd(),
+            action = fields.number(),
+            opt: fields.bytes(),
+            omax = fields.number(),
+        }),
         _ => unreachable!(),
-    }
+    };
+    write_over(act, Act::Begin(call));
+    Ok(())
 }
 
-// A call that takes what the other side asked or answered about a connection.
-#[tactic(auto, using(crate::proofs::Spaces::space_first))]
-fn put_connection_receipt(out: &mut Vec<u8>, call: &Call) -> Result<(), AllocError>
-    requires { IsTrue (is_connection_receipt call.now) }
-    ensures { OnOk result (out.new.items ≡ out.old.items ++ codes " " ++ call_text call.now) }
+/// Writes a call that makes a connection or breaks it.
+#[tactic(auto, unfolding(crate::specs::Fields::field, crate::specs::Calls::form))]
+fn read_connecting(verb: Verb, fields: &mut Fields, act: &mut Act) -> Result<(), FieldFail>
+    requires family { is_connecting verb ≡ true }
+    requires keys { fields.old.keys.now ≡ form verb }
+    ensures { Gives (λ _. act_read act.new) (begun verb (unread fields.old)) fields.new.words result }
 {
-    match call {
-        Call::TRcvConnect {
-            fd,
-            amax,
-            omax,
-            umax,
-        } => {
-            put_number(out, " rcvconnect ", fd.0 as u64)?;
-            put_most(out, *amax, *omax, *umax)
-        }
-        Call::TListen {
-            fd,
-            amax,
-            omax,
-            umax,
-        } => {
-            put_number(out, " listen ", fd.0 as u64)?;
-            put_most(out, *amax, *omax, *umax)
-        }
-        Call::TRcvDis { fd, umax } => {
-            put_number(out, " rcvdis ", fd.0 as u64)?;
-            put_number(out, " umax=", *umax as u64)
-        }
+    let fd = read_or_end!(fields.fd());
+    let call = match verb {
+        Verb::Connect => build_or_drop!(Call::TConnect {
+            fd;
+            addr: fields.bytes(),
+            opt: fields.bytes(),
+            udata: fields.bytes(),
+            amax = fields.number(),
+            omax = fields.number(),
+            umax = fields.number(),
+        }),
+        Verb::RcvConnect => build_or_drop!(Call::TRcvConnect {
+            fd;
+            amax = fields.number(),
+            omax = fields.number(),
+            umax = fields.number(),
+        }),
+        Verb::Listen => build_or_drop!(Call::TListen {
+            fd;
+            amax = fields.number(),
+            omax = fields.number(),
+            umax = fields.number(),
+        }),
+        Verb::Accept => build_or_drop!(Call::TAccept {
+            fd;
+            resfd = fields.fd(),
+            seq = fields.seq(),
+            opt: fields.bytes(),
+            udata: fields.bytes(),
+        }),
+        Verb::SndDis => build_or_drop!(Call::TSndDis {
+            fd;
+            seq = fields.seq(),
+            udata: fields.bytes(),
+        }),
+        Verb::RcvDis => build_or_drop!(Call::TRcvDis {
+            fd;
+            umax = fields.number(),
+        }),
         _ => unreachable!(),
-    }
+    };
+    write_over(act, Act::Begin(call));
+    Ok(())
 }
 
-// A call that sends data or a datagram.
-#[inline(never)]
-fn put_send(out: &mut Vec<u8>, call: &Call) -> Result<(), AllocError>
-    requires { IsTrue (is_send call.now) }
-    ensures { OnOk result (out.new.items ≡ out.old.items ++ codes " " ++ call_text call.now) }
+/// Writes a call that sends or receives on a connection.
+#[tactic(auto, unfolding(crate::specs::Fields::field, crate::specs::Calls::form))]
+fn read_data(verb: Verb, fields: &mut Fields, act: &mut Act) -> Result<(), FieldFail>
+    requires family { is_data verb ≡ true }
+    requires keys { fields.old.keys.now ≡ form verb }
+    ensures { Gives (λ _. act_read act.new) (begun verb (unread fields.old)) fields.new.words result }
 {
-    match call {
-        Call::TSnd { fd, bytes, flags } => {
-            put_number(out, " snd ", fd.0 as u64)?;
-            put_pairs(out, " data=x:", bytes)?;
-            put_number(out, " flags=", *flags as u64)
-        }
-        Call::TSndV { fd, parts, flags } => {
-            put_number(out, " sndv ", fd.0 as u64)?;
-            put_parts(out, parts.as_slice())?;
-            put_number(out, " flags=", *flags as u64)
-        }
-        Call::TSndUData {
-            fd,
-            addr,
-            opt,
-            bytes,
-        } => {
-            put_number(out, " sndudata ", fd.0 as u64)?;
-            put_address_and_options(out, addr, opt)?;
-            put_pairs(out, " data=x:", bytes)
-        }
-        Call::TSndVUData {
-            fd,
-            addr,
-            opt,
-            parts,
-        } => {
-            put_number(out, " sndvudata ", fd.0 as u64)?;
-            put_address_and_options(out, addr, opt)?;
-            put_parts(out, parts.as_slice())
-        }
+    let fd = read_or_end!(fields.fd());
+    let call = match verb {
+        Verb::Snd => build_or_drop!(Call::TSnd {
+            fd;
+            bytes: fields.bytes(),
+            flags = fields.number(),
+        }),
+        Verb::SndV => build_or_drop!(Call::TSndV {
+            fd;
+            parts: fields.parts(),
+            flags = fields.number(),
+        }),
+        Verb::Rcv => build_or_drop!(Call::TRcv {
+            fd;
+            max = fields.number(),
+        }),
+        Verb::RcvV => build_or_drop!(Call::TRcvV {
+            fd;
+            sizes: fields.sizes(),
+        }),
         _ => unreachable!(),
-    }
+    };
+    write_over(act, Act::Begin(call));
+    Ok(())
 }
 
-// A call that takes data, a datagram or the error of a datagram.
-#[inline(never)]
-fn put_receive(out: &mut Vec<u8>, call: &Call) -> Result<(), AllocError>
-    requires { IsTrue (is_receive call.now) }
-    ensures { OnOk result (out.new.items ≡ out.old.items ++ codes " " ++ call_text call.now) }
+/// Writes a call that sends or receives a datagram, or the error of one.
+#[tactic(auto, unfolding(crate::specs::Fields::field, crate::specs::Calls::form))]
+fn read_datagram(verb: Verb, fields: &mut Fields, act: &mut Act) -> Result<(), FieldFail>
+    requires family { is_datagram verb ≡ true }
+    requires keys { fields.old.keys.now ≡ form verb }
+    ensures { Gives (λ _. act_read act.new) (begun verb (unread fields.old)) fields.new.words result }
 {
-    match call {
-        Call::TRcv { fd, max } => {
-            put_number(out, " rcv ", fd.0 as u64)?;
-            put_number(out, " max=", *max as u64)
-        }
-        Call::TRcvV { fd, sizes } => {
-            put_number(out, " rcvv ", fd.0 as u64)?;
-            put_sizes(out, sizes.as_slice())
-        }
-        Call::TRcvUData {
-            fd,
-            max,
-            amax,
-            omax,
-        } => {
-            put_number(out, " rcvudata ", fd.0 as u64)?;
-            put_number(out, " max=", *max as u64)?;
-            put_address_limits(out, *amax, *omax)
-        }
-        Call::TRcvVUData {
-            fd,
-            sizes,
-            amax,
-            omax,
-        } => {
-            put_number(out, " rcvvudata ", fd.0 as u64)?;
-            put_sizes(out, sizes.as_slice())?;
-            put_address_limits(out, *amax, *omax)
-        }
-        Call::TRcvUDErr { fd, amax, omax } => {
-            put_number(out, " rcvuderr ", fd.0 as u64)?;
-            put_address_limits(out, *amax, *omax)
-        }
+    let fd = read_or_end!(fields.fd());
+    let call = match verb {
+        Verb::SndUData => build_or_drop!(Call::TSndUData {
+            fd;
+            addr: fields.bytes(),
+            opt: fields.bytes(),
+            bytes: fields.bytes(),
+        }),
+        Verb::SndVUData => build_or_drop!(Call::TSndVUData {
+            fd;
+            addr: fields.bytes(),
+            opt: fields.bytes(),
+            parts: fields.parts(),
+        }),
+        Verb::RcvUData => build_or_drop!(Call::TRcvUData {
+            fd;
+            max = fields.number(),
+            amax = fields.number(),
+            omax = fields.number(),
+        }),
+        Verb::RcvVUData => build_or_drop!(Call::TRcvVUData {
+            fd;
+            sizes: fields.sizes(),
+            amax = fields.number(),
+            omax = fields.number(),
+        }),
+        Verb::RcvUDErr => build_or_drop!(Call::TRcvUDErr {
+            fd;
+            amax = fields.number(),
+            omax = fields.number(),
+        }),
         _ => unreachable!(),
-    }
+    };
+    write_over(act, Act::Begin(call));
+    Ok(())
 }
 
-pub(crate) fn put_call(out: &mut Vec<u8>, call: &Call) -> Result<(), AllocError>
-    ensures { OnOk result (out.new.items ≡ out.old.items ++ codes " " ++ call_text call.now) }
+/// Writes the call whose fields these are.
+pub(crate) fn read_call(verb: Verb, fields: &mut Fields, act: &mut Act) -> Result<(), FieldFail>
+    requires { fields.old.keys.now ≡ form verb }
+    ensures { Gives (λ _. act_read act.new) (begun verb (unread fields.old)) fields.new.words result }
 {
-    match call {
-        Call::TOpen { prov, nonblock } => {
-            put_text(out, " open ")?;
-            put_text(out, prov.name())?;
-            put_mode(out, " ", *nonblock)
-        }
-        Call::SetMode { fd, nonblock } => {
-            put_number(out, " mode ", fd.0 as u64)?;
-            put_mode(out, " ", *nonblock)
-        }
-        Call::TClose { fd } => put_number(out, " close ", fd.0 as u64),
-        Call::TUnbind { fd } => put_number(out, " unbind ", fd.0 as u64),
-        Call::TSndRel { fd } => put_number(out, " sndrel ", fd.0 as u64),
-        Call::TRcvRel { fd } => put_number(out, " rcvrel ", fd.0 as u64),
-        Call::TLookAt { fd } => put_number(out, " look ", fd.0 as u64),
-        Call::TGetState { fd } => put_number(out, " getstate ", fd.0 as u64),
-        Call::TSync { fd } => put_number(out, " sync ", fd.0 as u64),
-        Call::TGetInfo { fd } => put_number(out, " getinfo ", fd.0 as u64),
-        Call::TBind { .. } | Call::TGetProtAddr { .. } | Call::TOptMgmt { .. } => {
-            put_address_or_options(out, call)
-        }
-        Call::TConnect { .. } | Call::TAccept { .. } | Call::TSndDis { .. } => {
-            put_connection_request(out, call)
-        }
-        Call::TRcvConnect { .. } | Call::TListen { .. } | Call::TRcvDis { .. } => {
-            put_connection_receipt(out, call)
-        }
-        Call::TSnd { .. } | Call::TSndV { .. } | Call::TSndUData { .. } | Call::TSndVUData { .. } =>
-            put_send(out, call),
-        Call::TRcv { .. }
-        | Call::TRcvV { .. }
-        | Call::TRcvUData { .. }
-        | Call::TRcvVUData { .. }
-        | Call::TRcvUDErr { .. } => put_receive(out, call),
-    }
-}
-
-pub(crate) fn put_act(out: &mut Vec<u8>, act: &Act) -> Result<(), AllocError>
-    ensures { OnOk result (out.new.items ≡ out.old.items ++ codes " " ++ act_text act.now) }
-{
-    match act {
-        Act::Begin(call) => put_call(out, call),
-        Act::More => put_text(out, " more"),
+    match verb {
+        Verb::Close
+        | Verb::Unbind
+        | Verb::SndRel
+        | Verb::RcvRel
+        | Verb::Look
+        | Verb::GetState
+        | Verb::Sync
+        | Verb::GetInfo => read_plain(verb, fields, act),
+        Verb::Open | Verb::Bind | Verb::SetMode | Verb::GetProtAddr | Verb::OptMgmt => {
+            read_local(verb, fields, act)
+        },
+        Verb::Connect
+        | Verb::RcvConnect
+        | Verb::Listen
+        | Verb::Accept
+        | Verb::SndDis
+        | Verb::RcvDis => read_connecting(verb, fields, act),
+        Verb::Snd | Verb::SndV | Verb::Rcv | Verb::RcvV => read_data(verb, fields, act),
+        Verb::SndUData | Verb::SndVUData | Verb::RcvUData | Verb::RcvVUData | Verb::RcvUDErr =>
+            read_datagram(verb, fields, act),
     }
 }

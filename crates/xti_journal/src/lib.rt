@@ -1,12 +1,30 @@
-//! The text of journals, and writing it.
+//! Journals read back.
 #![tactic(auto)]
 
-mod calls;
-mod journal;
-mod replies;
-mod words;
-mod writer;
+/// What was read; where it wasn't, the function ends with that error, as at `?`, which is two calls more to prove.
+macro_rules! read_or_end {
+    ($read:expr) => {
+        match $read {
+            Ok(read) => read,
+            Err(fail) => return Err(fail),
+        }
+    };
+}
 
-pub use journal::{write_answer, write_entry, write_journal};
-pub use writer::JournalWriter;
+mod answers;
+mod body;
+mod calls;
+mod draft;
+mod fields;
+mod forms;
+mod journal_text;
+mod laws;
+mod lines;
+mod names;
+mod values;
+
+pub use journal_text::{JournalFail, read_journal};
+pub use laws::{never_both, one_journal, written_journals_are_read};
+pub use xti_journal_text::{JournalWriter, write_answer, write_entry, write_journal};
 pub use xti_model::{Entries, Entry, Journal, StallLine, Stalls};
+pub use xti_verbs::{Answer, Verb};

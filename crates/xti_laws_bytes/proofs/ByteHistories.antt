@@ -13,9 +13,9 @@ use Rattle.xti_model.specs.Profile.{valid}
 use Rattle.xti_model.specs.World.{World, opening}
 use Rattle.xti_model.specs.Step.{Step, step}
 use Rattle.xti_model.specs.History.{Going, own, is_own, call_after, going_after, unfinished_from, unfinished, begins, made_by, doing, step_going, step_at, left_by, Fits, LegalFrom, Legal}
-use Rattle.xti_requests.proofs.Histories.{opening-none}
-use Rattle.xti_sound.specs.Invariant.{SoundWorld}
-use Rattle.xti_sound.specs.Given.{StaysSound}
+use Rattle.xti_laws_requests.proofs.Histories.{opening-none}
+use Rattle.xti_laws_sound.specs.Invariant.{SoundWorld}
+use Rattle.xti_laws_sound.specs.Given.{StaysSound}
 use Rattle.xti_laws_bytes.specs.Values.{IsOfBytes, BeginsOfBytes, AreOfBytes, HasValues, AnswersValues}
 use Rattle.xti_laws_bytes.proofs.ByteWorlds.{Bytes, AllBytes, next-bytes}
 use Rattle.xti_laws_bytes.proofs.ByteReplies.{IsNumberGo, replies-valued}

@@ -43,10 +43,10 @@ use Rattle.xti_model.specs.Calls.Disconnect as Disconnects
 use Rattle.xti_model.specs.Calls.Datagrams as Datagrams
 use Rattle.xti_model.specs.Calls.Show as Show
 use Rattle.xti_model.specs.SentBytes.{AreBytes}
-use Rattle.xti_requests.proofs.StepWays.{is_denial, all_deny, none-is}
-use Rattle.xti_sound.specs.Invariant.{SoundWorld}
-use Rattle.xti_sound.proofs.CountingBindings.{few-bindings}
-use Rattle.xti_sound.proofs.ToldOutcomes.{StepTells, RefusalTells, denied, later-told, later-none, Clear, clear, told}
+use Rattle.xti_laws_requests.proofs.StepWays.{is_denial, all_deny, none-is}
+use Rattle.xti_laws_sound.specs.Invariant.{SoundWorld}
+use Rattle.xti_laws_sound.proofs.CountingBindings.{few-bindings}
+use Rattle.xti_laws_sound.proofs.ToldOutcomes.{StepTells, RefusalTells, denied, later-told, later-none, Clear, clear, told}
 use Rattle.xti_laws_bytes.specs.Values.{IsOfBytes, IsNumber, IsLimit, AreLimits, HasValues}
 use Rattle.xti_laws_bytes.proofs.ByteLists.{none-bytes, chosen-bytes, front-bytes}
 use Rattle.xti_laws_bytes.proofs.AnsweredOptions.{negotiated-fits}

@@ -36,11 +36,11 @@ use Rattle.xti_model.specs.Calls.Datagrams as Datagrams
 use Rattle.xti_model.specs.Calls.Show as Show
 use Rattle.xti_model.specs.SentBytes.{AreBytes}
 use Rattle.xti_laws.proofs.ChangedEndpoints.{endpoint-same, endpoint-other}
-use Rattle.xti_requests.proofs.KeptEndpoints.{AllKeep, append-keep, keeps}
-use Rattle.xti_sound.specs.Invariant.{SoundWorld}
-use Rattle.xti_sound.proofs.PassedRows.{step-keeps, call-keeps}
-use Rattle.xti_sound.proofs.ShortLists.{All-without, All-find}
-use Rattle.xti_sound.proofs.CountingBindings.{few-bindings}
+use Rattle.xti_laws_requests.proofs.KeptEndpoints.{AllKeep, append-keep, keeps}
+use Rattle.xti_laws_sound.specs.Invariant.{SoundWorld}
+use Rattle.xti_laws_sound.proofs.PassedRows.{step-keeps, call-keeps}
+use Rattle.xti_laws_sound.proofs.ShortLists.{All-without, All-find}
+use Rattle.xti_laws_sound.proofs.CountingBindings.{few-bindings}
 use Rattle.xti_laws_bytes.specs.Values.{IsOfBytes, IsNumber}
 use Rattle.xti_laws_bytes.proofs.ByteLists.{none-bytes, chosen-bytes, IsSymbol, none-symbols, piece-symbols}
 

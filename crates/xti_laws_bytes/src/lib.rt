@@ -8,7 +8,7 @@ ghost use Rattle.xti_model.specs.History.{Legal};
 ghost use Rattle.xti_model.specs.Profile.{valid};
 ghost use Rattle.xti_laws_bytes.specs.Values.{AreOfBytes, AnswersValues};
 
-use xti_sound::worlds_stay_sound;
+use xti_laws_sound::worlds_stay_sound;
 
 /// Where the calls of a legal history are of bytes, so are its answers, and each of their numbers has 32 bits.
 ///

@@ -8,13 +8,14 @@ use Rattle.xti_base.specs.declared.limit.Limit.TheVariants.{At, Infinite, Invali
 use Rattle.xti_model.specs.declared.entry.Outcome.{Outcome}
 use Rattle.xti_model.specs.declared.entry.Outcome.TheVariants.{Done, Part}
 use Rattle.xti_model.specs.declared.entry.Reply.TheVariants as reply
-use Rattle.xti_journal_reader.specs.declared.verbs.Verb.{Verb}
-use Rattle.xti_journal_reader.specs.Kinds.{Kind as kind}
-use Rattle.xti_journal_reader.specs.FieldValue.{Value as value}
-use Rattle.xti_journal_reader.specs.Fields.{field, IsOfKind, AreFields}
-use Rattle.xti_journal_reader.specs.Calls.{answer_form, answer_to, answer_values}
-use Rattle.xti_journal_reader.specs.Grammar.{IsAnswer}
-use Rattle.xti_answers.specs.Answers.{has_field, AnswersInForm}
+use Rattle.xti_verbs.specs.declared.verb.Verb.{Verb}
+use Rattle.xti_journal.specs.Kinds.{Kind as kind}
+use Rattle.xti_journal.specs.FieldValue.{Value as value}
+use Rattle.xti_journal.specs.Fields.{field, IsOfKind, AreFields}
+use Rattle.xti_verbs.specs.Verbs.{answer_to}
+use Rattle.xti_journal.specs.Calls.{answer_form, answer_values}
+use Rattle.xti_journal.specs.Grammar.{IsAnswer}
+use Rattle.xti_laws_answers.specs.Answers.{has_field, AnswersInForm}
 use Rattle.xti_laws_bytes.specs.Values.{IsLimit, HasValues}
 
 limit-kind : (l : Limit) → IsLimit l → IsOfKind kind.Limit (value.Limit l)

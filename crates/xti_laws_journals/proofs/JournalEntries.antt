@@ -16,11 +16,11 @@ use Rattle.xti_model.specs.World.{World}
 use Rattle.xti_model.specs.Step.{Step, step}
 use Rattle.xti_model.specs.History.{Going, own, call_after, unfinished, made_by, doing, step_going, step_at, left_by, Fits, LegalFrom}
 use Rattle.xti_model.proofs.Working.{call_from, IsCallOf, call_of-from}
-use Rattle.xti_journal_reader.specs.declared.verbs.Verb.{Verb}
-use Rattle.xti_journal_reader.specs.Calls.{verb_of}
-use Rattle.xti_journal_reader.specs.Grammar.{verb_after, verb_from, last_verb, IsAct, IsAnswer, IsEntry, AreEntries}
-use Rattle.xti_sound.specs.Given.{OfStep}
-use Rattle.xti_answers.specs.Answers.{AnswersInForm}
+use Rattle.xti_verbs.specs.declared.verb.Verb.{Verb}
+use Rattle.xti_verbs.specs.Verbs.{verb_of}
+use Rattle.xti_journal.specs.Grammar.{verb_after, verb_from, last_verb, IsAct, IsAnswer, IsEntry, AreEntries}
+use Rattle.xti_laws_sound.specs.Given.{OfStep}
+use Rattle.xti_laws_answers.specs.Answers.{AnswersInForm}
 use Rattle.xti_laws_bytes.specs.Values.{AnswersValues}
 use Rattle.xti_laws_journals.proofs.FollowedCalls.{Begins, AllBegin}
 use Rattle.xti_laws_journals.proofs.ValuedScripts.{IsWritable}

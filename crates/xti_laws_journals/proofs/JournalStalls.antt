@@ -15,8 +15,8 @@ use Rattle.xti_model.specs.Resolve.{Placed}
 use Rattle.xti_model.specs.Robin.{act_of, begin_line, next_line, next_or, next_going, is_through, numbers}
 use Rattle.xti_model.specs.Step.{Step}
 use Rattle.xti_model.proofs.Legality.{GoesOn, unfinished-goes_on, next-doing}
-use Rattle.xti_journal_reader.specs.Calls.{verb_of}
-use Rattle.xti_journal_reader.specs.Grammar.{last_verb, IsAct, IsStall, AreStalls, AreStallsAfter}
+use Rattle.xti_verbs.specs.Verbs.{verb_of}
+use Rattle.xti_journal.specs.Grammar.{last_verb, IsAct, IsStall, AreStalls, AreStallsAfter}
 use Rattle.xti_replay.specs.Stalls.{stall_of, stall_at, stalls_after}
 use Rattle.xti_check.specs.Verdicts.{IsBlockedAt, IsRightStall, AreRightStalls}
 use Rattle.xti_laws_journals.proofs.ValuedScripts.{IsWritable}

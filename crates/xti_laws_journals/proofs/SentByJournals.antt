@@ -9,17 +9,18 @@ use Rattle.xti_model.specs.declared.entry.Act.{Act}
 use Rattle.xti_model.specs.declared.entry.Act.TheVariants.{Begin, More}
 use Rattle.xti_model.specs.declared.entry.Entry.{Entry}
 use Rattle.xti_model.specs.SentBytes.{AreBytes, SendsBytes, BeginsBytes, AllSendBytes}
-use Rattle.xti_journal_reader.specs.declared.verbs.Verb.{Verb}
-use Rattle.xti_journal_reader.specs.Fields.{field, AreFields}
-use Rattle.xti_journal_reader.specs.Calls.{form_of, form, verb_of, call_values}
-use Rattle.xti_journal_reader.specs.Grammar.{IsAct, AreEntries}
+use Rattle.xti_verbs.specs.declared.verb.Verb.{Verb}
+use Rattle.xti_journal.specs.Fields.{field, AreFields}
+use Rattle.xti_verbs.specs.Verbs.{verb_of}
+use Rattle.xti_journal.specs.Calls.{form, call_values}
+use Rattle.xti_journal.specs.Grammar.{IsAct, AreEntries}
 
 joined-bytes : (parts : List (List ℕ)) → All AreBytes parts → AreBytes (concat parts)
 joined-bytes [] a = All-nil (λ b. b < 256)
 joined-bytes (part ∷ parts) a = All-append (λ b. b < 256) part (concat parts) (All-head AreBytes part parts a) (joined-bytes parts (All-tail AreBytes part parts a))
 
 fields-send : (c : Call) → AreFields (form (verb_of c)) (call_values c) → SendsBytes c
-unfolding form_of field
+unfolding form field
 fields-send (call.TSnd fd bytes flags) h = h.1.0
 fields-send (call.TSndV fd parts flags) h = joined-bytes parts h.1.0
 fields-send other h = tt

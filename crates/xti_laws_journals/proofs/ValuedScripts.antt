@@ -17,21 +17,22 @@ use Rattle.xti_words.specs.Texts.{pieces_of}
 use Rattle.xti_words.specs.Values.{decimal, is_decimal, number_in, bytes_in, onto, each_in, list_in, options_in, provider_in, mode_in, action_in}
 use Rattle.xti_words.specs.declared.values.TheConstants.{MOST_PIECES}
 use Rattle.xti_words.proofs.WordBytes.{some-is, none-is, word-bytes, option-bytes}
-use Rattle.xti_script.specs.Kinds.{Kind}
-use Rattle.xti_script.specs.Kinds.{Kind as kind}
-use Rattle.xti_script.specs.FieldValue.{Value}
-use Rattle.xti_script.specs.FieldValue.Value.{Bytes, Number, Parts, Sizes, Name, NameOrNone, Provider, Mode}
-use Rattle.xti_script.specs.declared.fields.Key.{Key}
-use Rattle.xti_script.specs.declared.fields.Key.TheVariants as key
-use Rattle.xti_script.specs.declared.verbs.Verb.{Verb}
-use Rattle.xti_script.specs.declared.verbs.Verb.TheVariants.{Open, Close, Bind, Unbind, Connect, RcvConnect, Listen, Accept, Snd, SndV, Rcv, RcvV, SndDis, RcvDis, SndRel, RcvRel, SndUData, SndVUData, RcvUData, RcvVUData, RcvUDErr, Look, GetState, Sync, GetInfo, GetProtAddr, OptMgmt, SetMode}
-use Rattle.xti_script.specs.Names.{Spot, after, is_defined, can_name}
-use Rattle.xti_script.specs.Values.{named, sequence_or_none, value_in}
-use Rattle.xti_script.specs.Fields.{field, kind_of, usual_value, AreFields}
-use Rattle.xti_script.specs.Calls.{call_with}
-use Rattle.xti_script.specs.Grammar.{IsCall, AreLines, calls_in, HasText}
-use Rattle.xti_journal_reader.specs.Fields.{field as journal_field, AreFields as AreJournalFields}
-use Rattle.xti_journal_reader.specs.Calls.{form_of, form, verb_of, call_values}
+use Rattle.xti_script_reader.specs.Kinds.{Kind}
+use Rattle.xti_script_reader.specs.Kinds.{Kind as kind}
+use Rattle.xti_script_reader.specs.FieldValue.{Value}
+use Rattle.xti_script_reader.specs.FieldValue.Value.{Bytes, Number, Parts, Sizes, Name, NameOrNone, Provider, Mode}
+use Rattle.xti_script_reader.specs.declared.fields.Key.{Key}
+use Rattle.xti_script_reader.specs.declared.fields.Key.TheVariants as key
+use Rattle.xti_verbs.specs.declared.verb.Verb.{Verb}
+use Rattle.xti_verbs.specs.declared.verb.Verb.TheVariants.{Open, Close, Bind, Unbind, Connect, RcvConnect, Listen, Accept, Snd, SndV, Rcv, RcvV, SndDis, RcvDis, SndRel, RcvRel, SndUData, SndVUData, RcvUData, RcvVUData, RcvUDErr, Look, GetState, Sync, GetInfo, GetProtAddr, OptMgmt, SetMode}
+use Rattle.xti_script_reader.specs.Names.{Spot, after, is_defined, can_name}
+use Rattle.xti_script_reader.specs.Values.{named, sequence_or_none, value_in}
+use Rattle.xti_script_reader.specs.Fields.{field, kind_of, usual_value, AreFields}
+use Rattle.xti_script_reader.specs.Calls.{call_with}
+use Rattle.xti_script_reader.specs.Grammar.{IsCall, AreLines, calls_in, HasText}
+use Rattle.xti_journal.specs.Fields.{field as journal_field, AreFields as AreJournalFields}
+use Rattle.xti_verbs.specs.Verbs.{verb_of}
+use Rattle.xti_journal.specs.Calls.{form, call_values}
 use Rattle.xti_laws_bytes.specs.Values.{IsNumber}
 use Rattle.xti_laws_journals.proofs.FollowedCalls.{AllLines}
 
@@ -181,7 +182,7 @@ or-none m None k = omega arith
 or-none m (Some name) k = k.1 name
 
 call-fields : (verb : Verb) (values : List Value) (d : NamedCall) → AllValued values → call_with verb values ≡ Some d → IsWritableNamed d
-unfolding call_with form_of journal_field
+unfolding call_with form journal_field
 call-fields Open (Name v1 ∷ Provider v2 ∷ Mode v3 ∷ []) d h e = same (call.TOpen v1 v2 v3) d (λ m k. (tt, (tt, tt))) e
 call-fields Close (Name v1 ∷ []) d h e = same (call.TClose v1) d (λ m k. (k.0 v1, tt)) e
 call-fields Bind (Name v1 ∷ Bytes v2 ∷ Number v3 ∷ Number v4 ∷ []) d h e = same (call.TBind v1 v2 v3 v4) d (λ m k. (k.0 v1, h.1)) e

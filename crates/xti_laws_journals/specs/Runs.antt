@@ -4,7 +4,7 @@ use Rattle.xti_model.specs.declared.entry.Entry.{Entry}
 use Rattle.xti_model.specs.declared.script.Journal.{Journal}
 use Rattle.xti_model.specs.declared.script.Script.{Script}
 use Rattle.xti_model.specs.Work.{script_bytes}
-use Rattle.xti_journal_reader.specs.Grammar.{IsJournal}
+use Rattle.xti_journal.specs.Grammar.{IsJournal}
 use Rattle.xti_replay.specs.Stalls.{stalls_after}
 
 -- the journal of these entries, with a stall line for each worker that they leave unfinished

@@ -8,17 +8,17 @@ ghost use Rattle.xti_model.specs.declared.script.Journal.{Journal};
 ghost use Rattle.xti_model.specs.declared.script.Script.{Script};
 ghost use Rattle.xti_model.specs.Complete.{Complete};
 ghost use Rattle.xti_model.specs.SentBytes.{AllSendBytes};
-ghost use Rattle.xti_journal.specs.JournalText.{journal_text};
-ghost use Rattle.xti_journal_reader.specs.Grammar.{HasText, IsJournal};
+ghost use Rattle.xti_journal_text.specs.JournalText.{journal_text};
+ghost use Rattle.xti_journal.specs.Grammar.{HasText, IsJournal};
 ghost use Rattle.xti_check.specs.Verdicts.{IsLegal};
-ghost use Rattle.xti_script.specs.Grammar.{HasText as HasScriptText};
-ghost use Rattle.xti_streams.specs.Laws.{IsLegalRun, PrefixLaw, WaitingLaw, ReleaseLaw};
+ghost use Rattle.xti_script_reader.specs.Grammar.{HasText as HasScriptText};
+ghost use Rattle.xti_laws_streams.specs.Laws.{IsLegalRun, PrefixLaw, WaitingLaw, ReleaseLaw};
 ghost use Rattle.xti_laws_journals.specs.Runs.{journal_of, AreFew, IsOnlyJournal};
 
-use xti_answers::steps_answer_in_form;
+use xti_laws_answers::steps_answer_in_form;
 use xti_laws_bytes::answers_have_values;
-use xti_script::{scripts_are_small, scripts_have_valid_providers, scripts_send_bytes};
-use xti_streams::connections_keep_order;
+use xti_laws_streams::connections_keep_order;
+use xti_script_reader::{scripts_are_small, scripts_have_valid_providers, scripts_send_bytes};
 
 /// A legal history of a script has no more entries than the script has calls and bytes of arguments.
 ///

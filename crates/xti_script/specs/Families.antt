@@ -1,52 +1,42 @@
--- Families of calls.
+-- Families of calls, with names in place of numbers.
 use Rattle.std.specs.Prelude.{Bool, true, false}
-use Rattle.xti_script.specs.declared.verbs.Verb.{Verb}
-use Rattle.xti_script.specs.declared.verbs.Verb.TheVariants.{Open, Close, Bind, Unbind, Connect, RcvConnect, Listen, Accept, Snd, SndV, Rcv, RcvV, SndDis, RcvDis, SndRel, RcvRel, SndUData, SndVUData, RcvUData, RcvVUData, RcvUDErr, Look, GetState, Sync, GetInfo, GetProtAddr, OptMgmt, SetMode}
+use Rattle.xti_model.specs.declared.script.NamedCall.{NamedCall}
+use Rattle.xti_model.specs.declared.script.NamedCall.TheVariants.{TBind, TConnect, TRcvConnect, TListen, TAccept, TSnd, TSndV, TRcv, TRcvV, TSndDis, TRcvDis, TSndUData, TSndVUData, TRcvUData, TRcvVUData, TRcvUDErr, TGetProtAddr, TOptMgmt}
 
--- says no more than which endpoint
-abbrev pub is_plain : Verb → Bool
-is_plain Close = true
-is_plain Unbind = true
-is_plain SndRel = true
-is_plain RcvRel = true
-is_plain Look = true
-is_plain GetState = true
-is_plain Sync = true
-is_plain GetInfo = true
-is_plain other = false
+-- names an address, asks for addresses or settles options
+abbrev pub is_address_or_options : NamedCall → Bool
+is_address_or_options (TBind fd addr qlen amax) = true
+is_address_or_options (TGetProtAddr fd amax pmax) = true
+is_address_or_options (TOptMgmt fd action opt omax) = true
+is_address_or_options other = false
 
--- opens an endpoint, or sets or asks what belongs to it
-abbrev pub is_local : Verb → Bool
-is_local Open = true
-is_local Bind = true
-is_local SetMode = true
-is_local GetProtAddr = true
-is_local OptMgmt = true
-is_local other = false
+-- asks for a connection, takes one or ends one
+abbrev pub is_connection_request : NamedCall → Bool
+is_connection_request (TConnect fd addr opt udata amax omax umax) = true
+is_connection_request (TAccept fd resfd seq opt udata) = true
+is_connection_request (TSndDis fd seq udata) = true
+is_connection_request other = false
 
--- makes a connection or breaks it
-abbrev pub is_connecting : Verb → Bool
-is_connecting Connect = true
-is_connecting RcvConnect = true
-is_connecting Listen = true
-is_connecting Accept = true
-is_connecting SndDis = true
-is_connecting RcvDis = true
-is_connecting other = false
+-- takes what the other side asked or answered about a connection
+abbrev pub is_connection_receipt : NamedCall → Bool
+is_connection_receipt (TRcvConnect fd amax omax umax) = true
+is_connection_receipt (TListen fd name amax omax umax) = true
+is_connection_receipt (TRcvDis fd umax) = true
+is_connection_receipt other = false
 
--- sends or receives on a connection
-abbrev pub is_data : Verb → Bool
-is_data Snd = true
-is_data SndV = true
-is_data Rcv = true
-is_data RcvV = true
-is_data other = false
+-- sends data or a datagram
+abbrev pub is_send : NamedCall → Bool
+is_send (TSnd fd bytes flags) = true
+is_send (TSndV fd parts flags) = true
+is_send (TSndUData fd addr opt bytes) = true
+is_send (TSndVUData fd addr opt parts) = true
+is_send other = false
 
--- sends or receives a datagram, or the error of one
-abbrev pub is_datagram : Verb → Bool
-is_datagram SndUData = true
-is_datagram SndVUData = true
-is_datagram RcvUData = true
-is_datagram RcvVUData = true
-is_datagram RcvUDErr = true
-is_datagram other = false
+-- takes data, a datagram or the error of a datagram
+abbrev pub is_receive : NamedCall → Bool
+is_receive (TRcv fd max) = true
+is_receive (TRcvV fd sizes) = true
+is_receive (TRcvUData fd max amax omax) = true
+is_receive (TRcvVUData fd sizes amax omax) = true
+is_receive (TRcvUDErr fd amax omax) = true
+is_receive other = false

@@ -1,96 +1,313 @@
-//! Reading the words of a line.
+//! Calls by their word and all their fields.
 
-ghost use Rattle.std.specs.Prelude.{◌≡◌, ◌≤◌, Ok, IfSome};
-ghost use Rattle.xti_script.specs.declared.draft.Taken.TheVariants as taken;
-ghost use Rattle.xti_words.specs.Texts.{words_of};
-ghost use Rattle.xti_script.specs.Gives.{Takes};
-ghost use Rattle.xti_script.specs.Grammar.{is_passed};
-ghost use Rattle.xti_script.specs.Names.{after};
-ghost use Rattle.xti_script.specs.Reading.{call_of, by_worker, worker_of, any_line_of, longer, after_text};
+ghost use Rattle.std.specs.Prelude.{◌≡◌, ◌++◌, OnOk, IsTrue, codes, decimal};
+ghost use Rattle.xti_script.specs.Canonical.{bytes_text, call_text};
+ghost use Rattle.xti_script.specs.Families.{is_address_or_options, is_connection_request, is_connection_receipt, is_send, is_receive};
 
-use crate::draft::{Draft, Taken};
-use crate::field_calls::read_fields;
-use crate::fields::{FieldFail, Fields};
-use crate::verbs::{form, verb_of};
+use crate::values::{
+    put_bytes, put_mode, put_name, put_name_or_none, put_parts, put_provider, put_sizes,
+};
 use std::alloc::AllocError;
-use xti_base::limits::LAST_WORKER;
-use xti_model::NamedCall;
-use xti_words::{Words, is_ascii, number_in};
+use xti_base::Octets;
+use xti_model::{Name, NamedCall};
+use xti_text::put_number;
 
-fn worker_of(word: &[u8]) -> Option<u32>
-    ensures value { result ≡ worker_of word.now }
-    ensures worker { IfSome result (λ worker. worker ≤ LAST_WORKER) }
+// The most bytes that the caller takes of an address and of options.
+fn put_address_limits(out: &mut Vec<u8>, amax: u32, omax: u32) -> Result<(), AllocError>
+    ensures { OnOk result (out.new.items ≡ out.old.items ++ (codes " amax=" ++ decimal amax) ++ (codes " omax=" ++ decimal omax)) }
 {
-    match number_in(word) {
-        Some(number) if number <= LAST_WORKER => Some(number),
-        _ => None,
+    put_number(out, " amax=", amax as u64)?;
+    put_number(out, " omax=", omax as u64)
+}
+
+// The most bytes that the caller takes of address, options and data.
+fn put_most(out: &mut Vec<u8>, amax: u32, omax: u32, umax: u32) -> Result<(), AllocError>
+    ensures { OnOk result (out.new.items
+        ≡ out.old.items ++ (codes " amax=" ++ decimal amax) ++ (codes " omax=" ++ decimal omax) ++ (codes " umax=" ++ decimal umax)) }
+{
+    put_address_limits(out, amax, omax)?;
+    put_number(out, " umax=", umax as u64)
+}
+
+// The address and the options of a call.
+fn put_address_and_options(out: &mut Vec<u8>, addr: &Octets, opt: &Octets) -> Result<(), AllocError>
+    ensures { OnOk result (out.new.items ≡ out.old.items ++ (codes " addr=" ++ bytes_text addr.now) ++ (codes " opt=" ++ bytes_text opt.now)) }
+{
+    put_bytes(out, " addr=", addr)?;
+    put_bytes(out, " opt=", opt)
+}
+
+// The address, the options and the data of a request.
+fn put_request(
+    out: &mut Vec<u8>,
+    addr: &Octets,
+    opt: &Octets,
+    udata: &Octets,
+) -> Result<(), AllocError>
+    ensures { OnOk result (out.new.items
+        ≡ out.old.items ++ (codes " addr=" ++ bytes_text addr.now) ++ (codes " opt=" ++ bytes_text opt.now) ++ (codes " udata=" ++ bytes_text udata.now)) }
+{
+    put_address_and_options(out, addr, opt)?;
+    put_bytes(out, " udata=", udata)
+}
+
+// Where a request is accepted, with which options and data.
+fn put_acceptance(
+    out: &mut Vec<u8>,
+    resfd: &Name,
+    seq: &Name,
+    opt: &Octets,
+    udata: &Octets,
+) -> Result<(), AllocError>
+    ensures { OnOk result (out.new.items
+        ≡ out.old.items ++ (codes " " ++ resfd.now) ++ (codes " " ++ seq.now) ++ (codes " opt=" ++ bytes_text opt.now) ++ (codes " udata=" ++ bytes_text udata.now)) }
+{
+    put_name(out, " ", resfd)?;
+    put_name(out, " ", seq)?;
+    put_bytes(out, " opt=", opt)?;
+    put_bytes(out, " udata=", udata)
+}
+
+// A call that names an address, asks for addresses or settles options.
+#[tactic(auto, unfolding(crate::specs::Canonical::written_call, xti_script_reader::specs::Calls::form, xti_verbs::specs::Verbs::row_of, xti_script_reader::specs::Fields::field))]
+fn put_address_or_options(out: &mut Vec<u8>, call: &NamedCall) -> Result<(), AllocError>
+    requires { IsTrue (is_address_or_options call.now) }
+    ensures { OnOk result (out.new.items ≡ out.old.items ++ call_text call.now) }
+{
+    match call {
+        NamedCall::TBind {
+            fd,
+            addr,
+            qlen,
+            amax,
+        } => {
+            put_name(out, "bind ", fd)?;
+            put_bytes(out, " addr=", addr)?;
+            put_number(out, " qlen=", *qlen as u64)?;
+            put_number(out, " amax=", *amax as u64)
+        }
+        NamedCall::TGetProtAddr { fd, amax, pmax } => {
+            put_name(out, "getprotaddr ", fd)?;
+            put_number(out, " amax=", *amax as u64)?;
+            put_number(out, " pmax=", *pmax as u64)
+        }
+        NamedCall::TOptMgmt {
+            fd,
+            action,
+            opt,
+            omax,
+        } => {
+            put_name(out, "optmgmt ", fd)?;
+            put_number(out, " ", *action as u64)?;
+            put_bytes(out, " opt=", opt)?;
+            put_number(out, " omax=", *omax as u64)
+        }
+        _ => unreachable!(),
     }
 }
 
-/// Whether the line is empty, or a comment.
-fn is_passed(line: &[u8]) -> bool
-    ensures { result ≡ is_passed line.now }
+// A call that asks for a connection, takes one or ends one.
+#[tactic(auto, unfolding(crate::specs::Canonical::written_call, xti_script_reader::specs::Calls::form, xti_verbs::specs::Verbs::row_of, xti_script_reader::specs::Fields::field))]
+fn put_connection_request(out: &mut Vec<u8>, call: &NamedCall) -> Result<(), AllocError>
+    requires { IsTrue (is_connection_request call.now) }
+    ensures { OnOk result (out.new.items ≡ out.old.items ++ call_text call.now) }
 {
-    match line {
-        [] => true,
-        [first, ..] => *first == b'#' && is_ascii(line),
+    match call {
+        NamedCall::TConnect {
+            fd,
+            addr,
+            opt,
+            udata,
+            amax,
+            omax,
+            umax,
+        } => {
+            put_name(out, "connect ", fd)?;
+            put_request(out, addr, opt, udata)?;
+            put_most(out, *amax, *omax, *umax)
+        }
+        NamedCall::TAccept {
+            fd,
+            resfd,
+            seq,
+            opt,
+            udata,
+        } => {
+            put_name(out, "accept ", fd)?;
+            put_acceptance(out, resfd, seq, opt, udata)
+        }
+        NamedCall::TSndDis { fd, seq, udata } => {
+            put_name(out, "snddis ", fd)?;
+            put_name_or_none(out, " ", seq)?;
+            put_bytes(out, " udata=", udata)
+        }
+        _ => unreachable!(),
     }
 }
 
-// Apart, since calls are seldom refused.
-#[inline(never)]
-fn refused(call: NamedCall) -> Result<Taken, AllocError>
-    ensures { result ≡ Ok taken.Wrong }
+// A call that takes what the other side asked or answered about a connection.
+#[tactic(auto, unfolding(crate::specs::Canonical::written_call, xti_script_reader::specs::Calls::form, xti_verbs::specs::Verbs::row_of, xti_script_reader::specs::Fields::field))]
+fn put_connection_receipt(out: &mut Vec<u8>, call: &NamedCall) -> Result<(), AllocError>
+    requires { IsTrue (is_connection_receipt call.now) }
+    ensures { OnOk result (out.new.items ≡ out.old.items ++ call_text call.now) }
 {
-    drop(call);
-    Ok(Taken::Wrong)
-}
-
-/// Adds the call of the worker that the words give after the others.
-#[tactic(auto, unfolding(crate::specs::Reading::call_of))]
-fn read_call(draft: &mut Draft, worker: u32, words: Words) -> Result<Taken, AllocError>
-    requires { worker ≤ LAST_WORKER }
-    ensures { Takes result draft.new (longer draft.old (by_worker worker (call_of (after draft.old worker) words.entry))) }
-{
-    let mut words = words;
-    let Some(word) = words.next() else {
-        return Ok(Taken::Wrong);
-    };
-    let Some(verb) = verb_of(word) else {
-        return Ok(Taken::Wrong);
-    };
-    let mut fields = Fields::new(draft, worker, form(verb), words);
-    match read_fields(verb, &mut fields) {
-        Ok(call) if fields.are_read() => draft.add(worker, call),
-        Ok(call) => refused(call),
-        Err(FieldFail::Wrong) => Ok(Taken::Wrong),
-        Err(FieldFail::OutOfMemory) => Err(AllocError),
+    match call {
+        NamedCall::TRcvConnect {
+            fd,
+            amax,
+            omax,
+            umax,
+        } => {
+            put_name(out, "rcvconnect ", fd)?;
+            put_most(out, *amax, *omax, *umax)
+        }
+        NamedCall::TListen {
+            fd,
+            name,
+            amax,
+            omax,
+            umax,
+        } => {
+            put_name(out, "listen ", fd)?;
+            put_name(out, " ", name)?;
+            put_most(out, *amax, *omax, *umax)
+        }
+        NamedCall::TRcvDis { fd, umax } => {
+            put_name(out, "rcvdis ", fd)?;
+            put_number(out, " umax=", *umax as u64)
+        }
+        _ => unreachable!(),
     }
 }
 
-/// Adds the call that the line gives after the others.
-#[tactic(auto, unfolding(crate::specs::Reading::any_line_of))]
-fn read_call_line(draft: &mut Draft, line: &[u8]) -> Result<Taken, AllocError>
-    ensures { Takes result draft.new (longer draft.old (any_line_of draft.old (words_of line.now))) }
+// A call that sends data or a datagram.
+#[tactic(auto, unfolding(crate::specs::Canonical::written_call, xti_script_reader::specs::Calls::form, xti_verbs::specs::Verbs::row_of, xti_script_reader::specs::Fields::field))]
+fn put_send(out: &mut Vec<u8>, call: &NamedCall) -> Result<(), AllocError>
+    requires { IsTrue (is_send call.now) }
+    ensures { OnOk result (out.new.items ≡ out.old.items ++ call_text call.now) }
 {
-    let mut words = Words::of(line);
-    let Some(word) = words.next() else {
-        return Ok(Taken::Wrong);
-    };
-    match worker_of(word) {
-        Some(worker) => read_call(draft, worker, words),
-        None => Ok(Taken::Wrong),
+    match call {
+        NamedCall::TSnd { fd, bytes, flags } => {
+            put_name(out, "snd ", fd)?;
+            put_bytes(out, " data=", bytes)?;
+            put_number(out, " flags=", *flags as u64)
+        }
+        NamedCall::TSndV { fd, parts, flags } => {
+            put_name(out, "sndv ", fd)?;
+            put_parts(out, " parts=", parts.as_slice())?;
+            put_number(out, " flags=", *flags as u64)
+        }
+        NamedCall::TSndUData {
+            fd,
+            addr,
+            opt,
+            bytes,
+        } => {
+            put_name(out, "sndudata ", fd)?;
+            put_address_and_options(out, addr, opt)?;
+            put_bytes(out, " data=", bytes)
+        }
+        NamedCall::TSndVUData {
+            fd,
+            addr,
+            opt,
+            parts,
+        } => {
+            put_name(out, "sndvudata ", fd)?;
+            put_address_and_options(out, addr, opt)?;
+            put_parts(out, " parts=", parts.as_slice())
+        }
+        _ => unreachable!(),
     }
 }
 
-/// Takes one line more: adds its call, or passes over it.
-#[tactic(auto, unfolding(crate::specs::Reading::after_text))]
-pub(crate) fn read_line(draft: &mut Draft, line: &[u8]) -> Result<Taken, AllocError>
-    ensures { Takes result draft.new (after_text draft.old line.now) }
+// A call that takes data, a datagram or the error of a datagram.
+#[tactic(auto, unfolding(crate::specs::Canonical::written_call, xti_script_reader::specs::Calls::form, xti_verbs::specs::Verbs::row_of, xti_script_reader::specs::Fields::field))]
+fn put_receive(out: &mut Vec<u8>, call: &NamedCall) -> Result<(), AllocError>
+    requires { IsTrue (is_receive call.now) }
+    ensures { OnOk result (out.new.items ≡ out.old.items ++ call_text call.now) }
 {
-    if is_passed(line) {
-        Ok(Taken::Read)
-    } else {
-        read_call_line(draft, line)
+    match call {
+        NamedCall::TRcv { fd, max } => {
+            put_name(out, "rcv ", fd)?;
+            put_number(out, " max=", *max as u64)
+        }
+        NamedCall::TRcvV { fd, sizes } => {
+            put_name(out, "rcvv ", fd)?;
+            put_sizes(out, " sizes=", sizes.as_slice())
+        }
+        NamedCall::TRcvUData {
+            fd,
+            max,
+            amax,
+            omax,
+        } => {
+            put_name(out, "rcvudata ", fd)?;
+            put_number(out, " max=", *max as u64)?;
+            put_address_limits(out, *amax, *omax)
+        }
+        NamedCall::TRcvVUData {
+            fd,
+            sizes,
+            amax,
+            omax,
+        } => {
+            put_name(out, "rcvvudata ", fd)?;
+            put_sizes(out, " sizes=", sizes.as_slice())?;
+            put_address_limits(out, *amax, *omax)
+        }
+        NamedCall::TRcvUDErr { fd, amax, omax } => {
+            put_name(out, "rcvuderr ", fd)?;
+            put_address_limits(out, *amax, *omax)
+        }
+        _ => unreachable!(),
+    }
+}
+
+/// Appends a call by its word and all its fields.
+#[tactic(auto, unfolding(crate::specs::Canonical::written_call, xti_script_reader::specs::Calls::form, xti_verbs::specs::Verbs::row_of, xti_script_reader::specs::Fields::field))]
+pub(crate) fn put_call(out: &mut Vec<u8>, call: &NamedCall) -> Result<(), AllocError>
+    ensures { OnOk result (out.new.items ≡ out.old.items ++ call_text call.now) }
+{
+    match call {
+        NamedCall::TOpen {
+            name,
+            prov,
+            nonblock,
+        } => {
+            put_name(out, "open ", name)?;
+            put_provider(out, " ", *prov)?;
+            put_mode(out, " ", *nonblock)
+        }
+        NamedCall::SetMode { fd, nonblock } => {
+            put_name(out, "mode ", fd)?;
+            put_mode(out, " ", *nonblock)
+        }
+        NamedCall::TClose { fd } => put_name(out, "close ", fd),
+        NamedCall::TUnbind { fd } => put_name(out, "unbind ", fd),
+        NamedCall::TSndRel { fd } => put_name(out, "sndrel ", fd),
+        NamedCall::TRcvRel { fd } => put_name(out, "rcvrel ", fd),
+        NamedCall::TLookAt { fd } => put_name(out, "look ", fd),
+        NamedCall::TGetState { fd } => put_name(out, "getstate ", fd),
+        NamedCall::TSync { fd } => put_name(out, "sync ", fd),
+        NamedCall::TGetInfo { fd } => put_name(out, "getinfo ", fd),
+        NamedCall::TBind { .. } | NamedCall::TGetProtAddr { .. } | NamedCall::TOptMgmt { .. } => {
+            put_address_or_options(out, call)
+        }
+        NamedCall::TConnect { .. } | NamedCall::TAccept { .. } | NamedCall::TSndDis { .. } => {
+            put_connection_request(out, call)
+        }
+        NamedCall::TRcvConnect { .. } | NamedCall::TListen { .. } | NamedCall::TRcvDis { .. } => {
+            put_connection_receipt(out, call)
+        }
+        NamedCall::TSnd { .. }
+        | NamedCall::TSndV { .. }
+        | NamedCall::TSndUData { .. }
+        | NamedCall::TSndVUData { .. } => put_send(out, call),
+        NamedCall::TRcv { .. }
+        | NamedCall::TRcvV { .. }
+        | NamedCall::TRcvUData { .. }
+        | NamedCall::TRcvVUData { .. }
+        | NamedCall::TRcvUDErr { .. } => put_receive(out, call),
     }
 }

@@ -1,6 +1,6 @@
 use Rattle.std.proofs.Common.{refl, sym, arith}
-use Rattle.xti_journal.specs.JournalText.{journal_text}
-use Rattle.xti_journal_reader.proofs.Whole.{one_journal}
+use Rattle.xti_journal_text.specs.JournalText.{journal_text}
+use Rattle.xti_journal.proofs.Whole.{one_journal}
 use Rattle.xti_laws_journals.specs.Runs.{journal_of}
 use Rattle.xti_laws_journals.proofs.FewEntries.{few-entries}
 use Rattle.xti_laws_journals.proofs.RunJournals.{run-text}

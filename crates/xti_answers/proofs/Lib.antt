@@ -1,4 +1,0 @@
-mod InForm
-mod Shapes
-pub mod Texts
-pub mod Entries

@@ -1,7 +1,0 @@
-pub mod Numbers
-pub mod Octets
-pub mod Pieces
-pub mod ValueTexts
-pub mod Fields
-pub mod Lines
-pub mod ScriptTexts

@@ -1,6 +1,0 @@
-use Rattle.std.proofs.Common.{◌≡◌, ◌++◌, codes, flat_map, take}
-use Rattle.xti_canonical.specs.Canonical.{line_text}
-use Rattle.xti_canonical.proofs.scripts.write_script.Given as goal
-
-abbrev pub invariant-loop-line : goal.invariant-loop-line
-invariant-loop-line l = l.out.items ≡ codes "xti-script 1\n" ++ flat_map line_text (take l.line-index l.line-items)

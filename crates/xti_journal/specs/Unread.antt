@@ -1,0 +1,41 @@
+-- Fields that are read one after the other, and what readers give.
+use Rattle.std.specs.Prelude.{◌≡◌, ℕ, List, [], ◌∷◌, Option, Some, None, Result, Ok, Err}
+use Rattle.xti_journal.specs.Kinds.{Kind}
+use Rattle.xti_journal.specs.FieldValue.{Value}
+use Rattle.xti_journal.specs.declared.fields.Key.{Key}
+use Rattle.xti_journal.specs.declared.fields.Fields.{Fields}
+use Rattle.xti_journal.specs.declared.fields.FieldFail.{FieldFail}
+use Rattle.xti_journal.specs.declared.fields.FieldFail.TheVariants.{Wrong, OutOfMemory}
+use Rattle.xti_journal.specs.Fields.{kind_of}
+use Rattle.xti_journal.specs.Reading.{Found, text_value, before, fields_of}
+
+-- the values that the words give the fields that are not read yet
+abbrev pub unread : Fields → Found (List Value)
+unread fields = fields_of fields.keys.now fields.words
+
+-- the next field was taken, with this key and this word: its value is the first of those that were not read
+abbrev pub TakesField : Fields → Fields → Key → Option (List ℕ) → Type 0
+TakesField old new key text = unread old ≡ before (text_value (kind_of key) text) (unread new)
+
+-- the next field is of this kind
+abbrev pub NextIs : Kind → List Key → Type 0
+NextIs kind [] = ⊥
+NextIs kind (key ∷ keys) = kind_of key ≡ kind
+
+-- what is read is the first of the values, which the others follow, or there are none
+abbrev pub Reads : {A : Type 0} → (A → Value) → Found (List Value) → Found (List Value) → Result A FieldFail → Type 0
+Reads is_value values others (Ok read) = values ≡ before (Some (is_value read)) others
+Reads is_value values others (Err Wrong) = values ≡ None
+Reads is_value values others (Err OutOfMemory) = Unit {0}
+
+-- what the words give is this, and these words are left; or they give nothing
+abbrev pub Gives : {A B : Type 0} → (A → B) → Found B → List (List ℕ) → Result A FieldFail → Type 0
+Gives is_read found left (Ok read) = found ≡ Some (is_read read, left)
+Gives is_read found left (Err Wrong) = found ≡ None
+Gives is_read found left (Err OutOfMemory) = Unit {0}
+
+-- what a whole line gives is this, or it gives nothing
+abbrev pub IsRead : {A B : Type 0} → (A → B) → Option B → Result A FieldFail → Type 0
+IsRead is_read found (Ok read) = found ≡ Some (is_read read)
+IsRead is_read found (Err Wrong) = found ≡ None
+IsRead is_read found (Err OutOfMemory) = Unit {0}

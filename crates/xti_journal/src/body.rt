@@ -1,0 +1,128 @@
+//! Reading the lines after the head.
+
+ghost use Rattle.std.specs.Prelude.{◌≡◌};
+ghost use Rattle.xti_words.specs.Texts.{words_of};
+ghost use Rattle.xti_journal.specs.Grammar.{last_verb};
+ghost use Rattle.xti_journal.specs.Reading.{last_worker, stall_in, stall_read, stalled, Stalled, ended, Ended, may_follow, line_read, line_in, profile_values, profile_in};
+ghost use Rattle.xti_journal.specs.Unread.{IsRead};
+
+use crate::draft::Draft;
+use crate::fields::{FieldFail, Fields, Key};
+use crate::lines::{is_number, read_entry, read_stall};
+use std::alloc::Global;
+use xti_base::let_go;
+use xti_model::{Act, Entry, Profile, StallLine};
+
+/// A line after the head.
+#[derive(Drop)]
+pub(crate) enum Line {
+    /// An entry, which is written where the caller has it.
+    Entry,
+    Stall(StallLine),
+    /// The last line.
+    End,
+}
+
+fn may_follow(before: Option<u32>, worker: u32) -> bool
+    ensures { result ≡ may_follow before worker }
+{
+    match before {
+        None => true,
+        Some(before) => 0 < before && before < worker,
+    }
+}
+
+/// The stall line whose words after the first these are, where it may stand after those that were read. Its act is written in
+/// this place first.
+#[inline(always)]
+fn read_next_stall(
+    draft: &Draft,
+    fields: &mut Fields,
+    act: &mut Act,
+) -> Result<StallLine, FieldFail>
+    ensures { IsRead (λ s. Stalled (stall_read s)) (stalled (last_worker draft.now.stalls) (stall_in (last_verb draft.now.entries) fields.old.words)) result }
+{
+    let stall = read_or_end!(read_stall(draft, fields, act));
+    if may_follow(draft.last_worker(), stall.worker) {
+        Ok(stall)
+    } else {
+        let_go(stall);
+        Err(FieldFail::Wrong)
+    }
+}
+
+/// The line that the words are after those that were read; an entry is written.
+#[tactic(auto, unfolding(crate::specs::Reading::line_in))]
+fn read_words(draft: &Draft, fields: &mut Fields, entry: &mut Entry) -> Result<Line, FieldFail>
+    ensures { IsRead (line_read entry.new) (line_in draft.now.entries draft.now.stalls fields.old.words) result }
+{
+    match fields.word() {
+        Some(b"end") => match read_end(draft.count(), fields) {
+            Ok(()) => Ok(Line::End),
+            Err(fail) => Err(fail),
+        },
+        Some(b"stall") => match read_next_stall(draft, fields, &mut entry.act) {
+            Ok(stall) => Ok(Line::Stall(stall)),
+            Err(fail) => Err(fail),
+        },
+        Some(word) if draft.last_worker().is_none() => {
+            match read_entry(draft.count() as u64 + 1, draft, word, fields, entry) {
+                Ok(()) => Ok(Line::Entry),
+                Err(fail) => Err(fail),
+            }
+        }
+        _ => Err(FieldFail::Wrong),
+    }
+}
+
+/// Reads the last line, whose first word was taken.
+fn read_end(count: usize, fields: &mut Fields) -> Result<(), FieldFail>
+    ensures { IsRead (λ _. Ended) (ended count fields.old.words) result }
+{
+    match fields.word() {
+        Some(word) if is_number(word, count as u64) && fields.are_read() => Ok(()),
+        _ => Err(FieldFail::Wrong),
+    }
+}
+
+/// The line that the text is after those that were read; an entry is written.
+pub(crate) fn read_line(
+    alloc: Global,
+    draft: &Draft,
+    text: &[u8],
+    entry: &mut Entry,
+) -> Result<Line, FieldFail>
+    ensures { IsRead (line_read entry.new) (line_in draft.now.entries draft.now.stalls (words_of text.now)) result }
+{
+    read_words(draft, &mut Fields::of(alloc, text), entry)
+}
+
+/// The values of the provider with this name.
+#[tactic(auto, unfolding(crate::specs::Reading::profile_in, crate::specs::Fields::field))]
+pub(crate) fn read_profile(alloc: Global, name: &str, text: &[u8]) -> Result<Profile, FieldFail>
+    ensures { IsRead profile_values (profile_in name.now (words_of text.now)) result }
+{
+    let mut fields = Fields::of(alloc, text);
+    if fields.word() != Some(b"provider".as_slice()) || fields.word() != Some(name.as_bytes()) {
+        return Err(FieldFail::Wrong);
+    }
+    fields.expect(&[
+        Key::Tsdu,
+        Key::SendZero,
+        Key::SameAddr,
+        Key::SndBuf,
+        Key::RcvBuf,
+    ]);
+    let profile = Profile {
+        tsdu: fields.limit()?,
+        sendzero: fields.truth()?,
+        same_addr: fields.truth()?,
+        sndbuf: fields.number()?,
+        rcvbuf: fields.number()?,
+    };
+    if fields.are_read() {
+        Ok(profile)
+    } else {
+        Err(FieldFail::Wrong)
+    }
+}

@@ -1,5 +1,0 @@
-use Rattle.std.proofs.Common.{refl}
-use Rattle.xti_journal_reader.proofs.laws.written_journals_are_read.Goals as goal
-
-pub returns : goal.returns
-returns c = λ j h. record { has_text = h; written = refl }

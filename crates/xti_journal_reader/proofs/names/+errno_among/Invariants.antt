@@ -1,5 +1,0 @@
-use Rattle.std.proofs.Common.{length}
-use Rattle.xti_journal_reader.proofs.names.+errno_among.Given as goal
-
-abbrev pub decreases-errno_among : goal.decreases-errno_among
-decreases-errno_among l = length l.errnos.now

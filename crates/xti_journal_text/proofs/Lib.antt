@@ -1,0 +1,2 @@
+mod Spaces
+mod Writes

@@ -1,0 +1,3 @@
+mod Shapes
+pub mod Texts
+pub mod Entries

@@ -1,0 +1,2 @@
+pub mod Texts
+pub use Rattle.xti_laws_answers.specs.Answers

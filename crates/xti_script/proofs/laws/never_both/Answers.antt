@@ -1,5 +1,0 @@
-use Rattle.xti_script.proofs.Scripts.{not_both}
-use Rattle.xti_script.proofs.laws.never_both.Goals as goal
-
-pub returns : goal.returns
-returns c = not_both

@@ -1,5 +1,0 @@
-use Rattle.xti_script.proofs.Scripts.{same_script}
-use Rattle.xti_script.proofs.laws.one_script.Goals as goal
-
-pub returns : goal.returns
-returns c = same_script

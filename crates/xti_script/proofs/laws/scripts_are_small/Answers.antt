@@ -1,5 +1,0 @@
-use Rattle.xti_script.proofs.ScriptLaws.{script_is_small}
-use Rattle.xti_script.proofs.laws.scripts_are_small.Goals as goal
-
-pub returns : goal.returns
-returns c = script_is_small

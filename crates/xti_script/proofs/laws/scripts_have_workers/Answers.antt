@@ -1,5 +1,0 @@
-use Rattle.xti_script.proofs.ScriptLaws.{script_has_workers}
-use Rattle.xti_script.proofs.laws.scripts_have_workers.Goals as goal
-
-pub returns : goal.returns
-returns c = script_has_workers

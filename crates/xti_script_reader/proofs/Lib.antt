@@ -1,0 +1,15 @@
+pub mod FieldLaws
+pub mod CallLaws
+pub mod LineLaws
+pub mod Heads
+pub mod FirstMark
+pub mod FirstLines
+pub mod Least
+pub mod Seen
+pub mod Scripts
+pub mod Loop
+pub mod TextSets
+pub mod Workers
+pub mod ScriptLaws
+pub mod ByteFields
+pub mod KeyBytes

@@ -1,0 +1,28 @@
+-- What is kept beside the lines so far, so that no line is looked up in them.
+use Rattle.std.specs.Prelude.{◌≡◌, ℕ, ◌+◌, ◌==◌, Bool, ◌&&◌, ◌||◌, List, length}
+use Rattle.std.specs.List.{list_any}
+use Rattle.xti_model.specs.declared.script.Line.{Line}
+use Rattle.xti_model.specs.Resolve.{opens, listens}
+use Rattle.xti_model.specs.Work.{script_bytes}
+use Rattle.xti_script_reader.specs.Names.{Defining}
+use Rattle.xti_script_reader.specs.TextSets.{TextSet, has_at}
+use Rattle.xti_base.specs.declared.limits.TheConstants.{WORKERS, MOST_ARGUMENT_BYTES}
+
+-- whether the line is one of the worker that defines the name
+abbrev pub is_own : Defining → ℕ → List ℕ → Line → Bool
+is_own defining worker name line = (line.worker == worker) && defining name line.call
+
+-- the new sets have the names of the old ones, and that which the line defines for its worker
+abbrev pub TakesName : Defining → Line → List TextSet → List TextSet → Type 0
+TakesName defining line old new = (worker : ℕ) (name : List ℕ) → has_at new worker name ≡ (has_at old worker name || is_own defining worker name line)
+
+-- each worker has a set, with the names that its lines define
+pub record HaveNames (defining : Defining) (lines : List Line) (sets : List TextSet) : Type 0 where
+  pub workers : length sets ≡ WORKERS
+  pub own : (worker : ℕ) (name : List ℕ) → has_at sets worker name ≡ list_any (is_own defining worker name) lines
+
+-- the names of endpoints and of sequence numbers that the lines define, and how many bytes the arguments of further lines may have
+pub record Knows (lines : List Line) (opened listened : List TextSet) (left : ℕ) : Type 0 where
+  pub endpoints : HaveNames opens lines opened
+  pub sequences : HaveNames listens lines listened
+  pub bytes : left + script_bytes lines ≡ MOST_ARGUMENT_BYTES

@@ -1,0 +1,15 @@
+pub mod Kinds
+pub mod Names
+pub mod FieldValue
+pub mod Values
+pub mod Unread
+pub mod Fields
+pub mod Calls
+pub mod Grammar
+pub mod Refused
+pub mod Reading
+pub mod Marks
+pub mod TextSets
+pub mod Known
+pub mod Read
+pub mod Gives

@@ -1,0 +1,51 @@
+//! Laws of the scripts that have a text.
+
+ghost use Rattle.std.specs.Prelude.{◌≡◌, ◌≤◌, ◌+◌, ℕ, true, List, nat_le, length};
+ghost use Rattle.std.specs.List.{list_all};
+ghost use Rattle.xti_base.specs.declared.limits.TheConstants.{LAST_WORKER};
+ghost use Rattle.xti_model.specs.Profile.{valid};
+ghost use Rattle.xti_model.specs.Robin.{most_steps};
+ghost use Rattle.xti_model.specs.SentBytes.{AllHaveByteArguments, LinesSendBytes};
+ghost use Rattle.xti_model.specs.Work.{script_bytes};
+ghost use Rattle.xti_model.specs.declared.script.Script.{Script};
+ghost use Rattle.xti_script_reader.specs.Grammar.{IsScript, HasText};
+ghost use Rattle.xti_script_reader.specs.Refused.{IsRefusedAt};
+
+use xti_head::heads_are_valid;
+use xti_model::usual_is_valid;
+
+/// A text is a script, or is refused at a line, and never both.
+pub fn never_both()
+    ensures { (text : List ℕ) (s : Script) (n : ℕ) → IsScript s text → IsRefusedAt text n → ⊥ }
+{}
+
+/// A text is that of one script.
+pub fn one_script()
+    ensures { (text : List ℕ) (s t : Script) → IsScript s text → IsScript t text → s ≡ t }
+{}
+
+/// The providers of a script that has a text are valid.
+pub fn scripts_have_valid_providers()
+    ensures { (s : Script) → HasText s → valid s.providers ≡ true }
+{
+    usual_is_valid();
+    heads_are_valid();
+}
+
+/// Each worker of a script that has a text is one of 0 to 32.
+pub fn scripts_have_workers()
+    ensures { (s : Script) → HasText s → list_all (λ line. nat_le line.worker LAST_WORKER) s.lines ≡ true }
+{}
+
+/// A script that has a text has no more lines and bytes of arguments than the bound on steps.
+pub fn scripts_are_small()
+    ensures { (s : Script) → HasText s → length s.lines + script_bytes s.lines ≤ most_steps }
+{}
+
+/// Each address, option list and piece of data of a script that has a text is bytes, and so is what its calls send.
+///
+/// `arguments` speaks of every call and every argument; `sends` of what is sent on connections.
+pub fn scripts_send_bytes()
+    ensures arguments { (s : Script) → HasText s → AllHaveByteArguments s.lines }
+    ensures sends { (s : Script) → HasText s → LinesSendBytes s.lines }
+{}
