@@ -18,9 +18,9 @@ use Rattle.xti_model.specs.Step.{step, plan, made}
 use Rattle.xti_model.specs.World.{World, endpoint, changed, at_endpoint}
 
 -- the first that passes a test is the first of those that pass it
-pub first-found : {A : Type 0} (test : A → Bool) (xs : List A) → find test xs ≡ slice_get (filter test xs) 0
-first-found test [] = refl
-first-found test (x ∷ xs) = go (test x) (first-found test xs)
+pub first_found : {A : Type 0} (test : A → Bool) (xs : List A) → find test xs ≡ slice_get (filter test xs) 0
+first_found test [] = refl
+first_found test (x ∷ xs) = go (test x) (first_found test xs)
   where
     go : (b : Bool) → find test xs ≡ slice_get (filter test xs) 0 → cond b (Some x) (find test xs) ≡ slice_get (cond b (x ∷ filter test xs) (filter test xs)) 0
     go true h = refl

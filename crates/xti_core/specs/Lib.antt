@@ -3,3 +3,12 @@ pub mod Standing
 pub mod Touches
 pub mod Waits
 pub mod Written
+pub use Rattle.xti_end.specs.Taken
+pub use Rattle.xti_lent.specs.Answers
+pub use Rattle.xti_lent.specs.Fit
+pub use Rattle.xti_lent.specs.Lending
+pub use Rattle.xti_model.specs.Memory
+pub use Rattle.xti_model.specs.Profile
+pub use Rattle.xti_model.specs.Step
+pub use Rattle.xti_model.specs.Touched
+pub use Rattle.xti_model.specs.World

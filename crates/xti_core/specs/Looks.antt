@@ -1,8 +1,13 @@
--- What a look finds among lent cells.
-use Rattle.std.specs.Prelude.{ℕ, Bool, ◌&&◌, is_some}
+-- What a look finds among lent cells, and what an endpoint shows in a world.
+use Rattle.std.specs.Prelude.{ℕ, Bool, ◌&&◌, Option, is_some, option_map}
+use Rattle.xti_base.specs.declared.kinds.Event.{Event}
+use Rattle.xti_base.specs.declared.kinds.State.{State}
+use Rattle.xti_model.specs.declared.profile.Providers.{Providers}
+use Rattle.xti_model.specs.Calls.Show.{first_pending}
 use Rattle.xti_model.specs.Endpoint.{Endpoint}
 use Rattle.xti_model.specs.Events.{Around, around}
 use Rattle.xti_model.specs.Sending.{takes_datagram}
+use Rattle.xti_model.specs.World.{World, endpoint}
 use Rattle.xti_lent.specs.Lending.{Lending, cells}
 
 -- what an endpoint finds around it
@@ -12,3 +17,11 @@ around_lent l fd e = around l.providers (cells l) fd e
 -- the endpoint has its datagram mark set, and whoever is bound there takes one more datagram
 abbrev pub goes_again : Lending → ℕ → Endpoint → Bool
 goes_again l fd e = is_some e.flow_datagram && takes_datagram (around_lent l fd e).marked
+
+-- what an endpoint with the descriptor shows: its state, and the first event that is pending
+abbrev pub shown_by : Providers → World → ℕ → Endpoint → State × Option Event
+shown_by p w fd e = (e.state, first_pending (around p w fd e) e)
+
+-- the same of the endpoint that is open with the descriptor, if there is one
+abbrev pub sight_in : Providers → World → ℕ → Option (State × Option Event)
+sight_in p w fd = option_map (shown_by p w fd) (endpoint p w fd)

@@ -1,6 +1,6 @@
 //! t_look.
 
-ghost use Rattle.std.specs.Prelude.{◌≡◌, ◌∷◌, [], ℕ, true, is_some, find};
+ghost use Rattle.std.specs.Prelude.{◌≡◌, ◌∷◌, [], ℕ, true, is_some, find, option_map};
 ghost use Rattle.xti_model.specs.Calls.Show as Show;
 ghost use Rattle.xti_model.specs.Events.{around, can_send_again, is_here, is_pending, is_state, receiving};
 ghost use Rattle.xti_model.specs.declared.entry.Go.{Go};
@@ -9,7 +9,7 @@ ghost use Rattle.xti_end.specs.Held.{cell, is_open, parts, with_parts};
 ghost use Rattle.xti_lent.specs.Answers.{AnswersCall, Changed, StaysBlocked};
 ghost use Rattle.xti_lent.specs.Fit.{AtOwnPlaces, SameCells};
 ghost use Rattle.xti_lent.specs.Lending.{cells, held_at};
-ghost use Rattle.xti_core.specs.Looks.{around_lent, goes_again};
+ghost use Rattle.xti_core.specs.Looks.{around_lent, goes_again, sight_in};
 
 use crate::touching::bound;
 use xti_base::{Errno, Event, Fd, State};
@@ -114,6 +114,26 @@ fn first_pending(lent: &Lent, fd: Fd, e: &Endpoint, events: &[Event]) -> Option<
         .iter()
         .copied()
         .find(|event| is_pending(lent, fd, e, *event))
+}
+
+/// What an open endpoint shows: its state, and the first event that is pending, in the order of `t_look`.
+#[derive(Clone, Copy, Debug, PartialEq, Eq)]
+pub struct Sight {
+    pub state: State,
+    pub event: Option<Event>,
+}
+
+/// What the endpoint that is open with the descriptor shows, in the world of the cells that are lent, which are to be those that
+/// a `t_look` of it touches; `None` where none is open. Unlike `t_look` it changes nothing. Takes no memory.
+pub fn sight_of(lent: &Lent, fd: Fd) -> Option<Sight>
+    requires { AtOwnPlaces lent.now }
+    ensures { option_map (λ s. (s.state, s.event)) result ≡ sight_in lent.now.providers (cells lent.now) fd.0 }
+{
+    let e = lent.open_endpoint(fd)?;
+    Some(Sight {
+        state: e.state(),
+        event: first_pending(lent, fd, e, &EVENTS),
+    })
 }
 
 /// What showing the event makes of an open endpoint: a flow event clears its marks.

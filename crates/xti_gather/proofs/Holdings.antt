@@ -11,11 +11,11 @@ use Rattle.xti_lent.proofs.Worlds.{same-is}
 use Rattle.xti_laws.proofs.TouchedAgain.{touched-again}
 use Rattle.xti_core.specs.Standing.{IsLoan}
 use Rattle.xti_core.proofs.Settling.{only-is, kept_by}
-use Rattle.xti_rule.specs.declared.setting.Setting.{Setting}
-use Rattle.xti_rule.specs.declared.view.View.{View}
-use Rattle.xti_rule.specs.Histories.{part, after}
-use Rattle.xti_rule.specs.Steps.{at, Fresh}
-use Rattle.xti_rule.proofs.Lookups.{at_has}
+use Rattle.xti_hall_rule.specs.declared.setting.Setting.{Setting}
+use Rattle.xti_hall_rule.specs.declared.view.View.{View}
+use Rattle.xti_hall_rule.specs.Histories.{part, after}
+use Rattle.xti_hall_rule.specs.Steps.{at, Fresh}
+use Rattle.xti_hall_rule.proofs.Lookups.{at_has}
 use Rattle.xti_hall.specs.Seats.{SeatView, bare, Entered, Left, HoldsNone}
 use Rattle.xti_hall.specs.Words.{setting_of, IsSeatOf}
 use Rattle.xti_hall.specs.declared.hall.Hall.{Hall}

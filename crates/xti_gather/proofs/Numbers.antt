@@ -46,6 +46,16 @@ is-not (Some x) e = absurd (cc)
 pub one-get : (ns : List ℕ) (k j n m : ℕ) → k ≡ j → slice_get ns k ≡ Some n → slice_get ns j ≡ Some m → n ≡ m
 one-get ns k j n m s e f = let g : slice_get ns k ≡ Some m = ap (slice_get ns) s ∙ f in (let h = sym e ∙ g in cc)
 
+-- lists of one length that have the same at each place
+pub one-list : (ns ms : List ℕ) → length ns ≡ length ms → ((k n m : ℕ) → k < length ns → slice_get ns k ≡ Some n → slice_get ms k ≡ Some m → n ≡ m) → ns ≡ ms
+one-list [] [] e h = refl
+one-list [] (m ∷ ms) e h = absurd (omega arith)
+one-list (n ∷ ns) [] e h = absurd (omega arith)
+one-list (n ∷ ns) (m ∷ ms) e h =
+    let s : n ≡ m = h 0 n m (omega arith) refl refl in
+    let t : ns ≡ ms = one-list ns ms (omega arith) (λ k a b lt i j. h (suc k) a b (omega arith) i j) in
+    λ i. s i ∷ t i
+
 pub not-both : (b : Bool) → b ≡ true → b ≡ false → ⊥
 not-both true e f = cc
 not-both false e f = cc

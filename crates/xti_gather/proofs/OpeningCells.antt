@@ -10,8 +10,8 @@ use Rattle.xti_model.specs.declared.profile.Providers.{Providers}
 use Rattle.xti_model.specs.World.{World, Cell, endpoint_cell, switch_cell, cell_at, places, switch_number, closed_places, opening, opening_switch}
 use Rattle.xti_registry.specs.Known.{Known}
 use Rattle.xti_end.specs.Held.{Held}
-use Rattle.xti_rule.specs.Histories.{part, cell_or_closed}
-use Rattle.xti_rule.proofs.Splits.{at_end}
+use Rattle.xti_hall_rule.specs.Histories.{part, cell_or_closed}
+use Rattle.xti_hall_rule.proofs.Splits.{at_end}
 use Rattle.xti_gather.specs.declared.cell.Cell as rust
 use Rattle.xti_gather.specs.declared.cell.Cell.TheVariants.{End, Switch}
 use Rattle.xti_gather.specs.Cells.{StandsFor}

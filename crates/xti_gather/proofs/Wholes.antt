@@ -9,8 +9,8 @@ use Rattle.xti_model.specs.Profile.{valid}
 use Rattle.xti_model.specs.Robin.{numbers}
 use Rattle.xti_model.specs.Touched.{touched}
 use Rattle.xti_model.specs.World.{World, Cell, Numbered, Switch, cell_at, places, switch_number}
-use Rattle.xti_sound.specs.Invariant.{SoundWorld}
-use Rattle.xti_sound.proofs.Steps.{after-sound}
+use Rattle.xti_laws_sound.specs.Invariant.{SoundWorld}
+use Rattle.xti_laws_sound.proofs.Steps.{after-sound}
 use Rattle.xti_lent.specs.Lending.{Lending, cell_lent, cells, cells_by, numbered_cell}
 use Rattle.xti_lent.specs.Fit.{IsSound, IsFit}
 use Rattle.xti_lent.proofs.Worlds.{from_number, same-cells}
@@ -20,8 +20,8 @@ use Rattle.xti_core.specs.Standing.{IsLoan}
 use Rattle.xti_core.proofs.SomeCells.{Sub, switch-sub}
 use Rattle.xti_core.proofs.Fitting.{sounds, fits}
 use Rattle.xti_core.proofs.AllLent.{there-is, touched-cells}
-use Rattle.xti_rule.specs.declared.view.View.{View}
-use Rattle.xti_rule.specs.Histories.{part, after}
+use Rattle.xti_hall_rule.specs.declared.view.View.{View}
+use Rattle.xti_hall_rule.specs.Histories.{part, after}
 use Rattle.xti_gather.specs.Lends.{Lends}
 use Rattle.xti_gather.specs.Orders.{AreCells}
 use Rattle.xti_gather.proofs.Loans.{lent-cell, registry-none}

@@ -3,7 +3,7 @@ use Rattle.std.specs.Prelude.{◌≡◌, ◌<◌, ◌+◌, ℕ, Bool, List, [], 
 use Rattle.xti_model.specs.declared.profile.Providers.{Providers}
 use Rattle.xti_model.specs.World.{Cell as MCell, switch_cell, places, switch_number}
 use Rattle.xti_end.specs.Held.{cell}
-use Rattle.xti_rule.specs.declared.setting.Setting.{Setting}
+use Rattle.xti_hall_rule.specs.declared.setting.Setting.{Setting}
 use Rattle.xti_hall.specs.Words.{setting}
 use Rattle.xti_gather.specs.declared.cell.Cell.{Cell}
 use Rattle.xti_gather.specs.declared.cell.Cell.TheVariants.{End, Switch}

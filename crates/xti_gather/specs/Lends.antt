@@ -8,10 +8,10 @@ use Rattle.xti_model.specs.World.{Cell, is_among}
 use Rattle.xti_model.specs.Touched.{touched}
 use Rattle.xti_lent.specs.Lending.{Lending, cell_lent, cells_by}
 use Rattle.xti_core.specs.Standing.{IsLoan}
-use Rattle.xti_rule.specs.declared.setting.Setting.{Setting}
-use Rattle.xti_rule.specs.declared.view.View.{View}
-use Rattle.xti_rule.specs.Histories.{part, after, Legal}
-use Rattle.xti_rule.specs.Steps.{at}
+use Rattle.xti_hall_rule.specs.declared.setting.Setting.{Setting}
+use Rattle.xti_hall_rule.specs.declared.view.View.{View}
+use Rattle.xti_hall_rule.specs.Histories.{part, after, Legal}
+use Rattle.xti_hall_rule.specs.Steps.{at}
 
 -- there is a legal history after which the lent cells are parts of the world
 abbrev pub Somewhen : Setting → Lending → Type 0

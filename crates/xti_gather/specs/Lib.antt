@@ -1,3 +1,9 @@
 pub mod Cells
 pub mod Lends
 pub mod Orders
+pub use Rattle.xti_hall.specs.Seats
+pub use Rattle.xti_hall.specs.Words
+pub use Rattle.xti_hall_rule.specs.Rule
+pub use Rattle.xti_lent.specs.Lending
+pub use Rattle.xti_model.specs.Profile
+pub use Rattle.xti_model.specs.World

@@ -1,8 +1,8 @@
 //! A cell of a hall.
 
 use xti_end::Endpoint;
+use xti_hall_rule::Stands;
 use xti_registry::Registry;
-use xti_rule::Stands;
 
 /// The endpoint of a place, or the switch's table.
 #[derive(Drop)]

@@ -56,8 +56,29 @@ pub(crate) fn surplus(lent: &Lent, cells: &Cells) -> Option<u32>
     first_beside(lent.places(), cells)
 }
 
-/// The least of these cells that is not lent; `None` exactly where all are.
-pub(crate) fn missing(lent: &Lent, cells: &Cells) -> Option<u32>
+/// Whether these are the same cells.
+pub(crate) fn are_same(cells: &Cells, others: &Cells) -> bool
+    ensures { result ≡ true → cells.now ≡ others.now }
+{
+    if cells.len() != others.len() {
+        return false;
+    }
+    for place in 0..cells.len() {
+        let Some(n) = cells.get(place) else {
+            return false;
+        };
+        let Some(m) = others.get(place) else {
+            return false;
+        };
+        if n != m {
+            return false;
+        }
+    }
+    true
+}
+
+/// The least of these cells that is not lent; `None` exactly where all are. Takes no memory.
+pub fn missing(lent: &Lent, cells: &Cells) -> Option<u32>
     ensures { MatchOption result (AllLent lent.now cells.now) (IsLeastMissing lent.now cells.now) }
 {
     for place in 0..cells.len() {

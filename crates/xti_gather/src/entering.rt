@@ -1,9 +1,10 @@
 //! Cells are entered.
 
-ghost use Rattle.std.specs.Prelude.{◌≡◌, ◌≢◌, ◌<◌, ◌+◌, ℕ, true, false};
-ghost use Rattle.xti_model.specs.World.{places};
+ghost use Rattle.std.specs.Prelude.{◌≡◌, ◌≢◌, ◌<◌, ◌+◌, ℕ, true, false, MatchBool};
+ghost use Rattle.xti_model.specs.World.{is_among, places};
 ghost use Rattle.xti_lent.specs.Fit.{AllLent};
 ghost use Rattle.xti_lent.specs.Lending.{cell_lent, is_lent};
+ghost use Rattle.xti_hall_rule.specs.Steps.{refused_at};
 ghost use Rattle.xti_hall.specs.Seats.{bare};
 ghost use Rattle.xti_hall.specs.Words.{setting_of, IsSeatOf, IsSameSeat};
 ghost use Rattle.xti_gather.specs.Cells.{IsWhole};
@@ -44,8 +45,9 @@ pub(crate) fn enter<R: Wait>(
     lend_cell(lent, cell, value);
 }
 
-/// One try at a cell, which is lent where its turn is free; whether it is lent then, as it may have been before.
-fn try_enter(hall: &Hall<Cell>, seat: &mut Seat<Cell>, lent: &mut Lent, cell: u32) -> bool
+/// One try at a cell, which is lent where its turn is free; whether it is lent then, as it may have been before. Where the turn
+/// was held, nothing changes but that the seat's view has one refusal more. Takes no memory, and waits for nobody.
+pub fn try_enter(hall: &Hall<Cell>, seat: &mut Seat<Cell>, lent: &mut Lent, cell: u32) -> bool
     requires hall { IsSeatOf hall.now seat.old × (IsWhole (setting_of hall.now) lent.old.providers) }
     requires free { seat.old.view.journal ≡ false }
     requires lends { Lends seat.old.view lent.old }
@@ -53,6 +55,10 @@ fn try_enter(hall: &Hall<Cell>, seat: &mut Seat<Cell>, lent: &mut Lent, cell: u3
     ensures hall { IsSameSeat seat.old seat.new }
     ensures rest { bare seat.new.view ≡ bare seat.old.view }
     ensures lends { Lends seat.new.view lent.new }
+    ensures others { (n : ℕ) → n ≢ cell → cell_lent lent.new n ≡ cell_lent lent.old n }
+    ensures tried { MatchBool result
+        ((is_lent lent.new cell ≡ true) × (seat.new.view.refused ≡ seat.old.view.refused))
+        (seat.new.view ≡ refused_at seat.old.view cell) }
 {
     if lent.has(cell) {
         return true;
@@ -66,8 +72,14 @@ fn try_enter(hall: &Hall<Cell>, seat: &mut Seat<Cell>, lent: &mut Lent, cell: u3
     }
 }
 
-/// Enters those of these cells that are missing, in their order, up to the first whose turn is held. Waits for nobody.
-pub(crate) fn try_missing(hall: &Hall<Cell>, seat: &mut Seat<Cell>, lent: &mut Lent, cells: &Cells)
+/// Enters those of these cells that are missing, in their order, up to the first whose turn is held; whether all are lent then.
+/// Waits for nobody.
+pub(crate) fn try_missing(
+    hall: &Hall<Cell>,
+    seat: &mut Seat<Cell>,
+    lent: &mut Lent,
+    cells: &Cells,
+) -> bool
     requires hall { IsSeatOf hall.now seat.old × (IsWhole (setting_of hall.now) lent.old.providers) }
     requires free { seat.old.view.journal ≡ false }
     requires lends { Lends seat.old.view lent.old }
@@ -75,15 +87,18 @@ pub(crate) fn try_missing(hall: &Hall<Cell>, seat: &mut Seat<Cell>, lent: &mut L
     ensures hall { IsSameSeat seat.old seat.new }
     ensures rest { bare seat.new.view ≡ bare seat.old.view }
     ensures lends { Lends seat.new.view lent.new }
+    ensures all { result ≡ true → AllLent lent.new cells.now }
+    ensures others { (n : ℕ) → is_among cells.now n ≡ false → cell_lent lent.new n ≡ cell_lent lent.old n }
 {
     for place in 0..cells.len() {
         let Some(cell) = cells.get(place) else {
             unreachable!()
         };
         if !try_enter(hall, seat, lent, cell) {
-            return;
+            return false;
         }
     }
+    true
 }
 
 /// Enters those of these cells that are missing, in rising order.

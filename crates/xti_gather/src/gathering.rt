@@ -9,7 +9,7 @@ ghost use Rattle.xti_gather.specs.Lends.{Lends, IsEmpty, Just};
 ghost use Rattle.xti_gather.specs.Orders.{AreCells, TouchesAlone};
 
 use crate::cell::Cell;
-use crate::choosing::missing;
+use crate::choosing::{are_same, missing};
 use crate::entering::{enter, enter_missing, try_missing};
 use crate::leaving::{give_back, leave_unless_in_order};
 use std::sync::Wait;
@@ -43,14 +43,48 @@ fn own_place(call: &Call, lent: &Lent) -> Option<u32>
     }
 }
 
+/// Gives back the lent cells that the call doesn't touch, enters those that are missing, in rising order, and asks the lent cells
+/// again, until just those are lent that it touches, whose numbers `first` then has. Where a missing cell has a lower number than
+/// one that is lent, all are given back first. How often it asks has no bound, since others change what the cells tell.
+#[inline(never)]
+fn settle<R: Wait>(
+    rt: &R,
+    hall: &Hall<Cell>,
+    seat: &mut Seat<Cell>,
+    lent: &mut Lent,
+    call: &Call,
+    first: &mut Cells,
+)
+    requires hall { IsSeatOf hall.now seat.old × (IsWhole (setting_of hall.now) lent.old.providers) }
+    requires free { seat.old.view.journal ≡ false }
+    requires lends { Lends seat.old.view lent.old }
+    ensures hall { IsSameSeat seat.old seat.new }
+    ensures rest { bare seat.new.view ≡ bare seat.old.view }
+    ensures lends { Lends seat.new.view lent.new }
+    ensures providers { lent.new.providers ≡ lent.old.providers }
+    ensures just { Just lent.old.providers (cell_lent lent.new) call.now }
+    ensures first { AreCells lent.old.providers first.new }
+{
+    for _ in rt.forever() {
+        let cells = touch(call, lent);
+        give_back(hall, seat, lent, &cells);
+        let Some(least) = missing(lent, &cells) else {
+            *first = cells;
+            return;
+        };
+        leave_unless_in_order(hall, seat, lent, &cells, least);
+        enter_missing(rt, hall, seat, lent, &cells);
+    }
+    unreachable!()
+}
+
 /// Enters the cells that the call touches, and no others, and lends them.
 ///
-/// A call that touches one cell alone enters it. Another begins with the cells in `first`, those of an earlier step, as it may
-/// well touch the same: it tries each, and waits for none. The lent cells tell what the call touches, as far as they go. Those
-/// that it doesn't touch are given back, those that are missing are entered in rising order, and the lent cells are asked again.
-/// Where a missing cell has a lower number than one that is lent, all are given back first. How often it asks has no bound,
-/// since others change what the cells tell. `first` then has the cells of this step; a call that touches one cell alone leaves
-/// it as it was. Takes no memory.
+/// A call that touches one cell alone enters it. Another begins with the cells in `first`, a hint of this step alone: it may well
+/// touch the same as the step that they are of. It tries each, and waits for none. The lent cells tell what the call touches, as
+/// far as they go. Where these are just the cells in `first`, and all were entered, it is done. Else it goes on until just those
+/// are lent that it touches. `first` then has the cells of this step; a call that touches one cell alone leaves it as it was.
+/// Takes no memory.
 pub fn gather<R: Wait>(
     rt: &R,
     hall: &Hall<Cell>,
@@ -75,16 +109,11 @@ pub fn gather<R: Wait>(
         enter(rt, hall, seat, lent, own);
         return;
     }
-    try_missing(hall, seat, lent, first);
-    for _ in rt.forever() {
+    if try_missing(hall, seat, lent, first) {
         let cells = touch(call, lent);
-        give_back(hall, seat, lent, &cells);
-        let Some(least) = missing(lent, &cells) else {
-            *first = cells;
+        if are_same(&cells, first) {
             return;
-        };
-        leave_unless_in_order(hall, seat, lent, &cells, least);
-        enter_missing(rt, hall, seat, lent, &cells);
+        }
     }
-    unreachable!()
+    settle(rt, hall, seat, lent, call, first);
 }

@@ -1,8 +1,9 @@
 //! Cells are given back.
 
-ghost use Rattle.std.specs.Prelude.{◌≡◌, ◌≢◌, ◌<◌, ◌+◌, ℕ, None, true, false};
+ghost use Rattle.std.specs.Prelude.{◌≡◌, ◌≢◌, ◌<◌, ◌+◌, ℕ, None, true, false, MatchOption};
 ghost use Rattle.xti_model.specs.World.{is_among, places};
 ghost use Rattle.xti_lent.specs.Lending.{cell_lent, is_lent};
+ghost use Rattle.xti_core.specs.Standing.{IsLoan};
 ghost use Rattle.xti_hall.specs.Seats.{bare, HoldsNone};
 ghost use Rattle.xti_hall.specs.Words.{setting_of, IsSeatOf, IsSameSeat};
 ghost use Rattle.xti_gather.specs.Cells.{IsWhole};
@@ -23,6 +24,7 @@ fn leave(hall: &Hall<Cell>, seat: &mut Seat<Cell>, lent: &mut Lent, cell: u32)
     requires lent { is_lent lent.old cell ≡ true }
     ensures hall { IsSameSeat seat.old seat.new }
     ensures rest { bare seat.new.view ≡ bare seat.old.view }
+    ensures refused { seat.new.view.refused ≡ seat.old.view.refused }
     ensures lends { Lends seat.new.view lent.new }
     ensures gone { cell_lent lent.new cell ≡ None }
     ensures others { (n : ℕ) → n ≢ cell → cell_lent lent.new n ≡ cell_lent lent.old n }
@@ -39,6 +41,7 @@ pub(crate) fn give_back(hall: &Hall<Cell>, seat: &mut Seat<Cell>, lent: &mut Len
     requires lends { Lends seat.old.view lent.old }
     ensures hall { IsSameSeat seat.old seat.new }
     ensures rest { bare seat.new.view ≡ bare seat.old.view }
+    ensures refused { seat.new.view.refused ≡ seat.old.view.refused }
     ensures lends { Lends seat.new.view lent.new }
     ensures kept { (n : ℕ) → is_among cells.now n ≡ true → cell_lent lent.new n ≡ cell_lent lent.old n }
     ensures only { (n : ℕ) → is_among cells.now n ≡ false → cell_lent lent.new n ≡ None }
@@ -48,17 +51,33 @@ pub(crate) fn give_back(hall: &Hall<Cell>, seat: &mut Seat<Cell>, lent: &mut Len
     }
 }
 
+/// A cell that is lent, first the switch, for which most others wait, and then the place that was lent last; `None` exactly where
+/// nothing is lent.
+fn last_lent(lent: &Lent) -> Option<u32>
+    requires { IsLoan lent.now }
+    ensures { MatchOption result ((n : ℕ) → cell_lent lent.now n ≡ None) (λ n. is_lent lent.now n ≡ true) }
+{
+    let switch = lent.providers().switch_number();
+    if lent.has(switch) {
+        return Some(switch);
+    }
+    lent.places().last().copied()
+}
+
 /// Gives every cell back. Takes no memory, and waits for nobody.
 pub fn leave_all(hall: &Hall<Cell>, seat: &mut Seat<Cell>, lent: &mut Lent)
     requires hall { IsSeatOf hall.now seat.old × (IsWhole (setting_of hall.now) lent.old.providers) }
     requires lends { Lends seat.old.view lent.old }
     ensures hall { IsSameSeat seat.old seat.new }
     ensures rest { bare seat.new.view ≡ bare seat.old.view }
+    ensures refused { seat.new.view.refused ≡ seat.old.view.refused }
     ensures none { HoldsNone seat.new.view }
     ensures lends { Lends seat.new.view lent.new }
     ensures empty { IsEmpty lent.new }
 {
-    give_back(hall, seat, lent, &Cells::new());
+    while let Some(cell) = last_lent(lent) {
+        leave(hall, seat, lent, cell);
+    }
 }
 
 /// Gives every cell back, unless each has a lower number than the least of these cells that is missing.

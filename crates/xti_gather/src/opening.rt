@@ -2,7 +2,7 @@
 
 ghost use Rattle.std.specs.Prelude.{◌≡◌, ◌+◌, true, IfOk, vec_len, Bool};
 ghost use Rattle.xti_model.specs.World.{places};
-ghost use Rattle.xti_rule.specs.Rule.{newcomer};
+ghost use Rattle.xti_hall_rule.specs.Rule.{newcomer};
 ghost use Rattle.xti_hall.specs.Seats.{StandInOrder};
 ghost use Rattle.xti_hall.specs.Words.{setting_of, id_of};
 ghost use Rattle.xti_gather.specs.Cells.{StandsFor, whole};

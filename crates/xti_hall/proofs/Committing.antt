@@ -3,11 +3,11 @@ use Rattle.std.proofs.Common.{◌≡◌, ◌≢◌, ℕ, ◌<◌, List, [], ◌�
 use Rattle.std.specs.Prelude.{Option, None}
 use Rattle.atomic_table.specs.Table.{rest}
 use Rattle.xti_model.specs.declared.entry.Entry.{Entry}
-use Rattle.xti_rule.specs.Histories.{own}
-use Rattle.xti_rule.specs.declared.view.Mark.{Mark}
-use Rattle.xti_rule.specs.declared.view.View.{View}
-use Rattle.xti_rule.specs.Steps.{Seated, without_pen, committed, Holds, Commits}
-use Rattle.xti_rule.proofs.Laws.{own-append, own-other, legal-more, bytes-more}
+use Rattle.xti_hall_rule.specs.Histories.{own}
+use Rattle.xti_hall_rule.specs.declared.view.Mark.{Mark}
+use Rattle.xti_hall_rule.specs.declared.view.View.{View}
+use Rattle.xti_hall_rule.specs.Steps.{Seated, without_pen, committed, Holds, Commits}
+use Rattle.xti_hall_rule.proofs.Laws.{own-append, own-other, legal-more, bytes-more}
 use Rattle.xti_hall.specs.Seats.{FitsSeat, Sits, hand, IsStanding, unfinished_bytes}
 
 -- an entry of another worker is none of this number

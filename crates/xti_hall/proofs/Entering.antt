@@ -3,11 +3,11 @@ use Rattle.std.proofs.Common.{◌≡◌, ℕ, ◌<◌, List, [], ◌∷◌, leng
 use Rattle.std.specs.Prelude.{Some, None}
 use Rattle.atomic_table.specs.Table.{rest}
 use Rattle.xti_model.specs.World.{Cell as MCell}
-use Rattle.xti_rule.specs.declared.setting.Setting.{Setting}
-use Rattle.xti_rule.specs.declared.view.View.{View}
-use Rattle.xti_rule.specs.declared.view.Held.TheVariants.{Cell, Journal}
-use Rattle.xti_rule.specs.Rule.{Slot}
-use Rattle.xti_rule.specs.Steps.{with_held, Fresh, Seated, Took}
+use Rattle.xti_hall_rule.specs.declared.setting.Setting.{Setting}
+use Rattle.xti_hall_rule.specs.declared.view.View.{View}
+use Rattle.xti_hall_rule.specs.declared.view.Held.TheVariants.{Cell, Journal}
+use Rattle.xti_hall_rule.specs.Rule.{Slot}
+use Rattle.xti_hall_rule.specs.Steps.{with_held, Fresh, Seated, Took}
 use Rattle.xti_hall.specs.Seats.{Entered}
 use Rattle.xti_hall.proofs.Lookups.{entered}
 

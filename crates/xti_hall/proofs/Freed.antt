@@ -2,13 +2,13 @@
 use Rattle.std.proofs.Common.{◌≡◌, ℕ, suc, ◌+◌, ◌<◌, ◌≤◌, ◌==◌, Bool, true, false, List, [], ◌∷◌, ◌++◌, length, set, if◌then◌else◌, ap, sym, subst, ◌∙◌, arith, length-set, length-append, get_or-set_same, get_or-set_other}
 use lib.ListN.{get_or}
 use Rattle.xti_model.specs.declared.entry.Entry.{Entry}
-use Rattle.xti_rule.specs.Histories.{own}
-use Rattle.xti_rule.proofs.Laws.{own-append, own-mine}
-use Rattle.xti_rule.specs.declared.view.Mark.{Mark}
-use Rattle.xti_rule.specs.declared.view.Mark.TheVariants.{Absent, Free}
-use Rattle.xti_rule.specs.declared.view.View.{View}
-use Rattle.xti_rule.specs.Rule.{mark_of, MarkFits}
-use Rattle.xti_rule.specs.Steps.{Marked, Commits}
+use Rattle.xti_hall_rule.specs.Histories.{own}
+use Rattle.xti_hall_rule.proofs.Laws.{own-append, own-mine}
+use Rattle.xti_hall_rule.specs.declared.view.Mark.{Mark}
+use Rattle.xti_hall_rule.specs.declared.view.Mark.TheVariants.{Absent, Free}
+use Rattle.xti_hall_rule.specs.declared.view.View.{View}
+use Rattle.xti_hall_rule.specs.Rule.{mark_of, MarkFits}
+use Rattle.xti_hall_rule.specs.Steps.{Marked, Commits}
 
 pub freed : (v : View) (marks : List Mark) (k : ℕ) → k ≡ v.number → v.number < 33 → length v.marks ≡ 33 → marks ≡ v.marks → Marked v (set marks k Free)
 freed v marks k is lt many same = let n : ℕ = v.number in let long : length marks ≡ 33 = ap length same ∙ many in record {

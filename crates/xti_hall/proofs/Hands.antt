@@ -2,14 +2,14 @@
 use Rattle.std.proofs.Common.{◌≡◌, ℕ, zero, suc, replicate, List, refl, ap, sym, subst, ◌∙◌}
 use Rattle.std.specs.Prelude.{Option, None}
 use Rattle.xti_model.specs.declared.entry.Entry.{Entry}
-use Rattle.xti_rule.specs.declared.view.Mark.{Mark}
-use Rattle.xti_rule.specs.declared.view.View.{View}
-use Rattle.xti_rule.specs.Steps.{without_pen_unseen, with_pen, given}
+use Rattle.xti_hall_rule.specs.declared.view.Mark.{Mark}
+use Rattle.xti_hall_rule.specs.declared.view.View.{View}
+use Rattle.xti_hall_rule.specs.Steps.{without_pen_unseen, with_pen, given}
 use lib.ListN.{get_or}
 use Rattle.xti_model.specs.World.{Cell as MCell}
-use Rattle.xti_rule.specs.declared.view.Mark.TheVariants.{Free}
+use Rattle.xti_hall_rule.specs.declared.view.Mark.TheVariants.{Free}
 use Rattle.xti_hall.specs.Seats.{IsNewcomerOf}
-use Rattle.xti_rule.specs.Steps.{told, with_seen, Looked}
+use Rattle.xti_hall_rule.specs.Steps.{told, with_seen, Looked}
 use Rattle.xti_hall.specs.Seats.{Meets}
 
 -- an empty hand has nothing

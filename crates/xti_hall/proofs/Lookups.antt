@@ -3,8 +3,8 @@ use Rattle.std.proofs.Common.{◌≡◌, ℕ, zero, suc, ◌<◌, List, [], ◌�
 use lib.ListN.{get_or}
 use Rattle.std.specs.Prelude.{Option, Some, None}
 use Rattle.xti_model.specs.World.{Cell as MCell}
-use Rattle.xti_rule.specs.declared.view.View.{View}
-use Rattle.xti_rule.specs.Steps.{with_held}
+use Rattle.xti_hall_rule.specs.declared.view.View.{View}
+use Rattle.xti_hall_rule.specs.Steps.{with_held}
 use Rattle.xti_hall.specs.Seats.{Entered, Left}
 
 pub entered : (v v' : View) (i : ℕ) (m : MCell) → v' ≡ with_held v (set v.held i (Some m)) 0 → i < length v.held → Entered v i m v'

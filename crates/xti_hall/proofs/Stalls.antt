@@ -7,13 +7,13 @@ use Rattle.std.proofs.lemmas.List.{take_all}
 use Rattle.std.proofs.lemmas.List.Recursion.{is_count_by}
 use mathlib.Core.List.{IsPrefix}
 use Rattle.xti_model.specs.declared.entry.Entry.{Entry}
-use Rattle.xti_rule.specs.declared.view.Mark.{Mark}
-use Rattle.xti_rule.specs.declared.view.Mark.TheVariants.{Absent, Free, Waiting, Resting}
-use Rattle.xti_rule.specs.declared.view.View.{View}
+use Rattle.xti_hall_rule.specs.declared.view.Mark.{Mark}
+use Rattle.xti_hall_rule.specs.declared.view.Mark.TheVariants.{Absent, Free, Waiting, Resting}
+use Rattle.xti_hall_rule.specs.declared.view.View.{View}
 use Rattle.xti_wants.specs.declared.want.Want.{Want}
-use Rattle.xti_rule.specs.Histories.{Blocked}
-use Rattle.xti_rule.specs.Rule.{mark_of, MarkFits}
-use Rattle.xti_rule.specs.Steps.{Holds, with_pen, without_pen}
+use Rattle.xti_hall_rule.specs.Histories.{Blocked}
+use Rattle.xti_hall_rule.specs.Rule.{mark_of, MarkFits}
+use Rattle.xti_hall_rule.specs.Steps.{Holds, with_pen, without_pen}
 use Rattle.xti_hall.specs.Stalls.{is_settled, waits, rests, is_out, IsStall}
 
 abbrev since : ℕ → Mark → ℕ

@@ -11,10 +11,10 @@ use Rattle.xti_model.specs.declared.entry.Entry.{Entry}
 use Rattle.xti_model.specs.History.{Going, Fits, call_after, going_after, made_by, doing, unfinished_from, step_going}
 use Rattle.xti_model.specs.Wants.{taken_before}
 use Rattle.xti_model.proofs.Working.{call_from, unfinished_from-snoc, IsCallOf, call_of-from}
-use Rattle.xti_rule.specs.Histories.{own, after}
-use Rattle.xti_rule.specs.declared.view.View.{View}
-use Rattle.xti_rule.specs.Steps.{Commits}
-use Rattle.xti_rule.proofs.Laws.{own-append, own-mine}
+use Rattle.xti_hall_rule.specs.Histories.{own, after}
+use Rattle.xti_hall_rule.specs.declared.view.View.{View}
+use Rattle.xti_hall_rule.specs.Steps.{Commits}
+use Rattle.xti_hall_rule.proofs.Laws.{own-append, own-mine}
 use Rattle.xti_hall.specs.Seats.{unfinished_bytes, taken_in}
 
 -- the call that an entry makes is the last begun one after it

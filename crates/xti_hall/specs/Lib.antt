@@ -4,3 +4,6 @@ pub mod Pens
 pub mod Stalls
 pub mod Words
 pub mod Records
+pub use Rattle.xti_hall_rule.specs.Rule
+pub use Rattle.xti_hall_rule.specs.Steps
+pub use Rattle.xti_model.specs.World

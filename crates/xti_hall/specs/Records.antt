@@ -1,7 +1,7 @@
 -- What a journal has of its history.
 use Rattle.std.specs.Prelude.{◌+◌, ◌<◌, ◌^◌, List, Option, option_map, vec_len, vec_capacity, IfSome}
 use Rattle.xti_model.specs.declared.entry.Entry.{Entry}
-use Rattle.xti_rule.specs.declared.view.Journal.{Journal}
+use Rattle.xti_hall_rule.specs.declared.view.Journal.{Journal}
 
 -- the entries that it keeps
 abbrev pub kept_in : Journal → Option (List Entry)

@@ -16,14 +16,14 @@ use Rattle.xti_model.specs.declared.entry.Outcome.TheVariants.{Done, Part}
 use Rattle.xti_model.specs.History.{unfinished_from}
 use Rattle.xti_model.specs.Wants.{taken_before}
 use Rattle.xti_model.specs.World.{Cell as MCell}
-use Rattle.xti_rule.specs.Histories.{Legal, own, part, opening}
-use Rattle.xti_rule.specs.declared.setting.Setting.{Setting}
-use Rattle.xti_rule.specs.declared.view.View.{View}
-use Rattle.xti_rule.specs.declared.view.Journal.{Journal}
-use Rattle.xti_rule.specs.declared.view.Mark.{Mark}
-use Rattle.xti_rule.specs.declared.view.Mark.TheVariants.{Free}
-use Rattle.xti_rule.specs.Rule.{Slot, HasLog}
-use Rattle.xti_rule.specs.Steps.{Seated, Fresh, giver, committed, Marked, at, with_pen, without_pen, Holds}
+use Rattle.xti_hall_rule.specs.Histories.{Legal, own, part, opening}
+use Rattle.xti_hall_rule.specs.declared.setting.Setting.{Setting}
+use Rattle.xti_hall_rule.specs.declared.view.View.{View}
+use Rattle.xti_hall_rule.specs.declared.view.Journal.{Journal}
+use Rattle.xti_hall_rule.specs.declared.view.Mark.{Mark}
+use Rattle.xti_hall_rule.specs.declared.view.Mark.TheVariants.{Free}
+use Rattle.xti_hall_rule.specs.Rule.{Slot, HasLog}
+use Rattle.xti_hall_rule.specs.Steps.{Seated, Fresh, giver, committed, Marked, at, with_pen, without_pen, Holds}
 
 -- which hall made the seat, which of the hall's seats it is, and what it knows
 pub record SeatView : Type 0 where

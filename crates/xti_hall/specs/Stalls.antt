@@ -1,17 +1,17 @@
 -- When each seat that is out rests, or waits for what is blocked.
 use Rattle.std.specs.Prelude.{◌≡◌, ◌+◌, ◌<◌, ◌≤◌, take, ◌==◌, ℕ, Bool, true, false, length, count_by}
 use Rattle.std.specs.List.{list_all}
-use Rattle.xti_rule.specs.declared.view.Mark.{Mark}
-use Rattle.xti_rule.specs.declared.view.Mark.TheVariants.{Absent, Free, Waiting, Resting}
-use Rattle.xti_rule.specs.declared.view.View.{View}
+use Rattle.xti_hall_rule.specs.declared.view.Mark.{Mark}
+use Rattle.xti_hall_rule.specs.declared.view.Mark.TheVariants.{Absent, Free, Waiting, Resting}
+use Rattle.xti_hall_rule.specs.declared.view.View.{View}
 use Rattle.xti_wants.specs.declared.want.Want.{Want}
 use Rattle.xti_hall.specs.declared.stall.Stall.{Stall}
 use Rattle.xti_hall.specs.declared.stall.Sight.{Sight}
 use Rattle.xti_hall.specs.declared.stall.Sight.TheVariants.{Again, Parks, Alone, Stalls}
 use Rattle.xti_hall.specs.declared.stall.Waited.{Waited}
 use Rattle.xti_hall.specs.declared.stall.Waited.TheVariants as waited
-use Rattle.xti_rule.specs.Histories.{Blocked}
-use Rattle.xti_rule.specs.Rule.{mark_of}
+use Rattle.xti_hall_rule.specs.Histories.{Blocked}
+use Rattle.xti_hall_rule.specs.Rule.{mark_of}
 
 -- nobody has the number, or its seat rests, or it waits in the history of this length
 abbrev pub is_settled : ℕ → Mark → Bool

@@ -3,9 +3,9 @@ use Rattle.std.specs.Prelude.{◌≡◌, ℕ, Bool}
 use Rattle.xti_model.specs.declared.profile.Providers.{Providers}
 use Rattle.atomic_table.specs.Seated.{TableId}
 use Rattle.atomic_table.specs.declared.shared.Seat.{Seat}
-use Rattle.xti_rule.specs.declared.setting.Setting.{Setting}
-use Rattle.xti_rule.specs.declared.view.View.{View}
-use Rattle.xti_rule.specs.Rule.{Slot}
+use Rattle.xti_hall_rule.specs.declared.setting.Setting.{Setting}
+use Rattle.xti_hall_rule.specs.declared.view.View.{View}
+use Rattle.xti_hall_rule.specs.Rule.{Slot}
 use Rattle.xti_hall.specs.declared.hall.Hall.{Hall}
 use Rattle.xti_hall.specs.Seats.{SeatView}
 

@@ -8,8 +8,8 @@ ghost use Rattle.xti_hall.specs.Words.{IsSameSeat};
 use crate::hall::Hall;
 use crate::seat::Seat;
 use std::marker::Model;
+use xti_hall_rule::Stands;
 use xti_model::Entries;
-use xti_rule::Stands;
 
 /// A hall whose history was taken out, so that nobody steps any more, and the seat that took it. Contracts see the seat, which has
 /// seen the whole history.

@@ -6,7 +6,7 @@ ghost use Rattle.xti_hall.specs.Sizes.{IsSized};
 use crate::sleepers::Sleepers;
 use atomic_table::Table;
 use std::alloc::Global;
-use xti_rule::{Held, Ruled, Setting, Stands, View};
+use xti_hall_rule::{Held, Ruled, Setting, Stands, View};
 
 mod cells;
 mod journal;

@@ -4,7 +4,7 @@ ghost use Rattle.std.specs.Prelude.{◌≡◌, ◌≤◌, length, count_by};
 ghost use Rattle.std.specs.List.{list_all};
 ghost use Rattle.xti_hall.specs.Stalls.{is_settled, waits, rests};
 
-use xti_rule::{Bells, Mark};
+use xti_hall_rule::{Bells, Mark};
 
 /// Whether nobody has the number, or its seat rests, or it waits since the history had this length.
 fn is_settled(mark: &Mark, at: u64) -> bool

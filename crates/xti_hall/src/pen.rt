@@ -1,11 +1,11 @@
 ghost use Rattle.std.specs.Prelude.{◌≡◌, length};
-ghost use Rattle.xti_rule.specs.Rule.{HasLog};
+ghost use Rattle.xti_hall_rule.specs.Rule.{HasLog};
 ghost use Rattle.xti_hall.specs.Records.{HasRoom};
 
 use crate::seat::Seat;
 use std::marker::Model;
 use std::snapshot::Snapshot;
-use xti_rule::{Journal, Mark, Pass};
+use xti_hall_rule::{Journal, Mark, Pass};
 
 /// The journal while a seat holds its turn, with room for one entry where entries are kept. It can't be let go: `commit` or
 /// `return_pen` gives it back.
@@ -15,7 +15,7 @@ pub struct Pen<C> {
 }
 
 impl<C> Model for Pen<C> {
-    ghost use Rattle.xti_rule.specs.Rule.{HasLog};
+    ghost use Rattle.xti_hall_rule.specs.Rule.{HasLog};
     ghost use Rattle.xti_hall.specs.Pens.{PenView, pen_view};
     ghost use Rattle.xti_hall.specs.Records.{HasRoom};
 

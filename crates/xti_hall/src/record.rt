@@ -2,12 +2,12 @@
 
 ghost use Rattle.std.specs.Prelude.{◌≡◌, ◌+◌, ◌<◌, ◌∷◌, ◌++◌, ◌^◌, [], List, true, is_some};
 ghost use Rattle.xti_model.specs.declared.entry.Entry.{Entry};
-ghost use Rattle.xti_rule.specs.Rule.{recorded};
+ghost use Rattle.xti_hall_rule.specs.Rule.{recorded};
 ghost use Rattle.xti_hall.specs.Records.{kept_in, HasRoom};
 
 use std::alloc::Global;
+use xti_hall_rule::{Bells, Journal, Last, Mark};
 use xti_model::Entry;
-use xti_rule::{Bells, Journal, Last, Mark};
 
 /// That of an empty history.
 pub(crate) fn empty(alloc: Global, keeps: bool, marks: Vec<Mark>) -> Journal

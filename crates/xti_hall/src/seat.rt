@@ -2,7 +2,7 @@ ghost use Rattle.std.specs.Prelude.{◌≡◌, length};
 ghost use Rattle.xti_hall.specs.Seats.{IsStanding, unfinished_bytes};
 
 use std::marker::Model;
-use xti_rule::Pass;
+use xti_hall_rule::Pass;
 
 /// One caller's token, with which it steps. What it has seen is a legal history, and its own entries are its own part of
 /// that.

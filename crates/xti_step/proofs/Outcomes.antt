@@ -21,10 +21,10 @@ use Rattle.xti_model.specs.Step.{Step, step}
 use Rattle.xti_model.specs.Touched.{touched}
 use Rattle.xti_model.specs.History.{Going, doing, made_by, unfinished_from, step_going, left_by, Fits}
 use Rattle.xti_end.specs.Taken.{taken}
-use Rattle.xti_sound.specs.Invariant.{SoundWorld}
-use Rattle.xti_sound.specs.Replies.{lengths_of, IsShortOutcome}
-use Rattle.xti_sound.proofs.Steps.{after-sound}
-use Rattle.xti_sound.proofs.ShortReplies.{replies-short}
+use Rattle.xti_laws_sound.specs.Invariant.{SoundWorld}
+use Rattle.xti_laws_sound.specs.Replies.{lengths_of, IsShortOutcome}
+use Rattle.xti_laws_sound.proofs.Steps.{after-sound}
+use Rattle.xti_laws_sound.proofs.ShortReplies.{replies-short}
 use Rattle.xti_lent.specs.Lending.{Lending, cell_lent, cells, cells_by}
 use Rattle.xti_lent.specs.Fit.{SameCells}
 use Rattle.xti_lent.proofs.Named.{all-among}
@@ -32,14 +32,14 @@ use Rattle.xti_lent.proofs.Worlds.{at_number, cell_at-is, same-is}
 use Rattle.xti_core.specs.Standing.{IsLoan}
 use Rattle.xti_core.proofs.Settling.{stepped, same-at}
 use Rattle.xti_core.proofs.Stepping.{lent_or_kept, step-whole, touched-all}
-use Rattle.xti_rule.specs.declared.setting.Setting.{Setting}
-use Rattle.xti_rule.specs.declared.view.View.{View}
-use Rattle.xti_rule.specs.declared.view.Mark.{Mark}
-use Rattle.xti_rule.specs.declared.view.Mark.TheVariants.{Free}
-use Rattle.xti_rule.specs.Histories.{part, cell_or_closed, own, after, Legal, Touches}
-use Rattle.xti_rule.specs.Steps.{at, with_pen, without_pen, renew_from, Holds, Commits}
-use Rattle.xti_rule.proofs.Laws.{own-append, own-mine, after-more, legal-more}
-use Rattle.xti_rule.proofs.Lookups.{at_has}
+use Rattle.xti_hall_rule.specs.declared.setting.Setting.{Setting}
+use Rattle.xti_hall_rule.specs.declared.view.View.{View}
+use Rattle.xti_hall_rule.specs.declared.view.Mark.{Mark}
+use Rattle.xti_hall_rule.specs.declared.view.Mark.TheVariants.{Free}
+use Rattle.xti_hall_rule.specs.Histories.{part, cell_or_closed, own, after, Legal, Touches}
+use Rattle.xti_hall_rule.specs.Steps.{at, with_pen, without_pen, renew_from, Holds, Commits}
+use Rattle.xti_hall_rule.proofs.Laws.{own-append, own-mine, after-more, legal-more}
+use Rattle.xti_hall_rule.proofs.Lookups.{at_has}
 use Rattle.xti_hall.specs.Seats.{bare, entry_of, wrote_entry}
 use Rattle.xti_gather.specs.Lends.{Lends, Just}
 use Rattle.xti_gather.proofs.Loans.{lent-cell, loan-after}

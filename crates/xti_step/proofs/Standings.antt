@@ -1,6 +1,6 @@
 -- A seat that gives its cells back stands as before.
 use Rattle.std.proofs.Common.{◌≡◌, sym, subst}
-use Rattle.xti_rule.specs.declared.view.View.{View}
+use Rattle.xti_hall_rule.specs.declared.view.View.{View}
 use Rattle.xti_hall.specs.Seats.{IsStanding, bare}
 
 to-bare : (v : View) → IsStanding v → IsStanding (bare v)

@@ -11,8 +11,8 @@ use Rattle.xti_model.specs.declared.entry.Applied.TheVariants as applied
 use Rattle.xti_model.specs.History.{made_by, unfinished_from, Fits}
 use Rattle.xti_model.specs.Robin.{act_of}
 use Rattle.xti_model.specs.Step.{step}
-use Rattle.xti_rule.specs.declared.view.View.{View}
-use Rattle.xti_rule.specs.Histories.{after}
+use Rattle.xti_hall_rule.specs.declared.view.View.{View}
+use Rattle.xti_hall_rule.specs.Histories.{after}
 use Rattle.xti_hall.specs.Seats.{HoldsNone, entry_of}
 
 -- a seat between two calls holds neither a cell nor the journal

@@ -1,7 +1,7 @@
 //! The gate at which a step may pause.
 
 ghost use Rattle.std.specs.Prelude.{◌≡◌, length, false};
-ghost use Rattle.xti_rule.specs.Steps.{at};
+ghost use Rattle.xti_hall_rule.specs.Steps.{at};
 ghost use Rattle.xti_gather.specs.Lends.{Just};
 
 use std::sync::Wait;

@@ -3,8 +3,8 @@
 ghost use Rattle.std.specs.Prelude.{◌≡◌, ◌≤◌, ◌^◌, [], ℕ, length, sum, min, IfOk, IsTrue};
 ghost use Rattle.xti_base.specs.declared.limits.TheConstants.{MOST_ADDRESS, MOST_OPTIONS};
 ghost use Rattle.xti_model.specs.Families.{is_connection_news, is_received};
-ghost use Rattle.xti_sound.specs.Replies.{lengths, lengths_of, news_lengths, bound_length, answered_length};
-ghost use Rattle.xti_sound.specs.Replies.{IsShort, IsShortOutcome};
+ghost use Rattle.xti_laws_sound.specs.Replies.{lengths, lengths_of, news_lengths, bound_length, answered_length};
+ghost use Rattle.xti_laws_sound.specs.Replies.{IsShort, IsShortOutcome};
 ghost use Rattle.xti_step.specs.Families.{has_no_bytes};
 
 use std::alloc::{AllocError, Global};
@@ -100,7 +100,7 @@ pub(crate) struct Spare {
 
 impl Model for Spare {
     ghost use Rattle.std.specs.Prelude.{◌≡◌, []};
-    ghost use Rattle.xti_sound.specs.Replies.{Lengths, lengths};
+    ghost use Rattle.xti_laws_sound.specs.Replies.{Lengths, lengths};
 
     ghost Value = { Lengths };
 

@@ -1,17 +1,17 @@
 //! One step of a call.
 
-ghost use Rattle.std.specs.Prelude.{◌≡◌, ◌⊎◌, IfOk, OnErr};
+ghost use Rattle.std.specs.Prelude.{◌≡◌, ◌⊎◌, true, IfOk, OnErr};
 ghost use Rattle.xti_model.specs.Robin.{act_of};
-ghost use Rattle.xti_rule.specs.declared.view.Mark.TheVariants.{Free};
-ghost use Rattle.xti_rule.specs.Steps.{without_pen, Holds, Commits};
+ghost use Rattle.xti_hall_rule.specs.declared.view.Mark.TheVariants.{Free};
+ghost use Rattle.xti_hall_rule.specs.Steps.{without_pen, Holds, Commits};
 ghost use Rattle.xti_hall.specs.Pens.{IsPenOf};
 ghost use Rattle.xti_hall.specs.Seats.{bare, entry_of, wrote_entry, HoldsNone, IsStanding};
 ghost use Rattle.xti_hall.specs.Words.{setting_of, IsSeatOf, IsSameSeat};
 ghost use Rattle.xti_gather.specs.Cells.{IsWhole};
 ghost use Rattle.xti_gather.specs.Lends.{Lends, IsEmpty};
 ghost use Rattle.xti_gather.specs.Orders.{AreCells};
-ghost use Rattle.xti_sound.specs.Replies.{lengths_of, IsShortOutcome};
-ghost use Rattle.xti_step.specs.Copies.{AreCopies};
+ghost use Rattle.xti_laws_sound.specs.Replies.{lengths_of, IsShortOutcome};
+ghost use Rattle.xti_step.specs.Copies.{AreCopies, entry_with};
 ghost use Rattle.xti_step.specs.Steps.{HoldsNothing, Later, MayGo, Tells, SeenAt};
 
 use crate::gate::Gate;
@@ -36,30 +36,40 @@ fn act(call: &Call, go: Go) -> Result<Act, AllocError>
     }
 }
 
-/// What an entry that is kept shows of its call, and room for the caller's copy of the reply; none where entries aren't kept.
+/// What the entry shows of the call, and room for the caller's copy of the reply.
+#[inline(never)]
+fn copied(alloc: Global, call: &Call, go: Go) -> Result<Box<(Act, Spare)>, AllocError>
+    ensures { IfOk result (λ b. (b.value.0 ≡ act_of go call.now) × (b.value.1 ≡ lengths_of call.now)) }
+{
+    let spare = Spare::of(alloc, call)?;
+    let act = or_drop!(act(call, go), spare);
+    Ok(Box::new(alloc, (act, spare))?)
+}
+
+/// What an entry that is kept shows of its call, and room for the caller's copy of the reply; none where entries aren't kept. They
+/// stand in a box, so that a step whose entry isn't kept moves as little as it may.
 fn copies(
     alloc: Global,
     hall: &Hall<Cell>,
     call: &Call,
     go: Go,
-) -> Result<Option<(Act, Spare)>, AllocError>
+) -> Result<Option<Box<(Act, Spare)>>, AllocError>
     ensures { IfOk result (AreCopies (setting_of hall.now).keeps call.now go) }
 {
     if !hall.keeps() {
         return Ok(None);
     }
-    let spare = Spare::of(alloc, call)?;
-    let act = or_drop!(act(call, go), spare);
-    Ok(Some((act, spare)))
+    Ok(Some(copied(alloc, call, go)?))
 }
 
 /// Gives the journal back without an entry, and then the cells; what was copied is let go.
+#[inline(never)]
 fn give_up(
     hall: &Hall<Cell>,
     seat: &mut Seat<Cell>,
     lent: &mut Lent,
     pen: Pen<Cell>,
-    copies: Option<(Act, Spare)>,
+    copies: Option<Box<(Act, Spare)>>,
 )
     requires hall { IsSeatOf hall.now seat.old × IsWhole (setting_of hall.now) lent.old.providers }
     requires holds { Holds seat.old.view }
@@ -75,12 +85,47 @@ fn give_up(
     let_go(copies);
 }
 
+/// Writes an entry that is kept, and gives the journal back; a copy of what the step answered. It is called and not inlined, so that
+/// a step whose entry isn't kept has none of its room to clear.
+#[inline(never)]
+fn write_kept(
+    hall: &Hall<Cell>,
+    seat: &mut Seat<Cell>,
+    pen: Pen<Cell>,
+    copies: Box<(Act, Spare)>,
+    outcome: Outcome,
+    after: State,
+    wakes: u64,
+) -> (Outcome, Rings)
+    requires hall { IsSeatOf hall.now seat.old }
+    requires holds { Holds seat.old.view }
+    requires pen { IsPenOf seat.old pen }
+    requires keeps { (setting_of hall.now).keeps ≡ true }
+    requires short { IsShortOutcome copies.value.1 outcome }
+    requires entry { Commits seat.old.view (entry_with copies.value.0 seat.old.view outcome after) }
+    ensures hall { IsSameSeat seat.old seat.new }
+    ensures view { seat.new.view ≡ without_pen (wrote_entry seat.old.view (entry_with copies.value.0 seat.old.view outcome after)) Free }
+    ensures standing { IsStanding seat.new.view }
+    ensures told { result.0 ≡ outcome }
+{
+    let (act, spare) = Box::into_inner(copies);
+    let told = spare.copy(&outcome);
+    let entry = Entry {
+        worker: seat.number(),
+        act,
+        outcome,
+        after,
+    };
+    let rings = hall.commit(seat, pen, entry, wakes);
+    (told, rings)
+}
+
 /// Writes the entry of a step, and gives the journal back; what the step answered, which is copied where the entry is kept.
 fn write(
     hall: &Hall<Cell>,
     seat: &mut Seat<Cell>,
     pen: Pen<Cell>,
-    copies: Option<(Act, Spare)>,
+    copies: Option<Box<(Act, Spare)>>,
     call: &Call,
     go: Go,
     outcome: Outcome,
@@ -99,17 +144,7 @@ fn write(
     ensures told { result.0 ≡ outcome }
 {
     match copies {
-        Some((act, spare)) => {
-            let told = spare.copy(&outcome);
-            let entry = Entry {
-                worker: seat.number(),
-                act,
-                outcome,
-                after,
-            };
-            let rings = hall.commit(seat, pen, entry, wakes);
-            (told, rings)
-        }
+        Some(kept) => write_kept(hall, seat, pen, kept, outcome, after, wakes),
         None => {
             let rings = hall.commit_unkept(seat, pen, call, go, &outcome, after, wakes);
             (outcome, rings)

@@ -3,9 +3,9 @@
 
 use xti_gather::Cell;
 use xti_hall::Pen;
+use xti_hall_rule::Mark;
 use xti_lent::Lent;
 use xti_model::Call;
-use xti_rule::Mark;
 use xti_wants::{Want, WantKind};
 
 /// Whether the step of the call, which touched just the cells that are lent, may change whether this is blocked. That depends on

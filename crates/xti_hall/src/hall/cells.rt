@@ -1,13 +1,13 @@
 ghost use Rattle.std.specs.Prelude.{◌≡◌, ◌<◌, false, ℕ, Some, None, IfSome, IfNone};
 ghost use Rattle.xti_model.specs.World.{Cell as MCell};
-ghost use Rattle.xti_rule.specs.Steps.{at, refused_at};
+ghost use Rattle.xti_hall_rule.specs.Steps.{at, refused_at};
 ghost use Rattle.xti_hall.specs.Seats.{Enters, MayLeave, Left};
 ghost use Rattle.xti_hall.specs.Words.{setting_of, IsSeatOf, IsSameSeat};
 
 use super::Hall;
 use crate::seat::Seat;
 use std::sync::Wait;
-use xti_rule::Stands;
+use xti_hall_rule::Stands;
 
 impl<C: Stands> Hall<C> {
     /// Takes a cell's turn and its value, and waits for the turn. The value stands for the cell after a legal history that

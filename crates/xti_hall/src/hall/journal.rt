@@ -1,7 +1,7 @@
 ghost use Rattle.std.specs.Prelude.{◌≡◌, ◌<◌, ◌∷◌, ◌++◌, [], true, false, IfOk, OnErr};
-ghost use Rattle.xti_rule.specs.declared.view.Mark.TheVariants.{Free};
-ghost use Rattle.xti_rule.specs.Rule.{mark_of, HasLog};
-ghost use Rattle.xti_rule.specs.Steps.{with_pen, without_pen, Holds, Commits, Marked, shown};
+ghost use Rattle.xti_hall_rule.specs.declared.view.Mark.TheVariants.{Free};
+ghost use Rattle.xti_hall_rule.specs.Rule.{mark_of, HasLog};
+ghost use Rattle.xti_hall_rule.specs.Steps.{with_pen, without_pen, Holds, Commits, Marked, shown};
 ghost use Rattle.xti_hall.specs.Pens.{IsPenOf};
 ghost use Rattle.xti_hall.specs.Seats.{IsStanding, LookedAt, Looks, wrote_entry, entry_of, taken_in};
 ghost use Rattle.xti_hall.specs.Words.{IsSeatOf, IsSameSeat, setting_of};
@@ -15,8 +15,8 @@ use std::alloc::{AllocError, Global};
 use std::snapshot::Snapshot;
 use std::sync::Wait;
 use xti_base::{State, let_go};
+use xti_hall_rule::{Journal, Mark, Shown, Stands};
 use xti_model::{Call, Entries, Entry, Go, Outcome};
-use xti_rule::{Journal, Mark, Shown, Stands};
 
 /// How many bytes are taken of a call that goes on after this outcome.
 fn taken_in(outcome: &Outcome) -> Option<u32>
@@ -99,10 +99,11 @@ impl<C: Stands> Hall<C> {
         self.give_marked(seat, pen.into_journal(), Mark::Free);
     }
 
-    /// Appends the entry, adds 1 to the length, gives the journal back, and wakes those of the seats told that wait, each
-    /// told by the bit of its number; one that was woken already, and hasn't looked since, isn't woken again. The seat has then
-    /// seen the history that ends with the entry, and the recorded values of its cells are those after it. Takes no memory, and
-    /// waits for nobody.
+    /// Appends the entry, adds 1 to the length, and gives the journal back. The seat has then seen the history that ends with the
+    /// entry, and the recorded values of its cells are those after it. Takes no memory, and waits for nobody.
+    ///
+    /// Of the seats told, each by the bit of its number, it answers those that wait, whom `wake` wakes once the cells are given back;
+    /// one that an earlier commit has answered, and that hasn't looked since, isn't answered again.
     pub fn commit(&self, seat: &mut Seat<C>, pen: Pen<C>, entry: Entry, wakes: u64) -> Rings
         requires hall { IsSeatOf self.now seat.old }
         requires holds { Holds seat.old.view }

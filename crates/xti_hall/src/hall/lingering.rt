@@ -11,7 +11,7 @@ ghost use Rattle.xti_hall.specs.Words.{setting_of};
 
 use super::Hall;
 use std::sync::Wait;
-use xti_rule::Stands;
+use xti_hall_rule::Stands;
 
 /// So often the word of a turn is read before who waits for it sleeps.
 const LOOKS_AT_TURN: u32 = 16_000;

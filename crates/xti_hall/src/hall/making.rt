@@ -1,6 +1,6 @@
 ghost use Rattle.std.specs.Prelude.{◌≡◌, ◌<◌, ◌^◌, ◌+◌, map, IfOk, vec_len, vec_capacity, ◌≤◌, Some};
-ghost use Rattle.xti_rule.specs.declared.view.Held.TheVariants.{Cell};
-ghost use Rattle.xti_rule.specs.Rule.{newcomer, opening_marks};
+ghost use Rattle.xti_hall_rule.specs.declared.view.Held.TheVariants.{Cell};
+ghost use Rattle.xti_hall_rule.specs.Rule.{newcomer, opening_marks};
 ghost use Rattle.xti_hall.specs.Seats.{StandInOrder};
 ghost use Rattle.xti_hall.specs.Words.{setting, setting_of, id_of};
 
@@ -11,8 +11,8 @@ use crate::sleepers::Sleepers;
 use atomic_table::{Refused, Table};
 use std::alloc::{AllocError, Global};
 use xti_base::let_go;
+use xti_hall_rule::{Held, Mark, Setting, Stands};
 use xti_model::Providers;
-use xti_rule::{Held, Mark, Setting, Stands};
 
 /// The marks before any seat is cut in two.
 fn first_marks(alloc: Global) -> Result<Vec<Mark>, AllocError>

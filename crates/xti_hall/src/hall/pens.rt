@@ -2,17 +2,19 @@
 
 ghost use Rattle.std.specs.Prelude.{◌≡◌, ◌<◌, ◌++◌, ◌∷◌, [], true, MatchBool, Some, None};
 ghost use Rattle.atomic_table.specs.Table.{rest};
-ghost use Rattle.xti_rule.specs.declared.view.Held.TheVariants.{Journal as InJournal};
-ghost use Rattle.xti_rule.specs.declared.view.Journal.{Journal as Book};
-ghost use Rattle.xti_rule.specs.Rule.{HasLog, mark_of};
-ghost use Rattle.xti_rule.specs.Steps.{without_pen, without_pen_unseen, committed, Began, Commits, Marked, shown};
+ghost use Rattle.xti_hall_rule.specs.declared.view.Held.TheVariants.{Journal as InJournal};
+ghost use Rattle.xti_hall_rule.specs.declared.view.Journal.{Journal as Book};
+ghost use Rattle.xti_hall_rule.specs.Rule.{HasLog, mark_of};
+ghost use Rattle.xti_hall_rule.specs.Steps.{without_pen, without_pen_unseen, committed, Began, Commits, Marked, shown};
 ghost use Rattle.xti_hall.specs.Seats.{Sits, HasJournal, MayGoBack};
 ghost use Rattle.xti_hall.specs.Words.{IsOf, IsSame, setting_of};
 
 use super::Hall;
 use crate::record::length;
 use std::sync::Wait;
-use xti_rule::{Begin, Commit, Held, Journal, Last, Pass, Return, ReturnUnseen, Shown, Stands};
+use xti_hall_rule::{
+    Begin, Commit, Held, Journal, Last, Pass, Return, ReturnUnseen, Shown, Stands,
+};
 
 impl<C: Stands> Hall<C> {
     /// One try at the journal's turn.

@@ -1,13 +1,13 @@
 ghost use Rattle.std.specs.Prelude.{◌≡◌, ◌<◌, ◌≤◌, false, IfOk, MatchResult, List};
 ghost use Rattle.xti_model.specs.declared.entry.Entry.{Entry};
-ghost use Rattle.xti_rule.specs.Steps.{giver, given, told, with_seen, Looked};
+ghost use Rattle.xti_hall_rule.specs.Steps.{giver, given, told, with_seen, Looked};
 ghost use Rattle.xti_hall.specs.Seats.{CutsOff, HasNoneToSpare, IsStanding, Meets};
 ghost use Rattle.xti_hall.specs.Words.{IsSeatOf, IsSameSeat};
 
 use super::Hall;
 use crate::seat::Seat;
 use std::sync::Wait;
-use xti_rule::{Give, Look, Mark, Note, Stands};
+use xti_hall_rule::{Give, Look, Mark, Note, Stands};
 
 /// The given seat has no spare number.
 #[derive(Drop)]

@@ -6,14 +6,14 @@ ghost use mathlib.Core.Option.{some};
 ghost use lib.ListN.{get_elem?};
 ghost use Rattle.atomic_table.specs.Table.{rest};
 ghost use Rattle.xti_model.specs.World.{Cell as MCell};
-ghost use Rattle.xti_rule.specs.declared.view.Held.TheVariants.{Cell};
-ghost use Rattle.xti_rule.specs.Steps.{Took, refused_at, with_held};
+ghost use Rattle.xti_hall_rule.specs.declared.view.Held.TheVariants.{Cell};
+ghost use Rattle.xti_hall_rule.specs.Steps.{Took, refused_at, with_held};
 ghost use Rattle.xti_hall.specs.Seats.{Sits};
 ghost use Rattle.xti_hall.specs.Words.{IsOf, IsSame, setting_of};
 
 use super::Hall;
 use std::sync::Wait;
-use xti_rule::{Held, Leave, Pass, Reopen, Settle, Stands, Take, Try};
+use xti_hall_rule::{Held, Leave, Pass, Reopen, Settle, Stands, Take, Try};
 
 impl<C: Stands> Hall<C> {
     /// One try at a cell's turn.

@@ -1,7 +1,7 @@
 ghost use Rattle.std.specs.Prelude.{◌≡◌, ◌<◌, ◌≤◌, ◌+◌, true, false, length, take};
-ghost use Rattle.xti_rule.specs.declared.view.Mark.TheVariants.{Resting, Waiting};
-ghost use Rattle.xti_rule.specs.Rule.{MarkFits, HasLog};
-ghost use Rattle.xti_rule.specs.Steps.{with_pen, without_pen, Holds};
+ghost use Rattle.xti_hall_rule.specs.declared.view.Mark.TheVariants.{Resting, Waiting};
+ghost use Rattle.xti_hall_rule.specs.Rule.{MarkFits, HasLog};
+ghost use Rattle.xti_hall_rule.specs.Steps.{with_pen, without_pen, Holds};
 ghost use Rattle.xti_hall.specs.Seats.{HoldsNone, IsStanding, Looks};
 ghost use Rattle.xti_hall.specs.Stalls.{WasBlocked, Sees, WaitedFor};
 ghost use Rattle.xti_hall.specs.Words.{IsSeatOf, IsSameSeat};
@@ -11,7 +11,7 @@ use crate::marks::{all_settled, left_behind, resting, waiting, waits};
 use crate::seat::Seat;
 use crate::stall::{Sight, Stall, Waited};
 use std::sync::Wait;
-use xti_rule::{Journal, Mark, Ring, Stands};
+use xti_hall_rule::{Journal, Mark, Ring, Stands};
 use xti_wants::Want;
 
 /// All seats, by their bits.

@@ -3,7 +3,7 @@ use Rattle.xti_model.specs.declared.profile.Providers.{Providers}
 use Rattle.xti_model.specs.World.{places}
 use Rattle.xti_lent.specs.Lending.{is_lent}
 use Rattle.xti_lent.proofs.Named.{all-among}
-use Rattle.xti_rule.specs.declared.view.View.{View}
+use Rattle.xti_hall_rule.specs.declared.view.View.{View}
 use Rattle.xti_gather.proofs.Numbers.{all-get, among-get, get-within}
 use Rattle.xti_gather.proofs.Orders.{so-far-none, so-far-one, so-far-below}
 use Rattle.xti_gather.proofs.Holdings.{same-providers, still-of}

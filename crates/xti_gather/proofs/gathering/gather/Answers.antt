@@ -1,28 +1,15 @@
-use Rattle.std.proofs.Common.{◌<◌, ◌+◌, List, ℕ, ◌∙◌, sym, ap, subst}
+use Rattle.std.proofs.Common.{◌≡◌, ℕ, List, ◌∙◌, refl, sym, ap, subst}
 use Rattle.std.specs.Prelude.{is_some}
 use Rattle.std.proofs.lemmas.Bool.{false≢true}
 use Rattle.xti_model.specs.declared.profile.Providers.{Providers}
-use Rattle.xti_rule.specs.declared.setting.Setting.{Setting}
-use Rattle.xti_lent.specs.Lending.{cell_lent}
-use Rattle.xti_lent.proofs.Named.{all-among}
-use Rattle.xti_model.specs.World.{places}
+use Rattle.xti_hall_rule.specs.declared.setting.Setting.{Setting}
+use Rattle.xti_model.specs.World.{is_among}
+use Rattle.xti_lent.specs.Fit.{AllLent}
+use Rattle.xti_lent.specs.Lending.{Lending, cell_lent}
 use Rattle.xti_gather.specs.Lends.{Just}
-use Rattle.xti_gather.specs.Orders.{AreCells}
-use Rattle.xti_gather.proofs.Wholes.{lends-sound, lends-cells}
+use Rattle.xti_gather.proofs.Wholes.{lends-sound}
 use Rattle.xti_gather.proofs.Holdings.{nothing_lends, just_lent, same-providers}
 use Rattle.xti_gather.proofs.gathering.gather.Goals as goal
-
-pub loop-init : goal.loop-init
-loop-init g c =
-    let p = ap (λ (s : Setting). s.providers) (sym c.requires.hall.1 ∙ sym c.requires.hall.0.1) in
-    let t = c.try_missing.ensures in
-    let before = nothing_lends c.args.seat.now.view c.args.lent.now p c.requires.empty c.requires.none in record {
-      hall = t.hall.0;
-      id = t.hall.1;
-      rest = t.rest;
-      lends = t.lends;
-      providers = same-providers c.args.seat.now.view c.try_missing.new.seat.view c.args.lent.now c.try_missing.new.lent before t.lends t.rest;
-    }
 
 pub enter-requires-clause-lends : goal.enter-requires-clause-lends
 enter-requires-clause-lends g c =
@@ -37,30 +24,17 @@ try_missing-requires-clause-lends g c =
     let p = ap (λ (s : Setting). s.providers) (sym c.requires.hall.1 ∙ sym c.requires.hall.0.1) in
     nothing_lends c.args.seat.now.view c.args.lent.now p c.requires.empty c.requires.none
 
-pub returns-in_default-missing-clause-first : goal.returns-in_default-missing-clause-first
-returns-in_default-missing-clause-first g c =
-    let inv = c.loop.invariant in
-    subst (λ (p : Providers). AreCells p c.touch-cells.result) inv.providers
-    (subst (λ (ns : List ℕ). AreCells c.loop.lent.providers ns) (sym c.touch-cells.ensures) (lends-cells c.loop.seat.view c.loop.lent c.args.call.now inv.lends))
-
 pub touch-cells-requires-clause-sound : goal.touch-cells-requires-clause-sound
-touch-cells-requires-clause-sound g c = lends-sound c.loop.seat.view c.loop.lent c.loop.invariant.lends
+touch-cells-requires-clause-sound g c = lends-sound c.try_missing.new.seat.view c.try_missing.new.lent c.try_missing.ensures.lends
 
-pub returns-in_default-missing-clause-just : goal.returns-in_default-missing-clause-just
-returns-in_default-missing-clause-just g c =
-    let inv = c.loop.invariant in
-    subst (λ (p : Providers). Just p (cell_lent c.give_back.new.lent) c.args.call.now) inv.providers
-    (just_lent c.loop.lent.providers c.args.call.now (cell_lent c.loop.lent) (cell_lent c.give_back.new.lent) c.touch-cells.result c.touch-cells.ensures c.give_back.ensures.kept c.give_back.ensures.only c.in_default-missing.ensures)
-
-pub leave_unless_in_order-requires-clause-cell : goal.leave_unless_in_order-requires-clause-cell
-leave_unless_in_order-requires-clause-cell g c =
-    let p = c.loop.lent.providers in
-    let cells = subst (λ (ns : List ℕ). AreCells p ns) (sym c.touch-cells.ensures) (lends-cells c.loop.seat.view c.loop.lent c.args.call.now c.loop.invariant.lends) in
-    all-among (λ n. n < places p + 1) c.touch-cells.result c.in-Some-missing.least cells c.in-Some-missing.ensures.among
-
-pub enter_missing-requires-clause-cells : goal.enter_missing-requires-clause-cells
-enter_missing-requires-clause-cells g c =
-    let inv = c.loop.invariant in
-    let cells = subst (λ (ns : List ℕ). AreCells c.loop.lent.providers ns) (sym c.touch-cells.ensures) (lends-cells c.loop.seat.view c.loop.lent c.args.call.now inv.lends) in
-    let t = c.leave_unless_in_order.ensures in
-    subst (λ (p : Providers). AreCells p c.touch-cells.result) (sym (same-providers c.loop.seat.view c.leave_unless_in_order.new.seat.view c.loop.lent c.leave_unless_in_order.new.lent inv.lends t.lends (t.rest ∙ c.give_back.ensures.rest))) cells
+pub returns-then-are_same-clause-just : goal.returns-then-are_same-clause-just
+returns-then-are_same-clause-just g c =
+    let p = ap (λ (s : Setting). s.providers) (sym c.requires.hall.1 ∙ sym c.requires.hall.0.1) in
+    let before = nothing_lends c.args.seat.now.view c.args.lent.now p c.requires.empty c.requires.none in
+    let t = c.try_missing.ensures in
+    let l : Lending = c.try_missing.new.lent in
+    let one : c.touch-cells.result ≡ c.args.first.now = c.are_same.ensures c.if-are_same.true in
+    let all = subst (λ (ns : List ℕ). AllLent l ns) (sym one) (t.all c.if-try_missing.true) in
+    subst (λ (q : Providers). Just q (cell_lent l) c.args.call.now) (same-providers c.args.seat.now.view c.try_missing.new.seat.view c.args.lent.now l before t.lends t.rest)
+    (just_lent l.providers c.args.call.now (cell_lent l) (cell_lent l) c.touch-cells.result c.touch-cells.ensures (λ n i. refl)
+    (λ n i. t.others n (ap (λ (ns : List ℕ). is_among ns n) (sym one) ∙ i) ∙ c.requires.empty.none n) all)

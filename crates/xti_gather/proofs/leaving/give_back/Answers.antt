@@ -26,6 +26,7 @@ loop-cell-preserved c =
       hall = t.hall.0 ∙ inv.hall;
       id = t.hall.1 ∙ inv.id;
       rest = t.rest ∙ inv.rest;
+      refused = t.refused ∙ inv.refused;
       lends = t.lends;
       kept = λ n i. t.others n (λ s. not-both (is_among c.args.cells.now n) i (subst (λ z. is_among c.args.cells.now z ≡ false) (sym s) c.in-Some.ensures.1)) ∙ inv.kept n i;
     }

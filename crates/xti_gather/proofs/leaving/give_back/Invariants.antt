@@ -11,6 +11,7 @@ invariant-loop-cell l = record {
   hall : l.seat.hall ≡ l.initial.seat.hall;
   id : l.seat.id ≡ l.initial.seat.id;
   rest : bare l.seat.view ≡ bare l.initial.seat.view;
+  refused : l.seat.view.refused ≡ l.initial.seat.view.refused;
   lends : Lends l.seat.view l.lent;
   kept : (n : ℕ) → is_among l.cells n ≡ true → cell_lent l.lent n ≡ cell_lent l.initial.lent n;
 }

@@ -1,5 +1,5 @@
 use Rattle.std.proofs.Common.{ap}
-use Rattle.xti_rule.specs.declared.view.View.{View}
+use Rattle.xti_hall_rule.specs.declared.view.View.{View}
 use Rattle.xti_step.proofs.Outcomes.{lends_same}
 use Rattle.xti_step.proofs.stepping.give_up.Goals as goal
 

@@ -5,8 +5,8 @@ use Rattle.xti_model.specs.declared.entry.Outcome.{Outcome}
 use Rattle.xti_model.specs.declared.profile.Providers.{Providers}
 use Rattle.xti_end.specs.Taken.{taken}
 use Rattle.xti_lent.specs.Lending.{Lending, cell_lent, cells}
-use Rattle.xti_rule.specs.declared.view.View.{View}
-use Rattle.xti_rule.specs.Steps.{at}
+use Rattle.xti_hall_rule.specs.declared.view.View.{View}
+use Rattle.xti_hall_rule.specs.Steps.{at}
 use Rattle.xti_hall.specs.Seats.{SeatView, bare}
 use Rattle.xti_gather.specs.Lends.{Lends, Just}
 use Rattle.xti_gather.proofs.Wholes.{lends-fit}

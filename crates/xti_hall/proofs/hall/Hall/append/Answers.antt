@@ -1,9 +1,9 @@
 use Rattle.std.proofs.Common.{arith, ap, sym, ◌∙◌, ℕ, ◌+◌, subst, length, length-append, ◌++◌, ◌∷◌, []}
-use Rattle.xti_rule.specs.declared.view.View.{View}
+use Rattle.xti_hall_rule.specs.declared.view.View.{View}
 use Rattle.atomic_table.specs.Table.{rest}
-use Rattle.xti_rule.specs.declared.view.Mark.{Mark}
-use Rattle.xti_rule.specs.Rule.{mark_of}
-use Rattle.xti_rule.specs.Steps.{Commits, committed, without_pen, shown}
+use Rattle.xti_hall_rule.specs.declared.view.Mark.{Mark}
+use Rattle.xti_hall_rule.specs.Rule.{mark_of}
+use Rattle.xti_hall_rule.specs.Steps.{Commits, committed, without_pen, shown}
 use Rattle.xti_hall.proofs.Freed.{one_more, mine_length}
 use Rattle.xti_hall.proofs.Unfinished.{unfinished-more}
 use Rattle.xti_hall.proofs.Committing.{after-commit}

@@ -1,6 +1,6 @@
 use Rattle.std.proofs.Common.{arith, ap, sym, ◌∙◌, subst, ◌<◌}
-use Rattle.xti_rule.specs.declared.view.View.{View}
-use Rattle.xti_rule.proofs.Splits.{splits}
+use Rattle.xti_hall_rule.specs.declared.view.View.{View}
+use Rattle.xti_hall_rule.proofs.Splits.{splits}
 use Rattle.xti_hall.proofs.hall.Hall.cut.Goals as goal
 
 pub split_seat-pass-requires : goal.split_seat-pass-requires

@@ -1,5 +1,5 @@
 use Rattle.std.proofs.Common.{arith, sym, ◌∙◌}
-use Rattle.xti_rule.proofs.Pens.{returns_at, after_return, sees_no_more}
+use Rattle.xti_hall_rule.proofs.Pens.{returns_at, after_return, sees_no_more}
 use Rattle.xti_hall.proofs.hall.Hall.give_pen_unseen.Goals as goal
 
 pub store-requires : goal.store-requires

@@ -1,10 +1,10 @@
 use Rattle.std.proofs.Common.{ap, ◌∙◌, set, subst, [], ◌∷◌}
-use Rattle.xti_rule.specs.declared.setting.Setting.{Setting}
+use Rattle.xti_hall_rule.specs.declared.setting.Setting.{Setting}
 use Rattle.std.specs.Prelude.{None}
-use Rattle.xti_rule.specs.declared.view.View.{View}
-use Rattle.xti_rule.specs.Steps.{with_held}
-use Rattle.xti_rule.specs.Steps.{at}
-use Rattle.xti_rule.proofs.Lookups.{at_has}
+use Rattle.xti_hall_rule.specs.declared.view.View.{View}
+use Rattle.xti_hall_rule.specs.Steps.{with_held}
+use Rattle.xti_hall_rule.specs.Steps.{at}
+use Rattle.xti_hall_rule.proofs.Lookups.{at_has}
 use Rattle.xti_hall.proofs.Lookups.{left}
 use Rattle.xti_hall.proofs.hall.Hall.leave.Goals as goal
 

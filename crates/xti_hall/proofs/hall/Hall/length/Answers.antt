@@ -1,5 +1,5 @@
 use Rattle.std.proofs.Common.{arith, ap, ◌∙◌}
-use Rattle.xti_rule.proofs.Looks.{looks}
+use Rattle.xti_hall_rule.proofs.Looks.{looks}
 use Rattle.xti_hall.proofs.hall.Hall.length.Goals as goal
 
 pub load-requires : goal.load-requires

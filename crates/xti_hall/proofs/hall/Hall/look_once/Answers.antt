@@ -1,5 +1,5 @@
 use Rattle.std.proofs.Common.{rules, ◌∙◌, ap, refl}
-use Rattle.xti_rule.specs.declared.view.View.{View}
+use Rattle.xti_hall_rule.specs.declared.view.View.{View}
 use Rattle.xti_hall.specs.Seats.{SeatView}
 use Rattle.xti_hall.proofs.Stalls.{is_stall}
 use Rattle.xti_hall.proofs.hall.Hall.look_once.Goals as goal

@@ -1,9 +1,9 @@
 use Rattle.std.proofs.Common.{rules, ap, sym, subst, ℕ, ◌∙◌, ◌≡◌, ◌++◌, ◌∷◌, [], length, Some}
 use Rattle.std.specs.Vec.{vec_len}
-use Rattle.xti_rule.specs.declared.setting.Setting.{Setting}
-use Rattle.xti_rule.specs.declared.view.Held.TheVariants.{Journal}
-use Rattle.xti_rule.specs.declared.view.Journal.{Journal as Book}
-use Rattle.xti_rule.proofs.Looks.{opens_with}
+use Rattle.xti_hall_rule.specs.declared.setting.Setting.{Setting}
+use Rattle.xti_hall_rule.specs.declared.view.Held.TheVariants.{Journal}
+use Rattle.xti_hall_rule.specs.declared.view.Journal.{Journal as Book}
+use Rattle.xti_hall_rule.proofs.Looks.{opens_with}
 use Rattle.xti_hall.specs.Seats.{StandInOrder}
 use Rattle.xti_hall.specs.Words.{setting}
 use Rattle.xti_hall.proofs.hall.Hall.new.Goals as goal

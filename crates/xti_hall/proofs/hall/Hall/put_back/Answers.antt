@@ -1,9 +1,9 @@
 use Rattle.std.proofs.Common.{arith, ℕ, ◌∷◌, set, None, ap, ◌∙◌, sym, refl}
 use lib.ListN.{get_elem?}
-use Rattle.xti_rule.specs.Steps.{with_held}
+use Rattle.xti_hall_rule.specs.Steps.{with_held}
 use Rattle.atomic_table.specs.Table.{rest}
 use Rattle.xti_hall.proofs.Fronts.{front_value}
-use Rattle.xti_rule.proofs.Turns.{reopens, leaves}
+use Rattle.xti_hall_rule.proofs.Turns.{reopens, leaves}
 use Rattle.xti_hall.proofs.hall.Hall.put_back.Goals as goal
 
 pub store-requires : goal.store-requires

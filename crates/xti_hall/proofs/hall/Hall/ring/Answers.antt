@@ -1,5 +1,5 @@
 use Rattle.std.proofs.Common.{arith, ap, sym, ◌∙◌}
-use Rattle.xti_rule.proofs.Looks.{rings_at}
+use Rattle.xti_hall_rule.proofs.Looks.{rings_at}
 use Rattle.xti_hall.proofs.hall.Hall.ring.Goals as goal
 
 pub fetch_add-requires : goal.fetch_add-requires

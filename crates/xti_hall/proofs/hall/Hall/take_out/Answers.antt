@@ -1,5 +1,5 @@
 use Rattle.std.proofs.Common.{arith, ap, ◌∙◌}
-use Rattle.xti_rule.proofs.Turns.{settles}
+use Rattle.xti_hall_rule.proofs.Turns.{settles}
 use Rattle.xti_hall.proofs.hall.Hall.take_out.Goals as goal
 
 pub store-requires : goal.store-requires

@@ -1,5 +1,5 @@
 use Rattle.std.proofs.Common.{sym, subst, ◌∙◌}
-use Rattle.xti_rule.specs.Steps.{Began}
+use Rattle.xti_hall_rule.specs.Steps.{Began}
 use Rattle.xti_hall.specs.Seats.{Sits}
 use Rattle.xti_hall.proofs.hall.Hall.take_pen.Goals as goal
 

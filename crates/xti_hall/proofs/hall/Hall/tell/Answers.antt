@@ -1,6 +1,6 @@
 use Rattle.std.proofs.Common.{arith, ap, ◌∙◌}
-use Rattle.xti_rule.specs.declared.view.View.{View}
-use Rattle.xti_rule.proofs.Splits.{notes, joins_note}
+use Rattle.xti_hall_rule.specs.declared.view.View.{View}
+use Rattle.xti_hall_rule.proofs.Splits.{notes, joins_note}
 use Rattle.xti_hall.proofs.hall.Hall.tell.Goals as goal
 
 pub split_seat-note-requires : goal.split_seat-note-requires

@@ -1,5 +1,5 @@
 use Rattle.std.proofs.Common.{arith}
-use Rattle.xti_rule.proofs.Turns.{tries}
+use Rattle.xti_hall_rule.proofs.Turns.{tries}
 use Rattle.xti_hall.proofs.hall.Hall.try_once.Goals as goal
 
 pub compare_exchange-requires : goal.compare_exchange-requires

@@ -1,7 +1,7 @@
 use Rattle.std.proofs.Common.{arith, sym, ap, ◌+◌, ℕ, MatchBool, nat_eq, ◌≡◌, ◌≢◌, eq-eqb, ne_eqb, subst}
 use mathlib.Core.Logic.{dite}
 use native.Mathlib.Decide.{ℕ_discrete}
-use Rattle.xti_rule.proofs.Pens.{begins_at}
+use Rattle.xti_hall_rule.proofs.Pens.{begins_at}
 use Rattle.xti_hall.proofs.hall.Hall.try_pen.Goals as goal
 
 -- a found word, by cases

@@ -1,5 +1,5 @@
 use Rattle.std.proofs.Common.{◌≡◌, true, false}
-use Rattle.xti_rule.specs.declared.view.Mark.TheVariants.{Waiting}
+use Rattle.xti_hall_rule.specs.declared.view.Mark.TheVariants.{Waiting}
 use Rattle.xti_hall.specs.Seats.{Looks}
 use Rattle.xti_hall.specs.Stalls.{WasBlocked}
 use Rattle.xti_hall.proofs.hall.Hall.wait.Given as goal

@@ -1,8 +1,8 @@
 use Rattle.std.proofs.Common.{arith, ap, sym, ◌∙◌, ◌≡◌, ◌+◌, ◌++◌, ◌∷◌, [], length, length-append}
 use Rattle.xti_model.specs.declared.entry.Entry.{Entry}
-use Rattle.xti_rule.specs.Steps.{added, shown}
-use Rattle.xti_rule.proofs.Pens.{returns_at, after_return, sees_all}
-use Rattle.xti_rule.proofs.Commits.{commits_at, written, marked_more}
+use Rattle.xti_hall_rule.specs.Steps.{added, shown}
+use Rattle.xti_hall_rule.proofs.Pens.{returns_at, after_return, sees_all}
+use Rattle.xti_hall_rule.proofs.Commits.{commits_at, written, marked_more}
 use Rattle.xti_hall.proofs.hall.Hall.write.Goals as goal
 
 pub fetch_add-requires : goal.fetch_add-requires

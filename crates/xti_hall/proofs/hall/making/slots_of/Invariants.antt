@@ -1,5 +1,5 @@
 use Rattle.std.proofs.Common.{◌≡◌, map, Some}
-use Rattle.xti_rule.specs.declared.view.Held.TheVariants.{Cell}
+use Rattle.xti_hall_rule.specs.declared.view.Held.TheVariants.{Cell}
 use Rattle.xti_hall.proofs.hall.making.slots_of.Given as goal
 
 abbrev pub invariant-loop-cell : goal.invariant-loop-cell

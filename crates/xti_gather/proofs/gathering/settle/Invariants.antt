@@ -1,7 +1,7 @@
 use Rattle.std.proofs.Common.{◌≡◌}
 use Rattle.xti_hall.specs.Seats.{bare}
 use Rattle.xti_gather.specs.Lends.{Lends}
-use Rattle.xti_gather.proofs.gathering.gather.Given as goal
+use Rattle.xti_gather.proofs.gathering.settle.Given as goal
 
 abbrev pub invariant-loop : goal.invariant-loop
 invariant-loop g l = record {
