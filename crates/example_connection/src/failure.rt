@@ -3,8 +3,7 @@
 use std::alloc::AllocError;
 use std::io;
 use thiserror::Error;
-use xti_base::{Errno, Event};
-use xti_calls::{Fail, Halt};
+use xti_calls::{Errno, Event, Fail, Halt};
 
 /// Why a side of the connection, or the program, gave up.
 #[derive(Debug, Drop, Error)]

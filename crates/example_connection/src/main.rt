@@ -4,9 +4,8 @@
 
 mod failure;
 
-ghost use Rattle.std.specs.Prelude.{◌≡◌, None, OnOk};
-ghost use Rattle.xti_model.specs.History.{unfinished_from};
-ghost use Rattle.xti_calls.specs.Library.{IsOf};
+ghost use Rattle.std.specs.Prelude.{◌≡◌, OnOk};
+ghost use Rattle.xti_calls.specs.Library.{IsFree, IsOf, MayCall};
 
 use crate::failure::Failure;
 use std::alloc::Global;
@@ -15,9 +14,7 @@ use std::process::ExitCode;
 use std::sync::Wait;
 use std::thread::{Scope, Threads};
 use std::{io, thread};
-use xti_base::{Event, Fd, State};
-use xti_calls::{Fail, Max, Seat, Xti};
-use xti_model::{Providers, usual_is_valid};
+use xti_calls::{Event, Fail, Fd, Max, Providers, Seat, State, Xti, usual_is_valid};
 
 /// The most bytes that the program takes of an address, of options and of data with a request.
 const MOST: Max = Max {
@@ -50,10 +47,9 @@ fn receive_all<R: Wait + Sync>(
     seat: &mut Seat,
     fd: Fd,
 ) -> Result<String, Failure>
-    requires seat { IsOf xti.now seat.old }
-    requires none { unfinished_from None None seat.old.view.mine ≡ None }
+    requires seat { MayCall xti.now seat.old }
     ensures seat { IsOf xti.now seat.new }
-    ensures none { OnOk result (unfinished_from None None seat.new.view.mine ≡ None) }
+    ensures none { OnOk result (IsFree seat.new) }
 {
     let mut received = Vec::new(alloc);
     for _ in rt.forever() {
@@ -71,8 +67,7 @@ fn receive_all<R: Wait + Sync>(
 
 /// The listener's side, on an endpoint that is bound: waits for a request, accepts it, receives and answers.
 fn listen<R: Wait + Sync>(rt: &R, alloc: Global, xti: &Xti, seat: &mut Seat, fd: Fd) -> Side
-    requires seat { IsOf xti.now seat.old }
-    requires none { unfinished_from None None seat.old.view.mine ≡ None }
+    requires seat { MayCall xti.now seat.old }
     ensures seat { IsOf xti.now seat.new }
 {
     let request = xti.t_listen(rt, alloc, seat, fd, MOST)?;
@@ -86,8 +81,7 @@ fn listen<R: Wait + Sync>(rt: &R, alloc: Global, xti: &Xti, seat: &mut Seat, fd:
 
 /// The caller's side: asks the listener for a connection, sends, releases, and receives the answer.
 fn call<R: Wait + Sync>(rt: &R, alloc: Global, xti: &Xti, seat: &mut Seat) -> Side
-    requires seat { IsOf xti.now seat.old }
-    requires none { unfinished_from None None seat.old.view.mine ≡ None }
+    requires seat { MayCall xti.now seat.old }
     ensures seat { IsOf xti.now seat.new }
 {
     let fd = xti.t_open(rt, alloc, seat, PROVIDER, false)?;
@@ -102,8 +96,7 @@ fn call<R: Wait + Sync>(rt: &R, alloc: Global, xti: &Xti, seat: &mut Seat) -> Si
 
 /// The caller's thread. Its seat rests at the end, however that comes, so that the listener doesn't wait for it.
 fn caller<R: Wait + Sync>(rt: &R, alloc: Global, xti: &Xti, mut seat: Seat) -> Side
-    requires seat { IsOf xti.now seat }
-    requires none { unfinished_from None None seat.view.mine ≡ None }
+    requires seat { MayCall xti.now seat }
 {
     let ended = call(rt, alloc, xti, &mut seat);
     xti.rest(rt, &mut seat);
@@ -120,11 +113,11 @@ fn both_sides<'s, E, R: Threads + Wait + Sync>(
     fd: Fd,
     calling: Seat,
 ) -> Result<(Side, Side), Failure>
-    requires listening { IsOf xti.now listening × (unfinished_from None None listening.view.mine ≡ None) }
-    requires calling { IsOf xti.now calling × (unfinished_from None None calling.view.mine ≡ None) }
+    requires listening { MayCall xti.now listening }
+    requires calling { MayCall xti.now calling }
 {
     let caller = move || -> Side
-        requires { IsOf xti.now calling × (unfinished_from None None calling.view.mine ≡ None) }
+        requires { MayCall xti.now calling }
     { caller(rt, alloc, xti, calling) };
     let Ok(thread) = scope.spawn(caller) else {
         return Err(Failure::NoThread);
@@ -169,8 +162,8 @@ fn exchange<R: Threads + Wait + Sync + Print + Eprint + AllocGlobal>(
         thread::scope_env(),
         rt,
         |scope| -> Result<(Side, Side), Failure>
-            requires listening { IsOf xti.now listening × (unfinished_from None None listening.view.mine ≡ None) }
-            requires calling { IsOf xti.now calling × (unfinished_from None None calling.view.mine ≡ None) }
+            requires listening { MayCall xti.now listening }
+            requires calling { MayCall xti.now calling }
         { both_sides(scope, rt, alloc, xti, listening, fd, calling) },
     )?;
     let listened = report(rt, "listener", listener)?;

@@ -20,11 +20,11 @@ use Rattle.xti_model.specs.Wants.{HasLeft, taken_before}
 use Rattle.xti_model.specs.History.{Going, call_after, going_after, unfinished_from, made_by}
 use Rattle.xti_model.proofs.Working.{call_from, unfinished_from-snoc, call_of-from}
 use Rattle.xti_model.proofs.Appending.{all-append}
-use Rattle.xti_rule.specs.declared.setting.Setting.{Setting}
-use Rattle.xti_rule.specs.declared.view.Mark.{Mark}
-use Rattle.xti_rule.specs.declared.view.Mark.TheVariants.{Free}
-use Rattle.xti_rule.specs.declared.view.View.{View}
-use Rattle.xti_rule.specs.Histories.{after}
+use Rattle.xti_hall_rule.specs.declared.setting.Setting.{Setting}
+use Rattle.xti_hall_rule.specs.declared.view.Mark.{Mark}
+use Rattle.xti_hall_rule.specs.declared.view.Mark.TheVariants.{Free}
+use Rattle.xti_hall_rule.specs.declared.view.View.{View}
+use Rattle.xti_hall_rule.specs.Histories.{after}
 use Rattle.xti_hall.specs.Seats.{Looks, entry_of}
 use Rattle.xti_hall.specs.Stalls.{waits}
 use Rattle.xti_step.specs.Steps.{HoldsNothing, Later, MayGo, Made}

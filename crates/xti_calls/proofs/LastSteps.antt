@@ -17,7 +17,7 @@ use Rattle.xti_model.specs.World.{World, opening}
 use Rattle.xti_model.specs.Step.{Step, step}
 use Rattle.xti_model.specs.History.{Going, is_own, own, call_after, unfinished, doing, step_going, step_at, left_by, after_from, after, Fits, LegalFrom, Legal}
 use Rattle.xti_model.proofs.Working.{call_from, call_of-from, own-more}
-use Rattle.xti_rule.specs.declared.view.View.{View}
+use Rattle.xti_hall_rule.specs.declared.view.View.{View}
 use Rattle.xti_calls.specs.Calling.{IsMore, AreSteps, Answered}
 use Rattle.xti_calls.proofs.Unfinished.{made-call}
 

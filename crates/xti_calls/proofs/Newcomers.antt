@@ -4,8 +4,8 @@ use Rattle.std.specs.Prelude.{Option, None}
 use lib.ListN.{get_or}
 use Rattle.xti_model.specs.World.{Cell}
 use Rattle.xti_lent.specs.Lending.{Lending}
-use Rattle.xti_rule.specs.declared.setting.Setting.{Setting}
-use Rattle.xti_rule.specs.Rule.{newcomer}
+use Rattle.xti_hall_rule.specs.declared.setting.Setting.{Setting}
+use Rattle.xti_hall_rule.specs.Rule.{newcomer}
 use Rattle.xti_gather.specs.Lends.{IsEmpty}
 use Rattle.xti_calls.specs.Library.{IsReady}
 

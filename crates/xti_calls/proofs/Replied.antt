@@ -8,20 +8,20 @@ use Rattle.xti_model.specs.declared.entry.Outcome.TheVariants.{Done}
 use Rattle.xti_model.specs.declared.entry.Reply.{Reply}
 use Rattle.xti_model.specs.declared.entry.Reply.TheVariants as reply
 use Rattle.xti_model.specs.History.{after}
-use Rattle.xti_rule.specs.declared.view.View.{View}
+use Rattle.xti_hall_rule.specs.declared.view.View.{View}
 use Rattle.xti_hall.specs.Seats.{IsStanding}
-use Rattle.xti_journal_reader.specs.declared.verbs.Verb.{Verb}
-use Rattle.xti_journal_reader.specs.declared.verbs.Answer.TheVariants.{Got, UData}
-use Rattle.xti_journal_reader.specs.Calls.{answer_of, answer_to, verb_of, MayAnswer}
+use Rattle.xti_verbs.specs.declared.verb.Verb.{Verb}
+use Rattle.xti_verbs.specs.declared.answer.Answer.TheVariants.{Got, UData}
+use Rattle.xti_verbs.specs.Verbs.{answer_of, answer_to, verb_of, MayAnswer}
 use Rattle.xti_model.specs.declared.entry.Go.{Go}
 use Rattle.xti_model.specs.declared.profile.Providers.{Providers}
 use Rattle.xti_model.specs.Profile.{valid}
 use Rattle.xti_model.specs.World.{World}
-use Rattle.xti_sound.specs.Given.{OfStep}
-use Rattle.xti_sound.specs.Replies.{lengths, lengths_of, IsShort, IsShortOutcome}
-use Rattle.xti_sound.proofs.Steps.{after-sound}
-use Rattle.xti_sound.proofs.ShortReplies.{replies-short}
-use Rattle.xti_answers.specs.Answers.{AnswersInForm}
+use Rattle.xti_laws_sound.specs.Given.{OfStep}
+use Rattle.xti_laws_sound.specs.Replies.{lengths, lengths_of, IsShort, IsShortOutcome}
+use Rattle.xti_laws_sound.proofs.Steps.{after-sound}
+use Rattle.xti_laws_sound.proofs.ShortReplies.{replies-short}
+use Rattle.xti_laws_answers.specs.Answers.{AnswersInForm}
 use Rattle.xti_calls.specs.declared.answers.Fail.{Fail}
 use Rattle.xti_calls.specs.declared.answers.Fail.TheVariants as fail
 use Rattle.xti_calls.specs.Calling.{Answered}

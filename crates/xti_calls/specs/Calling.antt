@@ -12,11 +12,11 @@ use Rattle.xti_model.specs.History.{Going, unfinished_from}
 use Rattle.xti_model.specs.Robin.{act_of}
 use Rattle.xti_model.specs.Step.{step}
 use Rattle.xti_model.specs.Wants.{taken_before}
-use Rattle.xti_rule.specs.declared.view.View.{View}
-use Rattle.xti_rule.specs.declared.view.Mark.TheVariants.{Free, Resting}
-use Rattle.xti_rule.specs.Histories.{after}
+use Rattle.xti_hall_rule.specs.declared.view.View.{View}
+use Rattle.xti_hall_rule.specs.declared.view.Mark.TheVariants.{Free, Resting}
+use Rattle.xti_hall_rule.specs.Histories.{after}
 use Rattle.xti_wants.specs.declared.want.Want.{Want}
-use Rattle.xti_waits.specs.Wanted.{IsWant}
+use Rattle.xti_wants.specs.Wanted.{IsWant}
 use Rattle.xti_hall.specs.declared.stall.Stall.{Stall}
 use Rattle.xti_hall.specs.Stalls.{IsStall}
 use Rattle.xti_calls.specs.declared.calling.Halt.{Halt}

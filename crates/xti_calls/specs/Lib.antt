@@ -3,3 +3,14 @@ pub mod Forms
 pub mod Library
 pub mod Parts
 pub mod Typed
+pub use Rattle.xti_base.specs.Kinds
+pub use Rattle.xti_gather.specs.Cells
+pub use Rattle.xti_gather.specs.Lends
+pub use Rattle.xti_gather.specs.Orders
+pub use Rattle.xti_glance.specs.Glances
+pub use Rattle.xti_hall.specs.Seats
+pub use Rattle.xti_hall.specs.Stalls
+pub use Rattle.xti_hall.specs.Words
+pub use Rattle.xti_hall_rule.specs.Rule
+pub use Rattle.xti_model.specs.Profile
+pub use Rattle.xti_step.specs.Steps

@@ -1,14 +1,15 @@
 -- What contracts see of the library and of its seats.
-use Rattle.std.specs.Prelude.{◌≡◌, ℕ, Bool, false, List}
+use Rattle.std.specs.Prelude.{◌≡◌, ℕ, Bool, false, List, None}
 use Rattle.xti_model.specs.declared.profile.Providers.{Providers}
 use Rattle.xti_lent.specs.Lending.{Lending}
-use Rattle.xti_rule.specs.declared.view.View.{View}
+use Rattle.xti_hall_rule.specs.declared.view.View.{View}
 use Rattle.xti_hall.specs.Seats.{SeatView}
-use Rattle.xti_hall.specs.Words.{setting_of, IsSeatOf}
+use Rattle.xti_model.specs.History.{unfinished_from}
+use Rattle.xti_hall.specs.Words.{setting_of, IsSameSeat, IsSeatOf}
 use Rattle.xti_gather.specs.Lends.{IsEmpty}
 use Rattle.xti_gather.specs.Orders.{AreCells}
 use Rattle.xti_hall.specs.Stalls.{waits}
-use Rattle.xti_step.specs.Steps.{HoldsNothing}
+use Rattle.xti_step.specs.Steps.{HoldsNothing, Later}
 use Rattle.xti_calls.specs.declared.shared.Xti.{Xti}
 
 -- a seat between two calls holds nothing, nothing is lent, and it doesn't count as waiting; the numbers that it keeps are of cells
@@ -30,3 +31,15 @@ keeps_of x = (setting_of x.hall).keeps
 -- the library made the seat
 abbrev pub IsOf : Xti → SeatView → Type 0
 IsOf x s = IsSeatOf x.hall s
+
+-- the seat has no unfinished call
+abbrev pub IsFree : SeatView → Type 0
+IsFree s = unfinished_from None None s.view.mine ≡ None
+
+-- the library made the seat, which has no unfinished call
+abbrev pub MayCall : Xti → SeatView → Type 0
+MayCall x s = IsOf x s × IsFree s
+
+-- it is the same seat, and its history goes on
+abbrev pub GoesOn : SeatView → SeatView → Type 0
+GoesOn s s' = IsSameSeat s s' × Later s.view s'.view

@@ -9,8 +9,8 @@ use Rattle.xti_base.specs.declared.limit.Info.{Info}
 use Rattle.xti_model.specs.declared.entry.Outcome.TheVariants.{Done}
 use Rattle.xti_model.specs.declared.entry.Reply.{Reply}
 use Rattle.xti_model.specs.declared.entry.Reply.TheVariants as reply
-use Rattle.xti_journal_reader.specs.declared.verbs.Answer.{Answer}
-use Rattle.xti_journal_reader.specs.Calls.{answer_to}
+use Rattle.xti_verbs.specs.declared.answer.Answer.{Answer}
+use Rattle.xti_verbs.specs.Verbs.{answer_to}
 use Rattle.xti_calls.specs.declared.answers.Fail.{Fail}
 use Rattle.xti_calls.specs.declared.answers.Fail.TheVariants as fail
 use Rattle.xti_calls.specs.declared.answers.TCall.{TCall}

@@ -1,7 +1,7 @@
 //! The answers of calls in their own types.
 
 ghost use Rattle.std.specs.Prelude.{◌≡◌, min, sum};
-ghost use Rattle.xti_journal_reader.specs.declared.verbs.Answer.TheVariants as answer;
+ghost use Rattle.xti_verbs.specs.declared.answer.Answer.TheVariants as answer;
 ghost use Rattle.xti_calls.specs.Typed.{MayBe, Says, IsError, SaysError, HasAtMost};
 ghost use Rattle.xti_calls.specs.Typed.{IsDone, IsOpened, IsBound, IsConnected, IsListened, IsSent, IsGot, AreGot, IsDisconnect, IsDatagram, IsDatagramInParts, IsDatagramError, IsSeen, IsState, IsInfo, AreAddresses, IsNegotiated};
 

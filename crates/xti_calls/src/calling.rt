@@ -1,8 +1,7 @@
 //! All steps of a call.
 
-ghost use Rattle.std.specs.Prelude.{◌≡◌, None, false, MatchResult};
+ghost use Rattle.std.specs.Prelude.{◌≡◌, false, MatchResult};
 ghost use Rattle.xti_model.specs.declared.entry.Go.TheVariants.{Begin};
-ghost use Rattle.xti_model.specs.History.{unfinished_from};
 ghost use Rattle.xti_model.specs.Wants.{HasLeft, taken_before};
 ghost use Rattle.xti_hall.specs.Seats.{IsStanding};
 ghost use Rattle.xti_hall.specs.Stalls.{waits};
@@ -12,6 +11,7 @@ ghost use Rattle.xti_gather.specs.Lends.{IsEmpty};
 ghost use Rattle.xti_gather.specs.Orders.{AreCells};
 ghost use Rattle.xti_step.specs.Steps.{HoldsNothing, Later};
 ghost use Rattle.xti_calls.specs.Calling.{IsAt, IsUnfinished, Answered, Halted, going_at, where_left};
+ghost use Rattle.xti_calls.specs.Library.{IsFree};
 
 use std::alloc::Global;
 use std::sync::Wait;
@@ -20,7 +20,7 @@ use xti_hall::{Hall, Seat, Stall, Waited};
 use xti_lent::Lent;
 use xti_model::{Applied, Call, Cells, Go, Outcome, Reply};
 use xti_step::{Gate, step};
-use xti_waits::{blocked_calls_have_wants, want_of};
+use xti_wants::{blocked_calls_have_wants, want_of};
 
 /// Why a call stops before its reply. The steps that were made stand in the history, and so many bytes are taken.
 #[derive(Clone, Copy)]
@@ -120,7 +120,7 @@ pub fn call<G: Gate, R: Wait + Sync>(
     requires idle { HoldsNothing seat.old.view }
     requires empty { IsEmpty lent.old }
     requires first { AreCells lent.old.providers first.old }
-    requires none { unfinished_from None None seat.old.view.mine ≡ None }
+    requires none { IsFree seat.old }
     ensures hall { IsSameSeat seat.old seat.new }
     ensures idle { HoldsNothing seat.new.view }
     ensures empty { IsEmpty lent.new × (lent.new.providers ≡ lent.old.providers) }

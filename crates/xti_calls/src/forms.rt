@@ -1,25 +1,22 @@
 //! The calls of XTI in their own types: a method of `Xti` for each, with the name that it has in XNS, and `set_mode`. Each
 //! says what it does, for what it waits and which errors it answers; `Fail` says what they have in common where they fail.
 
-ghost use Rattle.std.specs.Prelude.{◌≡◌, None, IfOk, MatchResult};
+ghost use Rattle.std.specs.Prelude.{◌≡◌, IfOk, MatchResult};
 ghost use Rattle.xti_model.specs.declared.entry.Go.TheVariants.{Begin};
-ghost use Rattle.xti_model.specs.History.{unfinished_from};
-ghost use Rattle.xti_hall.specs.Words.{IsSameSeat};
-ghost use Rattle.xti_journal_reader.specs.Calls.{answer_of, verb_of};
-ghost use Rattle.xti_sound.specs.Replies.{lengths_of, IsShort};
-ghost use Rattle.xti_step.specs.Steps.{Later};
+ghost use Rattle.xti_verbs.specs.Verbs.{answer_of, verb_of};
+ghost use Rattle.xti_laws_sound.specs.Replies.{lengths_of, IsShort};
 ghost use Rattle.xti_calls.specs.Calling.{Answered};
 ghost use Rattle.xti_calls.specs.Forms.{Fails};
-ghost use Rattle.xti_calls.specs.Library.{IsOf};
 ghost use Rattle.xti_calls.specs.Typed.{MayBe};
+ghost use Rattle.xti_calls.specs.Library.{MayCall, GoesOn};
 
 use crate::answers::Fail;
 use crate::library::Seat;
 use crate::shared::Xti;
 use std::alloc::Global;
 use std::sync::Wait;
-use xti_answers::steps_answer_in_form;
 use xti_base::let_go;
+use xti_laws_answers::steps_answer_in_form;
 use xti_model::{Call, Reply};
 use xti_step::NoGate;
 
@@ -37,10 +34,8 @@ impl Xti {
         seat: &mut Seat,
         call: Call,
     ) -> Result<Reply, Fail>
-        requires seat { IsOf self.now seat.old }
-        requires none { unfinished_from None None seat.old.view.mine ≡ None }
-        ensures seat { IsSameSeat seat.old seat.new }
-        ensures later { Later seat.old.view seat.new.view }
+        requires seat { MayCall self.now seat.old }
+        ensures seat { GoesOn seat.old seat.new }
         ensures made { MatchResult result
             (λ r. Answered seat.old.view call Begin seat.new.view r × MayBe (answer_of (verb_of call)) r)
             (Fails call seat.old.view seat.new.view) }

@@ -25,6 +25,16 @@ pub use answers::{Fail, Max, TCall};
 pub use calling::{Halt, call, resume};
 pub use library::{Ended, Seat};
 pub use shared::Xti;
+pub use xti_base::{
+    Errno, Event, Fd, Info, Limit, Octets, Parts, Prov, Seq, ServType, Sizes, State,
+};
+pub use xti_data::Gather;
+pub use xti_gather::Cell;
+pub use xti_glance::Glance;
 pub use xti_hall::{NoSeat, Stall};
+pub use xti_model::{
+    Act, Call, Entries, Entry, Outcome, Profile, Providers, Reply, usual_is_valid,
+};
 pub use xti_step::{Gate, NoGate};
 pub use xti_structures::{AllocFail, Bufs, StructKind, t_alloc, t_strerror, t_sysconf};
+pub use xti_wants::{Want, WantKind};

@@ -1,26 +1,27 @@
 //! The library: a hall and its seats.
 
-ghost use Rattle.std.specs.Prelude.{◌≡◌, ◌⊎◌, None, length, true, IfOk, OnErr, MatchResult};
+ghost use Rattle.std.specs.Prelude.{◌≡◌, ◌⊎◌, length, true, IfOk, OnErr, MatchResult};
 ghost use mathlib.Core.List.{IsPrefix};
 ghost use Rattle.xti_model.specs.declared.entry.Go.TheVariants.{Begin};
-ghost use Rattle.xti_model.specs.History.{unfinished_from};
 ghost use Rattle.xti_model.specs.Profile.{valid};
-ghost use Rattle.xti_rule.specs.Rule.{newcomer};
-ghost use Rattle.xti_rule.specs.declared.view.Mark.TheVariants.{Free, Resting};
+ghost use Rattle.xti_hall_rule.specs.Rule.{newcomer};
+ghost use Rattle.xti_hall_rule.specs.declared.view.Mark.TheVariants.{Free, Resting};
 ghost use Rattle.xti_hall.specs.Seats.{AreOfOneHall, CutsOff, HasNoneToSpare, Looks, Meets, IsStanding, unfinished_bytes};
 ghost use Rattle.xti_hall.specs.Words.{IsSameSeat};
 ghost use Rattle.xti_gather.specs.Cells.{whole};
+ghost use Rattle.xti_glance.specs.Glances.{Finds, IsSameLater};
 ghost use Rattle.xti_step.specs.Steps.{Later, MayGo, Tells};
 ghost use Rattle.xti_calls.specs.Calling.{IsUnfinished, Answered, Halted, where_left};
-ghost use Rattle.xti_calls.specs.Library.{IsOf, providers_of, keeps_of};
+ghost use Rattle.xti_calls.specs.Library.{IsOf, MayCall, keeps_of, providers_of};
 
 use crate::calling::{Halt, call, resume};
 use crate::shared::Xti;
 use std::alloc::{AllocError, Global};
 use std::marker::Model;
 use std::sync::Wait;
-use xti_base::let_go;
+use xti_base::{Fd, let_go};
 use xti_gather::{Cell, nothing_lent, open_hall};
+use xti_glance::{Glance, glance};
 use xti_hall::{Ended as EndedHall, NoSeat, Seat as HallSeat};
 use xti_lent::Lent;
 use xti_model::{Applied, Call, Cells, Entries, Go, Providers, Reply};
@@ -179,6 +180,22 @@ impl Xti {
         Ok(applied)
     }
 
+    /// What the endpoint with the descriptor shows, found without waiting for anybody: its state, and the first event that is
+    /// pending, as `t_look` would tell it. Unlike `t_look` it makes no entry and clears no event.
+    ///
+    /// Each cell that a look touches is tried once. Where another seat's step holds one just then, the answer is `Busy`, with the
+    /// cell's number: a descriptor's place, or the number of places for the switch. Else the seat has then seen the whole history,
+    /// and the answer tells the world after its `at` entries. A seat may glance while a call of its own is unfinished. Takes no
+    /// memory.
+    pub fn glance(&self, seat: &mut Seat, fd: Fd) -> Glance
+        requires { IsOf self.now seat.old }
+        ensures seat { IsSameSeat seat.old seat.new }
+        ensures same { IsSameLater seat.old.view seat.new.view }
+        ensures finds { Finds seat.old.view seat.new.view fd result }
+    {
+        glance(&self.hall, &mut seat.seat, &mut seat.lent, fd)
+    }
+
     /// All steps of a call by a seat that has none unfinished, waiting where it is blocked.
     ///
     /// The reply may be an error of XTI (`Reply::Refused`, `Look`, `Overflow`), and then has its entry in the history like any
@@ -192,8 +209,7 @@ impl Xti {
         gate: &G,
         made: &Call,
     ) -> Result<Reply, Halt>
-        requires seat { IsOf self.now seat.old }
-        requires none { unfinished_from None None seat.old.view.mine ≡ None }
+        requires seat { MayCall self.now seat.old }
         ensures seat { IsSameSeat seat.old seat.new }
         ensures later { Later seat.old.view seat.new.view }
         ensures standing { IsStanding seat.new.view }

@@ -11,7 +11,7 @@ use Rattle.xti_model.specs.declared.entry.Reply.{Reply}
 use Rattle.xti_model.specs.History.{Going, going_after, made_by, unfinished_from}
 use Rattle.xti_model.specs.Wants.{taken_before}
 use Rattle.xti_model.proofs.Working.{unfinished_from-snoc}
-use Rattle.xti_rule.specs.declared.view.View.{View}
+use Rattle.xti_hall_rule.specs.declared.view.View.{View}
 use Rattle.xti_hall.specs.Seats.{unfinished_bytes}
 use Rattle.xti_step.specs.Steps.{MayGo, Tells}
 use Rattle.xti_calls.specs.declared.calling.Halt.{Halt}

@@ -1,8 +1,7 @@
 //! Calls as tables tell them, and what makes them and writes down what they answer.
 
-ghost use Rattle.std.specs.Prelude.{◌≡◌, None, OnOk};
-ghost use Rattle.xti_model.specs.History.{unfinished_from};
-ghost use Rattle.xti_calls.specs.Library.{IsOf};
+ghost use Rattle.std.specs.Prelude.{◌≡◌, OnOk};
+ghost use Rattle.xti_calls.specs.Library.{IsFree, IsOf, MayCall};
 
 use crate::answers::Log;
 use crate::library::{Stop, finished};
@@ -139,8 +138,7 @@ fn change_endpoint<R: Wait + Sync>(
     log: &mut Log,
     ask: &Endpoint,
 )
-    requires seat { IsOf xti.now seat.old }
-    requires none { unfinished_from None None seat.old.view.mine ≡ None }
+    requires seat { MayCall xti.now seat.old }
     ensures { IsOf xti.now seat.new }
 {
     match *ask {
@@ -163,8 +161,7 @@ fn tell_endpoint<R: Wait + Sync>(
     log: &mut Log,
     ask: &Look,
 )
-    requires seat { IsOf xti.now seat.old }
-    requires none { unfinished_from None None seat.old.view.mine ≡ None }
+    requires seat { MayCall xti.now seat.old }
     ensures { IsOf xti.now seat.new }
 {
     match *ask {
@@ -190,8 +187,7 @@ fn make_connection<R: Wait + Sync>(
     log: &mut Log,
     ask: &Request,
 )
-    requires seat { IsOf xti.now seat.old }
-    requires none { unfinished_from None None seat.old.view.mine ≡ None }
+    requires seat { MayCall xti.now seat.old }
     ensures { IsOf xti.now seat.new }
 {
     match *ask {
@@ -215,8 +211,7 @@ fn end_connection<R: Wait + Sync>(
     log: &mut Log,
     ask: &End,
 )
-    requires seat { IsOf xti.now seat.old }
-    requires none { unfinished_from None None seat.old.view.mine ≡ None }
+    requires seat { MayCall xti.now seat.old }
     ensures { IsOf xti.now seat.new }
 {
     match *ask {
@@ -237,8 +232,7 @@ fn send_parts<R: Wait + Sync>(
     parts: &[&[u8]],
     flags: u32,
 ) -> Result<u32, Fail>
-    requires seat { IsOf xti.now seat.old }
-    requires none { unfinished_from None None seat.old.view.mine ≡ None }
+    requires seat { MayCall xti.now seat.old }
     ensures { IsOf xti.now seat.new }
 {
     let parts = gathered(alloc, parts)?;
@@ -256,8 +250,7 @@ fn receive_parts<R: Wait + Sync>(
     fd: Fd,
     all: &[u32],
 ) -> Result<(Parts, u32), Fail>
-    requires seat { IsOf xti.now seat.old }
-    requires none { unfinished_from None None seat.old.view.mine ≡ None }
+    requires seat { MayCall xti.now seat.old }
     ensures { IsOf xti.now seat.new }
 {
     let sizes = sizes(alloc, all)?;
@@ -275,8 +268,7 @@ fn move_data<R: Wait + Sync>(
     log: &mut Log,
     ask: &Data,
 )
-    requires seat { IsOf xti.now seat.old }
-    requires none { unfinished_from None None seat.old.view.mine ≡ None }
+    requires seat { MayCall xti.now seat.old }
     ensures { IsOf xti.now seat.new }
 {
     match *ask {
@@ -299,8 +291,7 @@ fn send_datagram<R: Wait + Sync>(
     addr: &[u8],
     parts: &[&[u8]],
 ) -> Result<(), Fail>
-    requires seat { IsOf xti.now seat.old }
-    requires none { unfinished_from None None seat.old.view.mine ≡ None }
+    requires seat { MayCall xti.now seat.old }
     ensures { IsOf xti.now seat.new }
 {
     let parts = gathered(alloc, parts)?;
@@ -320,8 +311,7 @@ fn receive_datagram<R: Wait + Sync>(
     amax: u32,
     omax: u32,
 ) -> Result<(TCall, Parts, u32), Fail>
-    requires seat { IsOf xti.now seat.old }
-    requires none { unfinished_from None None seat.old.view.mine ≡ None }
+    requires seat { MayCall xti.now seat.old }
     ensures { IsOf xti.now seat.new }
 {
     let sizes = sizes(alloc, all)?;
@@ -339,8 +329,7 @@ fn move_datagram<R: Wait + Sync>(
     log: &mut Log,
     ask: &Datagram,
 )
-    requires seat { IsOf xti.now seat.old }
-    requires none { unfinished_from None None seat.old.view.mine ≡ None }
+    requires seat { MayCall xti.now seat.old }
     ensures { IsOf xti.now seat.new }
 {
     match *ask {
@@ -362,8 +351,7 @@ fn move_datagram<R: Wait + Sync>(
 
 /// One call.
 fn make<R: Wait + Sync>(rt: &R, alloc: Global, xti: &Xti, seat: &mut Seat, log: &mut Log, ask: &Ask)
-    requires seat { IsOf xti.now seat.old }
-    requires none { unfinished_from None None seat.old.view.mine ≡ None }
+    requires seat { MayCall xti.now seat.old }
     ensures { IsOf xti.now seat.new }
 {
     match ask {
@@ -385,10 +373,9 @@ pub(crate) fn make_all<R: Wait + Sync>(
     log: &mut Log,
     asks: &[Ask],
 ) -> Result<(), Stop>
-    requires seat { IsOf xti.now seat.old }
-    requires none { unfinished_from None None seat.old.view.mine ≡ None }
+    requires seat { MayCall xti.now seat.old }
     ensures seat { IsOf xti.now seat.new }
-    ensures none { OnOk result (unfinished_from None None seat.new.view.mine ≡ None) }
+    ensures none { OnOk result (IsFree seat.new) }
 {
     for ask in asks {
         make(rt, alloc, xti, seat, log, ask);
@@ -406,10 +393,9 @@ pub(crate) fn converse<R: Wait + Sync>(
     log: &mut Log,
     tables: &[&[Ask]],
 ) -> Result<(), Stop>
-    requires seat { IsOf xti.now seat.old }
-    requires none { unfinished_from None None seat.old.view.mine ≡ None }
+    requires seat { MayCall xti.now seat.old }
     ensures seat { IsOf xti.now seat.new }
-    ensures none { OnOk result (unfinished_from None None seat.new.view.mine ≡ None) }
+    ensures none { OnOk result (IsFree seat.new) }
 {
     for asks in tables {
         make_all(rt, alloc, xti, seat, log, asks)?;

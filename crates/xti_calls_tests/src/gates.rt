@@ -1,8 +1,7 @@
 //! A thread that is held at its gate holds up no step on other cells.
 
-ghost use Rattle.std.specs.Prelude.{◌≡◌, None, IfOk};
-ghost use Rattle.xti_model.specs.History.{unfinished_from};
-ghost use Rattle.xti_calls.specs.Library.{IsOf};
+ghost use Rattle.std.specs.Prelude.{◌≡◌, IfOk};
+ghost use Rattle.xti_calls.specs.Library.{MayCall};
 
 use crate::answers::Log;
 use crate::asks::{Ask, Data, Datagram, Endpoint, Look, MOST, Request, converse, make_all};
@@ -203,8 +202,7 @@ fn make_held<R: Wait + Sync>(
     gate: &Holding,
     held: Held,
 ) -> bool
-    requires seat { IsOf xti.now seat.old }
-    requires none { unfinished_from None None seat.old.view.mine ≡ None }
+    requires seat { MayCall xti.now seat.old }
 {
     let Ok(call) = held_call(alloc, held) else {
         return false;
@@ -225,8 +223,7 @@ fn held_side<R: Wait + Sync>(
     gate: &Holding,
     held: Held,
 ) -> bool
-    requires seat { IsOf xti.now seat }
-    requires none { unfinished_from None None seat.view.mine ≡ None }
+    requires seat { MayCall xti.now seat }
 {
     let answered = make_held(rt, alloc, xti, &mut seat, gate, held);
     drop(seat);
@@ -243,8 +240,7 @@ fn free_side<R: Wait + Sync>(
     gate: &Holding,
     asks: &[Ask],
 ) -> Log
-    requires seat { IsOf xti.now seat }
-    requires none { unfinished_from None None seat.view.mine ≡ None }
+    requires seat { MayCall xti.now seat }
 {
     let mut log = Log::new(alloc);
     if comes(&gate.held) {
@@ -265,17 +261,17 @@ fn both_sides<R: Threads + Wait + Sync>(
     held: Held,
     asks: &[Ask],
 ) -> (bool, Log)
-    requires holding { IsOf xti.now holding × (unfinished_from None None holding.view.mine ≡ None) }
-    requires free { IsOf xti.now free × (unfinished_from None None free.view.mine ≡ None) }
+    requires holding { MayCall xti.now holding }
+    requires free { MayCall xti.now free }
 {
     let gate = Holding::new();
     let (answered, log) = thread::join(
         rt,
         || -> bool
-            requires { IsOf xti.now holding × (unfinished_from None None holding.view.mine ≡ None) }
+            requires { MayCall xti.now holding }
         { held_side(rt, alloc, xti, holding, &gate, held) },
         || -> Log
-            requires { IsOf xti.now free × (unfinished_from None None free.view.mine ≡ None) }
+            requires { MayCall xti.now free }
         { free_side(rt, alloc, xti, free, &gate, asks) },
     );
     (answered && gate.in_time.load(Ordering::SeqCst), log)
@@ -289,10 +285,9 @@ fn prepare<R: Wait + Sync>(
     first: &mut Seat,
     before: &[&[Ask]],
 ) -> Result<Seat, Stop>
-    requires seat { IsOf xti.now first.old }
-    requires none { unfinished_from None None first.old.view.mine ≡ None }
-    ensures seat { IfOk result (λ _. IsOf xti.now first.new × (unfinished_from None None first.new.view.mine ≡ None)) }
-    ensures other { IfOk result (λ r. IsOf xti.now r × (unfinished_from None None r.view.mine ≡ None)) }
+    requires seat { MayCall xti.now first.old }
+    ensures seat { IfOk result (λ _. MayCall xti.now first.new) }
+    ensures other { IfOk result (λ r. MayCall xti.now r) }
 {
     let mut log = Log::new(alloc);
     let made = converse(rt, alloc, xti, first, &mut log, before);
@@ -309,8 +304,7 @@ fn run_with<R: Threads + Wait + Sync>(
     mut first: Seat,
     case: &Case,
 ) -> Result<(bool, Log), Stop>
-    requires seat { IsOf xti.now first }
-    requires none { unfinished_from None None first.view.mine ≡ None }
+    requires seat { MayCall xti.now first }
 {
     match prepare(rt, alloc, xti, &mut first, case.before) {
         Ok(holding) => Ok(both_sides(rt, alloc, xti, holding, first, case.held, case.asks)),

@@ -1,9 +1,8 @@
 //! Libraries and their seats, each ready for a call.
 
-ghost use Rattle.std.specs.Prelude.{◌≡◌, None, true, OnOk, IfOk};
-ghost use Rattle.xti_model.specs.History.{unfinished_from};
+ghost use Rattle.std.specs.Prelude.{◌≡◌, true, OnOk, IfOk};
 ghost use Rattle.xti_model.specs.Profile.{valid};
-ghost use Rattle.xti_calls.specs.Library.{IsOf, keeps_of};
+ghost use Rattle.xti_calls.specs.Library.{IsFree, IsOf, MayCall, keeps_of};
 
 use std::alloc::{AllocError, Global};
 use std::sync::Wait;
@@ -36,7 +35,7 @@ pub(crate) fn library_with(alloc: Global, providers: &Providers) -> Result<(Xti,
     requires { valid providers.now ≡ true }
     ensures seat { IfOk result (λ r. IsOf r.0 r.1) }
     ensures keeps { IfOk result (λ r. keeps_of r.0 ≡ true) }
-    ensures none { IfOk result (λ r. unfinished_from None None r.1.view.mine ≡ None) }
+    ensures none { IfOk result (λ r. IsFree r.1) }
 {
     Ok(Xti::new(alloc, providers, true)?)
 }
@@ -45,7 +44,7 @@ pub(crate) fn library_with(alloc: Global, providers: &Providers) -> Result<(Xti,
 pub(crate) fn library(alloc: Global) -> Result<(Xti, Seat), Stop>
     ensures seat { IfOk result (λ r. IsOf r.0 r.1) }
     ensures keeps { IfOk result (λ r. keeps_of r.0 ≡ true) }
-    ensures none { IfOk result (λ r. unfinished_from None None r.1.view.mine ≡ None) }
+    ensures none { IfOk result (λ r. IsFree r.1) }
 {
     usual_is_valid();
     library_with(alloc, &Providers::usual())
@@ -58,12 +57,11 @@ pub(crate) fn another_seat<R: Wait>(
     xti: &Xti,
     first: &mut Seat,
 ) -> Result<Seat, Stop>
-    requires seat { IsOf xti.now first.old }
-    requires none { unfinished_from None None first.old.view.mine ≡ None }
+    requires seat { MayCall xti.now first.old }
     ensures seat { IsOf xti.now first.new }
-    ensures none { unfinished_from None None first.new.view.mine ≡ None }
+    ensures none { IsFree first.new }
     ensures other { IfOk result (IsOf xti.now) }
-    ensures none_there { IfOk result (λ r. unfinished_from None None r.view.mine ≡ None) }
+    ensures none_there { IfOk result (λ r. IsFree r) }
 {
     match xti.split(rt, alloc, first) {
         Ok(seat) => Ok(seat),
@@ -73,7 +71,7 @@ pub(crate) fn another_seat<R: Wait>(
 
 /// The seat has no call unfinished.
 pub(crate) fn finished(seat: &Seat) -> Result<(), Stop>
-    ensures { OnOk result (unfinished_from None None seat.now.view.mine ≡ None) }
+    ensures { OnOk result (IsFree seat.now) }
 {
     match seat.unfinished() {
         None => Ok(()),

@@ -1,11 +1,10 @@
 //! A send that is taken in two parts, and buffers that are small.
 
-ghost use Rattle.std.specs.Prelude.{◌≡◌, None, true, OnOk, IfOk, IfSome};
-ghost use Rattle.xti_model.specs.History.{unfinished_from};
+ghost use Rattle.std.specs.Prelude.{◌≡◌, true, OnOk, IfOk, IfSome};
 ghost use Rattle.xti_model.specs.declared.entry.Applied.TheVariants.{Blocked};
 ghost use Rattle.xti_model.specs.declared.entry.Go.TheVariants.{More};
 ghost use Rattle.xti_calls.specs.Calling.{IsAt, IsUnfinished};
-ghost use Rattle.xti_calls.specs.Library.{IsOf};
+ghost use Rattle.xti_calls.specs.Library.{IsFree, IsOf, MayCall};
 ghost use Rattle.xti_calls_tests.specs.Parts.{IsPart};
 
 use crate::answers::Log;
@@ -103,10 +102,9 @@ fn receive<R: Wait + Sync>(
     seat: &mut Seat,
     log: &mut Log,
 ) -> Result<(), Stop>
-    requires seat { IsOf xti.now seat.old }
-    requires none { unfinished_from None None seat.old.view.mine ≡ None }
+    requires seat { MayCall xti.now seat.old }
     ensures seat { IsOf xti.now seat.new }
-    ensures none { OnOk result (unfinished_from None None seat.new.view.mine ≡ None) }
+    ensures none { OnOk result (IsFree seat.new) }
 {
     let answer = xti.t_rcv(rt, alloc, seat, ANSWERER, 65_536);
     put_length(log, &answer);
@@ -133,8 +131,7 @@ fn begin<R: Wait + Sync>(
     log: &mut Log,
     call: &Call,
 ) -> Result<(), Stop>
-    requires seat { IsOf xti.now seat.old }
-    requires none { unfinished_from None None seat.old.view.mine ≡ None }
+    requires seat { MayCall xti.now seat.old }
     ensures seat { IsOf xti.now seat.new }
     ensures unfinished { OnOk result (IsUnfinished seat.new.view call.now) }
 {
@@ -167,7 +164,7 @@ fn finish<R: Wait + Sync>(
     requires seat { IsOf xti.now seat.old }
     requires unfinished { IsUnfinished seat.old.view call.now }
     ensures seat { IsOf xti.now seat.new }
-    ensures none { OnOk result (unfinished_from None None seat.new.view.mine ≡ None) }
+    ensures none { OnOk result (IsFree seat.new) }
 {
     let answer = xti.resume(rt, alloc, seat, &NoGate, call);
     log.note(Ok(sent(&answer)));
@@ -186,14 +183,12 @@ fn by_calls<R: Wait + Sync>(
     log: &mut Log,
     call: &Call,
 ) -> Result<(), Stop>
-    requires seat { IsOf xti.now seat.old }
-    requires none { unfinished_from None None seat.old.view.mine ≡ None }
-    requires second { IsOf xti.now second.old }
-    requires none_there { unfinished_from None None second.old.view.mine ≡ None }
+    requires seat { MayCall xti.now seat.old }
+    requires second { MayCall xti.now second.old }
     ensures seat { IsOf xti.now seat.new }
-    ensures none { OnOk result (unfinished_from None None seat.new.view.mine ≡ None) }
+    ensures none { OnOk result (IsFree seat.new) }
     ensures second { IsOf xti.now second.new }
-    ensures none_there { OnOk result (unfinished_from None None second.new.view.mine ≡ None) }
+    ensures none_there { OnOk result (IsFree second.new) }
 {
     begin(rt, alloc, xti, second, log, call)?;
     receive(rt, alloc, xti, seat, log)?;
@@ -230,8 +225,7 @@ fn first_part<R: Wait + Sync>(
     seat: &mut Seat,
     call: &Call,
 ) -> Result<u32, Stop>
-    requires seat { IsOf xti.now seat.old }
-    requires none { unfinished_from None None seat.old.view.mine ≡ None }
+    requires seat { MayCall xti.now seat.old }
     ensures seat { IsOf xti.now seat.new }
     ensures part { IfOk result (λ taken. IsAt seat.new.view call.now (More taken)) }
 {
@@ -305,8 +299,7 @@ fn two_steps<R: Wait + Sync>(
     log: &mut Log,
     call: &Call,
 ) -> Result<u32, Stop>
-    requires seat { IsOf xti.now seat.old }
-    requires none { unfinished_from None None seat.old.view.mine ≡ None }
+    requires seat { MayCall xti.now seat.old }
     ensures seat { IsOf xti.now seat.new }
     ensures part { IfOk result (λ taken. IsAt seat.new.view call.now (More taken)) }
 {
@@ -327,10 +320,8 @@ fn by_steps<R: Wait + Sync>(
     log: &mut Log,
     call: &Call,
 ) -> Result<(), Stop>
-    requires seat { IsOf xti.now seat.old }
-    requires none { unfinished_from None None seat.old.view.mine ≡ None }
-    requires second { IsOf xti.now second.old }
-    requires none_there { unfinished_from None None second.old.view.mine ≡ None }
+    requires seat { MayCall xti.now seat.old }
+    requires second { MayCall xti.now second.old }
 {
     let taken = two_steps(rt, alloc, xti, second, log, call)?;
     receive(rt, alloc, xti, seat, log)?;
@@ -348,10 +339,8 @@ fn two_sends<R: Wait + Sync>(
     log: &mut Log,
     call: &Call,
 ) -> Result<(), Stop>
-    requires seat { IsOf xti.now seat.old }
-    requires none { unfinished_from None None seat.old.view.mine ≡ None }
-    requires second { IsOf xti.now second.old }
-    requires none_there { unfinished_from None None second.old.view.mine ≡ None }
+    requires seat { MayCall xti.now seat.old }
+    requires second { MayCall xti.now second.old }
 {
     converse(rt, alloc, xti, seat, log, CONNECTED)?;
     xti.rest(rt, seat);
@@ -368,8 +357,7 @@ fn sends_with<R: Wait + Sync>(
     log: &mut Log,
     call: &Call,
 ) -> Result<(), Stop>
-    requires seat { IsOf xti.now seat.old }
-    requires none { unfinished_from None None seat.old.view.mine ≡ None }
+    requires seat { MayCall xti.now seat.old }
 {
     let mut second = another_seat(rt, alloc, xti, seat)?;
     let made = two_sends(rt, alloc, xti, seat, &mut second, log, call);

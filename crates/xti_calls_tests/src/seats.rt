@@ -1,8 +1,7 @@
 //! Seats: their numbers, what they have seen, and the one history.
 
-ghost use Rattle.std.specs.Prelude.{◌≡◌, None, true};
-ghost use Rattle.xti_model.specs.History.{unfinished_from};
-ghost use Rattle.xti_calls.specs.Library.{IsOf, keeps_of};
+ghost use Rattle.std.specs.Prelude.{◌≡◌, true};
+ghost use Rattle.xti_calls.specs.Library.{IsOf, MayCall, keeps_of};
 
 use crate::answers::Log;
 use crate::asks::make_all;
@@ -12,7 +11,7 @@ use std::alloc::{AllocError, Global};
 use std::sync::Wait;
 use std::test::*;
 use xti_calls::{Seat, Xti};
-use xti_journal::write_entry;
+use xti_journal_text::write_entry;
 use xti_model::{Entry, Providers, usual_is_valid};
 
 /// What the calls of a datagram answer that the second seat sends and receives, and the lines of the history.
@@ -127,8 +126,7 @@ fn crowd_of<R: Wait>(
     first: &mut Seat,
 ) -> Result<(u32, bool, u32, usize), Stop>
     requires keeps { keeps_of xti.now ≡ true }
-    requires seat { IsOf xti.now first.old }
-    requires none { unfinished_from None None first.old.view.mine ≡ None }
+    requires seat { MayCall xti.now first.old }
 {
     let one = another_seat(rt, alloc, xti, first)?;
     crowd(rt, alloc, xti, first, one)
@@ -152,8 +150,8 @@ fn datagram<R: Wait + Sync>(
     second: &mut Seat,
     log: &mut Log,
 ) -> Result<(), Stop>
-    requires first { IsOf xti.now first.old × (unfinished_from None None first.old.view.mine ≡ None) }
-    requires second { IsOf xti.now second.old × (unfinished_from None None second.old.view.mine ≡ None) }
+    requires first { MayCall xti.now first.old }
+    requires second { MayCall xti.now second.old }
     ensures first { IsOf xti.now first.new }
     ensures second { IsOf xti.now second.new }
 {
@@ -172,8 +170,8 @@ fn talk<R: Wait + Sync>(
     log: &mut Log,
 ) -> Result<(), Stop>
     requires keeps { keeps_of xti ≡ true }
-    requires first { IsOf xti first × (unfinished_from None None first.view.mine ≡ None) }
-    requires second { IsOf xti second × (unfinished_from None None second.view.mine ≡ None) }
+    requires first { MayCall xti first }
+    requires second { MayCall xti second }
 {
     let talked = datagram(rt, alloc, &xti, &mut first, &mut second, log);
     xti.rest(rt, &mut second);
@@ -195,8 +193,7 @@ fn talk_of<R: Wait + Sync>(
     log: &mut Log,
 ) -> Result<(), Stop>
     requires keeps { keeps_of xti ≡ true }
-    requires seat { IsOf xti first }
-    requires none { unfinished_from None None first.view.mine ≡ None }
+    requires seat { MayCall xti first }
 {
     match another_seat(rt, alloc, &xti, &mut first) {
         Ok(second) => talk(rt, alloc, xti, first, second, log),

@@ -1,8 +1,7 @@
 //! Three seats, of which one rests and two wait for data that nobody sends: what each of these is told.
 
-ghost use Rattle.std.specs.Prelude.{◌≡◌, None, IfOk};
-ghost use Rattle.xti_model.specs.History.{unfinished_from};
-ghost use Rattle.xti_calls.specs.Library.{IsOf};
+ghost use Rattle.std.specs.Prelude.{◌≡◌, IfOk};
+ghost use Rattle.xti_calls.specs.Library.{MayCall};
 
 use crate::answers::Log;
 use crate::asks::{Ask, converse};
@@ -42,8 +41,7 @@ fn told(answer: &Result<(Octets, u32), CallFail>) -> Option<Told> {
 
 /// Receives where nothing is sent, by a seat that makes no call afterwards.
 fn receive<R: Wait + Sync>(rt: &R, alloc: Global, xti: &Xti, mut seat: Seat) -> Option<Told>
-    requires seat { IsOf xti.now seat }
-    requires none { unfinished_from None None seat.view.mine ≡ None }
+    requires seat { MayCall xti.now seat }
 {
     let answer = xti.t_rcv(rt, alloc, &mut seat, ANSWERER, 9);
     let counts = told(&answer);
@@ -60,26 +58,25 @@ fn receive_twice<R: Threads + Wait + Sync>(
     one: Seat,
     other: Seat,
 ) -> (Option<Told>, Option<Told>)
-    requires one { IsOf xti.now one × (unfinished_from None None one.view.mine ≡ None) }
-    requires other { IsOf xti.now other × (unfinished_from None None other.view.mine ≡ None) }
+    requires one { MayCall xti.now one }
+    requires other { MayCall xti.now other }
 {
     thread::join(
         rt,
         || -> Option<Told>
-            requires { IsOf xti.now one × (unfinished_from None None one.view.mine ≡ None) }
+            requires { MayCall xti.now one }
         { receive(rt, alloc, xti, one) },
         || -> Option<Told>
-            requires { IsOf xti.now other × (unfinished_from None None other.view.mine ≡ None) }
+            requires { MayCall xti.now other }
         { receive(rt, alloc, xti, other) },
     )
 }
 
 /// Connects the endpoints; one more seat.
 fn prepare<R: Wait + Sync>(rt: &R, alloc: Global, xti: &Xti, first: &mut Seat) -> Result<Seat, Stop>
-    requires seat { IsOf xti.now first.old }
-    requires none { unfinished_from None None first.old.view.mine ≡ None }
-    ensures seat { IfOk result (λ _. IsOf xti.now first.new × (unfinished_from None None first.new.view.mine ≡ None)) }
-    ensures other { IfOk result (λ r. IsOf xti.now r × (unfinished_from None None r.view.mine ≡ None)) }
+    requires seat { MayCall xti.now first.old }
+    ensures seat { IfOk result (λ _. MayCall xti.now first.new) }
+    ensures other { IfOk result (λ r. MayCall xti.now r) }
 {
     let mut log = Log::new(alloc);
     let made = converse(rt, alloc, xti, first, &mut log, CONNECTED);
@@ -96,8 +93,8 @@ fn rest_beside<R: Threads + Wait + Sync>(
     first: &mut Seat,
     one: Seat,
 ) -> Result<(Option<Told>, Option<Told>), Stop>
-    requires first { IsOf xti.now first.old × (unfinished_from None None first.old.view.mine ≡ None) }
-    requires one { IsOf xti.now one × (unfinished_from None None one.view.mine ≡ None) }
+    requires first { MayCall xti.now first.old }
+    requires one { MayCall xti.now one }
 {
     match another_seat(rt, alloc, xti, first) {
         Ok(other) => {
@@ -118,8 +115,7 @@ fn stall_with<R: Threads + Wait + Sync>(
     xti: &Xti,
     first: &mut Seat,
 ) -> Result<(Option<Told>, Option<Told>), Stop>
-    requires seat { IsOf xti.now first.old }
-    requires none { unfinished_from None None first.old.view.mine ≡ None }
+    requires seat { MayCall xti.now first.old }
 {
     let one = prepare(rt, alloc, xti, first)?;
     rest_beside(rt, alloc, xti, first, one)

@@ -1,10 +1,8 @@
-use Rattle.std.proofs.Common.{◌≡◌, None}
-use Rattle.xti_model.specs.History.{unfinished_from}
-use Rattle.xti_calls.specs.Library.{IsOf}
+use Rattle.xti_calls.specs.Library.{IsFree, IsOf}
 use Rattle.example_connection.proofs.receive_all.Given as goal
 
 abbrev pub invariant-loop : goal.invariant-loop
 invariant-loop g l = record {
   seat : IsOf l.xti l.seat;
-  none : unfinished_from None None l.seat.view.mine ≡ None;
+  none : IsFree l.seat;
 }

@@ -1,13 +1,10 @@
 //! Connections: to make them and to end them.
 
-ghost use Rattle.std.specs.Prelude.{◌≡◌, None};
+ghost use Rattle.std.specs.Prelude.{◌≡◌};
 ghost use Rattle.xti_model.specs.declared.call.Call.TheVariants as call;
-ghost use Rattle.xti_model.specs.History.{unfinished_from};
-ghost use Rattle.xti_hall.specs.Words.{IsSameSeat};
-ghost use Rattle.xti_step.specs.Steps.{Later};
 ghost use Rattle.xti_calls.specs.Forms.{Makes};
-ghost use Rattle.xti_calls.specs.Library.{IsOf};
 ghost use Rattle.xti_calls.specs.Typed.{IsConnected, IsDisconnect, IsDone, IsListened};
+ghost use Rattle.xti_calls.specs.Library.{MayCall, GoesOn};
 
 use crate::answers::{Fail, Max, TCall, connected, disconnected, done, listened};
 use crate::library::Seat;
@@ -46,7 +43,7 @@ impl Xti {
     /// - TLOOK with T_DISCONNECT: there is no connection. `t_rcvdis` tells why, and leads back to T_IDLE.
     /// - TNODATA: the endpoint was set to O_NONBLOCK meanwhile, and there is no answer yet.
     /// - TBUFOVFLW: a field of the answer is longer than `max` says. The endpoint is in T_DATAXFER all the same.
-    #[tactic(auto, using(crate::proofs::Replied::makes_said), unfolding(xti_journal_reader::specs::Calls::form_of))]
+    #[tactic(auto, using(crate::proofs::Replied::makes_said), unfolding(xti_verbs::specs::Verbs::row_of))]
     pub fn t_connect<R: Wait + Sync>(
         &self,
         rt: &R,
@@ -58,10 +55,8 @@ impl Xti {
         udata: &[u8],
         max: Max,
     ) -> Result<TCall, Fail>
-        requires seat { IsOf self.now seat.old }
-        requires none { unfinished_from None None seat.old.view.mine ≡ None }
-        ensures seat { IsSameSeat seat.old seat.new }
-        ensures later { Later seat.old.view seat.new.view }
+        requires seat { MayCall self.now seat.old }
+        ensures seat { GoesOn seat.old seat.new }
         ensures made { Makes (call.TConnect fd addr.now opt.now udata.now max.addr max.opt max.udata) IsConnected seat.old.view seat.new.view result }
     {
         let addr = Octets::copy_of(alloc, addr)?;
@@ -94,7 +89,7 @@ impl Xti {
     /// - TLOOK with T_DISCONNECT: there is no connection. `t_rcvdis` tells why.
     /// - TNODATA, with O_NONBLOCK: there is no answer yet.
     /// - TBUFOVFLW: a field is longer than `max` says. The endpoint is in T_DATAXFER all the same.
-    #[tactic(auto, using(crate::proofs::Replied::makes_said), unfolding(xti_journal_reader::specs::Calls::form_of))]
+    #[tactic(auto, using(crate::proofs::Replied::makes_said), unfolding(xti_verbs::specs::Verbs::row_of))]
     pub fn t_rcvconnect<R: Wait + Sync>(
         &self,
         rt: &R,
@@ -103,10 +98,8 @@ impl Xti {
         fd: Fd,
         max: Max,
     ) -> Result<TCall, Fail>
-        requires seat { IsOf self.now seat.old }
-        requires none { unfinished_from None None seat.old.view.mine ≡ None }
-        ensures seat { IsSameSeat seat.old seat.new }
-        ensures later { Later seat.old.view seat.new.view }
+        requires seat { MayCall self.now seat.old }
+        ensures seat { GoesOn seat.old seat.new }
         ensures made { Makes (call.TRcvConnect fd max.addr max.opt max.udata) IsConnected seat.old.view seat.new.view result }
     {
         let call = Call::TRcvConnect {
@@ -135,7 +128,7 @@ impl Xti {
     /// - TLOOK with T_DISCONNECT: a caller has given up a request that was taken and not answered (`t_rcvdis`).
     /// - TNODATA, with O_NONBLOCK: no request waits.
     /// - TBUFOVFLW: a field is longer than `max` says. The request is taken all the same; `Fail::Overflow` has its number.
-    #[tactic(auto, using(crate::proofs::Replied::makes_said), unfolding(xti_journal_reader::specs::Calls::form_of))]
+    #[tactic(auto, using(crate::proofs::Replied::makes_said), unfolding(xti_verbs::specs::Verbs::row_of))]
     pub fn t_listen<R: Wait + Sync>(
         &self,
         rt: &R,
@@ -144,10 +137,8 @@ impl Xti {
         fd: Fd,
         max: Max,
     ) -> Result<TCall, Fail>
-        requires seat { IsOf self.now seat.old }
-        requires none { unfinished_from None None seat.old.view.mine ≡ None }
-        ensures seat { IsSameSeat seat.old seat.new }
-        ensures later { Later seat.old.view seat.new.view }
+        requires seat { MayCall self.now seat.old }
+        ensures seat { GoesOn seat.old seat.new }
         ensures made { Makes (call.TListen fd max.addr max.opt max.udata) IsListened seat.old.view seat.new.view result }
     {
         let call = Call::TListen {
@@ -183,7 +174,7 @@ impl Xti {
     /// - TBADDATA: `udata` has more than 64 bytes.
     /// - TLOOK with T_DISCONNECT: a caller has given up a request that `fd` has taken and not answered (`t_rcvdis`).
     /// - TLOOK with T_LISTEN: a further request waits at `fd` (`t_listen`).
-    #[tactic(auto, using(crate::proofs::Replied::makes_said), unfolding(xti_journal_reader::specs::Calls::form_of))]
+    #[tactic(auto, using(crate::proofs::Replied::makes_said), unfolding(xti_verbs::specs::Verbs::row_of))]
     pub fn t_accept<R: Wait + Sync>(
         &self,
         rt: &R,
@@ -195,10 +186,8 @@ impl Xti {
         opt: &[u8],
         udata: &[u8],
     ) -> Result<(), Fail>
-        requires seat { IsOf self.now seat.old }
-        requires none { unfinished_from None None seat.old.view.mine ≡ None }
-        ensures seat { IsSameSeat seat.old seat.new }
-        ensures later { Later seat.old.view seat.new.view }
+        requires seat { MayCall self.now seat.old }
+        ensures seat { GoesOn seat.old seat.new }
         ensures made { Makes (call.TAccept fd resfd seq opt.now udata.now) IsDone seat.old.view seat.new.view result }
     {
         let opt = Octets::copy_of(alloc, opt)?;
@@ -231,7 +220,7 @@ impl Xti {
     /// - TBADSEQ: the state is T_INCON, and `seq` is the number of no request that was taken and not answered.
     /// - TBADDATA: `udata` has more than 64 bytes.
     /// - TLOOK with T_DISCONNECT: a disconnect waits (`t_rcvdis`).
-    #[tactic(auto, using(crate::proofs::Replied::makes_said), unfolding(xti_journal_reader::specs::Calls::form_of))]
+    #[tactic(auto, using(crate::proofs::Replied::makes_said), unfolding(xti_verbs::specs::Verbs::row_of))]
     pub fn t_snddis<R: Wait + Sync>(
         &self,
         rt: &R,
@@ -241,10 +230,8 @@ impl Xti {
         seq: Seq,
         udata: &[u8],
     ) -> Result<(), Fail>
-        requires seat { IsOf self.now seat.old }
-        requires none { unfinished_from None None seat.old.view.mine ≡ None }
-        ensures seat { IsSameSeat seat.old seat.new }
-        ensures later { Later seat.old.view seat.new.view }
+        requires seat { MayCall self.now seat.old }
+        ensures seat { GoesOn seat.old seat.new }
         ensures made { Makes (call.TSndDis fd seq udata.now) IsDone seat.old.view seat.new.view result }
     {
         let call = Call::TSndDis {
@@ -273,7 +260,7 @@ impl Xti {
     /// - TOUTSTATE: the state is none of T_OUTCON, T_INCON, T_DATAXFER, T_OUTREL and T_INREL.
     /// - TNODIS: no disconnect waits.
     /// - TBUFOVFLW: the data are longer than `umax`, which isn't 0. The disconnect is taken all the same, and isn't told.
-    #[tactic(auto, using(crate::proofs::Replied::makes_said), unfolding(xti_journal_reader::specs::Calls::form_of))]
+    #[tactic(auto, using(crate::proofs::Replied::makes_said), unfolding(xti_verbs::specs::Verbs::row_of))]
     pub fn t_rcvdis<R: Wait + Sync>(
         &self,
         rt: &R,
@@ -282,10 +269,8 @@ impl Xti {
         fd: Fd,
         umax: u32,
     ) -> Result<(u32, Seq, Octets), Fail>
-        requires seat { IsOf self.now seat.old }
-        requires none { unfinished_from None None seat.old.view.mine ≡ None }
-        ensures seat { IsSameSeat seat.old seat.new }
-        ensures later { Later seat.old.view seat.new.view }
+        requires seat { MayCall self.now seat.old }
+        ensures seat { GoesOn seat.old seat.new }
         ensures made { Makes (call.TRcvDis fd umax) IsDisconnect seat.old.view seat.new.view result }
     {
         let call = Call::TRcvDis { fd, umax };
@@ -305,7 +290,7 @@ impl Xti {
     /// - TNOTSUPPORT: the provider isn't `ticotsord`.
     /// - TOUTSTATE: the state is neither T_DATAXFER nor T_INREL.
     /// - TLOOK with T_DISCONNECT: a disconnect waits (`t_rcvdis`).
-    #[tactic(auto, using(crate::proofs::Replied::makes_said), unfolding(xti_journal_reader::specs::Calls::form_of))]
+    #[tactic(auto, using(crate::proofs::Replied::makes_said), unfolding(xti_verbs::specs::Verbs::row_of))]
     pub fn t_sndrel<R: Wait + Sync>(
         &self,
         rt: &R,
@@ -313,10 +298,8 @@ impl Xti {
         seat: &mut Seat,
         fd: Fd,
     ) -> Result<(), Fail>
-        requires seat { IsOf self.now seat.old }
-        requires none { unfinished_from None None seat.old.view.mine ≡ None }
-        ensures seat { IsSameSeat seat.old seat.new }
-        ensures later { Later seat.old.view seat.new.view }
+        requires seat { MayCall self.now seat.old }
+        ensures seat { GoesOn seat.old seat.new }
         ensures made { Makes (call.TSndRel fd) IsDone seat.old.view seat.new.view result }
     {
         let call = Call::TSndRel { fd };
@@ -337,7 +320,7 @@ impl Xti {
     /// - TOUTSTATE: the state is neither T_DATAXFER nor T_OUTREL.
     /// - TLOOK with T_DISCONNECT: a disconnect waits (`t_rcvdis`).
     /// - TNOREL: the other end hasn't released, or not all its data were received.
-    #[tactic(auto, using(crate::proofs::Replied::makes_said), unfolding(xti_journal_reader::specs::Calls::form_of))]
+    #[tactic(auto, using(crate::proofs::Replied::makes_said), unfolding(xti_verbs::specs::Verbs::row_of))]
     pub fn t_rcvrel<R: Wait + Sync>(
         &self,
         rt: &R,
@@ -345,10 +328,8 @@ impl Xti {
         seat: &mut Seat,
         fd: Fd,
     ) -> Result<(), Fail>
-        requires seat { IsOf self.now seat.old }
-        requires none { unfinished_from None None seat.old.view.mine ≡ None }
-        ensures seat { IsSameSeat seat.old seat.new }
-        ensures later { Later seat.old.view seat.new.view }
+        requires seat { MayCall self.now seat.old }
+        ensures seat { GoesOn seat.old seat.new }
         ensures made { Makes (call.TRcvRel fd) IsDone seat.old.view seat.new.view result }
     {
         let call = Call::TRcvRel { fd };

@@ -1,13 +1,10 @@
 //! Datagrams.
 
-ghost use Rattle.std.specs.Prelude.{◌≡◌, None};
+ghost use Rattle.std.specs.Prelude.{◌≡◌};
 ghost use Rattle.xti_model.specs.declared.call.Call.TheVariants as call;
-ghost use Rattle.xti_model.specs.History.{unfinished_from};
-ghost use Rattle.xti_hall.specs.Words.{IsSameSeat};
-ghost use Rattle.xti_step.specs.Steps.{Later};
 ghost use Rattle.xti_calls.specs.Forms.{Makes};
-ghost use Rattle.xti_calls.specs.Library.{IsOf};
 ghost use Rattle.xti_calls.specs.Typed.{IsDatagram, IsDatagramError, IsDatagramInParts, IsDone};
+ghost use Rattle.xti_calls.specs.Library.{MayCall, GoesOn};
 
 use crate::answers::{Fail, Max, TCall, datagram, datagram_error, datagram_parts, done};
 use crate::buffers::{Buffers, MOST_OF_DATAGRAM};
@@ -39,7 +36,7 @@ impl Xti {
     /// - TBADDATA: `bytes` are more than `tsdu`, or none without T_SENDZERO.
     /// - TLOOK with T_UDERR: the error of a datagram waits (`t_rcvuderr`).
     /// - TFLOW, with O_NONBLOCK: 16 datagrams wait at the destination. T_GODATA then tells when one more may be sent there.
-    #[tactic(auto, using(crate::proofs::Replied::makes_said), unfolding(xti_journal_reader::specs::Calls::form_of))]
+    #[tactic(auto, using(crate::proofs::Replied::makes_said), unfolding(xti_verbs::specs::Verbs::row_of))]
     pub fn t_sndudata<R: Wait + Sync>(
         &self,
         rt: &R,
@@ -50,10 +47,8 @@ impl Xti {
         opt: &[u8],
         bytes: &[u8],
     ) -> Result<(), Fail>
-        requires seat { IsOf self.now seat.old }
-        requires none { unfinished_from None None seat.old.view.mine ≡ None }
-        ensures seat { IsSameSeat seat.old seat.new }
-        ensures later { Later seat.old.view seat.new.view }
+        requires seat { MayCall self.now seat.old }
+        ensures seat { GoesOn seat.old seat.new }
         ensures made { Makes (call.TSndUData fd addr.now opt.now bytes.now) IsDone seat.old.view seat.new.view result }
     {
         let addr = Octets::copy_of(alloc, addr)?;
@@ -76,7 +71,7 @@ impl Xti {
     /// # Errors
     ///
     /// XTI ([`Fail`]) answers those of `t_sndudata`, in their order. TBADDATA comes for more than 16 parts too.
-    #[tactic(auto, using(crate::proofs::Replied::makes_said), unfolding(xti_journal_reader::specs::Calls::form_of))]
+    #[tactic(auto, using(crate::proofs::Replied::makes_said), unfolding(xti_verbs::specs::Verbs::row_of))]
     pub fn t_sndvudata<R: Wait + Sync>(
         &self,
         rt: &R,
@@ -87,10 +82,8 @@ impl Xti {
         opt: &[u8],
         parts: &Gather,
     ) -> Result<(), Fail>
-        requires seat { IsOf self.now seat.old }
-        requires none { unfinished_from None None seat.old.view.mine ≡ None }
-        ensures seat { IsSameSeat seat.old seat.new }
-        ensures later { Later seat.old.view seat.new.view }
+        requires seat { MayCall self.now seat.old }
+        ensures seat { GoesOn seat.old seat.new }
         ensures made { Makes (call.TSndVUData fd addr.now opt.now parts.now) IsDone seat.old.view seat.new.view result }
     {
         let addr = Octets::copy_of(alloc, addr)?;
@@ -123,7 +116,7 @@ impl Xti {
     /// - TNODATA, with O_NONBLOCK: no datagram waits.
     /// - TBUFOVFLW: the address or the options are longer than `max` says. The whole datagram is gone. A later part never has
     ///   this error, and more bytes than `max.udata` are none.
-    #[tactic(auto, using(crate::proofs::Replied::makes_said), unfolding(xti_journal_reader::specs::Calls::form_of))]
+    #[tactic(auto, using(crate::proofs::Replied::makes_said), unfolding(xti_verbs::specs::Verbs::row_of))]
     pub fn t_rcvudata<R: Wait + Sync>(
         &self,
         rt: &R,
@@ -132,10 +125,8 @@ impl Xti {
         fd: Fd,
         max: Max,
     ) -> Result<(TCall, u32), Fail>
-        requires seat { IsOf self.now seat.old }
-        requires none { unfinished_from None None seat.old.view.mine ≡ None }
-        ensures seat { IsSameSeat seat.old seat.new }
-        ensures later { Later seat.old.view seat.new.view }
+        requires seat { MayCall self.now seat.old }
+        ensures seat { GoesOn seat.old seat.new }
         ensures made { Makes (call.TRcvUData fd max.udata max.addr max.opt) IsDatagram seat.old.view seat.new.view result }
     {
         let call = Call::TRcvUData {
@@ -158,7 +149,7 @@ impl Xti {
     ///
     /// XTI ([`Fail`]) answers those of `t_rcvudata`, in their order, and between TOUTSTATE and TLOOK:
     /// - TBADDATA: there are more than 16 sizes.
-    #[tactic(auto, using(crate::proofs::Replied::makes_said, crate::proofs::Replied::datagram_fits), unfolding(xti_journal_reader::specs::Calls::form_of))]
+    #[tactic(auto, using(crate::proofs::Replied::makes_said, crate::proofs::Replied::datagram_fits), unfolding(xti_verbs::specs::Verbs::row_of))]
     pub fn t_rcvvudata<R: Wait + Sync>(
         &self,
         rt: &R,
@@ -169,10 +160,8 @@ impl Xti {
         amax: u32,
         omax: u32,
     ) -> Result<(TCall, Parts, u32), Fail>
-        requires seat { IsOf self.now seat.old }
-        requires none { unfinished_from None None seat.old.view.mine ≡ None }
-        ensures seat { IsSameSeat seat.old seat.new }
-        ensures later { Later seat.old.view seat.new.view }
+        requires seat { MayCall self.now seat.old }
+        ensures seat { GoesOn seat.old seat.new }
         ensures made { Makes (call.TRcvVUData fd sizes.now amax omax) (IsDatagramInParts sizes.now) seat.old.view seat.new.view result }
     {
         let buffers = Buffers::new(alloc, sizes.as_slice(), MOST_OF_DATAGRAM)?;
@@ -202,7 +191,7 @@ impl Xti {
     /// - TNOUDERR: no such error waits.
     /// - TBUFOVFLW: the destination is longer than `amax`, which isn't 0, or the options than `omax`, which isn't 0. The error
     ///   is taken all the same, and isn't told.
-    #[tactic(auto, using(crate::proofs::Replied::makes_said), unfolding(xti_journal_reader::specs::Calls::form_of))]
+    #[tactic(auto, using(crate::proofs::Replied::makes_said), unfolding(xti_verbs::specs::Verbs::row_of))]
     pub fn t_rcvuderr<R: Wait + Sync>(
         &self,
         rt: &R,
@@ -212,10 +201,8 @@ impl Xti {
         amax: u32,
         omax: u32,
     ) -> Result<(Octets, Octets, u32), Fail>
-        requires seat { IsOf self.now seat.old }
-        requires none { unfinished_from None None seat.old.view.mine ≡ None }
-        ensures seat { IsSameSeat seat.old seat.new }
-        ensures later { Later seat.old.view seat.new.view }
+        requires seat { MayCall self.now seat.old }
+        ensures seat { GoesOn seat.old seat.new }
         ensures made { Makes (call.TRcvUDErr fd amax omax) IsDatagramError seat.old.view seat.new.view result }
     {
         let call = Call::TRcvUDErr { fd, amax, omax };

@@ -1,14 +1,11 @@
 //! Endpoints: to open them, to bind them, and what they tell.
 
-ghost use Rattle.std.specs.Prelude.{◌≡◌, None};
+ghost use Rattle.std.specs.Prelude.{◌≡◌};
 ghost use Rattle.xti_base.specs.Kinds.{prov_of_name};
 ghost use Rattle.xti_model.specs.declared.call.Call.TheVariants as call;
-ghost use Rattle.xti_model.specs.History.{unfinished_from};
-ghost use Rattle.xti_hall.specs.Words.{IsSameSeat};
-ghost use Rattle.xti_step.specs.Steps.{Later};
 ghost use Rattle.xti_calls.specs.Forms.{Makes};
-ghost use Rattle.xti_calls.specs.Library.{IsOf};
 ghost use Rattle.xti_calls.specs.Typed.{AreAddresses, IsBound, IsDone, IsInfo, IsNegotiated, IsOpened, IsSeen, IsState};
+ghost use Rattle.xti_calls.specs.Library.{MayCall, GoesOn};
 
 use crate::answers::{Fail, addresses, bound, done, info, negotiated, opened, seen, state};
 use crate::library::Seat;
@@ -32,7 +29,7 @@ impl Xti {
     /// XTI ([`Fail`]) answers the first that holds; nothing has changed then:
     /// - TBADNAME: `name` is none of the three.
     /// - TSYSERR: each of the 64 places is open, or was closed 67,108,863 times.
-    #[tactic(auto, using(crate::proofs::Replied::makes_said), unfolding(xti_journal_reader::specs::Calls::form_of))]
+    #[tactic(auto, using(crate::proofs::Replied::makes_said), unfolding(xti_verbs::specs::Verbs::row_of))]
     pub fn t_open<R: Wait + Sync>(
         &self,
         rt: &R,
@@ -41,10 +38,8 @@ impl Xti {
         name: &[u8],
         nonblock: bool,
     ) -> Result<Fd, Fail>
-        requires seat { IsOf self.now seat.old }
-        requires none { unfinished_from None None seat.old.view.mine ≡ None }
-        ensures seat { IsSameSeat seat.old seat.new }
-        ensures later { Later seat.old.view seat.new.view }
+        requires seat { MayCall self.now seat.old }
+        ensures seat { GoesOn seat.old seat.new }
         ensures made { Makes (call.TOpen (prov_of_name name.now) nonblock) IsOpened seat.old.view seat.new.view result }
     {
         let call = Call::TOpen {
@@ -66,7 +61,7 @@ impl Xti {
     /// # Errors
     ///
     /// XTI ([`Fail`]) answers TBADF alone: no endpoint is open with `fd`.
-    #[tactic(auto, using(crate::proofs::Replied::makes_said), unfolding(xti_journal_reader::specs::Calls::form_of))]
+    #[tactic(auto, using(crate::proofs::Replied::makes_said), unfolding(xti_verbs::specs::Verbs::row_of))]
     pub fn t_close<R: Wait + Sync>(
         &self,
         rt: &R,
@@ -74,10 +69,8 @@ impl Xti {
         seat: &mut Seat,
         fd: Fd,
     ) -> Result<(), Fail>
-        requires seat { IsOf self.now seat.old }
-        requires none { unfinished_from None None seat.old.view.mine ≡ None }
-        ensures seat { IsSameSeat seat.old seat.new }
-        ensures later { Later seat.old.view seat.new.view }
+        requires seat { MayCall self.now seat.old }
+        ensures seat { GoesOn seat.old seat.new }
         ensures made { Makes (call.TClose fd) IsDone seat.old.view seat.new.view result }
     {
         let call = Call::TClose { fd };
@@ -101,7 +94,7 @@ impl Xti {
     /// - TADDRBUSY: at `ticlts`, an endpoint is bound to `addr`. At the others, `qlen` is over 0, and an endpoint with a queue
     ///   length over 0 is bound to it; any number of endpoints without a queue may have one address.
     /// - TBUFOVFLW: the address that is given is longer than `amax`, and `amax` isn't 0. The endpoint is bound all the same.
-    #[tactic(auto, using(crate::proofs::Replied::makes_said), unfolding(xti_journal_reader::specs::Calls::form_of))]
+    #[tactic(auto, using(crate::proofs::Replied::makes_said), unfolding(xti_verbs::specs::Verbs::row_of))]
     pub fn t_bind<R: Wait + Sync>(
         &self,
         rt: &R,
@@ -112,10 +105,8 @@ impl Xti {
         qlen: u32,
         amax: u32,
     ) -> Result<(Octets, u32), Fail>
-        requires seat { IsOf self.now seat.old }
-        requires none { unfinished_from None None seat.old.view.mine ≡ None }
-        ensures seat { IsSameSeat seat.old seat.new }
-        ensures later { Later seat.old.view seat.new.view }
+        requires seat { MayCall self.now seat.old }
+        ensures seat { GoesOn seat.old seat.new }
         ensures made { Makes (call.TBind fd addr.now qlen amax) IsBound seat.old.view seat.new.view result }
     {
         let call = Call::TBind {
@@ -139,7 +130,7 @@ impl Xti {
     /// - TOUTSTATE: the state isn't T_IDLE.
     /// - TLOOK with T_LISTEN: a request to connect waits that no `t_listen` has taken.
     /// - TLOOK with T_DATA: a datagram waits.
-    #[tactic(auto, using(crate::proofs::Replied::makes_said), unfolding(xti_journal_reader::specs::Calls::form_of))]
+    #[tactic(auto, using(crate::proofs::Replied::makes_said), unfolding(xti_verbs::specs::Verbs::row_of))]
     pub fn t_unbind<R: Wait + Sync>(
         &self,
         rt: &R,
@@ -147,10 +138,8 @@ impl Xti {
         seat: &mut Seat,
         fd: Fd,
     ) -> Result<(), Fail>
-        requires seat { IsOf self.now seat.old }
-        requires none { unfinished_from None None seat.old.view.mine ≡ None }
-        ensures seat { IsSameSeat seat.old seat.new }
-        ensures later { Later seat.old.view seat.new.view }
+        requires seat { MayCall self.now seat.old }
+        ensures seat { GoesOn seat.old seat.new }
         ensures made { Makes (call.TUnbind fd) IsDone seat.old.view seat.new.view result }
     {
         let call = Call::TUnbind { fd };
@@ -174,7 +163,7 @@ impl Xti {
     /// # Errors
     ///
     /// XTI ([`Fail`]) answers TBADF alone: no endpoint is open with `fd`.
-    #[tactic(auto, using(crate::proofs::Replied::makes_said), unfolding(xti_journal_reader::specs::Calls::form_of))]
+    #[tactic(auto, using(crate::proofs::Replied::makes_said), unfolding(xti_verbs::specs::Verbs::row_of))]
     pub fn t_look<R: Wait + Sync>(
         &self,
         rt: &R,
@@ -182,10 +171,8 @@ impl Xti {
         seat: &mut Seat,
         fd: Fd,
     ) -> Result<Option<Event>, Fail>
-        requires seat { IsOf self.now seat.old }
-        requires none { unfinished_from None None seat.old.view.mine ≡ None }
-        ensures seat { IsSameSeat seat.old seat.new }
-        ensures later { Later seat.old.view seat.new.view }
+        requires seat { MayCall self.now seat.old }
+        ensures seat { GoesOn seat.old seat.new }
         ensures made { Makes (call.TLookAt fd) IsSeen seat.old.view seat.new.view result }
     {
         let call = Call::TLookAt { fd };
@@ -201,7 +188,7 @@ impl Xti {
     /// # Errors
     ///
     /// XTI ([`Fail`]) answers TBADF alone: no endpoint is open with `fd`. TSTATECHNG never comes.
-    #[tactic(auto, using(crate::proofs::Replied::makes_said), unfolding(xti_journal_reader::specs::Calls::form_of))]
+    #[tactic(auto, using(crate::proofs::Replied::makes_said), unfolding(xti_verbs::specs::Verbs::row_of))]
     pub fn t_getstate<R: Wait + Sync>(
         &self,
         rt: &R,
@@ -209,10 +196,8 @@ impl Xti {
         seat: &mut Seat,
         fd: Fd,
     ) -> Result<State, Fail>
-        requires seat { IsOf self.now seat.old }
-        requires none { unfinished_from None None seat.old.view.mine ≡ None }
-        ensures seat { IsSameSeat seat.old seat.new }
-        ensures later { Later seat.old.view seat.new.view }
+        requires seat { MayCall self.now seat.old }
+        ensures seat { GoesOn seat.old seat.new }
         ensures made { Makes (call.TGetState fd) IsState seat.old.view seat.new.view result }
     {
         let call = Call::TGetState { fd };
@@ -227,7 +212,7 @@ impl Xti {
     /// # Errors
     ///
     /// XTI ([`Fail`]) answers TBADF alone: no endpoint is open with `fd`.
-    #[tactic(auto, using(crate::proofs::Replied::makes_said), unfolding(xti_journal_reader::specs::Calls::form_of))]
+    #[tactic(auto, using(crate::proofs::Replied::makes_said), unfolding(xti_verbs::specs::Verbs::row_of))]
     pub fn t_sync<R: Wait + Sync>(
         &self,
         rt: &R,
@@ -235,10 +220,8 @@ impl Xti {
         seat: &mut Seat,
         fd: Fd,
     ) -> Result<State, Fail>
-        requires seat { IsOf self.now seat.old }
-        requires none { unfinished_from None None seat.old.view.mine ≡ None }
-        ensures seat { IsSameSeat seat.old seat.new }
-        ensures later { Later seat.old.view seat.new.view }
+        requires seat { MayCall self.now seat.old }
+        ensures seat { GoesOn seat.old seat.new }
         ensures made { Makes (call.TSync fd) IsState seat.old.view seat.new.view result }
     {
         let call = Call::TSync { fd };
@@ -257,7 +240,7 @@ impl Xti {
     /// # Errors
     ///
     /// XTI ([`Fail`]) answers TBADF alone: no endpoint is open with `fd`.
-    #[tactic(auto, using(crate::proofs::Replied::makes_said), unfolding(xti_journal_reader::specs::Calls::form_of))]
+    #[tactic(auto, using(crate::proofs::Replied::makes_said), unfolding(xti_verbs::specs::Verbs::row_of))]
     pub fn t_getinfo<R: Wait + Sync>(
         &self,
         rt: &R,
@@ -265,10 +248,8 @@ impl Xti {
         seat: &mut Seat,
         fd: Fd,
     ) -> Result<Info, Fail>
-        requires seat { IsOf self.now seat.old }
-        requires none { unfinished_from None None seat.old.view.mine ≡ None }
-        ensures seat { IsSameSeat seat.old seat.new }
-        ensures later { Later seat.old.view seat.new.view }
+        requires seat { MayCall self.now seat.old }
+        ensures seat { GoesOn seat.old seat.new }
         ensures made { Makes (call.TGetInfo fd) IsInfo seat.old.view seat.new.view result }
     {
         let call = Call::TGetInfo { fd };
@@ -287,7 +268,7 @@ impl Xti {
     /// XTI ([`Fail`]) answers the first that holds; nothing has changed then:
     /// - TBADF: no endpoint is open with `fd`.
     /// - TBUFOVFLW: the first is longer than `amax`, which isn't 0, or the second than `pmax`, which isn't 0. Neither is told.
-    #[tactic(auto, using(crate::proofs::Replied::makes_said), unfolding(xti_journal_reader::specs::Calls::form_of))]
+    #[tactic(auto, using(crate::proofs::Replied::makes_said), unfolding(xti_verbs::specs::Verbs::row_of))]
     pub fn t_getprotaddr<R: Wait + Sync>(
         &self,
         rt: &R,
@@ -297,10 +278,8 @@ impl Xti {
         amax: u32,
         pmax: u32,
     ) -> Result<(Octets, Octets), Fail>
-        requires seat { IsOf self.now seat.old }
-        requires none { unfinished_from None None seat.old.view.mine ≡ None }
-        ensures seat { IsSameSeat seat.old seat.new }
-        ensures later { Later seat.old.view seat.new.view }
+        requires seat { MayCall self.now seat.old }
+        ensures seat { GoesOn seat.old seat.new }
         ensures made { Makes (call.TGetProtAddr fd amax pmax) AreAddresses seat.old.view seat.new.view result }
     {
         let call = Call::TGetProtAddr { fd, amax, pmax };
@@ -328,7 +307,7 @@ impl Xti {
     /// - TBADFLAG: `action` is none of the four.
     /// - TBADOPT: `opt` has more than 256 bytes, or is no list of options, or has two levels.
     /// - TBUFOVFLW: the options that are answered are longer than `omax`, which isn't 0. The sizes are set all the same.
-    #[tactic(auto, using(crate::proofs::Replied::makes_said), unfolding(xti_journal_reader::specs::Calls::form_of))]
+    #[tactic(auto, using(crate::proofs::Replied::makes_said), unfolding(xti_verbs::specs::Verbs::row_of))]
     pub fn t_optmgmt<R: Wait + Sync>(
         &self,
         rt: &R,
@@ -339,10 +318,8 @@ impl Xti {
         opt: &[u8],
         omax: u32,
     ) -> Result<(u32, Octets), Fail>
-        requires seat { IsOf self.now seat.old }
-        requires none { unfinished_from None None seat.old.view.mine ≡ None }
-        ensures seat { IsSameSeat seat.old seat.new }
-        ensures later { Later seat.old.view seat.new.view }
+        requires seat { MayCall self.now seat.old }
+        ensures seat { GoesOn seat.old seat.new }
         ensures made { Makes (call.TOptMgmt fd action opt.now omax) IsNegotiated seat.old.view seat.new.view result }
     {
         let call = Call::TOptMgmt {
@@ -364,7 +341,7 @@ impl Xti {
     /// # Errors
     ///
     /// XTI ([`Fail`]) answers TBADF alone: no endpoint is open with `fd`.
-    #[tactic(auto, using(crate::proofs::Replied::makes_said), unfolding(xti_journal_reader::specs::Calls::form_of))]
+    #[tactic(auto, using(crate::proofs::Replied::makes_said), unfolding(xti_verbs::specs::Verbs::row_of))]
     pub fn set_mode<R: Wait + Sync>(
         &self,
         rt: &R,
@@ -373,10 +350,8 @@ impl Xti {
         fd: Fd,
         nonblock: bool,
     ) -> Result<(), Fail>
-        requires seat { IsOf self.now seat.old }
-        requires none { unfinished_from None None seat.old.view.mine ≡ None }
-        ensures seat { IsSameSeat seat.old seat.new }
-        ensures later { Later seat.old.view seat.new.view }
+        requires seat { MayCall self.now seat.old }
+        ensures seat { GoesOn seat.old seat.new }
         ensures made { Makes (call.SetMode fd nonblock) IsDone seat.old.view seat.new.view result }
     {
         let call = Call::SetMode { fd, nonblock };

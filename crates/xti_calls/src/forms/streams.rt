@@ -1,13 +1,10 @@
 //! Data of connections.
 
-ghost use Rattle.std.specs.Prelude.{◌≡◌, None};
+ghost use Rattle.std.specs.Prelude.{◌≡◌};
 ghost use Rattle.xti_model.specs.declared.call.Call.TheVariants as call;
-ghost use Rattle.xti_model.specs.History.{unfinished_from};
-ghost use Rattle.xti_hall.specs.Words.{IsSameSeat};
-ghost use Rattle.xti_step.specs.Steps.{Later};
 ghost use Rattle.xti_calls.specs.Forms.{Makes};
-ghost use Rattle.xti_calls.specs.Library.{IsOf};
 ghost use Rattle.xti_calls.specs.Typed.{AreGot, IsGot, IsSent};
+ghost use Rattle.xti_calls.specs.Library.{MayCall, GoesOn};
 
 use crate::answers::{Fail, got, got_parts, sent};
 use crate::buffers::{Buffers, MOST_OF_STREAM};
@@ -45,7 +42,7 @@ impl Xti {
     /// - TLOOK with T_DISCONNECT: a disconnect waits (`t_rcvdis`).
     /// - TLOOK with T_ORDREL: the other end has released, and all its data were received (`t_rcvrel`).
     /// - TFLOW, with O_NONBLOCK: there is no room. T_GODATA, or T_GOEXDATA for expedited data, then tells when there is.
-    #[tactic(auto, using(crate::proofs::Replied::makes_said), unfolding(xti_journal_reader::specs::Calls::form_of))]
+    #[tactic(auto, using(crate::proofs::Replied::makes_said), unfolding(xti_verbs::specs::Verbs::row_of))]
     pub fn t_snd<R: Wait + Sync>(
         &self,
         rt: &R,
@@ -55,10 +52,8 @@ impl Xti {
         bytes: &[u8],
         flags: u32,
     ) -> Result<u32, Fail>
-        requires seat { IsOf self.now seat.old }
-        requires none { unfinished_from None None seat.old.view.mine ≡ None }
-        ensures seat { IsSameSeat seat.old seat.new }
-        ensures later { Later seat.old.view seat.new.view }
+        requires seat { MayCall self.now seat.old }
+        ensures seat { GoesOn seat.old seat.new }
         ensures made { Makes (call.TSnd fd bytes.now flags) IsSent seat.old.view seat.new.view result }
     {
         let call = Call::TSnd {
@@ -77,7 +72,7 @@ impl Xti {
     /// # Errors
     ///
     /// XTI ([`Fail`]) answers those of `t_snd`, in their order. TBADDATA comes for more than 16 parts too.
-    #[tactic(auto, using(crate::proofs::Replied::makes_said), unfolding(xti_journal_reader::specs::Calls::form_of))]
+    #[tactic(auto, using(crate::proofs::Replied::makes_said), unfolding(xti_verbs::specs::Verbs::row_of))]
     pub fn t_sndv<R: Wait + Sync>(
         &self,
         rt: &R,
@@ -87,10 +82,8 @@ impl Xti {
         parts: &Gather,
         flags: u32,
     ) -> Result<u32, Fail>
-        requires seat { IsOf self.now seat.old }
-        requires none { unfinished_from None None seat.old.view.mine ≡ None }
-        ensures seat { IsSameSeat seat.old seat.new }
-        ensures later { Later seat.old.view seat.new.view }
+        requires seat { MayCall self.now seat.old }
+        ensures seat { GoesOn seat.old seat.new }
         ensures made { Makes (call.TSndV fd parts.now flags) IsSent seat.old.view seat.new.view result }
     {
         let call = Call::TSndV {
@@ -118,7 +111,7 @@ impl Xti {
     /// - TLOOK with T_DISCONNECT: a disconnect waits (`t_rcvdis`).
     /// - TLOOK with T_ORDREL: the other end has released, and all its data were received (`t_rcvrel`).
     /// - TNODATA, with O_NONBLOCK: no data wait that may be received.
-    #[tactic(auto, using(crate::proofs::Replied::makes_said), unfolding(xti_journal_reader::specs::Calls::form_of))]
+    #[tactic(auto, using(crate::proofs::Replied::makes_said), unfolding(xti_verbs::specs::Verbs::row_of))]
     pub fn t_rcv<R: Wait + Sync>(
         &self,
         rt: &R,
@@ -127,10 +120,8 @@ impl Xti {
         fd: Fd,
         max: u32,
     ) -> Result<(Octets, u32), Fail>
-        requires seat { IsOf self.now seat.old }
-        requires none { unfinished_from None None seat.old.view.mine ≡ None }
-        ensures seat { IsSameSeat seat.old seat.new }
-        ensures later { Later seat.old.view seat.new.view }
+        requires seat { MayCall self.now seat.old }
+        ensures seat { GoesOn seat.old seat.new }
         ensures made { Makes (call.TRcv fd max) IsGot seat.old.view seat.new.view result }
     {
         let call = Call::TRcv { fd, max };
@@ -147,7 +138,7 @@ impl Xti {
     ///
     /// XTI ([`Fail`]) answers those of `t_rcv`, in their order, and between TOUTSTATE and TLOOK:
     /// - TBADDATA: there are more than 16 sizes.
-    #[tactic(auto, using(crate::proofs::Replied::makes_said, crate::proofs::Replied::got_fits), unfolding(xti_journal_reader::specs::Calls::form_of))]
+    #[tactic(auto, using(crate::proofs::Replied::makes_said, crate::proofs::Replied::got_fits), unfolding(xti_verbs::specs::Verbs::row_of))]
     pub fn t_rcvv<R: Wait + Sync>(
         &self,
         rt: &R,
@@ -156,10 +147,8 @@ impl Xti {
         fd: Fd,
         sizes: &Sizes,
     ) -> Result<(Parts, u32), Fail>
-        requires seat { IsOf self.now seat.old }
-        requires none { unfinished_from None None seat.old.view.mine ≡ None }
-        ensures seat { IsSameSeat seat.old seat.new }
-        ensures later { Later seat.old.view seat.new.view }
+        requires seat { MayCall self.now seat.old }
+        ensures seat { GoesOn seat.old seat.new }
         ensures made { Makes (call.TRcvV fd sizes.now) (AreGot sizes.now) seat.old.view seat.new.view result }
     {
         let buffers = Buffers::new(alloc, sizes.as_slice(), MOST_OF_STREAM)?;

@@ -1,5 +1,5 @@
 use Rattle.std.proofs.Common.{ℕ, List, sym, subst}
-use Rattle.xti_rule.specs.declared.view.View.{View}
+use Rattle.xti_hall_rule.specs.declared.view.View.{View}
 use Rattle.xti_gather.specs.Cells.{whole}
 use Rattle.xti_calls.specs.Library.{IsReady}
 use Rattle.xti_calls.proofs.Newcomers.{newcomer_ready}

@@ -1,0 +1,2 @@
+mod Sights
+mod Ends

@@ -1,0 +1,99 @@
+-- What the touched cells show is what the whole world shows.
+use Rattle.std.proofs.Common.{◌≡◌, ℕ, true, List, Option, Some, None, refl, sym, ap, ◌∙◌, subst}
+use Rattle.std.specs.Prelude.{is_some, option_map}
+use Rattle.std.specs.List.{AllByRecursion}
+use Rattle.xti_base.specs.declared.kinds.Event.{Event}
+use Rattle.xti_base.specs.declared.kinds.Fd.{Fd}
+use Rattle.xti_model.specs.declared.call.Call.TheVariants.{TLookAt}
+use Rattle.xti_model.specs.declared.entry.Go.TheVariants.{Begin}
+use Rattle.xti_model.specs.declared.entry.Entry.{Entry}
+use Rattle.xti_model.specs.declared.entry.Outcome.{Outcome}
+use Rattle.xti_model.specs.declared.entry.Outcome.TheVariants.{Done}
+use Rattle.xti_model.specs.declared.entry.Reply.TheVariants.{Seen}
+use Rattle.xti_model.specs.declared.profile.Providers.{Providers}
+use Rattle.xti_model.specs.Calls.Show.{look_in}
+use Rattle.xti_model.specs.Endpoint.{Endpoint}
+use Rattle.xti_model.specs.Events.{around}
+use Rattle.xti_model.specs.Plan.{Plan, if_open}
+use Rattle.xti_model.specs.Profile.{valid}
+use Rattle.xti_model.specs.Step.{plan}
+use Rattle.xti_model.specs.Touched.{named, touched}
+use Rattle.xti_model.specs.World.{World, Cell, endpoint, only}
+use Rattle.xti_laws.specs.Laws.{Within}
+use Rattle.xti_laws.proofs.Local.{plan-local}
+use Rattle.xti_laws.proofs.Only.{endpoint-only}
+use Rattle.xti_laws.proofs.Touched.{within-named}
+use Rattle.xti_laws.proofs.TouchedAgain.{named-some}
+use Rattle.xti_laws_sound.specs.Invariant.{SoundWorld}
+use Rattle.xti_laws_sound.proofs.Steps.{after-sound}
+use Rattle.xti_lent.specs.Lending.{Lending, cell_lent, cells, cells_by}
+use Rattle.xti_lent.specs.Fit.{AllLent}
+use Rattle.xti_core.specs.Looks.{shown_by, sight_in}
+use Rattle.xti_core.proofs.SomeCells.{Sub, there_and, there-among, there-only, those-within}
+use Rattle.xti_hall_rule.specs.declared.view.View.{View}
+use Rattle.xti_hall_rule.specs.Histories.{part, after}
+use Rattle.xti_gather.specs.Lends.{Lends}
+use Rattle.xti_gather.proofs.Wholes.{kept, whole-world, Of, sub-of}
+
+-- the event that a plan tells
+event_of : Outcome → Option Event
+event_of (Done (Seen event)) = event
+event_of other = None
+
+-- cells that have all that a look names: the endpoint shows the same on them alone
+sight-only : (p : Providers) (t : List ℕ) (w : World) (fd : Fd) → Within t (named p w (TLookAt fd)) → sight_in p (only t w) fd.0 ≡ sight_in p w fd.0
+unfolding plan event_of
+sight-only p t w fd h = ap (option_map (shown_by p (only t w) fd.0)) same ∙ go (endpoint p w fd.0) refl
+  where
+    same : endpoint p (only t w) fd.0 ≡ endpoint p w fd.0
+    same = endpoint-only p t fd.0 h.0 w
+
+    plans : if_open fd.0 (endpoint p (only t w) fd.0) (λ e. look_in fd.0 e (around p (only t w) fd.0 e)) ≡ if_open fd.0 (endpoint p w fd.0) (λ e. look_in fd.0 e (around p w fd.0 e))
+    plans = plan-local p t w (TLookAt fd) Begin h
+
+    go : (o : Option Endpoint) → endpoint p w fd.0 ≡ o → option_map (shown_by p (only t w) fd.0) o ≡ option_map (shown_by p w fd.0) o
+    go None i = refl
+    go (Some e) i =
+        let one : if_open fd.0 (Some e) (λ e. look_in fd.0 e (around p (only t w) fd.0 e)) ≡ if_open fd.0 (Some e) (λ e. look_in fd.0 e (around p w fd.0 e)) =
+        ap (λ (o : Option Endpoint). if_open fd.0 o (λ e. look_in fd.0 e (around p (only t w) fd.0 e))) (sym (same ∙ i)) ∙ (plans ∙ ap (λ (o : Option Endpoint). if_open fd.0 o (λ e. look_in fd.0 e (around p w fd.0 e))) i) in
+        ap (λ (z : Plan). Some (e.state, event_of z.outcome)) one
+
+-- some cells of a world, among them all that a look touches there
+sight-some : (p : Providers) (lt at : ℕ → Option Cell) (fd : Fd) → Sub lt at → AllByRecursion (λ n. is_some (lt n) ≡ true) (touched p (cells_by p lt) (TLookAt fd)) → sight_in p (cells_by p lt) fd.0 ≡ sight_in p (cells_by p at) fd.0
+sight-some p lt at fd sub all = ap (λ (w : World). sight_in p w fd.0) (sym these) ∙ sight-only p t W fd within
+  where
+    ns : List ℕ
+    ns = touched p (cells_by p lt) (TLookAt fd)
+
+    t : List ℕ
+    t = there_and p lt ns
+
+    W : World
+    W = cells_by p at
+
+    these : only t W ≡ cells_by p lt
+    these = there-only p lt at t sub (λ n l. there-among p lt ns n all l)
+
+    enough : Within t (touched p (only t W) (TLookAt fd))
+    enough = rw these (those-within p lt ns)
+
+    there : Within t (named p (only t W) (TLookAt fd))
+    there = within-named p t (only t W) (TLookAt fd) enough
+
+    within : Within t (named p W (TLookAt fd))
+    within = subst (Within t) (named-some p t W (TLookAt fd) there) there
+
+-- the lent cells have all that a look touches, and are as after this history: they show what the whole world shows
+pub sight-whole : (v : View) (l : Lending) (fd : Fd) (h : List Entry) → Lends v l → AllLent l (touched l.providers (cells l) (TLookAt fd)) → ((n : ℕ) (m : Cell) → cell_lent l n ≡ Some m → m ≡ part n (after v.setting h))
+    → sight_in l.providers (cells l) fd.0 ≡ sight_in v.setting.providers (after v.setting h) fd.0
+sight-whole v l fd h lends all parts =
+    sight-some l.providers (cell_lent l) (kept W) fd of.sub all ∙ (ap (λ (w : World). sight_in l.providers w fd.0) (whole-world l.providers W sound) ∙ ap (λ (p : Providers). sight_in p W fd.0) lends.providers)
+  where
+    W : World
+    W = after v.setting h
+
+    sound : SoundWorld l.providers W
+    sound = subst (λ (p : Providers). SoundWorld p W) (sym lends.providers) (after-sound v.setting.providers h (ap valid (sym lends.providers) ∙ lends.loan.kept.valid_providers))
+
+    of : Of l W
+    of = sub-of l W lends.loan sound parts

@@ -1,0 +1,5 @@
+pub mod Glances
+pub use Rattle.xti_gather.specs.Cells
+pub use Rattle.xti_gather.specs.Lends
+pub use Rattle.xti_hall.specs.Seats
+pub use Rattle.xti_hall.specs.Words
