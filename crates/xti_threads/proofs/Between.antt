@@ -20,8 +20,8 @@ use Rattle.xti_model.proofs.Legality.{unfinished-goes_on}
 use Rattle.xti_model.proofs.Turns.{MayGo}
 use Rattle.xti_model.specs.Following.{IsFollowed}
 use Rattle.xti_model.proofs.Following.{Continues, next-continues, followed-more}
-use Rattle.xti_rule.specs.declared.view.View.{View}
-use Rattle.xti_rule.specs.Histories.{own}
+use Rattle.xti_hall_rule.specs.declared.view.View.{View}
+use Rattle.xti_hall_rule.specs.Histories.{own}
 use Rattle.xti_hall.specs.Seats.{IsStanding}
 use Rattle.xti_step.specs.Steps.{Later}
 use Rattle.xti_calls.specs.Calling.{IsMore, AreSteps, Answered}

@@ -1,5 +1,6 @@
 -- The seats that came back meet main's, which has ended the library.
-use Rattle.std.specs.Prelude.{ℕ, ◌+◌, ◌<◌, ◌≤◌, nat_lt, Bool, true, false, List, [], ◌++◌, ◌≡◌}
+use Rattle.std.specs.Prelude.{ℕ, ◌+◌, ◌<◌, ◌≤◌, nat_lt, Bool, true, false, List, [], ◌++◌, ◌≡◌, Vec}
+use Rattle.std.specs.declared.alloc.Global.{Global}
 use Rattle.std.proofs.Common.{refl, sym, ap, subst, ◌∙◌, arith, append_assoc}
 use Rattle.std.proofs.lemmas.Bool.Decides.{nat_tests}
 use Rattle.std.proofs.lemmas.List.{append-nil}
@@ -10,16 +11,16 @@ use Rattle.xti_model.specs.declared.script.Line.{Line}
 use Rattle.xti_model.specs.Complete.{Follows, IsHistoryOf}
 use Rattle.xti_model.proofs.Appending.{own-append}
 use Rattle.xti_model.proofs.GoingOn.{own-alone}
-use Rattle.xti_rule.specs.declared.setting.Setting.{Setting}
-use Rattle.xti_rule.specs.declared.view.View.{View}
-use Rattle.xti_rule.specs.Histories.{own, Legal}
-use Rattle.xti_rule.proofs.Splits.{own_between}
+use Rattle.xti_hall_rule.specs.declared.setting.Setting.{Setting}
+use Rattle.xti_hall_rule.specs.declared.view.View.{View}
+use Rattle.xti_hall_rule.specs.Histories.{own, Legal}
+use Rattle.xti_hall_rule.proofs.Splits.{own_between}
 use Rattle.xti_hall.specs.Seats.{SeatView, IsStanding, Looks, Meets}
 use Rattle.xti_hall.specs.Words.{IsSameSeat}
 use Rattle.xti_calls.specs.declared.shared.Xti.{Xti}
 use Rattle.xti_calls.specs.Library.{providers_of}
 use Rattle.xti_threads.specs.Working.{CameBack}
-use Rattle.xti_threads.specs.Meeting.{IsSetUp, Leads}
+use Rattle.xti_threads.specs.Meeting.{AllPlayed, IsSetUp, Leads}
 use Rattle.xti_threads.proofs.Owned.{follows-same, own-again, own-another, history-whole}
 
 pub prefix-then : (xs ys zs : List Entry) → IsPrefix xs ys → IsPrefix ys zs → IsPrefix xs zs
@@ -35,6 +36,9 @@ leads-looks {x} {setup} {next} s s' l same m standing = record {
   begins = prefix-then setup s.view.seen s'.view.seen l.begins m.seen;
   standing = standing;
 }
+
+pub played-looks : {x : Xti} {lines : List Line} {seats : Vec SeatView Global} (s s' : SeatView) → AllPlayed x lines s seats → IsSameSeat s s' → Looks s.view s'.view → IsStanding s'.view → AllPlayed x lines s' seats
+played-looks s s' p same m standing = record { many = p.many; past = p.past; set_up = p.set_up; leads = leads-looks s s' p.leads same m standing; back = p.back }
 
 -- worker 0's entries are those of the setup
 pub leads-own : {x : Xti} {setup : List Entry} {next : ℕ} (s : SeatView) → Leads x setup next s → own 0 s.view.seen ≡ own 0 setup

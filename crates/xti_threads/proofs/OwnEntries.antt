@@ -9,8 +9,8 @@ use Rattle.xti_model.specs.declared.script.Line.{Line}
 use Rattle.xti_model.specs.History.{is_own}
 use Rattle.xti_model.specs.Complete.{is_setup}
 use Rattle.xti_model.proofs.Appending.{own-append, all-split}
-use Rattle.xti_rule.specs.declared.view.View.{View}
-use Rattle.xti_rule.specs.Histories.{own}
+use Rattle.xti_hall_rule.specs.declared.view.View.{View}
+use Rattle.xti_hall_rule.specs.Histories.{own}
 use Rattle.xti_hall.specs.Seats.{IsStanding}
 use Rattle.xti_replay.specs.declared.workers.Worker.{Worker}
 use Rattle.xti_replay.specs.Progress.{Told}

@@ -1,5 +1,6 @@
 -- Main's seat and the workers, from the setup to the threads.
-use Rattle.std.specs.Prelude.{ℕ, suc, ◌+◌, ◌<◌, ◌≤◌, List, [], ◌∷◌, length, filter, None, slice_index_or, ◌≡◌, true}
+use Rattle.std.specs.Prelude.{ℕ, suc, ◌+◌, ◌<◌, ◌≤◌, List, [], ◌∷◌, length, vec_len, filter, None, Result, Ok, Err, IfOk, Vec, slice_index_or, ◌≡◌, true}
+use Rattle.std.specs.declared.alloc.Global.{Global}
 use Rattle.std.specs.List.{list_all, remove}
 use Rattle.std.proofs.Common.{refl, sym, ap, subst, ◌∙◌, arith}
 use mathlib.Core.List.{IsPrefix}
@@ -12,11 +13,11 @@ use Rattle.xti_model.specs.Robin.{is_through}
 use Rattle.xti_model.specs.Complete.{Follows, IsHistoryOf, is_setup}
 use Rattle.xti_model.proofs.GoingOn.{own-alone}
 use Rattle.xti_model.specs.Following.{IsFollowed}
-use Rattle.xti_rule.specs.declared.setting.Setting.{Setting}
-use Rattle.xti_rule.specs.declared.view.View.{View}
-use Rattle.xti_rule.specs.Histories.{own, Legal}
-use Rattle.xti_rule.specs.Rule.{newcomer}
-use Rattle.xti_rule.specs.Steps.{giver}
+use Rattle.xti_hall_rule.specs.declared.setting.Setting.{Setting}
+use Rattle.xti_hall_rule.specs.declared.view.View.{View}
+use Rattle.xti_hall_rule.specs.Histories.{own, Legal}
+use Rattle.xti_hall_rule.specs.Rule.{newcomer}
+use Rattle.xti_hall_rule.specs.Steps.{giver}
 use Rattle.xti_gather.specs.Cells.{whole}
 use Rattle.xti_hall.specs.Seats.{SeatView, IsStanding, IsNewcomerOf, Looks}
 use Rattle.xti_hall.specs.Words.{IsSameSeat}
@@ -27,8 +28,9 @@ use Rattle.xti_replay.specs.Progress.{Told, AreFresh}
 use Rattle.xti_replay.proofs.Learning.{knows-still}
 use Rattle.xti_threads.specs.Working.{AfterSetup, IsJob}
 use Rattle.xti_threads.specs.Setting.{HasSetUp, SetsUp}
-use Rattle.xti_threads.specs.Starting.{EachFrom, AllTold}
-use Rattle.xti_threads.specs.Meeting.{IsSetUp, Leads, Before}
+use Rattle.xti_threads.specs.declared.working.Job.{Job}
+use Rattle.xti_threads.specs.Starting.{EachFrom, AllBack, AllJobs, AllTold}
+use Rattle.xti_threads.specs.Meeting.{AllPlayed, IsSetUp, Leads, Before}
 use Rattle.xti_threads.proofs.Owned.{follows-same, own-again, own-setup, setup-only, history-alone}
 use Rattle.xti_threads.proofs.Threads.{from_map, from_index}
 use Rattle.xti_threads.proofs.Between.{no-part}
@@ -153,3 +155,15 @@ before-rests s s' b same l standing = record {
   begins = subst (λ (h : List Entry). IsPrefix h s'.view.seen) b.seen l.seen;
   standing = standing;
 }
+
+-- all others have come back
+pub all-played : {E : Type 0} {x : Xti} {lines : List Line} {past : List Entry} {main : SeatView} (n : ℕ) (jobs : Vec Job Global) (r : Result (Vec SeatView Global) E) → n < WORKERS → vec_len jobs ≡ n → IsSetUp lines past → Leads x past (n + 1) main → AllJobs x lines past jobs.items
+    → IfOk r (λ v. vec_len v ≡ vec_len jobs) → IfOk r (λ v. (setup : List Entry) → AllJobs x lines setup jobs.items → AllBack x lines setup v.items) → IfOk r (AllPlayed x lines main)
+all-played {E} {x} {lines} {past} {main} n jobs (Ok v) many e u l all same back = record {
+  many = omega (arith, many, same, e);
+  past = past;
+  set_up = u;
+  leads = subst (λ (k : ℕ). Leads x past (k + 1) main) (sym (same ∙ e)) l;
+  back = back past all;
+}
+all-played n jobs (Err err) many e u l all same back = tt

@@ -1,5 +1,5 @@
 -- A worker's calls by its seat are those of its lines.
-use Rattle.std.proofs.Common.{◌≡◌, ◌≢◌, ℕ, true, List, [], ◌++◌, Some, None, refl, sym, ap, ◌∙◌, subst, arith, append_assoc, inr}
+use Rattle.std.proofs.Common.{◌≡◌, ◌≢◌, ℕ, true, List, [], ◌∷◌, ◌++◌, Some, None, refl, sym, ap, ◌∙◌, subst, arith, append_assoc, inr}
 use Rattle.std.specs.List.{AllByRecursion}
 use Rattle.std.proofs.lemmas.List.{append-nil}
 use mathlib.Core.List.{IsPrefix}
@@ -13,19 +13,19 @@ use Rattle.xti_model.specs.Robin.{is_through}
 use Rattle.xti_model.proofs.Appending.{own-append}
 use Rattle.xti_model.specs.Following.{IsFollowed}
 use Rattle.xti_model.proofs.Phases.{through-same}
-use Rattle.xti_rule.specs.Histories.{own}
+use Rattle.xti_hall_rule.specs.declared.view.View.{View}
+use Rattle.xti_hall_rule.specs.Histories.{own}
 use Rattle.xti_hall.specs.Seats.{SeatView, IsStanding, Looks}
 use Rattle.xti_hall.specs.Words.{IsSameSeat}
-use Rattle.xti_step.specs.Steps.{Later}
 use Rattle.xti_calls.specs.declared.shared.Xti.{Xti}
 use Rattle.xti_calls.specs.declared.calling.Halt.{Halt}
 use Rattle.xti_calls.specs.declared.calling.Halt.TheVariants.{OutOfMemory, Stalled}
-use Rattle.xti_calls.specs.Calling.{AreSteps, Answered, Halted}
-use Rattle.xti_calls.specs.Library.{IsOf}
+use Rattle.xti_calls.specs.Calling.{Answered, Halted}
+use Rattle.xti_calls.specs.Library.{IsOf, GoesOn}
 use Rattle.xti_replay.specs.declared.workers.Worker.{Worker}
 use Rattle.xti_replay.specs.Progress.{Told, IsNext}
 use Rattle.xti_threads.specs.declared.working.Job.{Job}
-use Rattle.xti_threads.specs.Working.{AfterSetup, CameBack, HasBegun, IsJob, Works}
+use Rattle.xti_threads.specs.Working.{AfterSetup, CameBack, HasAnswer, HasSteps, IsJob, Works}
 use Rattle.xti_threads.proofs.OwnEntries.{IsBy, own-none-of, own-setup, mine-by, told-others}
 use Rattle.xti_threads.proofs.Between.{Between, between-follows, between-told, no-part}
 
@@ -33,8 +33,8 @@ pub prefix-trans : (xs ys zs : List Entry) → IsPrefix xs ys → IsPrefix ys zs
 prefix-trans xs ys zs a b = (a.0 ++ b.0, sym (append_assoc xs a.0 b.0) ∙ (ap (λ (l : List Entry). l ++ b.0) a.1 ∙ b.1))
 
 -- the seat's library is the same later
-pub of-later : (x : Xti) (s s' : SeatView) → IsOf x s → IsSameSeat s s' → Later s.view s'.view → IsOf x s'
-of-later x s s' o same later = (same.0 ∙ o.0, later.setting ∙ o.1)
+pub of-later : (x : Xti) (s s' : SeatView) → IsOf x s → GoesOn s s' → IsOf x s'
+of-later x s s' o on = (on.0.0 ∙ o.0, on.1.setting ∙ o.1)
 
 -- a worker between two of its lines
 pub works-between : {x : Xti} {lines : List Line} {setup : List Entry} {n : ℕ} {s : SeatView} {w w0 : Worker} → AfterSetup lines setup w0 → Works x lines setup n s w → w.part ≡ None → Between lines setup n s.view w w0
@@ -58,31 +58,32 @@ works-between {x} {lines} {setup} {n} {s} {w} {w0} z k whole = record {
     through : is_through lines (setup ++ s.view.mine) 0 ≡ true
     through = through-same lines setup (setup ++ s.view.mine) 0 (own-append setup s.view.mine 0 ∙ (ap (λ (es : List Entry). own 0 setup ++ es) (own-none-of n 0 s.view.mine other mine) ∙ append-nil (own 0 setup))) ∙ z.finished
 
-module _ {x : Xti} {lines : List Line} {setup : List Entry} {n : ℕ} {s : SeatView} {w w0 : Worker} (k : Works x lines setup n s w) (b : Between lines setup n s.view w w0) (c : Call) (next : IsNext lines (setup ++ s.view.mine) n (Some c)) (s' : SeatView) (same : IsSameSeat s s') (standing : IsStanding s'.view) (later : Later s.view s'.view) where
+-- the steps of a call that was answered, or stopped
+pub steps-answered : {v v' : View} {c : Call} {reply : Reply} → Answered v c go.Begin v' reply → HasSteps v c v'
+steps-answered a = record { steps = a.parts ++ a.last ∷ []; mine = a.mine; are = a.steps }
+
+pub steps-halted : {v v' : View} {c : Call} (h : Halt) → Halted v c go.Begin v' h → HasSteps v c v'
+steps-halted (OutOfMemory taken) m = record { steps = m.parts; mine = m.mine; are = m.steps }
+steps-halted (Stalled taken stall) m = record { steps = m.stopped.parts; mine = m.stopped.mine; are = m.stopped.steps }
+
+module _ {x : Xti} {lines : List Line} {setup : List Entry} {n : ℕ} {s : SeatView} {w w0 : Worker} (k : Works x lines setup n s w) (b : Between lines setup n s.view w w0) (c : Call) (next : IsNext lines (setup ++ s.view.mine) n (Some c)) (s' : SeatView) (on : GoesOn s s') (standing : IsStanding s'.view) where
   -- the seat after some steps of the call of its worker's next line
-  works-back : (es : List Entry) → s'.view.mine ≡ s.view.mine ++ es → AreSteps c go.Begin es → CameBack x lines setup n s'
-  works-back es mine steps = record {
-    of_x = of-later x s s' k.back.of_x same later;
-    number_is = later.number ∙ k.back.number_is;
+  pub works-back : HasSteps s.view c s'.view → CameBack x lines setup n s'
+  works-back m = record {
+    of_x = of-later x s s' k.back.of_x on;
+    number_is = on.1.number ∙ k.back.number_is;
     standing = standing;
-    seen = prefix-trans setup s.view.seen s'.view.seen k.back.seen later.seen;
-    follows = between-follows b c s'.view es next standing later mine steps;
+    seen = prefix-trans setup s.view.seen s'.view.seen k.back.seen on.1.seen;
+    follows = between-follows b c s'.view m.steps next standing on.1 m.mine m.are;
   }
 
-  pub works-halted : (h : Halt) → Halted s.view c go.Begin s'.view h → CameBack x lines setup n s'
-  works-halted (OutOfMemory taken) m = works-back m.parts m.mine m.steps
-  works-halted (Stalled taken stall) m = works-back m.stopped.parts m.stopped.mine m.stopped.steps
-
-  pub works-answered : (reply : Reply) → Answered s.view c go.Begin s'.view reply → CameBack x lines setup n s'
-  works-answered reply a = works-back _ a.mine a.steps
-
   -- and its worker, where the call was answered
-  pub works-on : (reply : Reply) (new : Worker) → Answered s.view c go.Begin s'.view reply → HasBegun lines reply w new → Works x lines setup n s' new
-  works-on reply new a m = record {
-    back = works-answered reply a;
+  pub works-on : (new : Worker) → HasAnswer lines s.view c s'.view w new → Works x lines setup n s' new
+  works-on new m = record {
+    back = works-back (steps-answered m.answered);
     other = k.other;
     small = k.small;
-    told = between-told b c s'.view new reply next standing later a m;
+    told = between-told b c s'.view new m.reply next standing on.1 m.answered m.begun;
   }
 
 -- a job has its first line before it

@@ -3,15 +3,19 @@ use Rattle.std.specs.Prelude.{◌≡◌, ◌+◌, ◌<◌, ℕ, List, [], ◌++�
 use Rattle.std.specs.List.{list_all}
 use mathlib.Core.List.{IsPrefix}
 use Rattle.xti_base.specs.declared.limits.TheConstants.{WORKERS}
+use Rattle.xti_model.specs.declared.call.Call.{Call}
 use Rattle.xti_model.specs.declared.entry.Entry.{Entry}
+use Rattle.xti_model.specs.declared.entry.Go.TheVariants as go
 use Rattle.xti_model.specs.declared.entry.Outcome.TheVariants.{Done}
 use Rattle.xti_model.specs.declared.entry.Reply.{Reply}
 use Rattle.xti_model.specs.declared.script.Line.{Line}
 use Rattle.xti_model.specs.Robin.{is_through}
 use Rattle.xti_model.specs.Complete.{is_setup}
 use Rattle.xti_model.specs.Following.{IsFollowed}
+use Rattle.xti_hall_rule.specs.declared.view.View.{View}
 use Rattle.xti_hall.specs.Seats.{SeatView, IsStanding}
 use Rattle.xti_calls.specs.declared.shared.Xti.{Xti}
+use Rattle.xti_calls.specs.Calling.{Answered, AreSteps}
 use Rattle.xti_calls.specs.Library.{IsOf}
 use Rattle.xti_replay.specs.declared.workers.Worker.{Worker}
 use Rattle.xti_replay.specs.Progress.{Told, LearnsNextLine}
@@ -29,6 +33,18 @@ pub record HasBegun (lines : List Line) (reply : Reply) (old new : Worker) : Typ
   pub count : new.begun ≡ old.begun + 1
   pub whole : new.part ≡ None
   pub names : LearnsNextLine lines (Done reply) old new
+
+-- some steps of the call were made, or none
+pub record HasSteps (v : View) (c : Call) (v' : View) : Type 0 where
+  pub steps : List Entry
+  pub mine : v'.mine ≡ v.mine ++ steps
+  pub are : AreSteps c go.Begin steps
+
+-- the call was answered, and its worker knows what
+pub record HasAnswer (lines : List Line) (v : View) (c : Call) (v' : View) (old new : Worker) : Type 0 where
+  pub reply : Reply
+  pub answered : Answered v c go.Begin v' reply
+  pub begun : HasBegun lines reply old new
 
 module _ (x : Xti) (lines : List Line) (setup : List Entry) where
   -- the seat of the worker with this number, after the entries of the setup: its own entries are calls of its lines, in order, each once

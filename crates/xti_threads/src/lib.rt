@@ -4,6 +4,7 @@
 mod meeting;
 mod playing;
 mod setting;
+mod stage;
 mod starting;
 mod working;
 

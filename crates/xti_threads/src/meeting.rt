@@ -1,13 +1,10 @@
 //! All seats meet at the end of the library, and its history is handed out.
 
-ghost use Rattle.std.specs.Prelude.{◌≡◌, ◌+◌, ◌<◌, List, true, vec_len};
-ghost use Rattle.xti_base.specs.declared.limits.TheConstants.{WORKERS};
-ghost use Rattle.xti_model.specs.declared.entry.Entry.{Entry};
+ghost use Rattle.std.specs.Prelude.{◌≡◌, true};
 ghost use Rattle.xti_model.specs.Complete.{IsHistoryOf};
 ghost use Rattle.xti_calls.specs.declared.shared.Xti.{Xti as TheXti};
 ghost use Rattle.xti_calls.specs.Library.{keeps_of, providers_of};
-ghost use Rattle.xti_threads.specs.Starting.{AllBack};
-ghost use Rattle.xti_threads.specs.Meeting.{IsSetUp, Leads};
+ghost use Rattle.xti_threads.specs.Meeting.{AllPlayed};
 
 use std::sync::Wait;
 use xti_calls::{Ended, Seat, Xti};
@@ -15,10 +12,9 @@ use xti_model::{Entries, Line};
 
 /// Every other seat meets main's, which has ended the library: the history has all that it made, and nothing else of it.
 fn meet_main(ended: &mut Ended, _lines: &[Line], seats: Vec<Seat>)
-    requires many { vec_len seats < WORKERS }
-    requires back { (xti : TheXti) × (past : List Entry) × IsSetUp _lines.now past × Leads xti past (vec_len seats + 1) ended.old × AllBack xti _lines.now past seats.items }
+    requires { (xti : TheXti) × AllPlayed xti _lines.now ended.old seats }
     ensures same { ended.new ≡ ended.old }
-    ensures history { (xti : TheXti) (past : List Entry) → IsSetUp _lines.now past → Leads xti past (vec_len seats + 1) ended.old → AllBack xti _lines.now past seats.items → IsHistoryOf (providers_of xti) _lines.now ended.old.view.seen }
+    ensures history { (xti : TheXti) → AllPlayed xti _lines.now ended.old seats → IsHistoryOf (providers_of xti) _lines.now ended.old.view.seen }
 {
     for seat in seats {
         let seat = ended.meet(seat);
@@ -34,8 +30,7 @@ pub(crate) fn meet_all<R: Wait>(
     seats: Vec<Seat>,
 ) -> Entries
     requires keeps { keeps_of xti ≡ true }
-    requires many { vec_len seats < WORKERS }
-    requires back { (past : List Entry) × IsSetUp lines.now past × Leads xti past (vec_len seats + 1) main × AllBack xti lines.now past seats.items }
+    requires played { AllPlayed xti lines.now main seats }
     ensures { IsHistoryOf (providers_of xti) lines.now result }
 {
     let mut ended = xti.end(rt, main);

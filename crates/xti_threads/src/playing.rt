@@ -1,21 +1,22 @@
 //! A script's workers, each on a thread.
 
-ghost use Rattle.std.specs.Prelude.{◌≡◌, ◌+◌, ◌<◌, List, true, IfOk, vec_len};
+ghost use Rattle.std.specs.Prelude.{◌≡◌, ◌+◌, ◌<◌, List, [], None, true, IfOk, MatchOption, vec_len};
 ghost use Rattle.xti_base.specs.declared.limits.TheConstants.{WORKERS};
 ghost use Rattle.xti_model.specs.declared.entry.Entry.{Entry};
 ghost use Rattle.xti_model.specs.Complete.{IsHistoryOf};
-ghost use Rattle.xti_rule.specs.Rule.{newcomer};
+ghost use Rattle.xti_hall_rule.specs.Rule.{newcomer};
 ghost use Rattle.xti_gather.specs.Cells.{whole};
 ghost use Rattle.xti_calls.specs.Library.{IsOf, keeps_of, providers_of};
 ghost use Rattle.xti_replay.specs.Playable.{IsPlayable, are_playable};
-ghost use Rattle.xti_replay.specs.Progress.{AreFresh};
+ghost use Rattle.xti_replay.specs.Progress.{Told};
 ghost use Rattle.xti_threads.specs.Working.{AfterSetup};
-ghost use Rattle.xti_threads.specs.Setting.{HasSetUp};
-ghost use Rattle.xti_threads.specs.Starting.{AllJobs, AllTold};
-ghost use Rattle.xti_threads.specs.Meeting.{Before, IsSetUp};
+ghost use Rattle.xti_threads.specs.Setting.{HasSetUp, SetsUp};
+ghost use Rattle.xti_threads.specs.Starting.{AllJobs, AllTold, EachFrom};
+ghost use Rattle.xti_threads.specs.Meeting.{AllPlayed, Before, IsSetUp};
 
 use crate::meeting::meet_all;
 use crate::setting::set_up;
+use crate::stage::Stage;
 use crate::starting::run_all;
 use crate::working::Job;
 use std::alloc::{AllocError, Global};
@@ -26,22 +27,20 @@ use xti_model::{Entries, Line, Script};
 use xti_replay::{Worker, fresh_workers};
 
 /// A seat for each of these workers, whose numbers are 1 and on.
-fn seat_all<R: Wait>(
-    rt: &R,
-    alloc: Global,
+fn seat_all<G, R: Wait>(
+    stage: &Stage<'_, G, R>,
     xti: &Xti,
-    _lines: &[Line],
     main: &mut Seat,
     workers: Vec<Worker>,
 ) -> Result<Vec<Job>, AllocError>
     requires many { vec_len workers < WORKERS }
-    requires before { (past : List Entry) × Before xti.now past 1 main.old × AllTold _lines.now past workers.items }
+    requires before { (past : List Entry) × Before xti.now past 1 main.old × AllTold stage.now.lines.now past workers.items }
     ensures many { IfOk result (λ v. vec_len v ≡ vec_len workers) }
-    ensures jobs { IfOk result (λ v. (past : List Entry) → Before xti.now past 1 main.old → AllTold _lines.now past workers.items → AllJobs xti.now _lines.now past v.items × Before xti.now past (vec_len workers + 1) main.new) }
+    ensures jobs { IfOk result (λ v. (past : List Entry) → Before xti.now past 1 main.old → AllTold stage.now.lines.now past workers.items → AllJobs xti.now stage.now.lines.now past v.items × Before xti.now past (vec_len workers + 1) main.new) }
 {
-    let mut jobs = Vec::with_capacity(alloc, workers.len())?;
+    let mut jobs = Vec::with_capacity(stage.alloc, workers.len())?;
     for worker in workers {
-        let Ok(seat) = xti.split(rt, alloc, main) else {
+        let Ok(seat) = xti.split(stage.rt, stage.alloc, main) else {
             unreachable!()
         };
         jobs.push_reserved(Job { seat, worker });
@@ -49,47 +48,61 @@ fn seat_all<R: Wait>(
     Ok(jobs)
 }
 
-/// Main's seat rests while each job's worker plays on a thread: the history that all have made.
-fn play_jobs<G: Gate, R: Threads + Wait + Sync>(
-    rt: &R,
-    alloc: Global,
-    xti: Xti,
-    lines: &[Line],
+/// Plays the workers but 0 after the setup, each on a thread, while main's seat rests: the seats of all.
+fn play_others<G: Gate, R: Threads + Wait + Sync>(
+    stage: &Stage<'_, G, R>,
+    xti: &Xti,
     setup: &Worker,
-    gate: &G,
-    mut main: Seat,
-    jobs: Vec<Job>,
-) -> Result<Entries, AllocError>
-    requires keeps { keeps_of xti ≡ true }
-    requires many { vec_len jobs < WORKERS }
-    requires lines { are_playable lines.now ≡ true }
-    requires setup { (past : List Entry) × AfterSetup lines.now past setup.now × IsSetUp lines.now past × Before xti past (vec_len jobs + 1) main × AllJobs xti lines.now past jobs.items }
-    ensures { IfOk result (IsHistoryOf (providers_of xti) lines.now) }
+    main: &mut Seat,
+    workers: Vec<Worker>,
+) -> Result<Vec<Seat>, AllocError>
+    requires many { vec_len workers < WORKERS }
+    requires setup { (past : List Entry) × AfterSetup stage.now.lines.now past setup.now × IsSetUp stage.now.lines.now past × Before xti.now past 1 main.old × AllTold stage.now.lines.now past workers.items }
+    ensures { IfOk result (AllPlayed xti.now stage.now.lines.now main.new) }
 {
-    xti.rest(rt, &mut main);
-    let seats = run_all(rt, alloc, &xti, lines, setup, gate, jobs)?;
-    Ok(meet_all(rt, xti, lines, main, seats))
+    let jobs = seat_all(stage, xti, main, workers)?;
+    xti.rest(stage.rt, main);
+    run_all(stage, xti, setup, jobs)
 }
 
-/// Plays the workers but 0 after the setup, each on a thread: the history that all have made.
-fn play_others<G: Gate, R: Threads + Wait + Sync>(
-    rt: &R,
-    alloc: Global,
-    xti: Xti,
-    lines: &[Line],
-    setup: &Worker,
-    gate: &G,
-    mut main: Seat,
+/// Makes worker 0's lines, and once it is finished plays the others: the seats of all others, or `None` where worker 0
+/// stopped.
+fn play_from<G: Gate, R: Threads + Wait + Sync>(
+    stage: &Stage<'_, G, R>,
+    xti: &Xti,
+    setup: &mut Worker,
+    main: &mut Seat,
     workers: Vec<Worker>,
-) -> Result<Entries, AllocError>
-    requires keeps { keeps_of xti ≡ true }
+) -> Result<Option<Vec<Seat>>, AllocError>
     requires many { vec_len workers < WORKERS }
-    requires lines { are_playable lines.now ≡ true }
-    requires setup { (past : List Entry) × AfterSetup lines.now past setup.now × IsSetUp lines.now past × Before xti past 1 main × AllTold lines.now past workers.items }
-    ensures { IfOk result (IsHistoryOf (providers_of xti) lines.now) }
+    requires sets { SetsUp xti.now stage.now.lines.now main.old setup.old }
+    requires whole { setup.old.part ≡ None }
+    requires workers { EachFrom (Told stage.now.lines.now []) 1 workers.items }
+    ensures { IfOk result (λ seats. MatchOption seats (HasSetUp xti.now stage.now.lines.now main.new) (AllPlayed xti.now stage.now.lines.now main.new)) }
 {
-    let jobs = seat_all(rt, alloc, &xti, lines, &mut main, workers)?;
-    play_jobs(rt, alloc, xti, lines, setup, gate, main, jobs)
+    if set_up(stage, xti, main, setup) {
+        let seats = play_others(stage, xti, setup, main, workers)?;
+        return Ok(Some(seats));
+    }
+    drop(workers);
+    Ok(None)
+}
+
+/// Plays all workers: the seats of all but worker 0, or `None` where worker 0 stopped.
+fn play_workers<G: Gate, R: Threads + Wait + Sync>(
+    stage: &Stage<'_, G, R>,
+    xti: &Xti,
+    main: &mut Seat,
+) -> Result<Option<Vec<Seat>>, AllocError>
+    requires lines { are_playable stage.now.lines.now ≡ true }
+    requires main { IsOf xti.now main.old × (main.old.view ≡ newcomer (whole (providers_of xti.now) true)) }
+    ensures { IfOk result (λ seats. MatchOption seats (HasSetUp xti.now stage.now.lines.now main.new) (AllPlayed xti.now stage.now.lines.now main.new)) }
+{
+    let mut workers = fresh_workers(stage.alloc, stage.lines)?;
+    let mut setup = workers.remove(0);
+    let seats = play_from(stage, xti, &mut setup, main, workers);
+    drop(setup);
+    seats
 }
 
 /// The history that main's seat alone has made.
@@ -101,45 +114,37 @@ fn read_alone<R: Wait>(rt: &R, xti: Xti, _lines: &[Line], main: Seat) -> Entries
     xti.end(rt, main).into_history()
 }
 
-/// Plays worker 0, and once it is finished the others: the history that all have made.
-fn play_workers<G: Gate, R: Threads + Wait + Sync>(
+/// The history that main's seat and those of all others have made, or main's alone.
+fn history_of<R: Wait>(
     rt: &R,
-    alloc: Global,
     xti: Xti,
     lines: &[Line],
-    gate: &G,
-    mut main: Seat,
-    mut workers: Vec<Worker>,
-) -> Result<Entries, AllocError>
+    main: Seat,
+    seats: Option<Vec<Seat>>,
+) -> Entries
     requires keeps { keeps_of xti ≡ true }
-    requires lines { are_playable lines.now ≡ true }
-    requires main { IsOf xti main × (main.view ≡ newcomer (whole (providers_of xti) true)) }
-    requires workers { AreFresh lines.now workers.items }
-    ensures { IfOk result (IsHistoryOf (providers_of xti) lines.now) }
+    requires played { MatchOption seats (HasSetUp xti lines.now main) (AllPlayed xti lines.now main) }
+    ensures { IsHistoryOf (providers_of xti) lines.now result }
 {
-    let mut setup = workers.remove(0);
-    if set_up(rt, alloc, &xti, lines, gate, &mut main, &mut setup) {
-        return play_others(rt, alloc, xti, lines, &setup, gate, main, workers);
+    match seats {
+        Some(seats) => meet_all(rt, xti, lines, main, seats),
+        None => read_alone(rt, xti, lines, main),
     }
-    Ok(read_alone(rt, xti, lines, main))
 }
 
 /// Plays the workers of these lines by the library and its first seat: the history that all have made.
 fn play_lines<G: Gate, R: Threads + Wait + Sync>(
-    rt: &R,
-    alloc: Global,
+    stage: &Stage<'_, G, R>,
     xti: Xti,
-    lines: &[Line],
-    gate: &G,
-    main: Seat,
+    mut main: Seat,
 ) -> Result<Entries, AllocError>
     requires keeps { keeps_of xti ≡ true }
-    requires lines { are_playable lines.now ≡ true }
+    requires lines { are_playable stage.now.lines.now ≡ true }
     requires main { IsOf xti main × (main.view ≡ newcomer (whole (providers_of xti) true)) }
-    ensures { IfOk result (IsHistoryOf (providers_of xti) lines.now) }
+    ensures { IfOk result (IsHistoryOf (providers_of xti) stage.now.lines.now) }
 {
-    let workers = fresh_workers(alloc, lines)?;
-    play_workers(rt, alloc, xti, lines, gate, main, workers)
+    let seats = play_workers(stage, &xti, &mut main)?;
+    Ok(history_of(stage.rt, xti, stage.lines, main, seats))
 }
 
 /// Plays a script's workers by threads: worker 0 on this thread, and once it is finished each other that has lines on a
@@ -157,5 +162,11 @@ pub fn play<G: Gate, R: Threads + Wait + Sync>(
     ensures { IfOk result (IsHistoryOf s.now.providers s.now.lines) }
 {
     let (xti, main) = Xti::new(alloc, &s.providers, true)?;
-    play_lines(rt, alloc, xti, s.lines.as_slice(), gate, main)
+    let stage = Stage {
+        rt,
+        alloc,
+        lines: s.lines.as_slice(),
+        gate,
+    };
+    play_lines(&stage, xti, main)
 }

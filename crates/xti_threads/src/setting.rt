@@ -5,11 +5,10 @@ ghost use Rattle.xti_threads.specs.declared.setting.Setting.TheVariants.{Finishe
 ghost use Rattle.xti_model.specs.Robin.{is_through};
 ghost use Rattle.xti_threads.specs.Setting.{HasSetUp, SetsUp};
 
-use crate::working::begin_line;
-use std::alloc::Global;
+use crate::stage::Stage;
+use crate::working::make_call;
 use std::sync::Wait;
 use xti_calls::{Gate, Seat, Xti};
-use xti_model::Line;
 use xti_replay::Worker;
 
 /// How worker 0 stands after it was asked for its next line.
@@ -24,56 +23,44 @@ enum Setting {
 
 /// Makes the call of worker 0's next line.
 fn make_line<G: Gate, R: Wait + Sync>(
-    rt: &R,
-    alloc: Global,
+    stage: &Stage<'_, G, R>,
     xti: &Xti,
-    lines: &[Line],
-    gate: &G,
     main: &mut Seat,
     worker: &mut Worker,
 ) -> Setting
-    requires sets { SetsUp xti.now lines.now main.old worker.old }
+    requires sets { SetsUp xti.now stage.now.lines.now main.old worker.old }
     requires whole { worker.old.part ≡ None }
-    ensures sets { HasSetUp xti.now lines.now main.new }
-    ensures made { result ≡ Made → SetsUp xti.now lines.now main.new worker.new × (worker.new.part ≡ None) }
-    ensures finished { result ≡ Finished → SetsUp xti.now lines.now main.new worker.new × (is_through lines.now main.new.view.mine 0 ≡ true) }
+    ensures sets { HasSetUp xti.now stage.now.lines.now main.new }
+    ensures made { result ≡ Made → SetsUp xti.now stage.now.lines.now main.new worker.new × (worker.new.part ≡ None) }
+    ensures finished { result ≡ Finished → SetsUp xti.now stage.now.lines.now main.new worker.new × (is_through stage.now.lines.now main.new.view.mine 0 ≡ true) }
 {
-    let Ok(next) = worker.next_call(lines, worker) else {
+    let Ok(next) = worker.next_call(stage.lines, worker) else {
         return Setting::Stopped;
     };
     let Some(next) = next else {
         return Setting::Finished;
     };
-    let made = xti.call(rt, alloc, main, gate, &next);
-    match made {
-        Ok(reply) => {
-            if begin_line(alloc, lines, worker, next, reply) {
-                Setting::Made
-            } else {
-                Setting::Stopped
-            }
-        }
-        Err(_) => Setting::Stopped,
+    if make_call(stage, xti, main, worker, next) {
+        Setting::Made
+    } else {
+        Setting::Stopped
     }
 }
 
 /// Makes worker 0's lines; true where it is finished.
 pub(crate) fn set_up<G: Gate, R: Wait + Sync>(
-    rt: &R,
-    alloc: Global,
+    stage: &Stage<'_, G, R>,
     xti: &Xti,
-    lines: &[Line],
-    gate: &G,
     main: &mut Seat,
     worker: &mut Worker,
 ) -> bool
-    requires sets { SetsUp xti.now lines.now main.old worker.old }
+    requires sets { SetsUp xti.now stage.now.lines.now main.old worker.old }
     requires whole { worker.old.part ≡ None }
-    ensures sets { HasSetUp xti.now lines.now main.new }
-    ensures finished { result ≡ true → SetsUp xti.now lines.now main.new worker.new × (is_through lines.now main.new.view.mine 0 ≡ true) }
+    ensures sets { HasSetUp xti.now stage.now.lines.now main.new }
+    ensures finished { result ≡ true → SetsUp xti.now stage.now.lines.now main.new worker.new × (is_through stage.now.lines.now main.new.view.mine 0 ≡ true) }
 {
-    for _ in rt.forever() {
-        match make_line(rt, alloc, xti, lines, gate, main, worker) {
+    for _ in stage.rt.forever() {
+        match make_line(stage, xti, main, worker) {
             Setting::Made => {}
             Setting::Finished => return true,
             Setting::Stopped => return false,

@@ -1,16 +1,16 @@
 //! A thread for each worker that has lines, and their seats back.
 
-ghost use Rattle.std.specs.Prelude.{◌≡◌, ◌<◌, ℕ, List, true, IfOk, vec_len};
+ghost use Rattle.std.specs.Prelude.{◌≡◌, ◌<◌, ◌≤◌, ℕ, List, [], true, IfOk, vec_len, vec_capacity};
 ghost use Rattle.xti_base.specs.declared.limits.TheConstants.{WORKERS};
 ghost use Rattle.xti_calls.specs.declared.shared.Xti.{Xti as TheXti};
 ghost use Rattle.xti_model.specs.declared.entry.Entry.{Entry};
 ghost use Rattle.xti_model.specs.declared.script.Line.{Line as TheLine};
-ghost use Rattle.xti_replay.specs.Playable.{are_playable};
 ghost use Rattle.xti_threads.specs.Working.{AfterSetup, CameBack, IsJob};
-ghost use Rattle.xti_threads.specs.Starting.{AllBack, AllJobs, HasStarted};
+ghost use Rattle.xti_threads.specs.Starting.{AllBack, AllJobs, AllStarted, HasStarted};
 
+use crate::stage::{Shared, Stage};
 use crate::working::{Job, work};
-use std::alloc::{AllocError, Global};
+use std::alloc::AllocError;
 use std::snapshot::Snapshot;
 use std::sync::Wait;
 use std::sync::atomic::{AtomicBool, Ordering};
@@ -40,27 +40,30 @@ pub(crate) enum Started<'a> {
     Ended(Seat),
 }
 
-/// Starts the worker's thread where it has lines. Where a thread is lacking, no worker begins a further line; the seat of a
-/// worker without a thread rests.
-fn start<'s, E, G: Gate, R: Threads + Wait + Sync>(
+/// Starts a thread that makes the worker's lines. Where a thread is lacking, no worker begins a further line, and the seat
+/// rests.
+fn spawn<'s, E, G: Gate, R: Threads + Wait + Sync>(
     scope: &Scope<'s, E>,
-    rt: &'s R,
-    alloc: Global,
-    xti: &'s Xti,
-    lines: &'s [Line],
-    setup: &'s Worker,
-    gate: &'s G,
-    lacking: &'s AtomicBool,
+    shared: &Shared<'s, G, R>,
     number: u32,
     job: Job,
 ) -> Started<'s>
-    requires lines { are_playable lines.now ≡ true }
-    requires setup { AfterSetup lines.now job.seat.view.seen setup.now }
-    requires job { IsJob xti.now lines.now job.seat.view.seen number job }
-    ensures { HasStarted xti.now lines.now job.seat.view.seen number result }
+    requires setup { AfterSetup shared.now.stage.lines.now job.seat.view.seen shared.now.setup.now }
+    requires job { IsJob shared.now.xti.now shared.now.stage.lines.now job.seat.view.seen number job }
+    ensures { HasStarted shared.now.xti.now shared.now.stage.lines.now job.seat.view.seen number result }
 {
+    let Shared {
+        stage: Stage {
+            rt,
+            alloc,
+            lines,
+            gate,
+        },
+        xti,
+        setup,
+        lacking,
+    } = *shared;
     let was = Snapshot::of(&job);
-    let idle = job.worker.is_finished();
     let promise = Back {
         xti,
         lines,
@@ -68,14 +71,24 @@ fn start<'s, E, G: Gate, R: Threads + Wait + Sync>(
         was,
     };
     let body = move || -> Seat
-        requires lines { are_playable lines.now ≡ true }
         requires setup { AfterSetup lines.now job.seat.view.seen setup.now }
         requires job { IsJob xti.now lines.now job.seat.view.seen number job }
         ensures { CameBack xti.entry.now lines.entry.now job.seat.view.seen number result }
-    { work(rt, alloc, xti, lines, setup, gate, lacking, number, job) };
-    if idle {
-        return Started::Ended(body());
-    }
+    {
+        let stage = Stage {
+            rt,
+            alloc,
+            lines,
+            gate,
+        };
+        let shared = Shared {
+            stage,
+            xti,
+            setup,
+            lacking,
+        };
+        work(&shared, number, job)
+    };
     match scope.spawn_with(promise, body) {
         Ok(handle) => Started::Runs(handle),
         Err(refused) => {
@@ -83,6 +96,43 @@ fn start<'s, E, G: Gate, R: Threads + Wait + Sync>(
             Started::Ended((refused.value)())
         }
     }
+}
+
+/// Starts the worker's thread where it has lines; its seat rests where it has none.
+fn start<'s, E, G: Gate, R: Threads + Wait + Sync>(
+    scope: &Scope<'s, E>,
+    shared: &Shared<'s, G, R>,
+    number: u32,
+    job: Job,
+) -> Started<'s>
+    requires setup { AfterSetup shared.now.stage.lines.now job.seat.view.seen shared.now.setup.now }
+    requires job { IsJob shared.now.xti.now shared.now.stage.lines.now job.seat.view.seen number job }
+    ensures { HasStarted shared.now.xti.now shared.now.stage.lines.now job.seat.view.seen number result }
+{
+    if job.worker.is_finished() {
+        return Started::Ended(work(shared, number, job));
+    }
+    spawn(scope, shared, number, job)
+}
+
+/// Starts the workers, whose numbers are 1 and on. Out of memory none was started.
+fn start_all<'s, E, G: Gate, R: Threads + Wait + Sync>(
+    scope: &Scope<'s, E>,
+    shared: &Shared<'s, G, R>,
+    jobs: Vec<Job>,
+) -> Result<Vec<Started<'s>>, AllocError>
+    requires many { vec_len jobs < WORKERS }
+    requires jobs { (past : List Entry) × AfterSetup shared.now.stage.lines.now past shared.now.setup.now × AllJobs shared.now.xti.now shared.now.stage.lines.now past jobs.items }
+    ensures many { IfOk result (λ v. vec_len v ≡ vec_len jobs) }
+    ensures started { IfOk result (λ v. (past : List Entry) → AllJobs shared.now.xti.now shared.now.stage.lines.now past jobs.items → AllStarted shared.now.xti.now shared.now.stage.lines.now past 1 v.items) }
+{
+    let mut started = Vec::with_capacity(shared.stage.alloc, jobs.len())?;
+    let mut number = 0;
+    for job in jobs {
+        number += 1;
+        started.push_reserved(start(scope, shared, number, job));
+    }
+    Ok(started)
 }
 
 /// Joins the thread, where there is one.
@@ -96,55 +146,54 @@ fn join<R: Threads>(rt: &R, started: Started<'_>) -> Seat
     }
 }
 
-/// Starts the workers, whose numbers are 1 and on, and joins all; the seats in the same order.
-fn start_all<'s, E, G: Gate, R: Threads + Wait + Sync>(
-    scope: &Scope<'s, E>,
-    rt: &'s R,
-    alloc: Global,
-    xti: &'s Xti,
-    lines: &'s [Line],
-    setup: &'s Worker,
-    gate: &'s G,
-    lacking: &'s AtomicBool,
-    jobs: Vec<Job>,
-) -> Result<Vec<Seat>, AllocError>
-    requires many { vec_len jobs < WORKERS }
-    requires lines { are_playable lines.now ≡ true }
-    requires jobs { (past : List Entry) × AfterSetup lines.now past setup.now × AllJobs xti.now lines.now past jobs.items }
-    ensures many { IfOk result (λ v. vec_len v ≡ vec_len jobs) }
-    ensures back { IfOk result (λ v. (past : List Entry) → AllJobs xti.now lines.now past jobs.items → AllBack xti.now lines.now past v.items) }
+/// Joins all threads: their seats, in the same order, for which `seats` has room.
+fn join_all<R: Threads>(rt: &R, started: Vec<Started<'_>>, seats: &mut Vec<Seat>)
+    requires room { vec_len started ≤ vec_capacity seats.old }
+    requires empty { (vec_len seats.old ≡ 0) × (seats.old.items ≡ []) }
+    requires started { (xti : TheXti) × (lines : List TheLine) × (setup : List Entry) × AllStarted xti lines setup 1 started.items }
+    ensures many { vec_len seats.new ≡ vec_len started.entry }
+    ensures back { (xti : TheXti) (lines : List TheLine) (setup : List Entry) → AllStarted xti lines setup 1 started.entry.items → AllBack xti lines setup seats.new.items }
 {
-    let mut started = Vec::with_capacity(alloc, jobs.len())?;
-    let mut seats = Vec::with_capacity(alloc, jobs.len())?;
-    let mut number = 0;
-    for job in jobs {
-        number += 1;
-        started.push_reserved(start(
-            scope, rt, alloc, xti, lines, setup, gate, lacking, number, job,
-        ));
-    }
     for one in started {
         seats.push_reserved(join(rt, one));
     }
+}
+
+/// Starts the workers, whose numbers are 1 and on, and joins all; the seats in the same order.
+fn run_scope<'s, E, G: Gate, R: Threads + Wait + Sync>(
+    scope: &Scope<'s, E>,
+    shared: &Shared<'s, G, R>,
+    jobs: Vec<Job>,
+) -> Result<Vec<Seat>, AllocError>
+    requires many { vec_len jobs < WORKERS }
+    requires jobs { (past : List Entry) × AfterSetup shared.now.stage.lines.now past shared.now.setup.now × AllJobs shared.now.xti.now shared.now.stage.lines.now past jobs.items }
+    ensures many { IfOk result (λ v. vec_len v ≡ vec_len jobs) }
+    ensures back { IfOk result (λ v. (past : List Entry) → AllJobs shared.now.xti.now shared.now.stage.lines.now past jobs.items → AllBack shared.now.xti.now shared.now.stage.lines.now past v.items) }
+{
+    let mut seats = Vec::with_capacity(shared.stage.alloc, jobs.len())?;
+    let started = start_all(scope, shared, jobs)?;
+    join_all(shared.stage.rt, started, &mut seats);
     Ok(seats)
 }
 
 /// The workers' lines, each on a thread of a scope: their seats, in the order of the numbers. Out of memory no thread was started.
 pub(crate) fn run_all<G: Gate, R: Threads + Wait + Sync>(
-    rt: &R,
-    alloc: Global,
+    stage: &Stage<'_, G, R>,
     xti: &Xti,
-    lines: &[Line],
     setup: &Worker,
-    gate: &G,
     jobs: Vec<Job>,
 ) -> Result<Vec<Seat>, AllocError>
     requires many { vec_len jobs < WORKERS }
-    requires lines { are_playable lines.now ≡ true }
-    requires jobs { (past : List Entry) × AfterSetup lines.now past setup.now × AllJobs xti.now lines.now past jobs.items }
+    requires jobs { (past : List Entry) × AfterSetup stage.now.lines.now past setup.now × AllJobs xti.now stage.now.lines.now past jobs.items }
     ensures many { IfOk result (λ v. vec_len v ≡ vec_len jobs) }
-    ensures back { IfOk result (λ v. (past : List Entry) → AllJobs xti.now lines.now past jobs.items → AllBack xti.now lines.now past v.items) }
+    ensures back { IfOk result (λ v. (past : List Entry) → AllJobs xti.now stage.now.lines.now past jobs.items → AllBack xti.now stage.now.lines.now past v.items) }
 {
+    let Stage {
+        rt,
+        alloc,
+        lines,
+        gate,
+    } = *stage;
     let lacking = AtomicBool::new(false);
     let flag = &lacking;
     thread::scope(
@@ -152,10 +201,23 @@ pub(crate) fn run_all<G: Gate, R: Threads + Wait + Sync>(
         rt,
         |scope| -> Result<Vec<Seat>, AllocError>
             requires many { vec_len jobs < WORKERS }
-            requires lines { are_playable lines.now ≡ true }
             requires jobs { (past : List Entry) × AfterSetup lines.now past setup.now × AllJobs xti.now lines.now past jobs.items }
             ensures many { IfOk result (λ v. vec_len v ≡ vec_len jobs) }
             ensures back { IfOk result (λ v. (past : List Entry) → AllJobs xti.entry.now lines.entry.now past jobs.items → AllBack xti.entry.now lines.entry.now past v.items) }
-        { start_all(scope, rt, alloc, xti, lines, setup, gate, flag, jobs) },
+        {
+            let stage = Stage {
+                rt,
+                alloc,
+                lines,
+                gate,
+            };
+            let shared = Shared {
+                stage,
+                xti,
+                setup,
+                lacking: flag,
+            };
+            run_scope(scope, &shared, jobs)
+        },
     )
 }

@@ -3,13 +3,15 @@
 ghost use Rattle.std.specs.Prelude.{◌≡◌, List, None, true};
 ghost use Rattle.xti_model.specs.declared.entry.Act.TheVariants.{Begin};
 ghost use Rattle.xti_model.specs.declared.entry.Entry.{Entry};
-ghost use Rattle.xti_replay.specs.Playable.{are_playable};
+ghost use Rattle.xti_hall.specs.Seats.{IsStanding};
+ghost use Rattle.xti_calls.specs.Library.{GoesOn, MayCall};
 ghost use Rattle.xti_replay.specs.Progress.{MayTake};
-ghost use Rattle.xti_threads.specs.Working.{AfterSetup, CameBack, HasBegun, IsJob, Works};
+ghost use Rattle.xti_threads.specs.Working.{AfterSetup, CameBack, HasAnswer, HasBegun, HasSteps, IsJob, Works};
 
+use crate::stage::{Shared, Stage};
 use std::alloc::Global;
 use std::sync::Wait;
-use std::sync::atomic::{AtomicBool, Ordering};
+use std::sync::atomic::Ordering;
 use xti_calls::{Gate, Seat, Xti};
 use xti_model::{Act, Call, Line, Outcome, Reply};
 use xti_replay::Worker;
@@ -22,13 +24,7 @@ pub(crate) struct Job {
 }
 
 /// The worker has begun its next line, and learns what was answered; false out of memory.
-pub(crate) fn begin_line(
-    alloc: Global,
-    lines: &[Line],
-    worker: &mut Worker,
-    call: Call,
-    reply: Reply,
-) -> bool
+fn begin_line(alloc: Global, lines: &[Line], worker: &mut Worker, call: Call, reply: Reply) -> bool
     requires { MayTake lines.now worker.old (Begin call) }
     ensures { result ≡ true → HasBegun lines.now reply worker.old worker.new }
 {
@@ -40,59 +36,69 @@ pub(crate) fn begin_line(
     begun
 }
 
-/// Makes the call of the worker's next line; false where there is none, or it stops.
-fn make_line<G: Gate, R: Wait + Sync>(
-    rt: &R,
-    alloc: Global,
+/// Makes the call of the worker's next line, and the worker learns what was answered; false where the call stops, or out of
+/// memory.
+pub(crate) fn make_call<G: Gate, R: Wait + Sync>(
+    stage: &Stage<'_, G, R>,
     xti: &Xti,
-    lines: &[Line],
-    setup: &Worker,
-    gate: &G,
-    _number: u32,
     seat: &mut Seat,
     worker: &mut Worker,
+    call: Call,
 ) -> bool
-    requires works { (past : List Entry) × AfterSetup lines.now past setup.now × Works xti.now lines.now past _number seat.old worker.old }
-    requires whole { worker.old.part ≡ None }
-    ensures on { result ≡ true → (past : List Entry) → AfterSetup lines.now past setup.now → Works xti.now lines.now past _number seat.old worker.old → Works xti.now lines.now past _number seat.new worker.new }
-    ensures whole { result ≡ true → worker.new.part ≡ None }
-    ensures back { (past : List Entry) → AfterSetup lines.now past setup.now → Works xti.now lines.now past _number seat.old worker.old → CameBack xti.now lines.now past _number seat.new }
+    requires seat { MayCall xti.now seat.old }
+    requires takes { MayTake stage.now.lines.now worker.old (Begin call) }
+    ensures seat { GoesOn seat.old seat.new }
+    ensures standing { IsStanding seat.new.view }
+    ensures made { HasSteps seat.old.view call seat.new.view }
+    ensures begun { result ≡ true → HasAnswer stage.now.lines.now seat.old.view call seat.new.view worker.old worker.new }
 {
-    let Ok(Some(next)) = worker.next_call(lines, setup) else {
-        return false;
-    };
-    let made = xti.call(rt, alloc, seat, gate, &next);
-    match made {
-        Ok(reply) => begin_line(alloc, lines, worker, next, reply),
+    match xti.call(stage.rt, stage.alloc, seat, stage.gate, &call) {
+        Ok(reply) => begin_line(stage.alloc, stage.lines, worker, call, reply),
         Err(_) => {
-            drop(next);
+            drop(call);
             false
         }
     }
 }
 
+/// Makes the call of the worker's next line; false where there is none, or it stops.
+fn make_line<G: Gate, R: Wait + Sync>(
+    shared: &Shared<'_, G, R>,
+    _number: u32,
+    seat: &mut Seat,
+    worker: &mut Worker,
+) -> bool
+    requires works { (past : List Entry) × AfterSetup shared.now.stage.lines.now past shared.now.setup.now × Works shared.now.xti.now shared.now.stage.lines.now past _number seat.old worker.old }
+    requires whole { worker.old.part ≡ None }
+    ensures on { result ≡ true → (past : List Entry) → AfterSetup shared.now.stage.lines.now past shared.now.setup.now → Works shared.now.xti.now shared.now.stage.lines.now past _number seat.old worker.old → Works shared.now.xti.now shared.now.stage.lines.now past _number seat.new worker.new }
+    ensures whole { result ≡ true → worker.new.part ≡ None }
+    ensures back { (past : List Entry) → AfterSetup shared.now.stage.lines.now past shared.now.setup.now → Works shared.now.xti.now shared.now.stage.lines.now past _number seat.old worker.old → CameBack shared.now.xti.now shared.now.stage.lines.now past _number seat.new }
+{
+    let Ok(next) = worker.next_call(shared.stage.lines, shared.setup) else {
+        return false;
+    };
+    let Some(next) = next else {
+        return false;
+    };
+    make_call(&shared.stage, shared.xti, seat, worker, next)
+}
+
 /// Makes the worker's lines one after the other, until it is finished, stops, or is told that a thread is lacking.
 fn make_lines<G: Gate, R: Wait + Sync>(
-    rt: &R,
-    alloc: Global,
-    xti: &Xti,
-    lines: &[Line],
-    setup: &Worker,
-    gate: &G,
-    lacking: &AtomicBool,
+    shared: &Shared<'_, G, R>,
     number: u32,
     seat: &mut Seat,
     worker: &mut Worker,
 )
-    requires works { (past : List Entry) × AfterSetup lines.now past setup.now × Works xti.now lines.now past number seat.old worker.old }
+    requires works { (past : List Entry) × AfterSetup shared.now.stage.lines.now past shared.now.setup.now × Works shared.now.xti.now shared.now.stage.lines.now past number seat.old worker.old }
     requires whole { worker.old.part ≡ None }
-    ensures { (past : List Entry) → AfterSetup lines.now past setup.now → Works xti.now lines.now past number seat.old worker.old → CameBack xti.now lines.now past number seat.new }
+    ensures { (past : List Entry) → AfterSetup shared.now.stage.lines.now past shared.now.setup.now → Works shared.now.xti.now shared.now.stage.lines.now past number seat.old worker.old → CameBack shared.now.xti.now shared.now.stage.lines.now past number seat.new }
 {
-    for _ in rt.forever() {
-        if lacking.load(Ordering::SeqCst) {
+    for _ in shared.stage.rt.forever() {
+        if shared.lacking.load(Ordering::SeqCst) {
             return;
         }
-        if !make_line(rt, alloc, xti, lines, setup, gate, number, seat, worker) {
+        if !make_line(shared, number, seat, worker) {
             return;
         }
     }
@@ -101,37 +107,20 @@ fn make_lines<G: Gate, R: Wait + Sync>(
 
 /// Makes the worker's lines; its seat then rests, and comes back.
 pub(crate) fn work<G: Gate, R: Wait + Sync>(
-    rt: &R,
-    alloc: Global,
-    xti: &Xti,
-    lines: &[Line],
-    setup: &Worker,
-    gate: &G,
-    lacking: &AtomicBool,
+    shared: &Shared<'_, G, R>,
     number: u32,
     job: Job,
 ) -> Seat
-    requires lines { are_playable lines.now ≡ true }
-    requires setup { AfterSetup lines.now job.seat.view.seen setup.now }
-    requires job { IsJob xti.now lines.now job.seat.view.seen number job }
-    ensures { CameBack xti.now lines.now job.seat.view.seen number result }
+    requires setup { AfterSetup shared.now.stage.lines.now job.seat.view.seen shared.now.setup.now }
+    requires job { IsJob shared.now.xti.now shared.now.stage.lines.now job.seat.view.seen number job }
+    ensures { CameBack shared.now.xti.now shared.now.stage.lines.now job.seat.view.seen number result }
 {
     let Job {
         mut seat,
         mut worker,
     } = job;
-    make_lines(
-        rt,
-        alloc,
-        xti,
-        lines,
-        setup,
-        gate,
-        lacking,
-        number,
-        &mut seat,
-        &mut worker,
-    );
-    xti.rest(rt, &mut seat);
+    make_lines(shared, number, &mut seat, &mut worker);
+    drop(worker);
+    shared.xti.rest(shared.stage.rt, &mut seat);
     seat
 }

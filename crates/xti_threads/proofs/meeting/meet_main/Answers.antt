@@ -12,8 +12,8 @@ loop-seat-init c = record {
   known = (
     0,
     omega (arith, c.into_iter-seat-iterator.ensures.into_iter_gives.1),
-    λ x past u l all. (
-      subst (EachFrom (CameBack x c.args._lines.now past) 1) (sym c.into_iter-seat-iterator.ensures.into_iter_gives.0) all,
+    λ x p. (
+      subst (EachFrom (CameBack x c.args._lines.now p.past) 1) (sym c.into_iter-seat-iterator.ensures.into_iter_gives.0) p.back,
       λ k lt le. absurd (omega arith),
     ),
   );
@@ -21,11 +21,11 @@ loop-seat-init c = record {
 
 pub meet-seat-requires : goal.meet-seat-requires
 meet-seat-requires c =
-    let b = c.requires.back in
+    let p = c.requires.1 in
     let i = c.loop-seat.invariant in
-    let k = i.known.2 b.0 b.1 b.2 b.3 b.4 in
-    let s = (subst (EachFrom (CameBack b.0 c.args._lines.now b.1) (i.known.0 + 1)) c.in-Some.ensures.steps.0 k.0).0 in
-    subst (AreOfOneHall c.in-Some.seat) (sym i.ended) (s.of_x.0 ∙ sym b.3.of_x.0, s.of_x.1 ∙ sym b.3.of_x.1)
+    let k = i.known.2 c.requires.0 p in
+    let s = (subst (EachFrom (CameBack c.requires.0 c.args._lines.now p.past) (i.known.0 + 1)) c.in-Some.ensures.steps.0 k.0).0 in
+    subst (AreOfOneHall c.in-Some.seat) (sym i.ended) (s.of_x.0 ∙ sym p.leads.of_x.0, s.of_x.1 ∙ sym p.leads.of_x.1)
 
 pub loop-seat-preserved : goal.loop-seat-preserved
 loop-seat-preserved c =
@@ -36,11 +36,11 @@ loop-seat-preserved c =
       known = (
         n + 1,
         omega (arith, i.known.1, c.in-Some.ensures.steps.1),
-        λ x past u l all.
-            let k = i.known.2 x past u l all in
-            let h = subst (EachFrom (CameBack x c.args._lines.now past) (n + 1)) c.in-Some.ensures.steps.0 k.0 in
+        λ x p.
+            let k = i.known.2 x p in
+            let h = subst (EachFrom (CameBack x c.args._lines.now p.past) (n + 1)) c.in-Some.ensures.steps.0 k.0 in
             let whole = subst (λ (s : SeatView). IsPrefix c.in-Some.seat.view.seen s.view.seen) i.ended c.meet-seat.ensures.whole in
-            let new = back-follows (n + 1) c.in-Some.seat c.loop-seat.ended.view c.meet-seat.result.view ended.view.seen u (omega arith) h.0 (leads-own ended l) whole (ap (λ (s : SeatView). s.view.seen) i.ended) c.meet-seat.ensures.met c.meet-seat.ensures.standing in
+            let new = back-follows (n + 1) c.in-Some.seat c.loop-seat.ended.view c.meet-seat.result.view ended.view.seen p.set_up (omega arith) h.0 (leads-own ended p.leads) whole (ap (λ (s : SeatView). s.view.seen) i.ended) c.meet-seat.ensures.met c.meet-seat.ensures.standing in
             (h.1, follow-more c.args._lines.now ended.view.seen n k.1 new),
       );
     }
@@ -54,11 +54,11 @@ loop-seat-preserved-in-Some c =
       known = (
         n + 1,
         omega (arith, i.known.1, c.in-Some.ensures.steps.1),
-        λ x past u l all.
-            let k = i.known.2 x past u l all in
-            let h = subst (EachFrom (CameBack x c.args._lines.now past) (n + 1)) c.in-Some.ensures.steps.0 k.0 in
+        λ x p.
+            let k = i.known.2 x p in
+            let h = subst (EachFrom (CameBack x c.args._lines.now p.past) (n + 1)) c.in-Some.ensures.steps.0 k.0 in
             let whole = subst (λ (s : SeatView). IsPrefix c.in-Some.seat.view.seen s.view.seen) i.ended c.meet-seat.ensures.whole in
-            let new = back-follows (n + 1) c.in-Some.seat c.loop-seat.ended.view c.meet-seat.result.view ended.view.seen u (omega arith) h.0 (leads-own ended l) whole (ap (λ (s : SeatView). s.view.seen) i.ended) c.meet-seat.ensures.met c.meet-seat.ensures.standing in
+            let new = back-follows (n + 1) c.in-Some.seat c.loop-seat.ended.view c.meet-seat.result.view ended.view.seen p.set_up (omega arith) h.0 (leads-own ended p.leads) whole (ap (λ (s : SeatView). s.view.seen) i.ended) c.meet-seat.ensures.met c.meet-seat.ensures.standing in
             (h.1, follow-more c.args._lines.now ended.view.seen n k.1 new),
       );
     }
@@ -67,8 +67,8 @@ pub returns-clause-same : goal.returns-clause-same
 returns-clause-same c = c.loop-seat.invariant.ended
 
 pub returns-clause-history : goal.returns-clause-history
-returns-clause-history c = λ x past u l all.
+returns-clause-history c = λ x p.
     let i = c.loop-seat.invariant in
-    let k = i.known.2 x past u l all in
+    let k = i.known.2 x p in
     let full : i.known.0 ≡ vec_len c.args.seats = omega (arith, i.known.1, c.in-None.ensures.steps.0) in
-    leads-history c.args.ended.now u l (omega (arith, c.requires.many)) (λ n lt le. k.1 n lt (omega (arith, le, full)))
+    leads-history c.args.ended.now p.set_up p.leads (omega (arith, p.many)) (λ n lt le. k.1 n lt (omega (arith, le, full)))

@@ -9,8 +9,8 @@ abbrev pub invariant-loop-worker : goal.invariant-loop-worker
 invariant-loop-worker g l = record {
   many : vec_len l.jobs + l.worker-iterator.rest.len ≡ vec_len l.fn.workers;
   room : vec_len l.fn.workers ≤ vec_capacity l.jobs;
-  known : (past : List Entry) → Before l.fn.xti past 1 l.initial.main → AllTold l.fn._lines past l.fn.workers.items
+  known : (past : List Entry) → Before l.fn.xti past 1 l.initial.main → AllTold l.fn.stage.lines.now past l.fn.workers.items
       → Before l.fn.xti past (vec_len l.jobs + 1) l.main
-      × EachFrom (Told l.fn._lines past) (vec_len l.jobs + 1) l.worker-iterator.rest.items
-      × AllJobs l.fn.xti l.fn._lines past l.jobs.items;
+      × EachFrom (Told l.fn.stage.lines.now past) (vec_len l.jobs + 1) l.worker-iterator.rest.items
+      × AllJobs l.fn.xti l.fn.stage.lines.now past l.jobs.items;
 }

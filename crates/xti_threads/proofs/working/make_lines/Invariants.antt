@@ -5,6 +5,6 @@ use Rattle.xti_threads.proofs.working.make_lines.Given as goal
 
 abbrev pub invariant-loop : goal.invariant-loop
 invariant-loop g l = record {
-  works : (past : List Entry) → AfterSetup l.fn.lines past l.fn.setup → Works l.fn.xti l.fn.lines past l.fn.number l.initial.seat l.initial.worker → Works l.fn.xti l.fn.lines past l.fn.number l.seat l.worker;
+  works : (past : List Entry) → AfterSetup l.fn.shared.stage.lines.now past l.fn.shared.setup.now → Works l.fn.shared.xti.now l.fn.shared.stage.lines.now past l.fn.number l.initial.seat l.initial.worker → Works l.fn.shared.xti.now l.fn.shared.stage.lines.now past l.fn.number l.seat l.worker;
   whole : l.worker.part ≡ None;
 }
