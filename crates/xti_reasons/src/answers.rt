@@ -1,32 +1,21 @@
 //! What calls answer in a journal.
 
 use crate::values::Value;
-use xti_script::Verb;
+use xti_verbs::Answer;
 
-/// What stands behind `ok` in the answer of the call, in order.
-pub(crate) fn answer_values(verb: Verb) -> &'static [Value] {
-    match verb {
-        Verb::Close
-        | Verb::Unbind
-        | Verb::Accept
-        | Verb::SndDis
-        | Verb::SndRel
-        | Verb::RcvRel
-        | Verb::SndUData
-        | Verb::SndVUData
-        | Verb::SetMode => &[],
-        Verb::Open | Verb::Snd | Verb::SndV => &[Value::Number],
-        Verb::Bind | Verb::Rcv | Verb::RcvV => &[Value::Octets, Value::Number],
-        Verb::Connect | Verb::RcvConnect => &[Value::Octets, Value::Octets, Value::Octets],
-        Verb::Listen => &[Value::Number, Value::Octets, Value::Octets, Value::Octets],
-        Verb::RcvDis => &[Value::Number, Value::Number, Value::Octets],
-        Verb::RcvUData | Verb::RcvVUData => {
-            &[Value::Octets, Value::Octets, Value::Octets, Value::Number]
-        }
-        Verb::RcvUDErr => &[Value::Octets, Value::Octets, Value::Number],
-        Verb::Look => &[Value::EventOrNone],
-        Verb::GetState | Verb::Sync => &[Value::State],
-        Verb::GetInfo => &[
+/// What stands behind `ok` in such an answer, in order.
+pub(crate) fn answer_values(answer: Answer) -> &'static [Value] {
+    match answer {
+        Answer::Opened | Answer::Sent => &[Value::Number],
+        Answer::Bound | Answer::Got => &[Value::Octets, Value::Number],
+        Answer::Connected => &[Value::Octets, Value::Octets, Value::Octets],
+        Answer::Listened => &[Value::Number, Value::Octets, Value::Octets, Value::Octets],
+        Answer::Discon => &[Value::Number, Value::Number, Value::Octets],
+        Answer::UData => &[Value::Octets, Value::Octets, Value::Octets, Value::Number],
+        Answer::UDErr => &[Value::Octets, Value::Octets, Value::Number],
+        Answer::Seen => &[Value::EventOrNone],
+        Answer::Stands => &[Value::State],
+        Answer::Limits => &[
             Value::Limit,
             Value::Limit,
             Value::Limit,
@@ -36,7 +25,8 @@ pub(crate) fn answer_values(verb: Verb) -> &'static [Value] {
             Value::Service,
             Value::Number,
         ],
-        Verb::GetProtAddr => &[Value::Octets, Value::Octets],
-        Verb::OptMgmt => &[Value::Number, Value::Octets],
+        Answer::Addresses => &[Value::Octets, Value::Octets],
+        Answer::Options => &[Value::Number, Value::Octets],
+        Answer::Plain | Answer::Refused | Answer::Look | Answer::Overflow | Answer::Part => &[],
     }
 }

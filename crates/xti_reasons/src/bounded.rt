@@ -19,6 +19,8 @@ static HEX: [u8; 16] = *b"0123456789abcdef";
 #[derive(Drop)]
 pub struct Reason {
     bytes: ArrayVec<u8, MOST_REASON>,
+    /// Whether memory ran out before it was found out.
+    is_unknown: bool,
 }
 
 /// Whether the byte is printable ASCII, and doesn't begin an escape.
@@ -31,6 +33,7 @@ impl Reason {
     pub fn none() -> Reason {
         Reason {
             bytes: ArrayVec::new(),
+            is_unknown: false,
         }
     }
 
@@ -41,6 +44,21 @@ impl Reason {
         reason.put_number(line);
         reason.put(": ");
         reason
+    }
+
+    /// Memory ran out: what is said besides doesn't count.
+    pub(crate) fn run_out(&mut self) {
+        self.is_unknown = true;
+    }
+
+    /// The reason, or where memory ran out, one that says that.
+    pub(crate) fn or_unknown(self, line: u64) -> Reason {
+        if !self.is_unknown {
+            return self;
+        }
+        let mut unknown = Reason::at(line);
+        unknown.put("out of memory before it was found out what is wrong");
+        unknown
     }
 
     /// The bytes of the line.

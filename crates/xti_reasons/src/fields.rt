@@ -1,15 +1,16 @@
-//! The fields of a call, one after the other.
+//! A call and its fields, one after the other.
 
 use crate::bounded::Reason;
-use crate::places::Spot;
-use crate::tables::{form, has_usual, key_word, verb_word};
+use crate::places::{Spot, ends_line, number_of};
 use crate::values::{Value, wanted};
-use std::alloc::{AllocError, Global};
-use xti_script::{Key, Verb};
+use memchr::memchr;
+use std::alloc::Global;
+use xti_base::limits::LAST_WORKER;
+use xti_script_reader::{Key, Verb, form};
 use xti_words::Words;
 
 /// What the texts are whose calls these are.
-#[derive(Clone, Copy, Debug, PartialEq, Eq)]
+#[derive(Clone, Copy)]
 pub(crate) enum Form {
     /// Scripts have names, and fields may be left out.
     Script,
@@ -25,200 +26,209 @@ pub(crate) struct CallAt<'a> {
     pub(crate) spot: Spot<'a>,
 }
 
-/// What a script has in the field.
-fn script_value(key: Key) -> Value {
-    match key {
-        Key::NewEndpoint => Value::NewEndpoint,
-        Key::Endpoint => Value::Endpoint,
-        Key::NewSequence => Value::NewSequence,
-        Key::Sequence => Value::Sequence,
-        Key::SequenceOrNone => Value::SequenceOrNone,
-        Key::Provider => Value::Provider,
-        Key::Mode | Key::ModeOrBlock => Value::Mode,
-        Key::Action => Value::Action,
-        Key::Addr | Key::UData | Key::Data => Value::Bytes,
-        Key::Opt => Value::Options,
-        Key::Parts => Value::Parts,
-        Key::Sizes => Value::Sizes,
+/// What the texts have in the field.
+fn value_of(form: Form, key: Key) -> Value {
+    let (in_scripts, in_journals) = match key {
+        Key::NewEndpoint => (Value::NewEndpoint, Value::Absent),
+        Key::Endpoint => (Value::Endpoint, Value::Number),
+        Key::NewSequence => (Value::NewSequence, Value::Absent),
+        Key::Sequence => (Value::Sequence, Value::Number),
+        Key::SequenceOrNone => (Value::SequenceOrNone, Value::Number),
+        Key::Provider => (Value::Provider, Value::Provider),
+        Key::Mode | Key::ModeOrBlock => (Value::Mode, Value::Mode),
+        Key::Action => (Value::Action, Value::Number),
+        Key::Addr | Key::UData | Key::Data => (Value::Bytes, Value::Octets),
+        Key::Opt => (Value::Options, Value::Octets),
+        Key::Parts => (Value::Parts, Value::OctetsList),
+        Key::Sizes => (Value::Sizes, Value::NumberList),
         Key::Qlen | Key::Flags | Key::Max | Key::Amax | Key::Pmax | Key::Omax | Key::Umax => {
-            Value::Number
+            (Value::Number, Value::Number)
         }
-    }
-}
-
-/// What a journal has in the field; nothing where it doesn't have it.
-fn journal_value(key: Key) -> Option<Value> {
-    match key {
-        Key::NewEndpoint | Key::NewSequence => None,
-        Key::Endpoint | Key::Sequence | Key::SequenceOrNone | Key::Action => Some(Value::Number),
-        Key::Addr | Key::UData | Key::Data | Key::Opt => Some(Value::Octets),
-        Key::Parts => Some(Value::OctetsList),
-        Key::Sizes => Some(Value::NumberList),
-        _ => Some(script_value(key)),
+    };
+    match form {
+        Form::Script => in_scripts,
+        Form::Journal => in_journals,
     }
 }
 
 /// The name of a key: what stands before its sign.
-fn name_of(key: Key) -> &'static [u8] {
-    match key_word(key) {
+pub(crate) fn name_of(key: &[u8]) -> &[u8] {
+    match key {
         [name @ .., _] => name,
-        [] => b"",
+        [] => key,
     }
-}
-
-/// The name of the key with which a word begins, if it has one.
-fn name_in(word: &[u8]) -> Option<&[u8]> {
-    let at = word.iter().position(|c| *c == b'=')?;
-    Some(&word[..at])
 }
 
 impl<'a> CallAt<'a> {
-    /// Begins what is said of the call.
-    pub(crate) fn begin(&self, reason: &mut Reason) {
-        reason.about(verb_word(self.verb));
-    }
-
-    fn value(&self, key: Key) -> Option<Value> {
-        match self.form {
-            Form::Script => Some(script_value(key)),
-            Form::Journal => journal_value(key),
-        }
-    }
-
     fn may_be_left_out(&self, key: Key) -> bool {
-        self.form == Form::Script && has_usual(key)
+        matches!(self.form, Form::Script) && key.may_be_left_out()
     }
 
-    fn has_field(&self, name: &[u8]) -> bool {
-        form(self.verb).iter().any(|key| name == name_of(*key))
-    }
-
-    /// How many of these fields may stand next: those that may be left out, and the one after them.
-    fn count_next(&self, open: &[Key]) -> usize {
-        let mut count = 0usize;
-        for key in open {
-            count = count.saturating_add(1);
-            if !self.may_be_left_out(*key) {
-                return count;
-            }
-        }
-        count
-    }
-
-    /// Adds the names of the fields that may stand next.
+    /// Adds the names of the fields that may stand next: those that may be left out, and the one after them.
     fn put_next(&self, open: &[Key], reason: &mut Reason) {
-        let count = self.count_next(open);
-        if count == 0 {
+        if open.is_empty() {
             reason.put("the end of the line");
         }
-        for (at, key) in open.iter().take(count).enumerate() {
+        for (at, key) in open.iter().enumerate() {
+            let is_last = !self.may_be_left_out(*key) || at.saturating_add(1) == open.len();
             if at > 0 {
-                reason.put(if at.saturating_add(1) == count {
-                    " or "
-                } else {
-                    ", "
-                });
+                reason.put(if is_last { " or " } else { ", " });
             }
-            reason.put_all(name_of(*key));
+            reason.put_all(name_of(key.word()));
+            if is_last {
+                return;
+            }
         }
     }
 
     /// Says that the word isn't one of these fields, of which one may stand next.
     pub(crate) fn misplaced(&self, open: &[Key], word: &[u8], reason: &mut Reason) {
-        self.begin(reason);
-        match name_in(word) {
-            Some(name) if !name.is_empty() => {
-                let known = self.has_field(name);
-                reason.put(if known {
-                    "misplaced field "
-                } else {
-                    "unknown field "
-                });
-                reason.put_quoted(name);
-                reason.put(", expected ");
-                self.put_next(open, reason);
-            }
-            _ => {
-                reason.put("expected ");
-                self.put_next(open, reason);
-                reason.put_found(Some(word));
-            }
+        reason.about(self.verb.word());
+        let name = match memchr(b'=', word) {
+            Some(at) => &word[..at],
+            None => &[],
+        };
+        if name.is_empty() {
+            reason.put("expected ");
+            self.put_next(open, reason);
+            reason.put_found(Some(word));
+            return;
         }
+        let mut known = false;
+        for key in form(self.verb) {
+            known |= name == name_of(key.word());
+        }
+        reason.put(if known {
+            "misplaced field "
+        } else {
+            "unknown field "
+        });
+        reason.put_quoted(name);
+        reason.put(", expected ");
+        self.put_next(open, reason);
     }
 
-    /// Says that the field is missing where the line ends.
-    fn missing(&self, key: Key, wanted: &str, reason: &mut Reason) {
-        self.begin(reason);
-        let name = name_of(key);
+    /// Says that this was expected as the value of the field, and another was found, or none.
+    fn wrong(&self, key: Key, wanted: &str, found: Option<&[u8]>, reason: &mut Reason) {
+        reason.about(self.verb.word());
+        let name = name_of(key.word());
         if name.is_empty() {
-            reason.expected(wanted, None);
-        } else {
+            reason.expected(wanted, found);
+        } else if found.is_none() {
             reason.put("field ");
             reason.put_quoted(name);
             reason.put(" is missing");
-        }
-    }
-
-    /// Says that this was expected as the value of the field, and another was found.
-    fn wrong(&self, key: Key, wanted: &str, found: &[u8], reason: &mut Reason) {
-        self.begin(reason);
-        let name = name_of(key);
-        if !name.is_empty() {
+        } else {
             reason.about(name);
+            reason.expected(wanted, found);
         }
-        reason.expected(wanted, Some(found));
     }
 }
 
-/// What became of the fields of a call.
-#[derive(Clone, Copy)]
-pub(crate) enum Walk {
-    /// One is wrong, and that was said.
-    Wrong,
-    /// They are right; these were left out behind the last that stands there.
-    Right(&'static [Key]),
-}
-
-/// Goes over the words of a call's fields, and says of the first that is wrong what was expected.
-pub(crate) fn go_over(
+/// Goes over the words of a call's fields: which were left out behind the last that stands there. Nothing where one is wrong;
+/// of the first that is it says what was expected.
+fn go_over(
     alloc: Global,
     call: &CallAt,
     words: &mut Words,
     reason: &mut Reason,
-) -> Result<Walk, AllocError> {
+) -> Option<&'static [Key]> {
     let mut open = form(call.verb);
     let mut rest = open;
     while let Some((key, others)) = rest.split_first() {
         rest = others;
-        let Some(value) = call.value(*key) else {
+        let value = value_of(call.form, *key);
+        if let Value::Absent = value {
             open = others;
             continue;
-        };
-        let text = match words.first() {
-            Some(word) => word.strip_prefix(key_word(*key)),
+        }
+        let word = words.first();
+        let text = match word {
+            Some(word) => word.strip_prefix(key.word()),
             None => None,
         };
-        match (text, words.first()) {
-            (Some(text), _) => {
-                if let Some(wanted) = wanted(alloc, &call.spot, value, text)? {
-                    call.wrong(*key, wanted, text, reason);
-                    return Ok(Walk::Wrong);
-                }
-                words.next();
-                open = others;
+        if text.is_none() {
+            if call.may_be_left_out(*key) {
+                continue;
             }
-            (None, _) if call.may_be_left_out(*key) => {}
-            (None, Some(word)) => {
+            if let Some(word) = word {
                 call.misplaced(open, word, reason);
-                return Ok(Walk::Wrong);
-            }
-            (None, None) => {
-                // No word is empty, so what is expected of one is expected of any.
-                let wanted = wanted(alloc, &call.spot, value, b"")?.unwrap_or("a word");
-                call.missing(*key, wanted, reason);
-                return Ok(Walk::Wrong);
+                return None;
             }
         }
+        // No word is empty, so what is expected of one is expected of any.
+        if let Some(wanted) = wanted(alloc, &call.spot, value, text.unwrap_or(b""), reason) {
+            call.wrong(*key, wanted, text, reason);
+            return None;
+        }
+        words.next();
+        open = others;
     }
-    Ok(Walk::Right(open))
+    Some(open)
+}
+
+/// The call that the word is; where it is none, that is said.
+fn find_verb(word: Option<&[u8]>, reason: &mut Reason) -> Option<Verb> {
+    let text = word.unwrap_or(b"");
+    let verb = Verb::of_word(text);
+    if verb.is_some() {
+        return verb;
+    }
+    if text.is_empty() {
+        reason.expected("a call", word);
+        return None;
+    }
+    reason.put("unknown call ");
+    reason.put_quoted(text);
+    if let Some(verb) = Verb::of_word(text.strip_prefix(b"t_".as_slice()).unwrap_or(b"")) {
+        reason.put(", expected ");
+        reason.put_all(verb.word());
+    }
+    None
+}
+
+/// The call that the worker began last; where there is none, that is said.
+fn last_verb(spot: &Spot, reason: &mut Reason) -> Option<Verb> {
+    let mut last = None;
+    for line in spot.earlier.split(ends_line) {
+        let mut words = Words::of(line);
+        words.next();
+        if number_of(words.next()) == Some(spot.worker) {
+            last = Verb::of_word(words.next().unwrap_or(b"")).or(last);
+        }
+    }
+    if last.is_none() {
+        reason.put("more: no step above begins a call of worker ");
+        reason.put_number(spot.worker);
+    }
+    last
+}
+
+/// Goes over a worker, its call and the call's fields: which call that is, and which fields were left out behind the last that
+/// stands there. Nothing where one is wrong, which is then said.
+pub(crate) fn find_call<'a>(
+    alloc: Global,
+    form: Form,
+    earlier: &'a [u8],
+    words: &mut Words,
+    reason: &mut Reason,
+) -> Option<(CallAt<'a>, &'static [Key])> {
+    let word = words.next();
+    let worker = match number_of(word) {
+        Some(worker) if worker <= LAST_WORKER as u64 => worker,
+        _ => {
+            reason.expected("a worker from 0 to 32", word);
+            return None;
+        }
+    };
+    let spot = Spot { earlier, worker };
+    let word = words.next();
+    if matches!(form, Form::Journal) && word == Some(b"more".as_slice()) {
+        let verb = last_verb(&spot, reason)?;
+        return Some((CallAt { form, verb, spot }, &[]));
+    }
+    let verb = find_verb(word, reason)?;
+    let call = CallAt { form, verb, spot };
+    let open = go_over(alloc, &call, words, reason)?;
+    Some((call, open))
 }

@@ -1,18 +1,17 @@
 //! Why the head of a script is refused.
 
 use crate::bounded::Reason;
-use crate::profiles::{empty_without_ends, provider_of, wanted_size, wanted_tsdu, wrong_value};
-use std::alloc::{AllocError, Global};
+use crate::places::ends_line;
+use crate::profiles::{wanted_setting, wrong_value};
+use std::alloc::Global;
 use toml::{Table, Value};
 use xti_base::Prov;
 use xti_words::is_ascii;
 
-const TRUTH: &str = "true or false";
-
 /// The head that ends at the first line `+++` of the text.
 fn head_in(text: &[u8]) -> Option<&[u8]> {
     let mut at = 0usize;
-    for line in text.split(|c| *c == b'\n') {
+    for line in text.split(ends_line) {
         if line == b"+++".as_slice() {
             return text.get(..at);
         }
@@ -42,16 +41,23 @@ fn no_toml(head: &[u8], error: &toml::de::Error, reason: &mut Reason) {
     reason.put(error.message());
 }
 
-/// What is expected of the value of a key, where it isn't that.
+/// Says that no key or table has this name, and which there are.
+fn unknown(what: &str, name: &str, expected: &str, reason: &mut Reason) {
+    reason.put("unknown ");
+    reason.put(what);
+    reason.put_quoted(name.as_bytes());
+    reason.put(", expected ");
+    reason.put(expected);
+}
+
+/// What is expected of the value of a key, where it isn't that; nothing where the key is unknown, either.
 fn wanted_of(prov: Prov, key: &str, value: &Value) -> Option<&'static str> {
-    match (key, value.as_integer()) {
-        ("tsdu", Some(tsdu)) => wanted_tsdu(prov, tsdu),
-        ("sndbuf" | "rcvbuf", Some(bytes)) => wanted_size(bytes),
-        ("tsdu" | "sndbuf" | "rcvbuf", None) => Some("a number"),
-        _ => match value.as_bool() {
-            Some(_) => None,
-            None => Some(TRUTH),
-        },
+    let is_truth = matches!(key, "sendzero" | "same_addr");
+    match value.as_integer() {
+        _ if is_truth && value.as_bool().is_none() => Some("true or false"),
+        _ if is_truth => None,
+        Some(number) => wanted_setting(prov, key.as_bytes(), number, 1),
+        None => Some("a number"),
     }
 }
 
@@ -63,64 +69,55 @@ fn is_key(prov: Prov, key: &str) -> bool {
     }
 }
 
-fn unknown_key(prov: Prov, key: &str, reason: &mut Reason) {
-    reason.about(prov.name().as_bytes());
-    reason.put("unknown key ");
-    reason.put_quoted(key.as_bytes());
-    reason.put(if prov == Prov::Ticlts {
-        ", expected tsdu, sendzero, sndbuf or rcvbuf"
-    } else {
-        ", expected tsdu, sendzero, same_addr, sndbuf or rcvbuf"
-    });
-}
-
 /// Whether messages of this provider would be empty without having ends.
 fn has_empty_without_ends(prov: Prov, members: &Table) -> bool {
-    let tsdu = match members.get("tsdu") {
-        Some(value) => value.as_integer(),
-        None => Some(0),
+    let has_ends = match members.get("tsdu") {
+        Some(value) => value.as_integer() != Some(0),
+        None => prov != Prov::Ticotsord,
     };
-    let sendzero = match members.get("sendzero") {
-        Some(value) => value.as_bool(),
-        None => None,
-    };
-    prov == Prov::Ticotsord && tsdu == Some(0) && sendzero == Some(true)
+    match members.get("sendzero") {
+        Some(value) => !has_ends && value.as_bool() == Some(true),
+        None => false,
+    }
 }
 
 /// Says what is wrong in a provider's table; whether something is.
 fn wrong_table(prov: Prov, members: &Table, reason: &mut Reason) -> bool {
     for (key, value) in members {
-        if !is_key(prov, key.as_str()) {
-            unknown_key(prov, key.as_str(), reason);
+        let key = key.as_str();
+        if !is_key(prov, key) {
+            reason.about(prov.name().as_bytes());
+            let expected = if prov == Prov::Ticlts {
+                "tsdu, sendzero, sndbuf or rcvbuf"
+            } else {
+                "tsdu, sendzero, same_addr, sndbuf or rcvbuf"
+            };
+            unknown("key ", key, expected, reason);
             return true;
         }
-        if let Some(wanted) = wanted_of(prov, key.as_str(), value) {
-            wrong_value(prov, key.as_str(), wanted, reason);
+        if let Some(wanted) = wanted_of(prov, key, value) {
+            wrong_value(prov, key.as_bytes(), wanted, reason);
             return true;
         }
     }
-    if has_empty_without_ends(prov, members) {
-        empty_without_ends(prov, reason);
-        return true;
+    let is_wrong = has_empty_without_ends(prov, members);
+    if is_wrong {
+        wrong_value(prov, b"sendzero", "no empty messages, as tsdu is 0", reason);
     }
-    false
-}
-
-fn unknown_table(name: &str, reason: &mut Reason) {
-    reason.put("unknown table ");
-    reason.put_quoted(name.as_bytes());
-    reason.put(", expected ticots, ticotsord or ticlts");
+    is_wrong
 }
 
 /// Says what is wrong in the tables of a head.
 fn wrong_tables(tables: &Table, reason: &mut Reason) {
     for (name, value) in tables {
-        let Some(prov) = provider_of(name.as_str().as_bytes()) else {
-            unknown_table(name.as_str(), reason);
+        let name = name.as_str();
+        let prov = Prov::of_name(name.as_bytes());
+        if prov == Prov::Other {
+            unknown("table ", name, "ticots, ticotsord or ticlts", reason);
             return;
-        };
+        }
         let Some(members) = value.as_table() else {
-            reason.about(name.as_str().as_bytes());
+            reason.about(name.as_bytes());
             reason.put("expected a table");
             return;
         };
@@ -130,30 +127,21 @@ fn wrong_tables(tables: &Table, reason: &mut Reason) {
     }
 }
 
-fn read_tables(alloc: Global, head: &[u8], reason: &mut Reason) -> Result<(), AllocError> {
-    let Ok(text) = str::from_utf8(head) else {
-        return Ok(());
-    };
+fn read_tables(alloc: Global, head: &[u8], reason: &mut Reason) {
+    let text = str::from_utf8(head).unwrap_or("");
     match toml::table_from_str(alloc, text) {
-        Ok(tables) => {
-            wrong_tables(&tables, reason);
-            Ok(())
-        }
-        Err(error) if error.is_memory() => Err(AllocError),
-        Err(error) => {
-            no_toml(head, &error, reason);
-            Ok(())
-        }
+        Ok(tables) => wrong_tables(&tables, reason),
+        Err(error) if error.is_memory() => reason.run_out(),
+        Err(error) => no_toml(head, &error, reason),
     }
 }
 
 /// Says why the head is refused that begins this text.
-pub(crate) fn find_out(alloc: Global, text: &[u8], reason: &mut Reason) -> Result<(), AllocError> {
+pub(crate) fn find_out(alloc: Global, text: &[u8], reason: &mut Reason) {
     reason.about(b"head");
     match head_in(text) {
         None => reason.put("there is no second line +++"),
         Some(head) if !is_ascii(head) => reason.put("a byte is not ASCII"),
-        Some(head) => read_tables(alloc, head, reason)?,
+        Some(head) => read_tables(alloc, head, reason),
     }
-    Ok(())
 }

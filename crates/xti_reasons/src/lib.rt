@@ -12,12 +12,11 @@ mod links;
 mod places;
 mod profiles;
 mod scripts;
-mod tables;
 mod values;
 
 use crate::places::Place;
 pub use bounded::{MOST_REASON, Reason};
-use std::alloc::{AllocError, Global};
+use std::alloc::Global;
 
 /// The kinds of texts that are read line by line.
 #[derive(Clone, Copy, Debug, PartialEq, Eq)]
@@ -30,30 +29,16 @@ pub enum Kind {
     Link,
 }
 
-fn find_out(
-    alloc: Global,
-    kind: Kind,
-    text: &[u8],
-    line: u64,
-    reason: &mut Reason,
-) -> Result<(), AllocError> {
-    let place = Place::at(text, line);
-    match kind {
-        Kind::Script => scripts::find_out(alloc, &place, reason),
-        Kind::Journal => journals::find_out(alloc, &place, reason),
-        Kind::Link => links::find_out(alloc, &place, reason),
-    }
-}
-
 /// Why the reader of such texts refuses this one at the line with this number, counted from 1: what is expected there.
 ///
 /// Where memory runs out it isn't found out, and the reason says that.
 pub fn reason(alloc: Global, kind: Kind, text: &[u8], line: u64) -> Reason {
+    let place = Place::at(text, line);
     let mut reason = Reason::at(line);
-    if find_out(alloc, kind, text, line, &mut reason).is_err() {
-        let mut unknown = Reason::at(line);
-        unknown.put("out of memory before it was found out what is wrong");
-        return unknown;
+    match kind {
+        Kind::Script => scripts::find_out(alloc, &place, &mut reason),
+        Kind::Journal => journals::find_out(alloc, &place, &mut reason),
+        Kind::Link => links::find_out(alloc, &place, &mut reason),
     }
-    reason
+    reason.or_unknown(line)
 }

@@ -1,94 +1,49 @@
 //! Why a link script is refused.
 
 use crate::bounded::Reason;
-use crate::places::{Place, Spot};
+use crate::places::Place;
 use crate::scripts::first_line;
-use crate::values::{Value, wanted};
-use std::alloc::{AllocError, Global};
-use xti_gbn::{MOST_BODY, MOST_EVENTS};
-use xti_words::{Words, bytes_in};
+use crate::values::{Value, are_right};
+use std::alloc::Global;
+use xti_gbn::MOST_EVENTS;
+use xti_words::Words;
 
-const EVENTS: &str = "offer, timeout, data or ack";
+/// The words of events, what stands behind each, and how that is called.
+static EVENTS: [(&[u8], &[Value], &str); 4] = [
+    (b"timeout", &[], ""),
+    (b"offer", &[Value::Body], "bytes"),
+    (b"data", &[Value::Number], "a number"),
+    (b"ack", &[Value::Number], "a number"),
+];
 
-/// Says what is wrong with the word after the event's; whether it is.
-fn wrong_word(
-    alloc: Global,
-    value: Value,
-    word: &[u8],
-    reason: &mut Reason,
-) -> Result<bool, AllocError> {
-    let spot = Spot {
-        earlier: b"",
-        worker: 0,
-    };
-    if let Some(wanted) = wanted(alloc, &spot, value, word)? {
-        reason.expected(wanted, Some(word));
-        return Ok(true);
-    }
-    match bytes_in(alloc, word)? {
-        Some(body) if body.as_slice().len() > MOST_BODY => {
-            reason.expected("at most 512 bytes", Some(word));
-            Ok(true)
-        }
-        _ => Ok(false),
-    }
-}
-
-/// Says what is wrong with the words after the event's: there is to be one, which stands for this.
-fn words_behind(
-    alloc: Global,
-    value: Value,
-    words: &mut Words,
-    reason: &mut Reason,
-) -> Result<(), AllocError> {
-    match words.next() {
-        None => reason.expected(
-            if value == Value::Bytes {
-                "bytes"
-            } else {
-                "a number"
-            },
-            None,
-        ),
-        Some(word) => {
-            if !wrong_word(alloc, value, word, reason)? {
-                reason.expected("the end of the line", words.next());
-            }
+/// What stands behind the word of such an event, and how that is called; nothing where it is none.
+fn values_of(event: &[u8]) -> Option<(&'static [Value], &'static str)> {
+    for (word, values, wanted) in &EVENTS {
+        if event == *word {
+            return Some((*values, *wanted));
         }
     }
-    Ok(())
+    None
 }
 
-fn event_line(alloc: Global, place: &Place, reason: &mut Reason) -> Result<(), AllocError> {
-    let mut words = Words::of(place.line);
+fn event_line(alloc: Global, line: &[u8], reason: &mut Reason) {
+    let mut words = Words::of(line);
     let word = words.next();
-    match word {
-        Some(b"timeout") => {
-            reason.about(b"timeout");
-            reason.expected("the end of the line", words.next());
-            Ok(())
-        }
-        Some(b"offer") => {
-            reason.about(b"offer");
-            words_behind(alloc, Value::Bytes, &mut words, reason)
-        }
-        Some(event) if matches!(event, b"data" | b"ack") => {
-            reason.about(event);
-            words_behind(alloc, Value::Number, &mut words, reason)
-        }
-        _ => {
-            reason.expected(EVENTS, word);
-            Ok(())
-        }
+    let event = word.unwrap_or(b"");
+    let Some((values, wanted)) = values_of(event) else {
+        reason.expected("offer, timeout, data or ack", word);
+        return;
+    };
+    reason.about(event);
+    if words.is_empty() && !values.is_empty() {
+        reason.expected(wanted, None);
+    } else if are_right(alloc, values, &mut words, reason) {
+        reason.expected("the end of the line", words.next());
     }
 }
 
 /// Says why a link script is refused at this line.
-pub(crate) fn find_out(
-    alloc: Global,
-    place: &Place,
-    reason: &mut Reason,
-) -> Result<(), AllocError> {
+pub(crate) fn find_out(alloc: Global, place: &Place, reason: &mut Reason) {
     if place.number <= 1 && place.line != b"xti-link 1".as_slice() {
         first_line(place, "'xti-link 1'", reason);
     } else if !place.is_ended {
@@ -96,7 +51,6 @@ pub(crate) fn find_out(
     } else if place.number > MOST_EVENTS as u64 + 1 {
         reason.put("more than 10000 events");
     } else {
-        event_line(alloc, place, reason)?;
+        event_line(alloc, place.line, reason);
     }
-    Ok(())
 }

@@ -13,6 +13,8 @@ pub(crate) struct Place<'a> {
     pub(crate) line: &'a [u8],
     /// Whether LF ends it.
     pub(crate) is_ended: bool,
+    /// Whether no line is there.
+    pub(crate) is_end: bool,
     /// What is after it.
     pub(crate) behind: &'a [u8],
 }
@@ -31,54 +33,64 @@ fn start_of(text: &[u8], line: u64) -> usize {
     text.len()
 }
 
-/// The first line, and what is after it; both are empty where the text is.
-fn cut_line(text: &[u8]) -> (&[u8], &[u8]) {
-    if text.is_empty() {
-        (text, text)
-    } else {
-        first_line(text)
-    }
-}
-
 impl<'a> Place<'a> {
     /// The line with this number; the empty one at the end where there are fewer.
     pub(crate) fn at(text: &'a [u8], number: u64) -> Place<'a> {
         let start = start_of(text, number).min(text.len());
         let (earlier, rest) = text.split_at(start);
-        let (line, behind) = cut_line(rest);
+        let (line, behind) = if rest.is_empty() {
+            (rest, rest)
+        } else {
+            first_line(rest)
+        };
         Place {
             number,
             earlier,
             line,
             is_ended: line.len() < rest.len(),
+            is_end: rest.is_empty(),
             behind,
         }
     }
+}
 
-    /// Whether no line is there.
-    pub(crate) fn is_end(&self) -> bool {
-        self.line.is_empty() && !self.is_ended
-    }
+/// Whether the byte ends a line.
+pub(crate) fn ends_line(c: &u8) -> bool {
+    *c == b'\n'
 }
 
 /// The number that the word is.
-pub(crate) fn number_of(word: Option<&[u8]>) -> Option<u32> {
-    number_in(word?)
+pub(crate) fn number_of(word: Option<&[u8]>) -> Option<u64> {
+    Some(number_in(word?)? as u64)
 }
 
-/// Whether the line is a call of worker 0 or of this one, whose word is this, and this is the word with this number after it.
-pub(crate) fn defines(line: &[u8], worker: u32, call: &[u8], behind: usize, name: &[u8]) -> bool {
-    let mut words = Words::of(line);
-    let Some(who) = number_of(words.next()) else {
-        return false;
-    };
-    if (who != 0 && who != worker) || words.next() != Some(call) {
-        return false;
+/// What the lines before say.
+#[derive(Clone, Copy)]
+pub(crate) struct Past<'a> {
+    /// How many of them begin with a number: the calls of a script, the steps of a journal.
+    pub(crate) calls: u64,
+    /// The first word of the last that isn't empty.
+    pub(crate) last: &'a [u8],
+}
+
+impl<'a> Past<'a> {
+    /// What these lines say, each of which has its end.
+    pub(crate) fn of(earlier: &'a [u8]) -> Past<'a> {
+        let mut past = Past {
+            calls: 0,
+            last: b"",
+        };
+        for line in earlier.split(ends_line) {
+            let word = Words::of(line).next().unwrap_or(b"");
+            if !word.is_empty() {
+                past.last = word;
+            }
+            if number_in(word).is_some() {
+                past.calls = past.calls.saturating_add(1);
+            }
+        }
+        past
     }
-    for _ in 1..behind {
-        words.next();
-    }
-    words.next() == Some(name)
 }
 
 /// Where a call stands.
@@ -87,26 +99,31 @@ pub(crate) struct Spot<'a> {
     /// The lines before, each with its end.
     pub(crate) earlier: &'a [u8],
     /// The worker that makes the call.
-    pub(crate) worker: u32,
+    pub(crate) worker: u64,
 }
 
+/// No line before, and so no names.
+pub(crate) const NOWHERE: Spot = Spot {
+    earlier: b"",
+    worker: 0,
+};
+
 impl<'a> Spot<'a> {
-    fn is_defined(&self, call: &[u8], behind: usize, name: &[u8]) -> bool {
-        for line in self.earlier.split(|c| *c == b'\n') {
-            if defines(line, self.worker, call, behind, name) {
-                return true;
+    /// Whether an earlier line is this call, of this worker or of worker 0, and defines the name: with the first word behind the
+    /// call, or with the second.
+    pub(crate) fn defines(&self, call: &[u8], is_second: bool, name: &[u8]) -> bool {
+        for line in self.earlier.split(ends_line) {
+            let mut words = Words::of(line);
+            let who = number_of(words.next());
+            if (who == Some(0) || who == Some(self.worker)) && words.next() == Some(call) {
+                if is_second {
+                    words.next();
+                }
+                if words.next() == Some(name) {
+                    return true;
+                }
             }
         }
         false
-    }
-
-    /// Whether an earlier line defines the name of an endpoint, for the worker.
-    pub(crate) fn has_endpoint(&self, name: &[u8]) -> bool {
-        self.is_defined(b"open", 1, name)
-    }
-
-    /// Whether an earlier line defines the name of a sequence number, for the worker.
-    pub(crate) fn has_sequence(&self, name: &[u8]) -> bool {
-        self.is_defined(b"listen", 2, name)
     }
 }

@@ -1,15 +1,16 @@
 //! What a word has to be, and what is expected where it isn't that.
 
-use crate::places::Spot;
-use std::alloc::{AllocError, Global};
+use crate::bounded::Reason;
+use crate::places::{NOWHERE, Spot};
+use std::alloc::Global;
 use xti_base::{Errno, Event, State};
+use xti_gbn::MOST_BODY;
 use xti_words::{
-    MOST_PIECES, action_in, bytes_in, hex_bytes, is_name, mode_in, number_in, options_in,
-    provider_in,
+    MOST_PIECES, Words, action_in, bytes_in, is_name, mode_in, number_in, options_in, provider_in,
 };
 
 /// What a word stands for. The first thirteen are those of scripts.
-#[derive(Clone, Copy, Debug, PartialEq, Eq)]
+#[derive(Clone, Copy)]
 pub(crate) enum Value {
     NewEndpoint,
     Endpoint,
@@ -38,11 +39,11 @@ pub(crate) enum Value {
     EventOrNone,
     /// An error that stands alone.
     Errno,
+    /// The body of a link's message.
+    Body,
+    /// Nothing: the texts don't have the field.
+    Absent,
 }
-
-const NUMBER: &str = "a number of 32 bits without sign and leading zeros";
-
-const HEX: &str = "pairs of the digits 0 to 9 and a to f after x:";
 
 static STATES: [State; 8] = [
     State::T_UNINIT,
@@ -98,121 +99,138 @@ static ERRNOS: [Errno; 27] = [
     Errno::TPROTO,
 ];
 
-/// Nothing where the word is right, else what is expected.
-fn unless(is_right: bool, wanted: &'static str) -> Option<&'static str> {
-    if is_right { None } else { Some(wanted) }
+/// Whether the byte ends a piece of a word.
+fn ends_piece(c: &u8) -> bool {
+    *c == b','
 }
 
 fn is_state(text: &[u8]) -> bool {
-    STATES.iter().any(|state| text == state.name().as_bytes())
+    for state in &STATES {
+        if text == state.name().as_bytes() {
+            return true;
+        }
+    }
+    false
 }
 
 fn is_event(text: &[u8]) -> bool {
-    EVENTS.iter().any(|event| text == event.name().as_bytes())
+    for event in &EVENTS {
+        if text == event.name().as_bytes() {
+            return true;
+        }
+    }
+    false
 }
 
 fn is_errno(text: &[u8]) -> bool {
-    ERRNOS.iter().any(|errno| text == errno.name().as_bytes())
-}
-
-/// What is expected of a name that a line defines.
-fn wanted_new(text: &[u8], is_defined: bool) -> Option<&'static str> {
-    if !is_name(text) {
-        Some("a name, which is a letter a to z and at most 15 of a to z, 0 to 9 and _")
-    } else {
-        unless(!is_defined, "a name that no line above defines")
+    for errno in &ERRNOS {
+        if text == errno.name().as_bytes() {
+            return true;
+        }
     }
+    false
 }
 
 /// What is expected of a name of an endpoint or of a sequence number, or of `-` for none.
 fn wanted_name(spot: &Spot, value: Value, text: &[u8]) -> Option<&'static str> {
+    let is_new = matches!(value, Value::NewEndpoint | Value::NewSequence);
+    let is_defined = match value {
+        Value::NewEndpoint | Value::Endpoint => spot.defines(b"open", false, text),
+        _ => spot.defines(b"listen", true, text),
+    };
+    if is_new && !is_name(text) {
+        return Some("a name, which is a letter a to z and at most 15 of a to z, 0 to 9 and _");
+    }
+    if is_defined != is_new {
+        return None;
+    }
     match value {
-        Value::NewEndpoint => wanted_new(text, spot.has_endpoint(text)),
-        Value::NewSequence => wanted_new(text, spot.has_sequence(text)),
-        Value::Endpoint => unless(
-            spot.has_endpoint(text),
-            "an endpoint that this worker or worker 0 opens above",
-        ),
-        Value::Sequence => unless(
-            spot.has_sequence(text),
-            "a request for which this worker or worker 0 listens above",
-        ),
-        _ => unless(
-            text == b"-".as_slice() || spot.has_sequence(text),
-            "- or a request for which this worker or worker 0 listens above",
-        ),
+        Value::NewEndpoint | Value::NewSequence => Some("a name that no line above defines"),
+        Value::Endpoint => Some("an endpoint that this worker or worker 0 opens above"),
+        Value::Sequence => Some("a request for which this worker or worker 0 listens above"),
+        _ if text == b"-".as_slice() => None,
+        _ => Some("- or a request for which this worker or worker 0 listens above"),
     }
 }
 
 /// What is expected of a word of its own.
 fn wanted_word(value: Value, text: &[u8]) -> Option<&'static str> {
-    match value {
-        Value::Provider => unless(
+    let number = number_in(text);
+    let (is_right, wanted) = match value {
+        Value::Provider => (
             provider_in(text).is_some(),
             "ticots, ticotsord, ticlts or other",
         ),
-        Value::Mode => unless(mode_in(text).is_some(), "block or nonblock"),
-        Value::Action => unless(
+        Value::Mode => (mode_in(text).is_some(), "block or nonblock"),
+        Value::Action => (
             action_in(text).is_some(),
             "negotiate, check, default, current or a number",
         ),
-        Value::Truth => unless(matches!(text, b"0" | b"1"), "0 or 1"),
-        Value::Limit => unless(
-            matches!(text, b"-1" | b"-2") || number_in(text).is_some(),
+        Value::Truth => (matches!(number, Some(0 | 1)), "0 or 1"),
+        Value::Limit => (
+            number.is_some() || matches!(text, b"-1" | b"-2"),
             "a number of 32 bits, -1 or -2",
         ),
-        Value::Service => unless(matches!(text, b"1" | b"2" | b"3"), "1, 2 or 3"),
-        Value::State => unless(is_state(text), "the name of a state"),
-        Value::Event => unless(is_event(text), "the name of an event"),
-        Value::EventOrNone => unless(
-            text == b"0".as_slice() || is_event(text),
+        Value::Service => (matches!(number, Some(1 | 2 | 3)), "1, 2 or 3"),
+        Value::State => (is_state(text), "the name of a state"),
+        Value::Event => (is_event(text), "the name of an event"),
+        Value::EventOrNone => (
+            number == Some(0) || is_event(text),
             "the name of an event, or 0",
         ),
-        Value::Errno => unless(is_errno(text), "the name of an error"),
-        _ => unless(number_in(text).is_some(), NUMBER),
-    }
-}
-
-/// What is expected of bytes that are none as scripts write them.
-fn wanted_spelling(text: &[u8], any: &'static str) -> &'static str {
-    match text {
-        [b't', b':', ..] => "one or more of letters, digits, _, . and - after t:",
-        [b'x', b':', ..] => HEX,
-        [b'f', b':', ..] => "a number up to 65536 after f:",
-        _ => any,
-    }
-}
-
-fn wanted_bytes(alloc: Global, text: &[u8]) -> Result<Option<&'static str>, AllocError> {
-    let is_right = bytes_in(alloc, text)?.is_some();
-    Ok(unless(is_right, wanted_spelling(text, "bytes after t:, x: or f:")))
-}
-
-fn wanted_options(alloc: Global, text: &[u8]) -> Result<Option<&'static str>, AllocError> {
-    let is_right = options_in(alloc, text)?.is_some();
-    let wanted = match text {
-        [b'o', b':', ..] => "options LEVEL/NAME=VALUE or LEVEL/NAME after o:",
-        _ => wanted_spelling(text, "bytes after t:, x: or f:, or options after o:"),
+        Value::Errno => (is_errno(text), "the name of an error"),
+        _ => (
+            number.is_some(),
+            "a number of 32 bits without sign and leading zeros",
+        ),
     };
-    Ok(unless(is_right, wanted))
+    if is_right { None } else { Some(wanted) }
 }
 
-fn wanted_octets(alloc: Global, text: &[u8]) -> Result<Option<&'static str>, AllocError> {
-    match text {
-        [b'x', b':', digits @ ..] => Ok(unless(hex_bytes(alloc, digits)?.is_some(), HEX)),
-        _ => Ok(Some("bytes after x:")),
+/// What is expected where the word stands for no bytes; how it begins tells which spelling was meant.
+fn wanted_spelling(value: Value, text: &[u8]) -> &'static str {
+    if text.starts_with(b"x:".as_slice()) {
+        "pairs of the digits 0 to 9 and a to f after x:"
+    } else if matches!(value, Value::Octets | Value::OctetsList) {
+        "bytes after x:"
+    } else if text.starts_with(b"t:".as_slice()) {
+        "one or more of letters, digits, _, . and - after t:"
+    } else if text.starts_with(b"f:".as_slice()) {
+        "a number up to 65536 after f:"
+    } else if !matches!(value, Value::Options) {
+        "bytes after t:, x: or f:"
+    } else if text.starts_with(b"o:".as_slice()) {
+        "options LEVEL/NAME=VALUE or LEVEL/NAME after o:"
+    } else {
+        "bytes after t:, x: or f:, or options after o:"
     }
 }
 
-fn wanted_piece(
+/// What is expected of a word that stands for bytes.
+fn wanted_bytes(
     alloc: Global,
     value: Value,
-    piece: &[u8],
-) -> Result<Option<&'static str>, AllocError> {
-    match value {
-        Value::Parts => wanted_bytes(alloc, piece),
-        Value::OctetsList => wanted_octets(alloc, piece),
-        _ => Ok(unless(number_in(piece).is_some(), NUMBER)),
+    text: &[u8],
+    reason: &mut Reason,
+) -> Option<&'static str> {
+    let read = match value {
+        Value::Options => options_in(alloc, text),
+        Value::Octets | Value::OctetsList if !text.starts_with(b"x:".as_slice()) => Ok(None),
+        _ => bytes_in(alloc, text),
+    };
+    match read {
+        Ok(Some(bytes)) => {
+            if matches!(value, Value::Body) && bytes.as_slice().len() > MOST_BODY {
+                Some("at most 512 bytes")
+            } else {
+                None
+            }
+        }
+        Ok(None) => Some(wanted_spelling(value, text)),
+        Err(_) => {
+            reason.run_out();
+            Some("")
+        }
     }
 }
 
@@ -221,20 +239,24 @@ fn wanted_pieces(
     alloc: Global,
     value: Value,
     text: &[u8],
-    most: usize,
-) -> Result<Option<&'static str>, AllocError> {
-    let mut left = most;
-    for piece in text.split(|c| *c == b',') {
-        if left == 0 {
-            return Ok(Some("at most 32 of them"));
+    reason: &mut Reason,
+) -> Option<&'static str> {
+    let is_script = matches!(value, Value::Parts | Value::Sizes);
+    let are_bytes = matches!(value, Value::Parts | Value::OctetsList);
+    for (at, piece) in text.split(ends_piece).enumerate() {
+        if is_script && at >= MOST_PIECES {
+            return Some("at most 32 of them");
         }
-        left -= 1;
-        let wanted = wanted_piece(alloc, value, piece)?;
+        let wanted = if are_bytes {
+            wanted_bytes(alloc, value, piece, reason)
+        } else {
+            wanted_word(value, piece)
+        };
         if wanted.is_some() {
-            return Ok(wanted);
+            return wanted;
         }
     }
-    Ok(None)
+    None
 }
 
 /// What is expected where the word stands; nothing where it is right.
@@ -243,19 +265,38 @@ pub(crate) fn wanted(
     spot: &Spot,
     value: Value,
     text: &[u8],
-) -> Result<Option<&'static str>, AllocError> {
+    reason: &mut Reason,
+) -> Option<&'static str> {
     match value {
         Value::NewEndpoint
         | Value::Endpoint
         | Value::NewSequence
         | Value::Sequence
-        | Value::SequenceOrNone => Ok(wanted_name(spot, value, text)),
-        Value::Bytes => wanted_bytes(alloc, text),
-        Value::Options => wanted_options(alloc, text),
-        Value::Octets => wanted_octets(alloc, text),
-        Value::Parts | Value::Sizes => wanted_pieces(alloc, value, text, MOST_PIECES),
-        Value::OctetsList | Value::NumberList if text == b"none".as_slice() => Ok(None),
-        Value::OctetsList | Value::NumberList => wanted_pieces(alloc, value, text, usize::MAX),
-        _ => Ok(wanted_word(value, text)),
+        | Value::SequenceOrNone => wanted_name(spot, value, text),
+        Value::Bytes | Value::Options | Value::Octets | Value::Body => {
+            wanted_bytes(alloc, value, text, reason)
+        }
+        Value::OctetsList | Value::NumberList if text == b"none".as_slice() => None,
+        Value::Parts | Value::Sizes | Value::OctetsList | Value::NumberList => {
+            wanted_pieces(alloc, value, text, reason)
+        }
+        _ => wanted_word(value, text),
     }
+}
+
+/// Goes over words that stand for these: whether they are right. Of the first that isn't it says what was expected.
+pub(crate) fn are_right(
+    alloc: Global,
+    values: &[Value],
+    words: &mut Words,
+    reason: &mut Reason,
+) -> bool {
+    for value in values {
+        let word = words.next();
+        if let Some(wanted) = wanted(alloc, &NOWHERE, *value, word.unwrap_or(b""), reason) {
+            reason.expected(wanted, word);
+            return false;
+        }
+    }
+    true
 }

@@ -3,10 +3,10 @@
 use std::alloc::{AllocError, Global};
 use std::process::Abort;
 use xti_base::let_go;
-use xti_journal_reader::{JournalFail, read_journal};
+use xti_journal::{JournalFail, read_journal};
 use xti_link::{LinkFail, read_link};
 use xti_reasons::{Kind, reason};
-use xti_script::{ScriptFail, read_script};
+use xti_script_reader::{ScriptFail, read_script};
 
 /// Texts that begin alike. Each line of the cases is what follows, `~` for LF, then a bar and the reason.
 #[derive(Clone, Copy)]
