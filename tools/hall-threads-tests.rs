@@ -9,11 +9,11 @@ use xti_base::{Fd, Items, Octets, Prov};
 use xti_core::{apply, touch};
 use xti_end::Endpoint;
 use xti_hall::{Hall, Seat, Stall, Waited};
-use xti_journal::write_journal;
+use xti_journal_text::write_journal;
 use xti_lent::Lent;
 use xti_model::{Act, Applied, Call, Cells, Entry, Go, Journal, Outcome, Providers, Reply, Spot};
 use xti_registry::Registry;
-use xti_rule::Stands;
+use xti_hall_rule::Stands;
 use xti_wants::{Want, WantKind};
 
 /// All seats, each by the bit of its number: whoever waits is woken by each step.

@@ -9,7 +9,7 @@ use std::sync::Wait;
 use xti_calls::{Seat, Xti};
 use xti_model::{Act, Call, Line, Outcome, Reply, Script};
 use xti_replay::{Worker, fresh_workers};
-use xti_script::read_script;
+use xti_script_reader::read_script;
 
 /// The script of this text, once memory isn't refused; a text that is no script counts as out of memory.
 pub fn script_of(alloc: Global, text: &str) -> Result<Script, AllocError> {

@@ -18,7 +18,7 @@ use std::sync::Wait;
 use std::thread::Threads;
 use xti_base::{Items, Octets};
 use xti_calls::{Seat, Xti};
-use xti_journal::write_journal;
+use xti_journal_text::write_journal;
 use xti_model::{Journal, Providers, Script};
 
 /// The status where memory stays refused.

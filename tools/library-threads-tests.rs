@@ -7,7 +7,7 @@ use std::test::*;
 use std::thread::{self, Threads};
 use xti_base::{Fd, Items, Octets};
 use xti_calls::{Fail, Halt, Max, Seat, Xti};
-use xti_journal::write_journal;
+use xti_journal_text::write_journal;
 use xti_model::{Journal, Providers};
 
 const MOST: Max = Max {

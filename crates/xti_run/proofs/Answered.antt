@@ -12,10 +12,10 @@ use Rattle.xti_model.specs.Robin.{last_worker}
 use Rattle.xti_model.specs.Complete.{Complete}
 use Rattle.xti_replay.specs.Stalls.{stalls_after, are_through}
 use Rattle.xti_replay.proofs.WholeRuns.{Ends}
-use Rattle.xti_streams.specs.Laws.{IsLegalRun, PrefixLaw, WaitingLaw, ReleaseLaw}
-use Rattle.xti_journal.specs.JournalText.{journal_text}
-use Rattle.xti_journal.specs.Writing.{Written, Took}
-use Rattle.xti_journal_reader.specs.Grammar.{HasText}
+use Rattle.xti_laws_streams.specs.Laws.{IsLegalRun, PrefixLaw, WaitingLaw, ReleaseLaw}
+use Rattle.xti_journal_text.specs.JournalText.{journal_text}
+use Rattle.xti_journal_text.specs.Writing.{Written, Took}
+use Rattle.xti_journal.specs.Grammar.{HasText}
 use Rattle.xti_check.specs.Verdicts.{IsLegal}
 use Rattle.xti_laws_journals.specs.Runs.{journal_of, AreFew, IsOnlyJournal}
 use Rattle.xti_run.specs.Program.{IsWholeRun, IsPrinted, printed_of, status_with}

@@ -7,13 +7,13 @@ use Rattle.xti_model.specs.declared.script.Journal.{Journal}
 use Rattle.xti_model.specs.declared.script.StallLine.{StallLine}
 use Rattle.xti_model.specs.World.{World, opening}
 use Rattle.xti_model.specs.History.{step_at, left_by, after_from, after, Fits, LegalFrom, Legal}
-use Rattle.xti_journal_reader.specs.Grammar.{HasText, IsJournal}
+use Rattle.xti_journal.specs.Grammar.{HasText, IsJournal}
 use Rattle.xti_check.specs.Verdicts.{IsRightStall, AreRightStalls, IsLegal, IsVerdict}
 use Rattle.xti_check.specs.Judgements.{TellsWrong, legal_text}
 use Rattle.xti_check.specs.declared.verdict.Verdict.TheVariants as verdict
 use Rattle.xti_command.specs.declared.command.Reading.TheVariants.{Check}
 use Rattle.xti_laws_journals.specs.Runs.{IsOnlyJournal}
-use Rattle.xti_streams.specs.Laws.{PrefixLaw, WaitingLaw, ReleaseLaw}
+use Rattle.xti_laws_streams.specs.Laws.{PrefixLaw, WaitingLaw, ReleaseLaw}
 use Rattle.xti_run.specs.Program.{IsAnswered, IsLegalJournal}
 use Rattle.xti_run.proofs.Served.{NoJournal}
 

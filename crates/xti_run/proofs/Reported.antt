@@ -4,8 +4,8 @@ use Rattle.std.specs.List.{list_all}
 use Rattle.std.proofs.lemmas.Bool.{and_parts, ltb-true}
 use Rattle.xti_base.specs.declared.limits.TheConstants.{WORKERS}
 use Rattle.xti_model.specs.Complete.{is_worker}
-use Rattle.xti_journal.specs.JournalText.{head_text}
-use Rattle.xti_journal.specs.Writing.{Written, TookOne}
+use Rattle.xti_journal_text.specs.JournalText.{head_text}
+use Rattle.xti_journal_text.specs.Writing.{Written, TookOne}
 use Rattle.xti_model.specs.declared.entry.Entry.{Entry}
 use Rattle.xti_run.specs.declared.report.Report.TheVariants as report
 use Rattle.xti_run.specs.Entries.{ReportsOneMore}

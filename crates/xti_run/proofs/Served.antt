@@ -5,11 +5,11 @@ use Rattle.std.proofs.Common.{◌≡◌, ◌<◌, inl, inr, Bool, true, false, �
 use Rattle.tpi_grammar.specs.Frames.{IsFrames, IsFirstWrong}
 use Rattle.xti_model.specs.declared.entry.Entry.{Entry}
 use Rattle.xti_model.specs.declared.script.Script.{Script}
-use Rattle.xti_script.specs.Grammar.{IsScript}
-use Rattle.xti_script.specs.Refused.{IsRefusedAt}
+use Rattle.xti_script_reader.specs.Grammar.{IsScript}
+use Rattle.xti_script_reader.specs.Refused.{IsRefusedAt}
 use Rattle.xti_model.specs.declared.script.Journal.{Journal}
-use Rattle.xti_journal_reader.specs.Grammar.{IsJournal}
-use Rattle.xti_journal_reader.specs.Refused.{IsRefusedAt as IsNoJournalAt}
+use Rattle.xti_journal.specs.Grammar.{IsJournal}
+use Rattle.xti_journal.specs.Refused.{IsRefusedAt as IsNoJournalAt}
 use Rattle.xti_gbn.specs.declared.events.LinkEvent.{LinkEvent}
 use Rattle.xti_link.specs.Grammar.{IsLinkScript}
 use Rattle.xti_link.specs.Refused.{IsRefusedAt as IsNoLinkScriptAt}

@@ -1,7 +1,7 @@
 -- What is reported of a run, while its entries come.
 use Rattle.std.specs.Prelude.{◌≡◌, ℕ, Bool, true, false, List, [], ◌∷◌, ◌++◌}
-use Rattle.xti_journal.specs.JournalText.{head_text}
-use Rattle.xti_journal.specs.Writing.{Took}
+use Rattle.xti_journal_text.specs.JournalText.{head_text}
+use Rattle.xti_journal_text.specs.Writing.{Took}
 use Rattle.xti_model.specs.declared.entry.Entry.{Entry}
 use Rattle.xti_model.specs.declared.profile.Providers.{Providers}
 use Rattle.xti_model.specs.declared.script.Journal.{Journal}

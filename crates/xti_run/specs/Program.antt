@@ -10,12 +10,12 @@ use Rattle.xti_model.specs.History.{Legal}
 use Rattle.xti_model.specs.Robin.{robin}
 use Rattle.xti_model.specs.Complete.{Follows, Each, workers, Complete}
 use Rattle.xti_replay.specs.Stalls.{are_through}
-use Rattle.xti_streams.specs.Laws.{PrefixLaw, WaitingLaw, ReleaseLaw}
-use Rattle.xti_script.specs.Grammar.{IsScript}
-use Rattle.xti_script.specs.Refused.{IsRefusedAt}
-use Rattle.xti_journal.specs.JournalText.{journal_text}
-use Rattle.xti_journal_reader.specs.Grammar.{HasText, IsJournal}
-use Rattle.xti_journal_reader.specs.Refused.{IsRefusedAt as IsNoJournalAt}
+use Rattle.xti_laws_streams.specs.Laws.{PrefixLaw, WaitingLaw, ReleaseLaw}
+use Rattle.xti_script_reader.specs.Grammar.{IsScript}
+use Rattle.xti_script_reader.specs.Refused.{IsRefusedAt}
+use Rattle.xti_journal_text.specs.JournalText.{journal_text}
+use Rattle.xti_journal.specs.Grammar.{HasText, IsJournal}
+use Rattle.xti_journal.specs.Refused.{IsRefusedAt as IsNoJournalAt}
 use Rattle.xti_check.specs.Verdicts.{IsLegal}
 use Rattle.xti_check.specs.Judgements.{TellsWrong, legal_text}
 use Rattle.xti_laws_journals.specs.Runs.{journal_of, AreFew, IsOnlyJournal}
@@ -27,7 +27,7 @@ use Rattle.xti_link.specs.Grammar.{IsLinkScript}
 use Rattle.xti_link.specs.Refused.{IsRefusedAt as IsNoLinkScriptAt}
 use Rattle.xti_summary.specs.Summaries.{summary_text}
 use Rattle.xti_generate.specs.Generated.{generated}
-use Rattle.xti_canonical.specs.Canonical.{script_text}
+use Rattle.xti_script.specs.Canonical.{script_text}
 use Rattle.xti_command.specs.declared.command.Command.{Command}
 use Rattle.xti_command.specs.declared.command.Command.TheVariants.{Read, Gen}
 use Rattle.xti_command.specs.declared.command.Reading.{Reading}

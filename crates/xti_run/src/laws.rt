@@ -7,7 +7,7 @@ ghost use Rattle.xti_model.specs.declared.script.Script.{Script};
 ghost use Rattle.xti_command.specs.declared.command.Reading.TheVariants.{Check};
 ghost use Rattle.xti_run.specs.Program.{IsAnswered, IsWholeRun};
 
-use xti_journal_reader::never_both;
+use xti_journal::never_both;
 
 /// `check` says legal of what `run` and `replay` print.
 ///

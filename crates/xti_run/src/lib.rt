@@ -12,4 +12,6 @@ pub use round_robin::replay;
 pub use threading::run;
 pub use top::{Status, program};
 pub use xti_command::Words;
+pub use xti_generate::generate;
 pub use xti_step::{Gate, NoGate};
+pub use xti_summary::{Summary, summary};

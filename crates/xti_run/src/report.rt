@@ -6,7 +6,7 @@ ghost use Rattle.xti_run.specs.Entries.{IsReport, Reports, ReportsOneMore};
 
 use std::alloc::{AllocError, Global};
 use xti_base::Octets;
-use xti_journal::JournalWriter;
+use xti_journal_text::JournalWriter;
 use xti_model::{Entry, Providers, Stalls};
 use xti_summary::Summary;
 

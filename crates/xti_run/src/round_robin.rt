@@ -6,18 +6,18 @@ ghost use Rattle.xti_model.specs.History.{Legal};
 ghost use Rattle.xti_model.specs.Robin.{robin};
 ghost use Rattle.xti_model.specs.Complete.{Follows, Each, workers, Complete};
 ghost use Rattle.xti_check.specs.Verdicts.{IsLegal};
-ghost use Rattle.xti_journal_reader.specs.Grammar.{HasText as JournalHasText};
+ghost use Rattle.xti_journal.specs.Grammar.{HasText as JournalHasText};
 ghost use Rattle.xti_laws_journals.specs.Runs.{AreFew};
 ghost use Rattle.xti_replay.specs.Playable.{IsPlayable};
 ghost use Rattle.xti_replay.specs.Stalls.{stalls_of, are_through};
-ghost use Rattle.xti_script.specs.Grammar.{HasText};
-ghost use Rattle.xti_streams.specs.Laws.{PrefixLaw, WaitingLaw, ReleaseLaw};
+ghost use Rattle.xti_script_reader.specs.Grammar.{HasText};
+ghost use Rattle.xti_laws_streams.specs.Laws.{PrefixLaw, WaitingLaw, ReleaseLaw};
 
 use std::alloc::{AllocError, Global};
 use xti_laws_journals::{runs_make_journals, whole_runs_make_legal_journals};
+use xti_laws_streams::scripts_keep_order;
 use xti_model::{Journal, Script};
-use xti_script::{scripts_are_small, scripts_have_valid_providers, scripts_have_workers};
-use xti_streams::scripts_keep_order;
+use xti_script_reader::{scripts_are_small, scripts_have_valid_providers, scripts_have_workers};
 
 /// A script that has a text can be played.
 pub(crate) fn texts_are_playable()

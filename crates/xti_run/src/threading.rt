@@ -5,11 +5,11 @@ ghost use Rattle.xti_model.specs.declared.script.Script.{Script};
 ghost use Rattle.xti_model.specs.History.{Legal};
 ghost use Rattle.xti_model.specs.Complete.{Follows, Each, workers, Complete};
 ghost use Rattle.xti_check.specs.Verdicts.{IsLegal};
-ghost use Rattle.xti_journal_reader.specs.Grammar.{HasText as JournalHasText};
+ghost use Rattle.xti_journal.specs.Grammar.{HasText as JournalHasText};
 ghost use Rattle.xti_laws_journals.specs.Runs.{AreFew};
 ghost use Rattle.xti_replay.specs.Stalls.{stalls_after, are_through};
-ghost use Rattle.xti_script.specs.Grammar.{HasText};
-ghost use Rattle.xti_streams.specs.Laws.{PrefixLaw, WaitingLaw, ReleaseLaw};
+ghost use Rattle.xti_script_reader.specs.Grammar.{HasText};
+ghost use Rattle.xti_laws_streams.specs.Laws.{PrefixLaw, WaitingLaw, ReleaseLaw};
 
 use crate::round_robin::texts_are_playable;
 use std::alloc::{AllocError, Global};
@@ -18,10 +18,10 @@ use std::thread::Threads;
 use xti_laws_journals::{
     runs_have_few_entries, runs_make_journals, whole_runs_make_legal_journals,
 };
+use xti_laws_streams::scripts_keep_order;
 use xti_model::{Journal, Script};
 use xti_replay::go_on;
 use xti_step::Gate;
-use xti_streams::scripts_keep_order;
 use xti_threads::play;
 
 /// The journal of a script that has a text, whose calls are made by threads: worker 0's first, then each other worker's in a

@@ -9,8 +9,8 @@ ghost use Rattle.xti_model.specs.declared.entry.Entry.{Entry};
 ghost use Rattle.std.specs.List.{list_all};
 ghost use Rattle.xti_model.specs.Complete.{IsHistoryOf, is_worker};
 ghost use Rattle.xti_replay.specs.Runs.{gone_on, IsRunOf};
-ghost use Rattle.xti_script.specs.Grammar.{HasText};
-ghost use Rattle.xti_script.specs.Read.{IsBad};
+ghost use Rattle.xti_script_reader.specs.Grammar.{HasText};
+ghost use Rattle.xti_script_reader.specs.Read.{IsBad};
 ghost use Rattle.xti_command.specs.declared.command.Command.{Command};
 ghost use Rattle.xti_command.specs.Words.{IsPlain, command_in, command_of, found_in, is_taken};
 ghost use Rattle.xti_run.specs.Entries.{ReportsMore, ReportsAll};
@@ -24,7 +24,6 @@ use std::thread::Threads;
 use tpi_grammar::frames_law;
 use xti_base::Octets;
 use xti_base::limits::{MOST_INPUT, MOST_STEPS};
-use xti_canonical::write_script;
 use xti_carrier::show_link;
 use xti_check::{Judgement, judge};
 use xti_command::{Command, Reading, Words, WordsFail, plain_words_are_commands};
@@ -35,13 +34,14 @@ use xti_laws_journals::{
     legal_journals_keep_order, runs_have_few_entries, runs_make_journals,
     whole_runs_make_legal_journals,
 };
+use xti_laws_streams::scripts_keep_order;
 use xti_link::{LinkFail, read_link};
 use xti_model::{Entry, Script, Stalls, robin_goes_on, robin_is_legal};
 use xti_reasons::{Kind, Reason, reason};
 use xti_replay::Run;
-use xti_script::{ScriptFail, never_both, read_script};
+use xti_script::write_script;
+use xti_script_reader::{ScriptFail, never_both, read_script};
 use xti_step::Gate;
-use xti_streams::scripts_keep_order;
 use xti_threads::play;
 
 /// How a run of the program ends.
@@ -473,7 +473,7 @@ pub fn program<T: Threads + Wait + Sync, R: Source, W: Sink, G: Gate>(
     ensures unread { (IsReader words.now → ⊥) → source.new ≡ source.old }
 {
     never_both();
-    xti_journal_reader::never_both();
+    xti_journal::never_both();
     xti_link::never_both();
     frames_law();
     plain_words_are_commands();

@@ -6,7 +6,7 @@ use xti_base::Prov;
 use xti_core::World;
 use xti_model::{Applied, Call, Go, Providers, usual_is_valid};
 use xti_run::replay;
-use xti_script::{ScriptFail, read_script};
+use xti_script_reader::{ScriptFail, read_script};
 
 /// How many entries the run of a script has.
 fn entries_of(alloc: Global, script: &[u8]) -> Result<usize, ScriptFail> {

@@ -3,7 +3,7 @@
 use crate::texts::expect_text;
 use std::alloc::{AllocError, Global};
 use xti_base::{Octets, Prov, State};
-use xti_journal::{JournalWriter, StallLine, write_entry, write_journal};
+use xti_journal_text::{JournalWriter, StallLine, write_entry, write_journal};
 use xti_model::{Act, Call, Entries, Entry, Journal, Outcome, Providers, Reply, Stalls};
 
 const TEXT: &[u8] = b"xti-journal 1

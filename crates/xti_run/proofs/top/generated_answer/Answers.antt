@@ -1,6 +1,6 @@
 use Rattle.std.proofs.Common.{ap, sym, subst, ◌∙◌}
 use Rattle.xti_model.specs.declared.script.Script.{Script}
-use Rattle.xti_script.specs.Grammar.{HasText}
+use Rattle.xti_script_reader.specs.Grammar.{HasText}
 use Rattle.xti_run.proofs.top.generated_answer.Goals as goal
 
 pub played-requires : goal.played-requires
