@@ -1,14 +1,14 @@
 -- Round robin goes on from any history of its script.
-use Rattle.std.specs.Prelude.{ℕ, zero, suc, ◌+◌, ◌<◌, ◌≤◌, ◌==◌, ◌&&◌, ◌≢◌, nat_lt, filter, Bool, true, false, List, [], ◌∷◌, ◌++◌, length, take, slice_get, Option, Some, None, IfSome, ◌≡◌, ◌⊎◌}
-use Rattle.std.specs.List.{AllByRecursion, list_all, list_any}
+use Rattle.std.specs.Prelude.{ℕ, zero, suc, ◌+◌, ◌<◌, ◌≤◌, ◌==◌, ◌&&◌, ◌≢◌, nat_lt, filter, Bool, true, false, List, [], ◌∷◌, length, take, slice_get, Some, IfSome, ◌≡◌, ◌⊎◌}
+use Rattle.std.specs.List.{AllByRecursion, list_all}
 use Rattle.std.proofs.Common.{refl, sym, ap, subst, ◌∙◌, arith, eqb, inl, inr}
-use Rattle.std.proofs.lemmas.Bool.{eq-eqb, eqb-true, false≢true, ne_eqb}
+use Rattle.std.proofs.lemmas.Bool.{eqb-true, false≢true, ne_eqb}
 use Rattle.std.proofs.lemmas.Bool.Decides.{eqb_tells, nat_tests}
 use Rattle.xti_model.specs.declared.entry.Entry.{Entry}
 use Rattle.xti_model.specs.declared.script.Line.{Line}
 use Rattle.xti_model.specs.declared.profile.Providers.{Providers}
-use Rattle.xti_model.specs.History.{is_own, own, after}
-use Rattle.xti_model.specs.Resolve.{Placed, placed, lines_of, begun, is_begin}
+use Rattle.xti_model.specs.History.{own, after}
+use Rattle.xti_model.specs.Resolve.{Placed, placed, begun, is_begin}
 use Rattle.xti_model.specs.Robin.{is_through, numbers, robin_from}
 use Rattle.xti_model.specs.Work.{script_bytes}
 use Rattle.xti_model.specs.Complete.{Follows, Each, workers, is_worker, is_setup, setup_first, Complete}

@@ -1,6 +1,6 @@
 -- After a history that follows a script, no more work is left than at first.
-use Rattle.std.specs.Prelude.{ℕ, zero, suc, ◌+◌, ◌-◌, ◌<◌, ◌≤◌, Bool, true, false, List, [], ◌∷◌, ◌++◌, length, drop, take, map, Option, Some, None, IfSome, ◌≡◌}
-use Rattle.std.specs.List.{sum_by, concat}
+use Rattle.std.specs.Prelude.{ℕ, ◌+◌, ◌≤◌, List, [], ◌∷◌, length, take, map, Option, Some, None, IfSome, ◌≡◌}
+use Rattle.std.specs.List.{sum_by}
 use Rattle.std.proofs.Common.{refl, sym, ap, subst, ◌∙◌, arith}
 use Rattle.std.proofs.lemmas.List.Sums.{sum_by-cons, sum_by-take-drop}
 use Rattle.xti_model.specs.declared.call.Call.{Call}
@@ -11,12 +11,12 @@ use Rattle.xti_model.specs.declared.entry.Go.{Go}
 use Rattle.xti_model.specs.declared.entry.Go.TheVariants as go
 use Rattle.xti_model.specs.declared.entry.Entry.{Entry}
 use Rattle.xti_model.specs.declared.script.Line.{Line}
-use Rattle.xti_model.specs.History.{Going, own, call_after, unfinished}
+use Rattle.xti_model.specs.History.{Going, own, unfinished}
 use Rattle.xti_model.specs.Resolve.{Placed, placed, begun, meanings, lines_of}
 use Rattle.xti_model.specs.Complete.{begun_calls, resolved_in, Follows, workers}
 use Rattle.xti_model.specs.Work.{script_bytes}
-use Rattle.xti_model.proofs.Outcomes.{left, IsPossible}
-use Rattle.xti_model.proofs.Working.{call_from, IsCallOf, call_of-from, IsPossibleGoing, line_work, placed_work, going_work, lines_left, worker_work, left-named}
+use Rattle.xti_model.proofs.Outcomes.{left}
+use Rattle.xti_model.proofs.Working.{call_from, IsCallOf, call_of-from, line_work, placed_work, going_work, lines_left, worker_work, left-named}
 use Rattle.xti_model.proofs.Sums.{sum-at_most, placed-work, lines-all, lines-bytes}
 use Rattle.xti_model.proofs.Completing.{all_work}
 

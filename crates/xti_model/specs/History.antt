@@ -17,6 +17,11 @@ pub record Going : Type 0 where
   pub call : Call
   pub so_far : Go
 
+-- how many bytes earlier steps took
+abbrev pub taken_before : Go → ℕ
+taken_before go.Begin = 0
+taken_before (go.More n) = n
+
 -- the entry is of this worker
 abbrev pub is_own : ℕ → Entry → Bool
 is_own worker e = e.worker == worker

@@ -7,7 +7,6 @@ use Rattle.xti_base.specs.declared.kinds.State.TheVariants.{T_IDLE, T_UNINIT}
 use Rattle.xti_model.specs.declared.call.Call.{Call}
 use Rattle.xti_model.specs.declared.call.Call.TheVariants as call
 use Rattle.xti_model.specs.declared.entry.Go.{Go}
-use Rattle.xti_model.specs.declared.entry.Go.TheVariants as go
 use Rattle.xti_model.specs.declared.entry.Act.TheVariants as act
 use Rattle.xti_model.specs.declared.entry.Outcome.{Outcome}
 use Rattle.xti_model.specs.declared.entry.Outcome.TheVariants.{Done, Part}
@@ -20,7 +19,7 @@ use Rattle.xti_model.specs.World.{World, endpoint}
 use Rattle.xti_model.specs.Links.{names}
 use Rattle.xti_model.specs.Sending.{has_ends}
 use Rattle.xti_model.specs.Arguments.{has_more, is_expedited}
-use Rattle.xti_model.specs.History.{Going, doing, after}
+use Rattle.xti_model.specs.History.{Going, doing, after, taken_before}
 use Rattle.xti_model.specs.Touched.{fd_of}
 
 -- an entry, and the call that it is a step of
@@ -98,11 +97,6 @@ abbrev pub sending_of : Call → Option Sending
 sending_of (call.TSnd fd bytes flags) = Some (record { bytes = bytes; flags = flags })
 sending_of (call.TSndV fd parts flags) = Some (record { bytes = concat parts; flags = flags })
 sending_of other = None
-
--- how many bytes earlier steps took
-abbrev pub taken_before : Go → ℕ
-taken_before go.Begin = 0
-taken_before (go.More n) = n
 
 -- how many bytes are taken after this step
 abbrev pub taken_after : Outcome → Option ℕ

@@ -14,6 +14,7 @@ use Rattle.xti_model.specs.Endpoint.{Endpoint}
 use Rattle.xti_model.specs.World.{World, endpoint, the_switch}
 use Rattle.xti_model.specs.Switch.{bound}
 use Rattle.xti_model.specs.Links.{linked}
+use Rattle.xti_model.specs.History.{taken_before}
 use Rattle.xti_model.specs.Sending.{ready_for, takes_datagram, message_limit, unfinished}
 use Rattle.xti_model.specs.Events.{sending, looks_data, looks_datagrams}
 use Rattle.xti_model.specs.Arguments.{bad_address, bad_options, is_too_many, is_expedited, has_other_flags}
@@ -39,11 +40,6 @@ pub record Want : Type 0 where
 -- a wait of this kind, with nothing else told
 abbrev pub want : WantKind → ℕ → Want
 want kind fd = record { kind = kind; fd = fd; left = 0; flags = 0; to = [] }
-
--- how many bytes earlier steps took
-abbrev pub taken_before : Go → ℕ
-taken_before go.Begin = 0
-taken_before (go.More n) = n
 
 -- how many bytes are left, and whether they are expedited
 abbrev pub want_to_send : ℕ → List ℕ → ℕ → Go → Want

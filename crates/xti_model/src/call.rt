@@ -1,7 +1,8 @@
 //! The calls of XTI as plain data.
 
-ghost use Rattle.std.specs.Prelude.{◌≡◌, IfOk, IsTrue};
+ghost use Rattle.std.specs.Prelude.{◌≡◌, IfOk, IsTrue, option_map};
 ghost use Rattle.xti_model.specs.Families.{is_address_or_options, is_connection_request, is_connection_receipt, is_send, is_receive};
+ghost use Rattle.xti_model.specs.Touched.{fd_of};
 
 use std::alloc::AllocError;
 use xti_base::{Fd, Octets, Parts, Prov, Seq, Sizes, build_or_drop};
@@ -375,6 +376,43 @@ fn copy_receive(call: &Call) -> Result<Call, AllocError>
 }
 
 impl Call {
+    /// The descriptor of the call, of an accept the listener's; a t_open alone has none. Takes no memory.
+    #[inline(always)]
+    pub fn fd(&self) -> Option<Fd>
+        ensures { option_map (λ fd. fd.0) result ≡ fd_of self.now }
+    {
+        match self {
+            Call::TOpen { .. } => None,
+            Call::TClose { fd }
+            | Call::TBind { fd, .. }
+            | Call::TUnbind { fd }
+            | Call::TConnect { fd, .. }
+            | Call::TRcvConnect { fd, .. }
+            | Call::TListen { fd, .. }
+            | Call::TAccept { fd, .. }
+            | Call::TSnd { fd, .. }
+            | Call::TSndV { fd, .. }
+            | Call::TRcv { fd, .. }
+            | Call::TRcvV { fd, .. }
+            | Call::TSndDis { fd, .. }
+            | Call::TRcvDis { fd, .. }
+            | Call::TSndRel { fd }
+            | Call::TRcvRel { fd }
+            | Call::TSndUData { fd, .. }
+            | Call::TSndVUData { fd, .. }
+            | Call::TRcvUData { fd, .. }
+            | Call::TRcvVUData { fd, .. }
+            | Call::TRcvUDErr { fd, .. }
+            | Call::TLookAt { fd }
+            | Call::TGetState { fd }
+            | Call::TSync { fd }
+            | Call::TGetInfo { fd }
+            | Call::TGetProtAddr { fd, .. }
+            | Call::TOptMgmt { fd, .. }
+            | Call::SetMode { fd, .. } => Some(*fd),
+        }
+    }
+
     /// The same call once more.
     pub fn copy(&self) -> Result<Call, AllocError>
         ensures { IfOk result (λ copy. copy ≡ self.now) }

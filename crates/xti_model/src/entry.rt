@@ -2,6 +2,7 @@
 
 ghost use Rattle.std.specs.Prelude.{◌≡◌, IfOk, IsTrue};
 ghost use Rattle.xti_model.specs.Families.{is_connection_news, is_received};
+ghost use Rattle.xti_model.specs.History.{taken_before};
 
 use crate::call::Call;
 use std::alloc::AllocError;
@@ -221,6 +222,19 @@ pub enum Go {
     Begin,
     /// It goes on, with so many bytes taken.
     More(u32),
+}
+
+impl Go {
+    /// How many bytes earlier steps took.
+    #[inline(always)]
+    pub fn taken_before(self) -> u32
+        ensures { result ≡ taken_before self }
+    {
+        match self {
+            Go::Begin => 0,
+            Go::More(taken) => taken,
+        }
+    }
 }
 
 /// What a step answers.

@@ -1,17 +1,13 @@
 //! Laws of the starting values, and of histories over all scripts.
 
-ghost use Rattle.std.specs.Prelude.{ℕ, ◌+◌, ◌≡◌, ◌≤◌, List, length, true};
+ghost use Rattle.std.specs.Prelude.{◌≡◌, true};
 ghost use Rattle.std.specs.List.{concat};
-ghost use Rattle.xti_model.specs.declared.entry.Entry.{Entry};
-ghost use Rattle.xti_model.specs.declared.profile.Providers.{Providers};
-ghost use Rattle.xti_model.specs.declared.script.Line.{Line};
 ghost use Rattle.xti_model.specs.declared.script.Script.{Script};
 ghost use Rattle.xti_model.specs.History.{Legal};
 ghost use Rattle.xti_model.specs.Profile.{usual, valid};
-ghost use Rattle.xti_model.specs.Robin.{robin, most_steps};
+ghost use Rattle.xti_model.specs.Robin.{robin};
 ghost use Rattle.xti_model.specs.SentBytes.{AreBytes, SendsBytes};
-ghost use Rattle.xti_model.specs.Work.{script_bytes};
-ghost use Rattle.xti_model.specs.Complete.{Follows, Each, workers, Complete, GoesOnLegally, GoesOnInOrder, GoesOnToTheEnd};
+ghost use Rattle.xti_model.specs.Complete.{Follows, Each, workers, Complete, FromAnyHistory, IsShort, GoesOnLegally, GoesOnInOrder, GoesOnToTheEnd};
 
 use crate::call::Call;
 use xti_base::Octets;
@@ -23,7 +19,7 @@ pub fn usual_is_valid()
 
 /// Round robin goes on legally from any legal history, and the whole run is legal.
 pub fn robin_is_legal()
-    ensures goes_on { (p : Providers) (lines : List Line) (n : ℕ) (past : List Entry) → GoesOnLegally p lines n past }
+    ensures goes_on { FromAnyHistory GoesOnLegally }
     ensures whole { (s : Script) → Legal s.providers (robin s) }
 {}
 
@@ -31,8 +27,8 @@ pub fn robin_is_legal()
 /// and until each worker is finished or blocked, where it may make as many steps as the script has lines and bytes of
 /// arguments.
 pub fn robin_goes_on()
-    ensures follows { (p : Providers) (lines : List Line) (n : ℕ) (past : List Entry) → GoesOnInOrder p lines n past }
-    ensures complete { (p : Providers) (lines : List Line) (n : ℕ) (past : List Entry) → GoesOnToTheEnd p lines n past }
+    ensures follows { FromAnyHistory GoesOnInOrder }
+    ensures complete { FromAnyHistory GoesOnToTheEnd }
 {}
 
 /// In the round-robin run of any script each worker's calls stand in script order, each once.
@@ -43,7 +39,7 @@ pub fn robin_follows()
 /// Where the lines and the bytes of their arguments are no more than the bound on steps, the round-robin run of a script
 /// goes on until each worker is finished or blocked.
 pub fn robin_is_complete()
-    ensures { (s : Script) → length s.lines + script_bytes s.lines ≤ most_steps → Complete s.providers (robin s) s.lines }
+    ensures { (s : Script) → IsShort s → Complete s.providers (robin s) s.lines }
 {}
 
 // The bytes of a slice are numbers below 256.

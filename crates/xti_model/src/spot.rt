@@ -14,12 +14,12 @@ pub struct Spot {
 }
 
 impl Spot {
-    ghost use Rattle.std.specs.Prelude.{◌≡◌, [], nat_lt, length, if◌then◌else◌};
-    ghost use Rattle.xti_model.specs.Spot.{spot_bytes};
+    ghost use Rattle.std.specs.Prelude.{◌≡◌};
+    ghost use Rattle.xti_model.specs.Spot.{spot_bytes, held_of};
 
     /// The address; no bytes where it has more than `MOST_ADDRESS`.
     pub fn of(address: &[u8]) -> Spot
-        ensures { spot_bytes result ≡ (if nat_lt MOST_ADDRESS (length address.now) then [] else address.now) }
+        ensures { spot_bytes result ≡ held_of address.now }
     {
         let mut bytes = [0; MOST_ADDRESS];
         if address.len() > MOST_ADDRESS {

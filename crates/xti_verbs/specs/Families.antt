@@ -1,21 +1,9 @@
--- Families of calls and of answers.
+-- Families of calls and of answers; Verbs.antt has those calls that say no more than which endpoint.
 use Rattle.std.specs.Prelude.{Bool, true, false}
 use Rattle.xti_verbs.specs.declared.verb.Verb.{Verb}
-use Rattle.xti_verbs.specs.declared.verb.Verb.TheVariants.{Open, Close, Bind, Unbind, Connect, RcvConnect, Listen, Accept, Snd, SndV, Rcv, RcvV, SndDis, RcvDis, SndRel, RcvRel, SndUData, SndVUData, RcvUData, RcvVUData, RcvUDErr, Look, GetState, Sync, GetInfo, GetProtAddr, OptMgmt, SetMode}
+use Rattle.xti_verbs.specs.declared.verb.Verb.TheVariants.{Open, Bind, Connect, RcvConnect, Listen, Accept, Snd, SndV, Rcv, RcvV, SndDis, RcvDis, SndUData, SndVUData, RcvUData, RcvVUData, RcvUDErr, GetProtAddr, OptMgmt, SetMode}
 use Rattle.xti_verbs.specs.declared.answer.Answer.{Answer}
 use Rattle.xti_verbs.specs.declared.answer.Answer.TheVariants as answer
-
--- says no more than which endpoint
-abbrev pub is_plain : Verb → Bool
-is_plain Close = true
-is_plain Unbind = true
-is_plain SndRel = true
-is_plain RcvRel = true
-is_plain Look = true
-is_plain GetState = true
-is_plain Sync = true
-is_plain GetInfo = true
-is_plain other = false
 
 -- opens an endpoint, or sets or asks what belongs to it
 abbrev pub is_local : Verb → Bool

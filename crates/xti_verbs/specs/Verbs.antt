@@ -1,8 +1,11 @@
 -- The calls: their words, and what they answer.
-use Rattle.std.specs.Prelude.{◌≡◌, ◌==◌, ℕ, List, [], ◌∷◌, length, codes, find, Option, if◌then◌else◌}
+use Rattle.std.specs.Prelude.{◌≡◌, ◌==◌, ℕ, Bool, true, false, List, [], ◌∷◌, length, codes, find, Option, Some, None, if◌then◌else◌}
 use Rattle.std.specs.Str.{bytes_eq}
+use Rattle.xti_base.specs.declared.kinds.Fd.{Fd}
 use Rattle.xti_model.specs.declared.call.Call.{Call}
 use Rattle.xti_model.specs.declared.call.Call.TheVariants as call
+use Rattle.xti_model.specs.declared.script.NamedCall.{NamedCall}
+use Rattle.xti_model.specs.declared.script.NamedCall.TheVariants as named
 use Rattle.xti_model.specs.declared.entry.Outcome.{Outcome}
 use Rattle.xti_model.specs.declared.entry.Outcome.TheVariants.{Done, Part}
 use Rattle.xti_model.specs.declared.entry.Reply.TheVariants as reply
@@ -76,7 +79,7 @@ verb_among word verbs = find (λ verb. bytes_eq word (verb_word verb)) verbs
 unfoldable pub verb_in : List ℕ → Option Verb
 verb_in word = verb_among word (verbs_of_length (length word))
 
--- ---- a call and its answers
+-- ---- which call it is
 
 -- which call it is
 abbrev pub verb_of : Call → Verb
@@ -108,6 +111,89 @@ verb_of (call.TGetInfo fd) = GetInfo
 verb_of (call.TGetProtAddr fd amax pmax) = GetProtAddr
 verb_of (call.TOptMgmt fd action opt omax) = OptMgmt
 verb_of (call.SetMode fd nonblock) = SetMode
+
+-- which call of a script it is
+abbrev pub verb_of_named : NamedCall → Verb
+verb_of_named (named.TOpen name prov nonblock) = Open
+verb_of_named (named.TClose fd) = Close
+verb_of_named (named.TBind fd addr qlen amax) = Bind
+verb_of_named (named.TUnbind fd) = Unbind
+verb_of_named (named.TConnect fd addr opt udata amax omax umax) = Connect
+verb_of_named (named.TRcvConnect fd amax omax umax) = RcvConnect
+verb_of_named (named.TListen fd name amax omax umax) = Listen
+verb_of_named (named.TAccept fd resfd seq opt udata) = Accept
+verb_of_named (named.TSnd fd bytes flags) = Snd
+verb_of_named (named.TSndV fd parts flags) = SndV
+verb_of_named (named.TRcv fd max) = Rcv
+verb_of_named (named.TRcvV fd sizes) = RcvV
+verb_of_named (named.TSndDis fd seq udata) = SndDis
+verb_of_named (named.TRcvDis fd umax) = RcvDis
+verb_of_named (named.TSndRel fd) = SndRel
+verb_of_named (named.TRcvRel fd) = RcvRel
+verb_of_named (named.TSndUData fd addr opt bytes) = SndUData
+verb_of_named (named.TSndVUData fd addr opt parts) = SndVUData
+verb_of_named (named.TRcvUData fd max amax omax) = RcvUData
+verb_of_named (named.TRcvVUData fd sizes amax omax) = RcvVUData
+verb_of_named (named.TRcvUDErr fd amax omax) = RcvUDErr
+verb_of_named (named.TLookAt fd) = Look
+verb_of_named (named.TGetState fd) = GetState
+verb_of_named (named.TSync fd) = Sync
+verb_of_named (named.TGetInfo fd) = GetInfo
+verb_of_named (named.TGetProtAddr fd amax pmax) = GetProtAddr
+verb_of_named (named.TOptMgmt fd action opt omax) = OptMgmt
+verb_of_named (named.SetMode fd nonblock) = SetMode
+
+-- ---- calls that say no more than which endpoint
+
+-- says no more than which endpoint
+abbrev pub is_plain : Verb → Bool
+is_plain Close = true
+is_plain Unbind = true
+is_plain SndRel = true
+is_plain RcvRel = true
+is_plain Look = true
+is_plain GetState = true
+is_plain Sync = true
+is_plain GetInfo = true
+is_plain other = false
+
+-- this call of the endpoint with the descriptor
+abbrev pub plain_call : Verb → Fd → Option Call
+plain_call Close fd = Some (call.TClose fd)
+plain_call Unbind fd = Some (call.TUnbind fd)
+plain_call SndRel fd = Some (call.TSndRel fd)
+plain_call RcvRel fd = Some (call.TRcvRel fd)
+plain_call Look fd = Some (call.TLookAt fd)
+plain_call GetState fd = Some (call.TGetState fd)
+plain_call Sync fd = Some (call.TSync fd)
+plain_call GetInfo fd = Some (call.TGetInfo fd)
+plain_call other fd = None
+
+-- this call of the endpoint with the name
+abbrev pub plain_named_call : Verb → List ℕ → Option NamedCall
+plain_named_call Close name = Some (named.TClose name)
+plain_named_call Unbind name = Some (named.TUnbind name)
+plain_named_call SndRel name = Some (named.TSndRel name)
+plain_named_call RcvRel name = Some (named.TRcvRel name)
+plain_named_call Look name = Some (named.TLookAt name)
+plain_named_call GetState name = Some (named.TGetState name)
+plain_named_call Sync name = Some (named.TSync name)
+plain_named_call GetInfo name = Some (named.TGetInfo name)
+plain_named_call other name = None
+
+-- the name in such a call
+abbrev pub plain_name : NamedCall → Option (List ℕ)
+plain_name (named.TClose name) = Some name
+plain_name (named.TUnbind name) = Some name
+plain_name (named.TSndRel name) = Some name
+plain_name (named.TRcvRel name) = Some name
+plain_name (named.TLookAt name) = Some name
+plain_name (named.TGetState name) = Some name
+plain_name (named.TSync name) = Some name
+plain_name (named.TGetInfo name) = Some name
+plain_name other = None
+
+-- ---- answers
 
 -- which answer it is
 abbrev pub answer_to : Outcome → Answer

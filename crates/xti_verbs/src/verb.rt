@@ -2,7 +2,8 @@
 
 use crate::answer::Answer;
 use crate::words::verb_in;
-use xti_model::Call;
+use xti_base::Fd;
+use xti_model::{Call, Name, NamedCall};
 
 /// A call, without its arguments.
 #[derive(Clone, Copy, Debug, PartialEq, Eq)]
@@ -38,8 +39,9 @@ pub enum Verb {
 }
 
 impl Verb {
-    ghost use Rattle.std.specs.Prelude.{◌≡◌};
-    ghost use Rattle.xti_verbs.specs.Verbs.{answer_of, verb_in, verb_of, verb_word};
+    ghost use Rattle.std.specs.Prelude.{◌≡◌, true, Some};
+    ghost use Rattle.std.specs.Option.{option_copied};
+    ghost use Rattle.xti_verbs.specs.Verbs.{answer_of, is_plain, plain_call, plain_name, plain_named_call, verb_in, verb_of, verb_of_named, verb_word};
 
     /// The call that has the word; `None` where no call has it.
     pub fn of_word(word: &[u8]) -> Option<Verb>
@@ -118,6 +120,95 @@ impl Verb {
             Call::TGetProtAddr { .. } => Verb::GetProtAddr,
             Call::TOptMgmt { .. } => Verb::OptMgmt,
             Call::SetMode { .. } => Verb::SetMode,
+        }
+    }
+
+    /// Which call of a script it is.
+    pub fn of_named(call: &NamedCall) -> Verb
+        ensures { result ≡ verb_of_named call.now }
+    {
+        match call {
+            NamedCall::TOpen { .. } => Verb::Open,
+            NamedCall::TClose { .. } => Verb::Close,
+            NamedCall::TBind { .. } => Verb::Bind,
+            NamedCall::TUnbind { .. } => Verb::Unbind,
+            NamedCall::TConnect { .. } => Verb::Connect,
+            NamedCall::TRcvConnect { .. } => Verb::RcvConnect,
+            NamedCall::TListen { .. } => Verb::Listen,
+            NamedCall::TAccept { .. } => Verb::Accept,
+            NamedCall::TSnd { .. } => Verb::Snd,
+            NamedCall::TSndV { .. } => Verb::SndV,
+            NamedCall::TRcv { .. } => Verb::Rcv,
+            NamedCall::TRcvV { .. } => Verb::RcvV,
+            NamedCall::TSndDis { .. } => Verb::SndDis,
+            NamedCall::TRcvDis { .. } => Verb::RcvDis,
+            NamedCall::TSndRel { .. } => Verb::SndRel,
+            NamedCall::TRcvRel { .. } => Verb::RcvRel,
+            NamedCall::TSndUData { .. } => Verb::SndUData,
+            NamedCall::TSndVUData { .. } => Verb::SndVUData,
+            NamedCall::TRcvUData { .. } => Verb::RcvUData,
+            NamedCall::TRcvVUData { .. } => Verb::RcvVUData,
+            NamedCall::TRcvUDErr { .. } => Verb::RcvUDErr,
+            NamedCall::TLookAt { .. } => Verb::Look,
+            NamedCall::TGetState { .. } => Verb::GetState,
+            NamedCall::TSync { .. } => Verb::Sync,
+            NamedCall::TGetInfo { .. } => Verb::GetInfo,
+            NamedCall::TGetProtAddr { .. } => Verb::GetProtAddr,
+            NamedCall::TOptMgmt { .. } => Verb::OptMgmt,
+            NamedCall::SetMode { .. } => Verb::SetMode,
+        }
+    }
+
+    /// This call of the endpoint with the descriptor, where it says no more than which endpoint.
+    pub fn plain_call(self, fd: Fd) -> Call
+        requires { is_plain self ≡ true }
+        ensures { Some result ≡ plain_call self fd }
+    {
+        match self {
+            Verb::Close => Call::TClose { fd },
+            Verb::Unbind => Call::TUnbind { fd },
+            Verb::SndRel => Call::TSndRel { fd },
+            Verb::RcvRel => Call::TRcvRel { fd },
+            Verb::Look => Call::TLookAt { fd },
+            Verb::GetState => Call::TGetState { fd },
+            Verb::Sync => Call::TSync { fd },
+            Verb::GetInfo => Call::TGetInfo { fd },
+            _ => unreachable!(),
+        }
+    }
+
+    /// This call of the endpoint with the name, where it says no more than which endpoint.
+    pub fn plain_named_call(self, name: Name) -> NamedCall
+        requires { is_plain self ≡ true }
+        ensures { Some result ≡ plain_named_call self name }
+    {
+        match self {
+            Verb::Close => NamedCall::TClose { fd: name },
+            Verb::Unbind => NamedCall::TUnbind { fd: name },
+            Verb::SndRel => NamedCall::TSndRel { fd: name },
+            Verb::RcvRel => NamedCall::TRcvRel { fd: name },
+            Verb::Look => NamedCall::TLookAt { fd: name },
+            Verb::GetState => NamedCall::TGetState { fd: name },
+            Verb::Sync => NamedCall::TSync { fd: name },
+            Verb::GetInfo => NamedCall::TGetInfo { fd: name },
+            _ => unreachable!(),
+        }
+    }
+
+    /// The name in a call that says no more than which endpoint; `None` for the others.
+    pub fn plain_name(call: &NamedCall) -> Option<&Name>
+        ensures { option_copied result ≡ plain_name call.now }
+    {
+        match call {
+            NamedCall::TClose { fd }
+            | NamedCall::TUnbind { fd }
+            | NamedCall::TSndRel { fd }
+            | NamedCall::TRcvRel { fd }
+            | NamedCall::TLookAt { fd }
+            | NamedCall::TGetState { fd }
+            | NamedCall::TSync { fd }
+            | NamedCall::TGetInfo { fd } => Some(fd),
+            _ => None,
         }
     }
 

@@ -25,7 +25,8 @@ use Rattle.xti_model.specs.Profile.{valid, has_buffers, has_limit, valid_connect
 use Rattle.xti_model.specs.Provider.{profile, has_datagrams}
 use Rattle.xti_model.specs.Sending.{takes_datagram}
 use Rattle.xti_model.specs.Switch.{bound}
-use Rattle.xti_model.specs.Wants.{Want, want, for_rcvconnect, for_listen, for_snd, for_rcv, for_sndudata, for_rcvudata, want_of, want_to_send, has_good_arguments, argument_rows, is_want_blocked, is_waiting_at, is_waiting, want_rows, datagram_rows, is_bad_length, HasLeft, taken_before}
+use Rattle.xti_model.specs.Wants.{Want, want, for_rcvconnect, for_listen, for_snd, for_rcv, for_sndudata, for_rcvudata, want_of, want_to_send, has_good_arguments, argument_rows, is_want_blocked, is_waiting_at, is_waiting, want_rows, datagram_rows, is_bad_length, HasLeft}
+use Rattle.xti_model.specs.History.{taken_before}
 use Rattle.xti_model.specs.World.{World, endpoint, the_switch}
 use Rattle.xti_laws.specs.Waiting.{BlockedWith, BlockedAsWanted, BlockedHasGoodArguments}
 use Rattle.xti_base.specs.declared.kinds.Fd.{Fd}

@@ -1,7 +1,7 @@
 //! The want of a step.
 
 ghost use Rattle.std.specs.Prelude.{◌≡◌, ◌<◌, ◌^◌, None, MatchOption};
-ghost use Rattle.xti_model.specs.Wants.{want_of, taken_before};
+ghost use Rattle.xti_model.specs.Wants.{want_of};
 ghost use Rattle.xti_wants.specs.Wanted.{IsWant, IsMade};
 
 use crate::want::{Want, WantKind};
@@ -14,16 +14,6 @@ fn low(n: usize) -> u32
     ensures { n < 2 ^ 32 → result ≡ n }
 {
     (n % (1 << 32)) as u32
-}
-
-/// How many bytes earlier steps took.
-fn taken_before(go: Go) -> usize
-    ensures { result ≡ taken_before go }
-{
-    match go {
-        Go::Begin => 0,
-        Go::More(n) => n as usize,
-    }
 }
 
 /// A want of these fields.
@@ -51,11 +41,14 @@ pub fn want_of(call: &Call, go: Go) -> Option<Want>
         Call::TRcvConnect { fd, .. } => Some(want(WantKind::RcvConnect, *fd, 0, 0, &[])),
         Call::TListen { fd, .. } => Some(want(WantKind::Listen, *fd, 0, 0, &[])),
         Call::TSnd { fd, bytes, flags } => {
-            let left = bytes.as_slice().len().saturating_sub(taken_before(go));
+            let left = bytes
+                .as_slice()
+                .len()
+                .saturating_sub(go.taken_before() as usize);
             Some(want(WantKind::Snd, *fd, left, *flags, &[]))
         }
         Call::TSndV { fd, parts, flags } => {
-            let left = total(parts.as_slice()).saturating_sub(taken_before(go));
+            let left = total(parts.as_slice()).saturating_sub(go.taken_before() as usize);
             Some(want(WantKind::Snd, *fd, left, *flags, &[]))
         }
         Call::TRcv { fd, .. } => Some(want(WantKind::Rcv, *fd, 0, 0, &[])),
