@@ -2,6 +2,7 @@
 use Rattle.std.specs.Prelude.{◌≡◌, ◌≤◌, ◌<◌, ℕ, suc, List, [], ◌∷◌, ◌++◌, length, take}
 use Rattle.std.specs.List.{AllByRecursion}
 use Rattle.tpi_grammar.specs.Frame.{Filled, IsFilled, spelling}
+use Rattle.tpi_grammar.specs.Measured.{IsFrame}
 
 abbrev pub spellings : List Filled → List ℕ
 spellings [] = []
@@ -13,6 +14,14 @@ AreFilled = AllByRecursion IsFilled
 -- the bytes are those of some frames, one after the other
 abbrev pub IsFrames : List ℕ → Type 0
 IsFrames bs = (fs : List Filled) × AreFilled fs × (bs ≡ spellings fs)
+
+-- frames and one more after them are frames
+abbrev pub TakeOneMore : Type 0
+TakeOneMore = (front last : List ℕ) → IsFrames front → IsFrame last → IsFrames (front ++ last)
+
+-- frames one after the other are read in one way
+abbrev pub HaveOneReading : Type 0
+HaveOneReading = (fs gs : List Filled) → AreFilled fs → AreFilled gs → spellings fs ≡ spellings gs → fs ≡ gs
 
 -- some frames begin so
 abbrev pub BeginsFrames : List ℕ → Type 0

@@ -5,7 +5,7 @@ ghost use Rattle.tpi_grammar.specs.Form.{Form, Live, Means, short, bad, scan};
 ghost use Rattle.tpi_grammar.specs.Frame.{Filled, IsFilled, IsIn, Row, spelling, table};
 ghost use Rattle.tpi_grammar.specs.Kinds.{row_of};
 ghost use Rattle.tpi_grammar.specs.Measured.{IsFrame, MeansFrame};
-ghost use Rattle.tpi_grammar.specs.Frames.{AreFilled, IsFrames, IsFirstWrong, spellings};
+ghost use Rattle.tpi_grammar.specs.Frames.{HaveOneReading, IsFirstWrong, IsFrames, TakeOneMore};
 
 use crate::kind::Kind;
 
@@ -34,8 +34,8 @@ pub fn frames_law()
         IsFirstWrong (front ++ rest) (length front + at) }
     ensures cut_frame { (front rest : List ℕ) → IsFrames front → MeansFrame rest short → rest ≢ [] →
         IsFirstWrong (front ++ rest) (length (front ++ rest)) }
-    ensures one_more { (front last : List ℕ) → IsFrames front → IsFrame last → IsFrames (front ++ last) }
-    ensures one_reading { (fs gs : List Filled) → AreFilled fs → AreFilled gs → spellings fs ≡ spellings gs → fs ≡ gs }
+    ensures one_more { TakeOneMore }
+    ensures one_reading { HaveOneReading }
     ensures never_both { (bs : List ℕ) (at : ℕ) → IsFirstWrong bs at → IsFrames bs → ⊥ }
     ensures one_place { (bs : List ℕ) (a b : ℕ) → IsFirstWrong bs a → IsFirstWrong bs b → a ≡ b }
 {}

@@ -1,10 +1,11 @@
 //! How much of an input is a frame.
 
-ghost use Rattle.std.specs.Prelude.{◌≡◌, ◌≤◌, ◌<◌, ◌+◌, ◌^◌, ℕ, [], ◌∷◌, length, drop, option_map, IfSome};
+ghost use Rattle.std.specs.Prelude.{◌≡◌, ◌≤◌, ◌<◌, ◌+◌, ◌^◌, ℕ, [], ◌∷◌, length, drop, IfSome};
 ghost use Rattle.tpi_grammar.specs.Form.{scan};
 ghost use Rattle.tpi_grammar.specs.Word.{after_word as later_word, ReadsWord};
-ghost use Rattle.tpi_grammar.specs.Frame.{offset, part_range, slots_form, form_of, number_form, count_form, tail, frame, rows_of_size, rows_of_lengths, row_of_number, scan_behind};
-ghost use Rattle.tpi_grammar.specs.Kinds.{row_of, slots_view};
+ghost use Rattle.tpi_grammar.specs.Frame.{offset, part_range, count_form, tail, frame, rows_of_size};
+ghost use Rattle.tpi_grammar.specs.Measuring.{behind_head, form_of_kind, form_of_lengths, form_of_number, form_of_slots, BeginsWith};
+ghost use Rattle.tpi_grammar.specs.Kinds.{slots_view};
 ghost use Rattle.tpi_grammar.specs.Measured.{MeansFrame, outcome_of};
 
 use crate::kind::{Kind, Slot};
@@ -42,7 +43,7 @@ struct Head {
 /// The two lengths and PRIM_type, read at once; `None` if less than twelve bytes are there, or no frame begins with them.
 fn read_head(input: &[u8]) -> Option<Head>
     ensures long { IfSome result (λ _. 12 ≤ length input.now) }
-    ensures scans { IfSome result (λ h. scan frame input.now ≡ scan_behind h.size h.count (row_of h.kind) input.now) }
+    ensures scans { IfSome result (BeginsWith input.now) }
 {
     let size = front_word(input)?;
     let count = front_word(&input[4..])?;
@@ -68,7 +69,7 @@ fn scan_frame(input: &[u8]) -> Measure
 /// Reads what stands after the first three words.
 fn measure_behind(head: Head, input: &[u8]) -> Measure
     requires { 12 ≤ length input.now }
-    ensures { outcome_of result ≡ scan_behind head.size head.count (row_of head.kind) input.now }
+    ensures { outcome_of result ≡ behind_head head input.now }
 {
     let behind = &input[12..];
     let body = measure_body(Some(head.kind), head.size, head.count, behind);
@@ -119,7 +120,7 @@ fn after_size(size: u32, bytes: &[u8]) -> Measure
 }
 
 fn after_count(size: u32, count: u32, bytes: &[u8]) -> Measure
-    ensures scans { outcome_of result ≡ scan (number_form size count (rows_of_lengths size count)) bytes.now }
+    ensures scans { outcome_of result ≡ scan (form_of_lengths size count) bytes.now }
     ensures within { (n : ℕ) → result ≡ Measure.Whole n → n ≤ length bytes.now }
     ensures at { (n : ℕ) → result ≡ Measure.Bad n → n ≤ length bytes.now }
 {
@@ -134,7 +135,7 @@ fn after_count(size: u32, count: u32, bytes: &[u8]) -> Measure
 }
 
 fn after_number(size: u32, count: u32, number: u32, bytes: &[u8]) -> Measure
-    ensures scans { outcome_of result ≡ scan (form_of size count (row_of_number size count number)) bytes.now }
+    ensures scans { outcome_of result ≡ scan (form_of_number size count number) bytes.now }
     ensures within { (n : ℕ) → result ≡ Measure.Whole n → n ≤ length bytes.now }
     ensures at { (n : ℕ) → result ≡ Measure.Bad n → n ≤ length bytes.now }
 {
@@ -143,7 +144,7 @@ fn after_number(size: u32, count: u32, number: u32, bytes: &[u8]) -> Measure
 
 /// What stands after PRIM_type: the words of the slots, the parts, and the user data.
 fn measure_body(kind: Option<Kind>, size: u32, count: u32, bytes: &[u8]) -> Measure
-    ensures scans { outcome_of result ≡ scan (form_of size count (option_map row_of kind)) bytes.now }
+    ensures scans { outcome_of result ≡ scan (form_of_kind size count kind) bytes.now }
     ensures within { (n : ℕ) → result ≡ Measure.Whole n → n ≤ length bytes.now }
     ensures at { (n : ℕ) → result ≡ Measure.Bad n → n ≤ length bytes.now }
 {
@@ -158,7 +159,7 @@ fn measure_body(kind: Option<Kind>, size: u32, count: u32, bytes: &[u8]) -> Meas
 /// The words of the slots, where parts lie from `place` on and have `left` bytes, and then `total` bytes of any value.
 fn measure_slots(slots: &[Slot], place: u32, left: u32, total: u64, bytes: &[u8]) -> Measure
     requires { place + left < 2 ^ 32 }
-    ensures scans { outcome_of result ≡ scan (slots_form (slots_view slots.now) place left (tail total)) bytes.now }
+    ensures scans { outcome_of result ≡ scan (form_of_slots slots.now place left total) bytes.now }
     ensures within { (n : ℕ) → result ≡ Measure.Whole n → n ≤ length bytes.now }
     ensures at { (n : ℕ) → result ≡ Measure.Bad n → n ≤ length bytes.now }
 {

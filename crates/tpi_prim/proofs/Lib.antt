@@ -4,4 +4,4 @@ pub mod FilledIn
 pub mod Decodes
 pub mod FeedReads
 pub mod Words
-pub mod Gathered
+pub mod Writing

@@ -56,11 +56,15 @@ kind_in bs = numbered (word_in bs 8)
 unfoldable pub primitive_in : List ℕ → Prim
 primitive_in bs = read_as (kind_in bs) bs
 
+-- the part whose length stands at a place, and its offset after it, lies within the bytes
+abbrev pub HasPartAt : List ℕ → ℕ → Type 0
+HasPartAt bs place = 8 + word_in bs (place + 4) + word_in bs place ≤ length bs
+
 -- the words of the slots from a place on, and the parts that they name, lie within the bytes; each word is within its slot
 abbrev pub LiesIn : List Slot → ℕ → List ℕ → Type 0
 LiesIn [] place bs = place ≤ length bs
 LiesIn (upto m ∷ ss) place bs = (word_in bs place ≤ m) × LiesIn ss (place + 4) bs
-LiesIn (part ∷ ss) place bs = (8 + word_in bs (place + 4) + word_in bs place ≤ length bs) × LiesIn ss (place + 8) bs
+LiesIn (part ∷ ss) place bs = HasPartAt bs place × LiesIn ss (place + 8) bs
 
 -- where the words of fields stand
 abbrev pub seq_place : Kind → ℕ

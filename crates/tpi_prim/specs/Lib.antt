@@ -4,4 +4,4 @@ pub mod Lent
 pub mod Decoding
 pub mod Fed
 pub mod Reading
-pub mod Gathering
+pub mod Indication

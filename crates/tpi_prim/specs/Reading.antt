@@ -6,6 +6,7 @@ use Rattle.tpi_grammar.specs.Frames.{spellings, AreFilled, IsFirstWrong}
 use Rattle.tpi_prim.specs.declared.primitive.Prim.{Prim}
 use Rattle.tpi_prim.specs.declared.reading.FeedFail.{FeedFail}
 use Rattle.tpi_prim.specs.declared.reading.FeedFail.TheVariants as fail
+use Rattle.tpi_prim.specs.declared.reading.Front.{Front}
 use Rattle.tpi_prim.specs.declared.reading.Stop.{Stop}
 use Rattle.tpi_prim.specs.declared.reading.Stop.TheVariants as stop
 use Rattle.tpi_prim.specs.Primitive.{filled}
@@ -21,6 +22,9 @@ pub record IsFront (bs : List ℕ) (ps : List Prim) (used : ℕ) : Type 0 where
   pub within : used ≤ length bs
   pub frames : SpellAll ps (take used bs)
   pub rest : MeansFrame (drop used bs) short
+
+abbrev pub IsFrontOf : List ℕ → Front → Type 0
+IsFrontOf bs front = IsFront bs front.prims front.used
 
 -- the bytes can't go on as frames, and this is the least place by which they can't
 pub record GoesWrong (bs : List ℕ) (place : ℕ) : Type 0 where
@@ -63,3 +67,12 @@ pub record HasGiven (fed : List ℕ) (ps : List Prim) (r : Fed) : Type 0 where
   pub frames : (front : List ℕ) × SpellAll ps front × (fed ≡ front ++ r.rest) × (r.passed ≡ capped (length front))
   pub rest : MeansFrame r.rest short
   pub wrong : r.wrong ≡ None
+
+-- over any pieces a reader has given the primitives of the bytes that it was fed
+abbrev pub GivesWhatItRead : Type 0
+GivesWhatItRead = (fed : List ℕ) (ps : List Prim) (r : Fed) → HasRead fed ps r → HasGiven fed ps r
+
+-- where a feed fails at a place, all bytes ever fed can't go on as frames from there
+abbrev pub TellsWhereItGoesWrong : Type 0
+TellsWhereItGoesWrong = (fed : List ℕ) (ps : List Prim) (old new : Fed) (piece : List ℕ) (at : ℕ) → HasRead fed ps old
+    → Feeds old new piece (Err (fail.Bad at)) → (n : ℕ) × GoesWrong (fed ++ piece) n × (at ≡ capped n)

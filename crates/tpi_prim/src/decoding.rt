@@ -6,7 +6,7 @@ ghost use Rattle.tpi_grammar.specs.Kinds.{row_of};
 ghost use Rattle.tpi_grammar.specs.Measured.{IsFrame};
 ghost use Rattle.tpi_prim.specs.declared.primitive.Prim.{Prim};
 ghost use Rattle.tpi_prim.specs.Primitive.{filled};
-ghost use Rattle.tpi_prim.specs.Fields.{word_in, part_in, user_in, read_as, primitive_in, LiesIn};
+ghost use Rattle.tpi_prim.specs.Fields.{word_in, part_in, user_in, read_as, primitive_in, HasPartAt, LiesIn};
 ghost use Rattle.tpi_prim.specs.Decoding.{MeansDecoded, GivesBack};
 
 use crate::frames::{kind_at, part_at, user_at, word_at};
@@ -168,7 +168,7 @@ fn read_as(alloc: Global, kind: Kind, bytes: &[u8]) -> Result<Prim, AllocError>
 
 fn copy_part(alloc: Global, bytes: &[u8], place: usize) -> Result<Bytes, AllocError>
     requires words { place + 8 ≤ length bytes.now }
-    requires bytes { 8 + word_in bytes.now (place + 4) + word_in bytes.now place ≤ length bytes.now }
+    requires bytes { HasPartAt bytes.now place }
     ensures { IfOk result (λ part. part ≡ part_in bytes.now place) }
 {
     Bytes::copy_from_slice(alloc, part_at(bytes, place))

@@ -10,7 +10,7 @@ ghost use Rattle.tpi_prim.specs.Primitive.{filled, Spells};
 ghost use Rattle.tpi_prim.specs.Fields.{primitive_in};
 ghost use Rattle.tpi_prim.specs.declared.frames.TheConstants.{INLINE};
 ghost use Rattle.tpi_prim.specs.declared.primitive.Prim.TheVariants.{T_CONN_IND, T_CONN_CON, T_DISCON_IND, T_UNITDATA_IND, T_UDERROR_IND};
-ghost use Rattle.tpi_prim.specs.Lent.{value_of, values_of, parts_size, filled_by, front_of, HasShape, IsTooBig};
+ghost use Rattle.tpi_prim.specs.Lent.{control_of, filled_by, frame_of, front_of, parts_size, value_of, values_of, FailsWhereTooBig, FitsRow, HasShape, IsSpelled, IsTooBig, ReadsBack};
 
 use crate::frames::{Frame, FrameBytes, INLINE};
 use crate::primitive::Prim;
@@ -55,9 +55,9 @@ impl<T: Drop> From<AllocFailed<T>> for EncodeFail {
 
 /// The frame of a primitive. The limits are looked at before memory is taken.
 pub fn encode(alloc: Global, prim: &Prim) -> Result<Frame, EncodeFail>
-    ensures spelled { IfOk result (λ frame. Spells prim.now frame) }
-    ensures read { IfOk result (λ frame. primitive_in frame ≡ prim.now) }
-    ensures too_big { IsErrOf result EncodeFail.TooBig ↔ IsTooBig (filled prim.now) }
+    ensures spelled { IsSpelled prim.now result }
+    ensures read { ReadsBack prim.now result }
+    ensures too_big { FailsWhereTooBig prim.now result }
 {
     Lent::of(prim).frame(alloc)
 }
@@ -70,9 +70,9 @@ pub fn encode_conn_ind<'a>(
     seq: u32,
     user: &'a [u8],
 ) -> Result<Frame, EncodeFail>
-    ensures spelled { IfOk result (λ frame. Spells (T_CONN_IND src.now opt.now seq user.now) frame) }
-    ensures read { IfOk result (λ frame. primitive_in frame ≡ T_CONN_IND src.now opt.now seq user.now) }
-    ensures too_big { IsErrOf result EncodeFail.TooBig ↔ IsTooBig (filled (T_CONN_IND src.now opt.now seq user.now)) }
+    ensures spelled { IsSpelled (T_CONN_IND src.now opt.now seq user.now) result }
+    ensures read { ReadsBack (T_CONN_IND src.now opt.now seq user.now) result }
+    ensures too_big { FailsWhereTooBig (T_CONN_IND src.now opt.now seq user.now) result }
 {
     let lent = Lent {
         kind: Kind::T_CONN_IND,
@@ -89,9 +89,9 @@ pub fn encode_conn_con<'a>(
     opt: &'a [u8],
     user: &'a [u8],
 ) -> Result<Frame, EncodeFail>
-    ensures spelled { IfOk result (λ frame. Spells (T_CONN_CON res.now opt.now user.now) frame) }
-    ensures read { IfOk result (λ frame. primitive_in frame ≡ T_CONN_CON res.now opt.now user.now) }
-    ensures too_big { IsErrOf result EncodeFail.TooBig ↔ IsTooBig (filled (T_CONN_CON res.now opt.now user.now)) }
+    ensures spelled { IsSpelled (T_CONN_CON res.now opt.now user.now) result }
+    ensures read { ReadsBack (T_CONN_CON res.now opt.now user.now) result }
+    ensures too_big { FailsWhereTooBig (T_CONN_CON res.now opt.now user.now) result }
 {
     let lent = Lent {
         kind: Kind::T_CONN_CON,
@@ -108,9 +108,9 @@ pub fn encode_discon_ind<'a>(
     seq: u32,
     user: &'a [u8],
 ) -> Result<Frame, EncodeFail>
-    ensures spelled { IfOk result (λ frame. Spells (T_DISCON_IND reason seq user.now) frame) }
-    ensures read { IfOk result (λ frame. primitive_in frame ≡ T_DISCON_IND reason seq user.now) }
-    ensures too_big { IsErrOf result EncodeFail.TooBig ↔ IsTooBig (filled (T_DISCON_IND reason seq user.now)) }
+    ensures spelled { IsSpelled (T_DISCON_IND reason seq user.now) result }
+    ensures read { ReadsBack (T_DISCON_IND reason seq user.now) result }
+    ensures too_big { FailsWhereTooBig (T_DISCON_IND reason seq user.now) result }
 {
     let lent = Lent {
         kind: Kind::T_DISCON_IND,
@@ -127,9 +127,9 @@ pub fn encode_unitdata_ind<'a>(
     opt: &'a [u8],
     user: &'a [u8],
 ) -> Result<Frame, EncodeFail>
-    ensures spelled { IfOk result (λ frame. Spells (T_UNITDATA_IND src.now opt.now user.now) frame) }
-    ensures read { IfOk result (λ frame. primitive_in frame ≡ T_UNITDATA_IND src.now opt.now user.now) }
-    ensures too_big { IsErrOf result EncodeFail.TooBig ↔ IsTooBig (filled (T_UNITDATA_IND src.now opt.now user.now)) }
+    ensures spelled { IsSpelled (T_UNITDATA_IND src.now opt.now user.now) result }
+    ensures read { ReadsBack (T_UNITDATA_IND src.now opt.now user.now) result }
+    ensures too_big { FailsWhereTooBig (T_UNITDATA_IND src.now opt.now user.now) result }
 {
     let lent = Lent {
         kind: Kind::T_UNITDATA_IND,
@@ -146,9 +146,9 @@ pub fn encode_uderror_ind<'a>(
     opt: &'a [u8],
     error_type: u32,
 ) -> Result<Frame, EncodeFail>
-    ensures spelled { IfOk result (λ frame. Spells (T_UDERROR_IND dest.now opt.now error_type) frame) }
-    ensures read { IfOk result (λ frame. primitive_in frame ≡ T_UDERROR_IND dest.now opt.now error_type) }
-    ensures too_big { IsErrOf result EncodeFail.TooBig ↔ IsTooBig (filled (T_UDERROR_IND dest.now opt.now error_type)) }
+    ensures spelled { IsSpelled (T_UDERROR_IND dest.now opt.now error_type) result }
+    ensures read { ReadsBack (T_UDERROR_IND dest.now opt.now error_type) result }
+    ensures too_big { FailsWhereTooBig (T_UDERROR_IND dest.now opt.now error_type) result }
 {
     let lent = Lent {
         kind: Kind::T_UDERROR_IND,
@@ -186,7 +186,7 @@ impl Lent<'_> {
     fn of(prim: &Prim) -> Lent<'_>
         ensures same { filled_by result ≡ filled prim.now }
         ensures shape { HasShape (row_of result.kind).slots (values_of result.fields) }
-        ensures room { length result.user.now ≤ MOST_DATA → length result.user.now ≤ (row_of result.kind).most_data }
+        ensures room { FitsRow result.user.now (row_of result.kind) }
     {
         Lent {
             kind: prim.kind(),
@@ -200,8 +200,8 @@ impl Lent<'_> {
     #[inline(always)]
     fn frame(&self, alloc: Global) -> Result<Frame, EncodeFail>
         requires shape { HasShape (row_of self.now.kind).slots (values_of self.now.fields) }
-        requires room { length self.now.user.now ≤ MOST_DATA → length self.now.user.now ≤ (row_of self.now.kind).most_data }
-        ensures spelled { IfOk result (λ frame. frame ≡ spelling (filled_by self.now)) }
+        requires room { FitsRow self.now.user.now (row_of self.now.kind) }
+        ensures spelled { IfOk result (λ frame. frame ≡ frame_of self.now) }
         ensures filled { OnOk result (IsFilled (filled_by self.now)) }
         ensures too_big { IsErrOf result EncodeFail.TooBig ↔ IsTooBig (filled_by self.now) }
     {
@@ -215,7 +215,7 @@ impl Lent<'_> {
 
     /// How long the control part is; `None` over 1,024 bytes.
     fn control_len(&self) -> Option<u32>
-        ensures { SomeIff result (control_size (filled_by self.now) ≤ MOST_CONTROL) (control_size (filled_by self.now)) }
+        ensures { SomeIff result (control_of self.now ≤ MOST_CONTROL) (control_of self.now) }
     {
         let left = room_left(
             MOST_CONTROL as usize - self.kind.head() as usize,
@@ -228,9 +228,9 @@ impl Lent<'_> {
     fn encode(&self, alloc: Global, control: u32) -> Result<Frame, EncodeFail>
         requires shape { HasShape (row_of self.now.kind).slots (values_of self.now.fields) }
         requires data { length self.now.user.now ≤ (row_of self.now.kind).most_data }
-        requires control { control ≡ control_size (filled_by self.now) }
+        requires control { control ≡ control_of self.now }
         requires small { control ≤ MOST_CONTROL }
-        ensures spelled { IfOk result (λ frame. frame ≡ spelling (filled_by self.now)) }
+        ensures spelled { IfOk result (λ frame. frame ≡ frame_of self.now) }
         ensures filled { OnOk result (IsFilled (filled_by self.now)) }
         ensures memory { IfErr result (λ e. e ≡ EncodeFail.OutOfMemory) }
     {
@@ -246,9 +246,9 @@ impl Lent<'_> {
     fn write(&self, out: &mut FrameBytes, control: u32) -> Result<(), AllocError>
         requires shape { HasShape (row_of self.now.kind).slots (values_of self.now.fields) }
         requires data { length self.now.user.now ≤ MOST_DATA }
-        requires control { control ≡ control_size (filled_by self.now) }
+        requires control { control ≡ control_of self.now }
         requires small { control ≤ MOST_CONTROL }
-        ensures items { OnOk result (out.new.items ≡ out.old.items ++ spelling (filled_by self.now)) }
+        ensures items { OnOk result (out.new.items ≡ out.old.items ++ frame_of self.now) }
         ensures part_bytes { OnOk result (AreBytes (parts (values_of self.now.fields))) }
         ensures user_bytes { OnOk result (AreBytes self.now.user.now) }
     {
@@ -510,7 +510,7 @@ fn part(bytes: &Bytes) -> Field<'_>
 
 fn user_of(prim: &Prim) -> &[u8]
     ensures user { result.now ≡ (filled prim.now).user }
-    ensures room { length result.now ≤ MOST_DATA → length result.now ≤ (filled prim.now).row.most_data }
+    ensures room { FitsRow result.now (filled prim.now).row }
 {
     match prim {
         Prim::T_CONN_REQ { user, .. }

@@ -8,7 +8,7 @@ ghost use Rattle.tpi_grammar.specs.Frame.{AreBytes};
 ghost use Rattle.tpi_grammar.specs.Kinds.{row_of};
 ghost use Rattle.tpi_grammar.specs.Measured.{IsFrame};
 ghost use Rattle.tpi_prim.specs.Primitive.{more_of, seq_of, reason_of, part_of, user_of, has_more, has_seq, has_reason, has_part};
-ghost use Rattle.tpi_prim.specs.Fields.{word_in, part_in, user_in, kind_in, primitive_in, LiesIn, seq_place, reason_place, part_place};
+ghost use Rattle.tpi_prim.specs.Fields.{word_in, part_in, user_in, kind_in, primitive_in, seq_place, reason_place, part_place, HasPartAt, LiesIn};
 
 use crate::primitive::Part;
 use smallvec::SmallVec;
@@ -121,7 +121,7 @@ pub(crate) fn word_at(bytes: &[u8], place: usize) -> u32
 #[tactic(auto, unfolding(crate::specs::Fields::part_in))]
 pub(crate) fn part_at(bytes: &[u8], place: usize) -> &[u8]
     requires words { place + 8 ≤ length bytes.now }
-    requires bytes { 8 + word_in bytes.now (place + 4) + word_in bytes.now place ≤ length bytes.now }
+    requires bytes { HasPartAt bytes.now place }
     ensures { result.now ≡ part_in bytes.now place }
 {
     let start = 8 + word_at(bytes, place + 4) as usize;

@@ -1,14 +1,12 @@
 //! What holds of every primitive and its frame.
 
-ghost use Rattle.std.specs.Prelude.{◌≡◌, ◌++◌, List, ℕ, Err};
+ghost use Rattle.std.specs.Prelude.{◌≡◌, List, ℕ};
 ghost use Rattle.tpi_grammar.specs.Frame.{Filled, IsFilled};
 ghost use Rattle.tpi_grammar.specs.Measured.{IsFrame};
 ghost use Rattle.tpi_prim.specs.declared.primitive.Prim.{Prim};
 ghost use Rattle.tpi_prim.specs.Primitive.{filled, kind_of, Spells};
 ghost use Rattle.tpi_prim.specs.Fields.{kind_in, primitive_in};
-ghost use Rattle.tpi_prim.specs.Fed.{Fed};
-ghost use Rattle.tpi_prim.specs.Reading.{Feeds, GoesWrong, HasGiven, HasRead, capped};
-ghost use Rattle.tpi_prim.specs.declared.reading.FeedFail.TheVariants.{Bad};
+ghost use Rattle.tpi_prim.specs.Reading.{GivesWhatItRead, TellsWhereItGoesWrong};
 
 /// Each row of the table that can be filled in is a primitive; each frame is that of the primitive that is read from its
 /// bytes, and of no other.
@@ -22,7 +20,6 @@ pub fn primitives_law()
 /// Over any pieces a reader has given the primitives of the bytes that it was fed; and where a feed says `Bad`, all bytes ever
 /// fed can't go on as frames from the place that it tells.
 pub fn pieces_law()
-    ensures given { (fed : List ℕ) (ps : List Prim) (r : Fed) → HasRead fed ps r → HasGiven fed ps r }
-    ensures bad { (fed : List ℕ) (ps : List Prim) (old new : Fed) (piece : List ℕ) (at : ℕ) → HasRead fed ps old
-        → Feeds old new piece (Err (Bad at)) → (n : ℕ) × GoesWrong (fed ++ piece) n × (at ≡ capped n) }
+    ensures given { GivesWhatItRead }
+    ensures bad { TellsWhereItGoesWrong }
 {}

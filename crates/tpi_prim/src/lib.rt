@@ -4,7 +4,7 @@
 mod decoding;
 mod encoding;
 mod frames;
-mod gathering;
+mod indication;
 mod laws;
 pub mod primitive;
 mod prims;
@@ -16,7 +16,7 @@ pub use encoding::{
     encode_unitdata_ind,
 };
 pub use frames::Frame;
-pub use gathering::Gathering;
+pub use indication::IndicationWriter;
 pub use laws::{pieces_law, primitives_law};
 pub use prims::Prims;
 pub use reading::{FeedFail, FrameReader};

@@ -3,7 +3,7 @@
 ghost use Rattle.std.specs.Prelude.{◌≡◌, ◌≤◌, length, None, [], IsOk, MatchResult};
 ghost use Rattle.tpi_grammar.specs.Form.{short};
 ghost use Rattle.tpi_grammar.specs.Measured.{MeansFrame};
-ghost use Rattle.tpi_prim.specs.Reading.{Feeds, IsFront, IsStop};
+ghost use Rattle.tpi_prim.specs.Reading.{Feeds, IsFrontOf, IsStop};
 
 use crate::decoding::{Decoded, decode};
 use crate::prims::Prims;
@@ -139,7 +139,7 @@ impl From<AllocError> for Stop {
 
 /// Reads frames one after the other, up to one that isn't whole.
 fn read_frames(alloc: Global, bytes: &[u8]) -> Result<Front, Stop>
-    ensures { MatchResult result (λ front. IsFront bytes.now front.prims front.used) (λ stop. IsStop bytes.now stop) }
+    ensures { MatchResult result (IsFrontOf bytes.now) (IsStop bytes.now) }
 {
     let mut prims = Prims::new(alloc);
     let mut used = 0;

@@ -1,7 +1,9 @@
 -- The words in which the table of negotiation is read line by line.
-use Rattle.std.specs.Prelude.{◌≢◌, ℕ, List, [], ◌∷◌}
+use Rattle.std.specs.Prelude.{◌≡◌, ◌≢◌, ℕ, List, [], ◌∷◌}
+use Rattle.xti_base.specs.declared.limits.TheConstants.{MOST_SIZE}
 use Rattle.xti_base.specs.declared.options.Opt.{Opt}
-use Rattle.xti_base.specs.Negotiation.{Settings, Negotiated, xti_generic, xti_sndbuf, xti_rcvbuf, xti_sndlowat, xti_rcvlowat, t_success, t_partsuccess, t_failure, t_readonly, t_notsupport}
+use Rattle.xti_base.specs.Options.{word_bytes}
+use Rattle.xti_base.specs.Negotiation.{Settings, Negotiated, negotiate, t_check, t_negotiate, xti_generic, xti_sndbuf, xti_rcvbuf, xti_sndlowat, xti_rcvlowat, t_success, t_partsuccess, t_failure, t_readonly, t_notsupport}
 
 pub data Side : Type 0 where
   sending : Side
@@ -45,6 +47,23 @@ mark side status value = generic (mark_name side) status value
 -- one option answered: these settings, and the option with this result and value
 abbrev pub answers : Settings → Opt → ℕ → List ℕ → Negotiated
 answers s o result value = record { settings = s; options = record { level = o.level; name = o.name; status = result; value = value } ∷ []; result = result }
+
+-- such an option is not supported
+abbrev pub IsNotSupported : Settings → ℕ → Opt → Type 0
+IsNotSupported s action o = negotiate s action (o ∷ []) ≡ answers s o t_notsupport []
+
+-- a value that sets no size: the size that stays is told
+abbrev pub SetsNothing : Settings → Side → ℕ → List ℕ → Type 0
+SetsNothing s side status value =
+    negotiate s t_negotiate (buffer side status value ∷ []) ≡ answers s (buffer side status value) t_failure (word_bytes (size side s))
+
+-- a check of the option answers as a negotiation does, and sets nothing
+abbrev pub ChecksAlone : Settings → Opt → Type 0
+ChecksAlone s o = negotiate s t_check (o ∷ []) ≡ record (negotiate s t_negotiate (o ∷ [])) { settings = s }
+
+-- the receive size 65,536, a part of what was asked, and the low-water mark 1, which is read only
+abbrev pub worked_answer : List Opt
+worked_answer = generic 4098 256 (word_bytes MOST_SIZE) ∷ generic 4099 512 (word_bytes 1) ∷ []
 
 -- the name of none of the four options
 pub record IsUnknownName (name : ℕ) : Type 0 where

@@ -4,17 +4,18 @@
 ghost use Rattle.std.specs.Prelude.{◌≡◌, ◌≢◌, ◌<◌, ◌≤◌, ◌^◌, ℕ, List, [], ◌∷◌, ◌++◌, ◌⊎◌, All, Any, Some, map, length, false};
 ghost use Rattle.xti_base.specs.declared.limits.TheConstants.{MOST_SIZE};
 ghost use Rattle.xti_base.specs.declared.options.Opt.{Opt};
-ghost use Rattle.xti_base.specs.Options.{word_bytes, read_options, is_option_list, options_bytes, IsOption, IsFirstWrongOption};
-ghost use Rattle.xti_base.specs.Negotiation.{Settings, negotiate, only_asks, badness, worse, xti_generic, t_negotiate, t_check, t_default, t_current, t_success, t_failure, t_partsuccess, t_readonly, t_notsupport};
-ghost use Rattle.xti_opt.specs.Table.{Side, all_sizes, generic, buffer, mark, size, start_size, with_size, answers, IsUnknownName, results, place_of};
+ghost use Rattle.xti_base.specs.Options.{word_bytes, read_options, options_bytes, IsOption, IsFirstWrongOption};
+ghost use Rattle.xti_base.specs.Negotiation.{Settings, negotiate, only_asks, badness, worse, xti_generic, t_negotiate, t_check, t_default, t_current, t_success, t_failure, t_partsuccess, t_readonly};
+ghost use Rattle.xti_opt.specs.Table.{Side, all_sizes, generic, buffer, mark, size, start_size, with_size, answers, results, place_of, worked_answer, ChecksAlone, IsNotSupported, IsUnknownName, SetsNothing};
+ghost use Rattle.xti_opt.specs.Read.{IsNoList, IsReadBack};
 
 /// Reading what was written gives the options back, and writing what was read gives the bytes back.
 pub fn round_trips()
-    ensures written { (os : List Opt) → All IsOption os → read_options (options_bytes os) ≡ Some os }
+    ensures written { (os : List Opt) → All IsOption os → IsReadBack os }
     ensures read { (bytes : List ℕ) (os : List Opt) → All (λ b. b < 256) bytes →
         read_options bytes ≡ Some os → options_bytes os ≡ bytes }
     // A first wrong option stands only where the bytes are no list of options, and at one place.
-    ensures wrong { (bytes : List ℕ) (at : ℕ) → IsFirstWrongOption bytes at → is_option_list bytes ≡ false }
+    ensures wrong { (bytes : List ℕ) (at : ℕ) → IsFirstWrongOption bytes at → IsNoList bytes }
     ensures one_wrong { (bytes : List ℕ) (at other : ℕ) →
         IsFirstWrongOption bytes at → IsFirstWrongOption bytes other → at ≡ other }
 {}
@@ -22,9 +23,9 @@ pub fn round_trips()
 /// How a single option is answered, by the lines of the table.
 pub fn negotiation_table()
     ensures unknown_level { (s : Settings) (action : ℕ) (o : Opt) → o.level ≢ xti_generic →
-        negotiate s action (o ∷ []) ≡ answers s o t_notsupport [] }
-    ensures unknown_name { (s : Settings) (action name status : ℕ) (value : List ℕ) → IsUnknownName name →
-        negotiate s action (generic name status value ∷ []) ≡ answers s (generic name status value) t_notsupport [] }
+        IsNotSupported s action o }
+    ensures unknown_name { (s : Settings) (action name status : ℕ) (value : List ℕ) →
+        IsUnknownName name → IsNotSupported s action (generic name status value) }
 
     // The low-water marks are 1. A check without a value only asks whether there is such an option.
     ensures mark_asked { (s : Settings) (side : Side) (status : ℕ) →
@@ -43,16 +44,13 @@ pub fn negotiation_table()
         negotiate s t_negotiate (buffer side status (word_bytes n) ∷ []) ≡
         answers (with_size side MOST_SIZE s) (buffer side status (word_bytes n)) t_partsuccess (word_bytes MOST_SIZE) }
     ensures size_zero { (s : Settings) (side : Side) (status : ℕ) →
-        negotiate s t_negotiate (buffer side status (word_bytes 0) ∷ []) ≡
-        answers s (buffer side status (word_bytes 0)) t_failure (word_bytes (size side s)) }
-    ensures wrong_length { (s : Settings) (side : Side) (status : ℕ) (value : List ℕ) → length value ≢ 4 →
-        negotiate s t_negotiate (buffer side status value ∷ []) ≡
-        answers s (buffer side status value) t_failure (word_bytes (size side s)) }
+        SetsNothing s side status (word_bytes 0) }
+    ensures wrong_length { (s : Settings) (side : Side) (status : ℕ) (value : List ℕ) →
+        length value ≢ 4 → SetsNothing s side status value }
 
     // A check with a value answers as a negotiation does and sets nothing.
-    ensures check { (s : Settings) (side : Side) (status : ℕ) (value : List ℕ) → only_asks t_check value ≡ false →
-        negotiate s t_check (buffer side status value ∷ []) ≡
-        record (negotiate s t_negotiate (buffer side status value ∷ [])) { settings = s } }
+    ensures check { (s : Settings) (side : Side) (status : ℕ) (value : List ℕ) →
+        only_asks t_check value ≡ false → ChecksAlone s (buffer side status value) }
     ensures current { (s : Settings) (side : Side) (status : ℕ) (value : List ℕ) →
         negotiate s t_current (buffer side status value ∷ []) ≡
         answers s (buffer side status value) t_success (word_bytes (size side s)) }
@@ -100,10 +98,10 @@ pub fn worked_negotiation()
     ensures answered { let s : Settings = all_sizes 16384 in
         negotiate s t_negotiate (generic 4098 0 (word_bytes 70000) ∷ generic 4099 0 (word_bytes 5) ∷ []) ≡ record {
           settings = record s { rcvbuf = MOST_SIZE };
-          options = generic 4098 256 (word_bytes MOST_SIZE) ∷ generic 4099 512 (word_bytes 1) ∷ [];
+          options = worked_answer;
           result = 512;
         } }
-    ensures bytes { options_bytes (generic 4098 256 (word_bytes MOST_SIZE) ∷ generic 4099 512 (word_bytes 1) ∷ []) ≡
+    ensures bytes { options_bytes worked_answer ≡
         0 ∷ 0 ∷ 0 ∷ 20 ∷ 0 ∷ 0 ∷ 255 ∷ 255 ∷ 0 ∷ 0 ∷ 16 ∷ 2 ∷ 0 ∷ 0 ∷ 1 ∷ 0 ∷ 0 ∷ 1 ∷ 0 ∷ 0 ∷
         0 ∷ 0 ∷ 0 ∷ 20 ∷ 0 ∷ 0 ∷ 255 ∷ 255 ∷ 0 ∷ 0 ∷ 16 ∷ 3 ∷ 0 ∷ 0 ∷ 2 ∷ 0 ∷ 0 ∷ 0 ∷ 0 ∷ 1 ∷ [] }
 {}

@@ -2,9 +2,9 @@
 
 ghost use Rattle.std.specs.Prelude.{◌≡◌, ◌↔◌, All, false, true, IfOk, OnOk, OnErr, IsErrOf};
 ghost use Rattle.std.specs.List.{list_all};
-ghost use Rattle.xti_base.specs.Negotiation.{answered, has_level, is_action, is_one_level, negotiate};
+ghost use Rattle.xti_base.specs.Negotiation.{answered, has_level, is_action, is_one_level};
 ghost use Rattle.xti_opt.specs.Answers.{answer_of};
-ghost use Rattle.xti_opt.specs.Requests.{HasTwoLevels};
+ghost use Rattle.xti_opt.specs.Requests.{next_settings, told_options, told_overall, HasTwoLevels};
 ghost use Rattle.xti_opt.specs.Written.{IsWritable};
 
 use crate::OptList;
@@ -50,9 +50,9 @@ pub fn negotiate(
     action: u32,
     list: &OptList,
 ) -> Result<(OptList, u32), OptFail>
-    ensures options { IfOk result (λ told. told.0 ≡ (negotiate settings.old action list.now).options) }
-    ensures overall { IfOk result (λ told. told.1 ≡ (negotiate settings.old action list.now).result) }
-    ensures settings { OnOk result (settings.new ≡ (negotiate settings.old action list.now).settings) }
+    ensures options { IfOk result (λ told. told.0 ≡ told_options settings.old action list.now) }
+    ensures overall { IfOk result (λ told. told.1 ≡ told_overall settings.old action list.now) }
+    ensures settings { OnOk result (settings.new ≡ next_settings settings.old action list.now) }
     ensures err { OnErr result (settings.new ≡ settings.old) }
 
     // What is answered may be written.
@@ -83,9 +83,9 @@ fn negotiate_each(
     action: u32,
     options: &[Opt],
 ) -> Result<(OptList, u32), AllocError>
-    ensures options { IfOk result (λ told. told.0 ≡ (negotiate settings.old action options.now).options) }
-    ensures overall { IfOk result (λ told. told.1 ≡ (negotiate settings.old action options.now).result) }
-    ensures settings { OnOk result (settings.new ≡ (negotiate settings.old action options.now).settings) }
+    ensures options { IfOk result (λ told. told.0 ≡ told_options settings.old action options.now) }
+    ensures overall { IfOk result (λ told. told.1 ≡ told_overall settings.old action options.now) }
+    ensures settings { OnOk result (settings.new ≡ next_settings settings.old action options.now) }
 {
     let mut answers = Vec::with_capacity(alloc, options.len())?;
     let mut overall = T_SUCCESS;

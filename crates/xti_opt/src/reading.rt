@@ -2,7 +2,7 @@
 
 ghost use Rattle.std.specs.Prelude.{◌≡◌, ◌≤◌, ◌<◌, ◌↔◌, ℕ, All, true, not, length, Some, IfOk, IsErrOf, MatchOption};
 ghost use Rattle.xti_base.specs.Options.{front_length, front_option, read_options, is_option_list, the_options, options_bytes, IsOption, IsFirstWrongOption};
-ghost use Rattle.xti_opt.specs.Read.{is_bad};
+ghost use Rattle.xti_opt.specs.Read.{is_bad, RefusesFirstWrong};
 
 use crate::OptList;
 use crate::first::word_at;
@@ -36,7 +36,7 @@ impl From<AllocError> for OptRead {
 pub fn read_options(alloc: Global, bytes: &[u8]) -> Result<OptList, OptRead>
     ensures ok { IfOk result (λ list. read_options bytes.now ≡ Some list) }
     ensures bad { is_bad result ≡ not (is_option_list bytes.now) }
-    ensures at { (at : ℕ) → IsErrOf result (OptRead.BadOption at) ↔ IsFirstWrongOption bytes.now at }
+    ensures at { RefusesFirstWrong bytes.now result }
 
     // What is read has these bytes again, and may be written.
     ensures back { IfOk result (λ list. options_bytes list ≡ bytes.now) }

@@ -4,7 +4,7 @@ ghost use Rattle.std.specs.Prelude.{◌≡◌, ◌≤◌, ◌+◌, ◌++◌, ◌
 ghost use Rattle.xti_base.specs.Options.{word_bytes, is_option_list, the_options};
 ghost use Rattle.xti_base.specs.Negotiation.{Settings as AnySettings, is_action, is_one_level};
 ghost use Rattle.xti_opt.specs.Answers.{answer_of};
-ghost use Rattle.xti_opt.specs.Requests.{is_request, IsBadRequest, negotiated_request, answered_bytes, told_bytes, meant_bytes, header_bytes};
+ghost use Rattle.xti_opt.specs.Requests.{answered_bytes, asked_overall, asked_settings, header_bytes, is_request, meant_bytes, told_bytes, told_size, whole_room, AddsAnswer, IsAnswerSize, IsBadRequest};
 
 use crate::answers::{Answer, Subject, only_asks, worse};
 use crate::first::split_first;
@@ -29,7 +29,7 @@ pub enum OptRefusal {
 /// Errors: `BadFlag` exactly where there is no such action; else `BadOption` exactly where the bytes are no list of
 /// options, or two of the options have different levels.
 pub fn answer_size(action: u32, request: &[u8]) -> Result<usize, OptRefusal>
-    ensures size { IfOk result (λ size. (s : AnySettings) → size ≡ length (answered_bytes s action request.now)) }
+    ensures size { IfOk result (IsAnswerSize action request.now) }
     ensures bad_flag { IsErrOf result OptRefusal.BadFlag ↔ (is_action action ≡ false) }
     ensures bad_option { IsErrOf result OptRefusal.BadOption ↔ IsBadRequest action request.now }
 {
@@ -55,10 +55,10 @@ pub fn negotiate_bytes(
 ) -> Result<u32, OptRefusal>
     requires space { (is_action action && is_request request.now) ≡ true →
         length (answered_bytes settings.old action request.now) ≤ room.old.spare }
-    ensures bytes { OnOk result (room.new.bytes ≡ room.old.bytes ++ answered_bytes settings.old action request.now) }
-    ensures overall { IfOk result (λ overall. overall ≡ (negotiated_request settings.old action request.now).result) }
-    ensures settings { OnOk result (settings.new ≡ (negotiated_request settings.old action request.now).settings) }
-    ensures spare { room.old.spare + length room.old.bytes ≤ room.new.spare + length room.new.bytes }
+    ensures bytes { OnOk result (AddsAnswer settings.old action request.now room.old room.new) }
+    ensures overall { IfOk result (λ r. r ≡ asked_overall settings.old action request.now) }
+    ensures settings { OnOk result (settings.new ≡ asked_settings settings.old action request.now) }
+    ensures spare { whole_room room.old ≤ whole_room room.new }
     ensures err { OnErr result (settings.new ≡ settings.old) }
     ensures err_room { OnErr result (room.new ≡ room.old) }
 
@@ -126,9 +126,9 @@ fn size_of_answer(action: u32, level: u32, name: u32, value: &[u8]) -> usize
 
 /// Adds the answer to the option of this level and name.
 fn write_answer(room: &mut Room, level: u32, name: u32, answer: Answer)
-    requires { length (told_bytes level name (answer_of answer)) ≤ room.old.spare }
+    requires { told_size level name answer ≤ room.old.spare }
     ensures bytes { room.new.bytes ≡ room.old.bytes ++ told_bytes level name (answer_of answer) }
-    ensures spare { room.old.spare ≤ room.new.spare + length (told_bytes level name (answer_of answer)) }
+    ensures spare { room.old.spare ≤ room.new.spare + told_size level name answer }
 {
     match answer.value {
         Some(word) => {

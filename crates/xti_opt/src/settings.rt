@@ -3,6 +3,7 @@
 ghost use Rattle.std.specs.Prelude.{◌≡◌};
 ghost use Rattle.xti_base.specs.Negotiation.{answer_meant, set_meant};
 ghost use Rattle.xti_opt.specs.Answers.{answer_of, meaning_of, meaning_at};
+ghost use Rattle.xti_opt.specs.Requests.{meant_answer};
 
 use crate::answers::{Answer, Subject, buffer_answer, low_water_answer};
 use crate::numbers::T_NOTSUPPORT;
@@ -40,7 +41,7 @@ impl Settings {
         name: u32,
         value: &[u8],
     ) -> Answer
-        ensures answer { answer_of result ≡ answer_meant self.old action value.now (meaning_at level name) }
+        ensures answer { answer_of result ≡ meant_answer self.old action level name value.now }
         ensures settings { self.new ≡ set_meant self.old (meaning_at level name) result.sets }
     {
         let subject = Subject::of(level, name);

@@ -7,9 +7,9 @@ ghost use Rattle.tpi_grammar.specs.Frame.{AreBytes};
 ghost use Rattle.tpi_prim.specs.Primitive.{user_of};
 ghost use Rattle.tpi_prim.specs.Fields.{kind_in, primitive_in};
 ghost use Rattle.xti_model.specs.Symbols as waiting;
-ghost use Rattle.xti_queue.specs.Indications.{can_wait, ends_message, begun, left_behind};
+ghost use Rattle.xti_queue.specs.Indications.{can_wait, ends_message, begun};
 ghost use Rattle.xti_queue.specs.Kept.{AllWait, IsWithin};
-ghost use Rattle.xti_queue.specs.Front.{symbols_in, in_line, left_of, StopsAt, IsTakenFrom};
+ghost use Rattle.xti_queue.specs.Front.{symbols_in, in_line, left_of, AreLastOf, AsBefore, HasRoomFor, IsTakenFrom, LeavesBehind, Stops};
 
 use crate::queue::Piece;
 use std::alloc::{AllocError, Global};
@@ -83,22 +83,23 @@ fn take_front(
     requires within { IsWithin taken.old held.old.items }
     requires most { vec_len bytes.old ≤ max }
     requires are_bytes { AreBytes bytes.old.items }
-    requires room { length (waiting.front max (in_line bytes.old.items taken.old held.old.items)) ≤ vec_capacity bytes.old }
+    requires room { HasRoomFor bytes.old max (in_line bytes.old.items taken.old held.old.items) }
     ensures ended { result ≡ Step.Ended → in_line bytes.old.items taken.old held.old.items ≡
         bytes.new.items ++ waiting.end_of_message ∷ symbols_in taken.new held.new.items }
     ensures other { (result ≡ Step.Ended → ⊥) →
         in_line bytes.old.items taken.old held.old.items ≡ in_line bytes.new.items taken.new held.new.items }
-    ensures stops { result ≡ Step.Stopped → StopsAt (vec_len bytes.new) (symbols_in taken.new held.new.items) max }
+    ensures stops { result ≡ Step.Stopped → Stops max (vec_len bytes.new) taken.new held.new.items }
     ensures left { (result ≡ Step.More → ⊥) →
         left_of max (vec_len bytes.old) taken.old held.old.items ≡ begun taken.new held.new.items }
-    ensures goes_on { result ≡ Step.More → left_of max (vec_len bytes.old) taken.old held.old.items ≡
+    ensures goes_on { result ≡ Step.More →
+        left_of max (vec_len bytes.old) taken.old held.old.items ≡
         left_of max (vec_len bytes.new) taken.new held.new.items }
     ensures falls { result ≡ Step.More → deque_len held.new < deque_len held.old }
     ensures wait { AllWait held.new.items }
     ensures within { IsWithin taken.new held.new.items }
     ensures most { vec_len bytes.new ≤ max }
     ensures are_bytes { AreBytes bytes.new.items }
-    ensures items { held.new.items ≡ drop (length held.old.items - length held.new.items) held.old.items }
+    ensures items { AreLastOf held.old.items held.new.items }
     ensures shorter { length held.new.items ≤ length held.old.items }
     ensures bytes_capacity { vec_capacity bytes.old ≤ vec_capacity bytes.new }
     ensures capacity { deque_capacity held.new ≡ deque_capacity held.old }
@@ -124,16 +125,16 @@ fn take_run(held: &mut VecDeque<Frame>, taken: &mut usize, bytes: &mut Vec<u8>, 
     requires wait { AllWait held.old.items }
     requires within { IsWithin taken.old held.old.items }
     requires empty { bytes.old.items ≡ [] }
-    requires room { length (waiting.front max (symbols_in taken.old held.old.items)) ≤ vec_capacity bytes.old }
+    requires room { HasRoomFor bytes.old max (symbols_in taken.old held.old.items) }
     ensures moved { symbols_in taken.old held.old.items ≡
         in_line (waiting.piece bytes.new.items result) taken.new held.new.items }
-    ensures stops { result ≡ false → StopsAt (vec_len bytes.new) (symbols_in taken.new held.new.items) max }
-    ensures left { left_behind max (begun taken.old held.old.items) ≡ begun taken.new held.new.items }
+    ensures stops { result ≡ false → Stops max (vec_len bytes.new) taken.new held.new.items }
+    ensures left { LeavesBehind max taken.old held.old.items taken.new held.new.items }
     ensures wait { AllWait held.new.items }
     ensures within { IsWithin taken.new held.new.items }
     ensures most { vec_len bytes.new ≤ max }
     ensures are_bytes { AreBytes bytes.new.items }
-    ensures items { held.new.items ≡ drop (length held.old.items - length held.new.items) held.old.items }
+    ensures items { AreLastOf held.old.items held.new.items }
     ensures shorter { length held.new.items ≤ length held.old.items }
     ensures capacity { deque_capacity held.new ≡ deque_capacity held.old }
 {
@@ -158,8 +159,8 @@ fn take_first(
     requires within { IsWithin taken.old held.old.items }
     ensures piece { IfOk result (λ some. IfSome some (λ p.
         IsTakenFrom max taken.old held.old.items taken.new held.new.items p.bytes p.ended)) }
-    ensures none { IfOk result (λ some. IfNone some ((held.new ≡ held.old) × (taken.new ≡ taken.old))) }
-    ensures err { OnErr result ((held.new ≡ held.old) × (taken.new ≡ taken.old)) }
+    ensures none { IfOk result (λ p. IfNone p (AsBefore held.old taken.old held.new taken.new)) }
+    ensures err { OnErr result (AsBefore held.old taken.old held.new taken.new) }
     ensures capacity { deque_capacity held.new ≡ deque_capacity held.old }
 {
     let Some(frame) = held.front() else {
@@ -194,7 +195,7 @@ pub(crate) fn take_piece(
     requires within { IsWithin taken.old held.old.items }
     ensures piece { IfOk result (λ p.
         IsTakenFrom max taken.old held.old.items taken.new held.new.items p.bytes p.ended) }
-    ensures err { OnErr result ((held.new ≡ held.old) × (taken.new ≡ taken.old)) }
+    ensures err { OnErr result (AsBefore held.old taken.old held.new taken.new) }
     ensures capacity { deque_capacity held.new ≡ deque_capacity held.old }
 {
     if let Some(piece) = take_first(alloc, held, taken, max)? {

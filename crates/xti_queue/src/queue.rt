@@ -6,7 +6,8 @@ ghost use Rattle.tpi_prim.specs.Primitive.{kind_of, user_of};
 ghost use Rattle.tpi_prim.specs.Fields.{kind_in, primitive_in};
 ghost use Rattle.xti_model.specs.Symbols as waiting;
 ghost use Rattle.xti_queue.specs.Indications.{can_wait, symbols_of, left_behind};
-ghost use Rattle.xti_queue.specs.Queue.{frames, symbols};
+ghost use Rattle.xti_queue.specs.Front.{AreLastOf};
+ghost use Rattle.xti_queue.specs.Queue.{frames, symbols, StoodFirst};
 
 use crate::front::{ends, rest_of, take_piece};
 use std::alloc::{AllocError, Global};
@@ -109,9 +110,9 @@ impl ReadQueue {
         ensures bytes { IfOk result (λ p. p.bytes ≡ waiting.front max (symbols self.old)) }
         ensures ended { IfOk result (λ p. p.ended ≡ waiting.ended max (symbols self.old)) }
         ensures rest { OnOk result (symbols self.new ≡ waiting.rest max (symbols self.old)) }
-        ensures moved { IfOk result (λ p. symbols self.old ≡ waiting.piece p.bytes p.ended ++ symbols self.new) }
+        ensures moved { IfOk result (λ p. StoodFirst p.bytes p.ended self.old self.new) }
         ensures frames { OnOk result (frames self.new ≡ left_behind max (frames self.old)) }
-        ensures pushed { self.new.pushed ≡ drop (length self.old.pushed - length self.new.pushed) self.old.pushed }
+        ensures pushed { AreLastOf self.old.pushed self.new.pushed }
         ensures spare { self.new.spare ≡ self.old.spare }
         ensures err { OnErr result (self.new ≡ self.old) }
     {
@@ -161,14 +162,6 @@ impl ReadQueue {
     {
         let frame = self.held.front()?;
         Some(rest_of(frame, self.taken))
-    }
-
-    /// The first frame's kind; `None` exactly where the queue is empty. Takes no memory.
-    pub fn head_kind(&self) -> Option<Kind>
-        ensures { result ≡ option_map kind_of (slice_get (frames self.now) 0) }
-    {
-        let frame = self.held.front()?;
-        Some(frame.kind())
     }
 
     /// How many frames wait.

@@ -1,8 +1,11 @@
 -- Entries of addresses, and the links between them.
 use Rattle.std.specs.Prelude.{◌≡◌, ◌≢◌, ◌<◌, ◌==◌, ℕ, Bool, true, false, List, Contains, filter, not, [], Option, Some, None, length, map, slice_index_or}
 use Rattle.slab.specs.Slab.{get, ContainsKey}
+use Rattle.xti_base.specs.declared.kinds.Fd.{Fd}
+use Rattle.xti_base.specs.declared.kinds.Prov.{Prov}
 use Rattle.xti_base.specs.declared.kinds.Prov.TheVariants.{Other}
 use Rattle.xti_model.specs.World.{Binding}
+use Rattle.xti_registry.specs.Known.{least_asked, number_of, switch_with}
 use Rattle.xti_registry.specs.declared.addresses.Addresses.{Addresses}
 use Rattle.xti_registry.specs.declared.addresses.Entry.{Entry}
 use Rattle.xti_registry.specs.declared.addresses.Link.{Link}
@@ -27,6 +30,14 @@ binding_at a key = binding_of (get a.entries key)
 -- the bindings in the order in which the addresses were given
 abbrev pub bindings_of : Addresses → List Binding
 bindings_of a = map (binding_at a) a.order.items
+
+-- the bindings of other descriptors
+abbrev pub bindings_without : ℕ → Addresses → List Binding
+bindings_without fd a = filter (λ b. not (b.fd == fd)) (bindings_of a)
+
+-- the least descriptor that is bound to the address, or that listens there, but for one that is named
+abbrev pub least_here : Addresses → Prov → List ℕ → Bool → Option Fd → Option ℕ
+least_here a prov address listening except = least_asked (switch_with (bindings_of a)) prov address listening (number_of except)
 
 -- the link that an entry says leads to it
 abbrev pub link_to : Addresses → ℕ → Option Link
@@ -72,3 +83,11 @@ keys_without a fd = filter (λ key. not (is_of a fd key)) a.order.items
 pub record IsKeyOf (a : Addresses) (fd key : ℕ) : Type 0 where
   pub listed : Contains a.order.items key
   pub found : is_of a fd key ≡ true
+
+-- the keys of the order but for one
+abbrev pub other_keys : ℕ → Addresses → List ℕ
+other_keys key a = filter (λ other. not (other == key)) a.order.items
+
+-- under each key but one the binding is as it was
+abbrev pub KeepsOtherBindings : ℕ → Addresses → Addresses → Type 0
+KeepsOtherBindings key old new = (other : ℕ) → other ≢ key → binding_at new other ≡ binding_at old other

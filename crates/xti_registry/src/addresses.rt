@@ -1,11 +1,11 @@
 //! The addresses that are bound, each under a key of its own as long as it is, in chains of those whose words fall together.
 
-ghost use Rattle.std.specs.Prelude.{◌≡◌, ◌≢◌, ◌≤◌, ◌<◌, ◌+◌, ◌++◌, ◌∷◌, [], ℕ, not, ◌==◌, Some, None, if◌then◌else◌, length, map, filter, replicate, position, vec_capacity, option_map, IfOk, OnOk, IfSome, IfNone};
+ghost use Rattle.std.specs.Prelude.{◌≡◌, ◌≤◌, ◌<◌, ◌+◌, ◌++◌, ◌∷◌, [], ℕ, Some, None, if◌then◌else◌, length, map, replicate, position, vec_capacity, IfOk, OnOk, IfSome, IfNone};
 ghost use Rattle.slab.specs.Slab.{get, ContainsKey, slab_len};
 ghost use Rattle.xti_model.specs.Switch.{less};
 ghost use Rattle.xti_registry.specs.Chains.{IsChained, HasRoom};
-ghost use Rattle.xti_registry.specs.Known.{is_asked, is_other, least_asked, switch_with};
-ghost use Rattle.xti_registry.specs.Links.{IsLink, IsRelinked, IsLedBy, binding_at, IsKeyOf, bindings_of, is_of, keys_without};
+ghost use Rattle.xti_registry.specs.Known.{is_asked, is_other, number_of};
+ghost use Rattle.xti_registry.specs.Links.{IsLink, IsRelinked, IsLedBy, IsKeyOf, KeepsOtherBindings, bindings_of, bindings_without, is_of, keys_without, least_here, other_keys};
 ghost use Rattle.xti_registry.specs.Word.{word_of};
 
 use crate::binding::{Binding, CHAINS, chain_of, word_of};
@@ -55,7 +55,7 @@ fn least_with(b: &Binding, asked: bool, least: Option<u32>) -> Option<u32>
 
 /// Whether a binding is of another descriptor than this one, where one is named.
 fn is_other(b: &Binding, except: Option<Fd>) -> bool
-    ensures { result ≡ is_other (option_map (λ fd. fd.0) except) b.now }
+    ensures { result ≡ is_other (number_of except) b.now }
 {
     match except {
         Some(fd) => b.fd != fd,
@@ -73,7 +73,7 @@ fn is_asked(
     except: Option<Fd>,
 ) -> bool
     requires { word ≡ word_of prov address.now }
-    ensures { result ≡ is_asked prov address.now listening (option_map (λ fd. fd.0) except) b.now }
+    ensures { result ≡ is_asked prov address.now listening (number_of except) b.now }
 {
     is_other(b, except) && b.is_bound(prov, address, word) && (!listening || b.listening)
 }
@@ -110,7 +110,7 @@ impl Addresses {
         except: Option<Fd>,
     ) -> Option<u32>
         requires { IsChained self.now }
-        ensures { result ≡ least_asked (switch_with (bindings_of self.now)) prov address.now listening (option_map (λ fd. fd.0) except) }
+        ensures { result ≡ least_here self.now prov address.now listening except }
     {
         let word = word_of(prov, address);
         let mut least = None;
@@ -192,8 +192,8 @@ impl Addresses {
         requires chained { IsChained self.old }
         requires known { ContainsKey self.old.entries key }
         ensures chained { IsChained self.new }
-        ensures order { self.new.order.items ≡ filter (λ other. not (other == key)) self.old.order.items }
-        ensures bindings { (other : ℕ) → other ≢ key → binding_at self.new other ≡ binding_at self.old other }
+        ensures order { self.new.order.items ≡ other_keys key self.old }
+        ensures bindings { KeepsOtherBindings key self.old self.new }
         ensures room { (n : ℕ) → HasRoom self.old n → HasRoom self.new n }
     {
         let entry = &self.entries[key];
@@ -234,7 +234,7 @@ impl Addresses {
     pub(crate) fn remove(&mut self, fd: Fd)
         requires { IsChained self.old }
         ensures chained { IsChained self.new }
-        ensures removed { bindings_of self.new ≡ filter (λ b. not (b.fd == fd.0)) (bindings_of self.old) }
+        ensures removed { bindings_of self.new ≡ bindings_without fd.0 self.old }
         ensures room { (n : ℕ) → HasRoom self.old n → HasRoom self.new n }
     {
         while let Some(key) = self.key_of(fd) {

@@ -2,6 +2,7 @@
 
 ghost use Rattle.std.specs.Prelude.{◌≡◌, ◌<◌};
 ghost use Rattle.xti_model.specs.Switch.{is_bound};
+ghost use Rattle.xti_registry.specs.Known.{binding_to};
 ghost use Rattle.xti_registry.specs.Word.{word_of, chain_of, binding_chain};
 
 use std::marker::Model;
@@ -60,7 +61,7 @@ pub(crate) fn chain_of(word: u32) -> usize
 
 impl Binding {
     pub(crate) fn new(prov: Prov, address: Octets, fd: Fd, listening: bool) -> Binding
-        ensures { result ≡ record { prov = prov; address = address; fd = fd.0; listening = listening } }
+        ensures { result ≡ binding_to prov address fd listening }
     {
         let word = word_of(prov, address.as_slice());
         Binding {

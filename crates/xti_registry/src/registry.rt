@@ -1,9 +1,9 @@
 //! The switch's table.
 
-ghost use Rattle.std.specs.Prelude.{◌≡◌, ◌≤◌, ◌<◌, ◌+◌, [], true, false, IfOk, OnOk, OnErr, IfSome, IsOk, length, max, option_map, position};
+ghost use Rattle.std.specs.Prelude.{◌≡◌, ◌≤◌, ◌<◌, ◌+◌, [], true, false, IfOk, OnOk, OnErr, IfSome, IsOk, length, max, position};
 ghost use Rattle.xti_model.specs.Switch.{chosen, free_place, give_address, give_up_address, is_free, listener, mark_closed, mark_open, numbered_address, place_at};
-ghost use Rattle.xti_model.specs.World.{descriptor, opening_switch, places};
-ghost use Rattle.xti_registry.specs.Known.{bound_at, switch_with};
+ghost use Rattle.xti_model.specs.World.{opening_switch, places};
+ghost use Rattle.xti_registry.specs.Known.{bound_at, descriptor_at, number_of, switch_with};
 ghost use Rattle.xti_registry.specs.Chains.{IsChained};
 ghost use Rattle.xti_registry.specs.Links.{bindings_of};
 ghost use Rattle.xti_registry.specs.declared.registry.TheConstants.{LONGEST};
@@ -110,7 +110,7 @@ impl Registry {
     /// The least descriptor that is bound to the address; with `listening`, of the endpoints with a queue alone. Takes no memory.
     /// The cost is in proportion to how many bindings stand in the address's chain.
     pub fn bound(&self, prov: Prov, addr: &[u8], listening: bool) -> Option<Fd>
-        ensures { option_map (λ fd. fd.0) result ≡ bound_at self.now.switch prov addr.now listening }
+        ensures { number_of result ≡ bound_at self.now.switch prov addr.now listening }
     {
         let least = self.addresses.least_at(prov, addr, listening, None)?;
         Some(Fd(least))
@@ -118,7 +118,7 @@ impl Registry {
 
     /// The least descriptor but this one that listens at the address. Takes no memory. The cost is that of `bound`.
     pub fn listener(&self, prov: Prov, addr: &[u8], except: Fd) -> Option<Fd>
-        ensures { option_map (λ fd. fd.0) result ≡ listener self.now.switch prov addr.now except.0 }
+        ensures { number_of result ≡ listener self.now.switch prov addr.now except.0 }
     {
         let least = self.addresses.least_at(prov, addr, true, Some(except))?;
         Some(Fd(least))
@@ -181,7 +181,7 @@ impl Registry {
         requires place { place < length self.old.switch.places }
         requires number { place < places p.now }
         requires free { is_free p.now (place_at self.old.switch place) ≡ true }
-        ensures descriptor { result.0 ≡ descriptor p.now (place_at self.old.switch place).generation place }
+        ensures descriptor { result.0 ≡ descriptor_at p.now place self.old.switch }
         ensures switch { self.new.switch ≡ mark_open place self.old.switch }
         ensures spare { self.new.spare ≡ self.old.spare }
     {

@@ -3,7 +3,7 @@
 ghost use Rattle.std.specs.Prelude.{◌≡◌, ◌≤◌, ◌+◌, [], ◌++◌, length, IfOk};
 ghost use Rattle.tpi_grammar.specs.declared.kind.TheConstants.{MOST_DATA};
 ghost use Rattle.tpi_prim.specs.Fields.{primitive_in};
-ghost use Rattle.tpi_prim.specs.Gathering.{data_ind, heading, kind_for};
+ghost use Rattle.tpi_prim.specs.Indication.{begun_with, data_ind, heading, kind_for};
 
 use crate::encoding::{Front, put_word};
 use crate::frames::{Frame, FrameBytes};
@@ -20,38 +20,38 @@ const HEADING: usize = 16;
 /// A T_DATA_IND or a T_EXDATA_IND that is being written. Its user data come in pieces, and each byte is copied once. Up to 48 of
 /// them take no memory.
 #[derive(Drop)]
-pub struct Gathering {
+pub struct IndicationWriter {
     expedited: bool,
     more: bool,
     len: u32,
     bytes: FrameBytes,
 }
 
-impl Model for Gathering {
+impl Model for IndicationWriter {
     ghost use Rattle.std.specs.Prelude.{drop};
-    ghost use Rattle.tpi_prim.specs.Gathering.{Gathered, IsGathering};
+    ghost use Rattle.tpi_prim.specs.Indication.{PartIndication, IsPartIndication};
 
-    ghost Value = { Gathered };
+    ghost Value = { PartIndication };
 
     ghost view = { λ g. record { expedited = g.expedited; more = g.more; length = g.len; bytes = drop 16 g.bytes.items } };
 
-    ghost invariant = { λ g. IsGathering g.expedited g.more g.len g.bytes.items g.bytes.capacity };
+    ghost invariant = { λ g. IsPartIndication g.expedited g.more g.len g.bytes.items g.bytes.capacity };
 }
 
-impl Gathering {
+impl IndicationWriter {
     /// Begins a T_EXDATA_IND or a T_DATA_IND with this MORE_flag, and takes the memory for so many bytes of user data.
     pub fn begin(
         alloc: Global,
         expedited: bool,
         more: bool,
         len: usize,
-    ) -> Result<Gathering, AllocError>
+    ) -> Result<IndicationWriter, AllocError>
         requires { len ≤ MOST_DATA }
-        ensures { IfOk result (λ g. g ≡ record { expedited = expedited; more = more; length = len; bytes = [] }) }
+        ensures { IfOk result (λ g. g ≡ begun_with expedited more len) }
     {
         let mut bytes = FrameBytes::with_capacity(alloc, HEADING + len)?;
         put_heading(&mut bytes, expedited, more, len as u32);
-        Ok(Gathering {
+        Ok(IndicationWriter {
             expedited,
             more,
             len: len as u32,
@@ -72,7 +72,7 @@ impl Gathering {
         requires { length self.bytes ≡ self.length }
         ensures { primitive_in result ≡ data_ind self.expedited self.more self.bytes }
     {
-        let Gathering { bytes, .. } = self;
+        let IndicationWriter { bytes, .. } = self;
         Frame::of(bytes)
     }
 }

@@ -1,9 +1,9 @@
 use Rattle.std.proofs.Common.{◌≡◌, length, drop}
 use Rattle.tpi_prim.specs.Primitive.{filled}
-use Rattle.tpi_prim.specs.Gathering.{data_ind}
-use Rattle.tpi_prim.proofs.Gathered.{spelled}
+use Rattle.tpi_prim.specs.Indication.{data_ind}
+use Rattle.tpi_prim.proofs.Writing.{spelled}
 use Rattle.tpi_prim.proofs.FrameReads.{reads_back}
-use Rattle.tpi_prim.proofs.gathering.Gathering.finish.Goals as goal
+use Rattle.tpi_prim.proofs.indication.IndicationWriter.finish.Goals as goal
 
 pub of-requires : goal.of-requires
 of-requires c =
