@@ -34,7 +34,7 @@ alone-open p fd h o =
     rw (a.1, b.1) (some-parts h.body b.0)
 
 pub disconnect-told : (p : Providers) (h : Held) (fd umax : ℕ) → is_open_as p fd h ≡ true → has_connections (parts h).prov ≡ true → is_state connected_or_asking (parts h) ≡ true → some_wait (parts h).disconnects ≡ true
-    → disconnect_step p (alone h) fd umax (parts h) ≡ step_of p (alone h) (receiving_disconnect p h fd umax)
+    → disconnect_step p (alone h) fd umax (parts h) ≡ step_of p (alone h) (receiving_disconnect fd umax p h)
 disconnect-told p h fd umax o a b c = rw (alone-open p fd h o, a, b, c) refl
 
 none-waits : {A : Type 0} (o : Option A) → is_some o ≡ true → is_none o ≡ false
@@ -43,23 +43,23 @@ none-waits (Some x) h = refl
 
 pub request-told : (p : Providers) (h : Held) (fd amax omax umax : ℕ) → is_open_as p fd h ≡ true → has_connections (parts h).prov ≡ true → is_state (T_IDLE ∷ T_INCON ∷ []) (parts h) ≡ true
     → eqb (parts h).qlen 0 ≡ false → eqb (ocnt (parts h)) (parts h).qlen ≡ false → some_wait (parts h).disconnects ≡ false → some_wait (parts h).pending ≡ true
-    → request_step p (alone h) fd amax omax umax (parts h) ≡ step_of p (alone h) (listening p h fd amax omax umax)
+    → request_step p (alone h) fd amax omax umax (parts h) ≡ step_of p (alone h) (listening fd amax omax umax p h)
 request-told p h fd amax omax umax o a b q f d w = rw (alone-open p fd h o, a, b, q, f, d, w) refl
 
 pub confirmation-told : (p : Providers) (h : Held) (fd amax omax umax : ℕ) → is_open_as p fd h ≡ true → has_connections (parts h).prov ≡ true → same_state (parts h).state T_OUTCON ≡ true
     → some_wait (parts h).disconnects ≡ false → is_some (parts h).confirmation ≡ true
-    → confirmation_step p (alone h) fd amax omax umax (parts h) ≡ step_of p (alone h) (confirming p h fd amax omax umax)
+    → confirmation_step p (alone h) fd amax omax umax (parts h) ≡ step_of p (alone h) (confirming fd amax omax umax p h)
 confirmation-told p h fd amax omax umax o a b d w = rw (alone-open p fd h o, a, b, d, none-waits (parts h).confirmation w) refl
 
 pub error-told : (p : Providers) (h : Held) (fd amax omax : ℕ) → is_open_as p fd h ≡ true → has_datagrams (parts h).prov ≡ true → same_state (parts h).state T_IDLE ≡ true → some_wait (parts h).datagram_errors ≡ true
-    → error_step p (alone h) fd amax omax (parts h) ≡ step_of p (alone h) (receiving_error p h fd amax omax)
+    → error_step p (alone h) fd amax omax (parts h) ≡ step_of p (alone h) (receiving_error fd amax omax p h)
 error-told p h fd amax omax o a b w = rw (alone-open p fd h o, a, b, w) refl
 
 nothing-lost : (p : Providers) (w : World) (plan : Plan) (b : Bool) → b ≡ false → plan.rows ≡ record { holds = b; refusal = loses } ∷ [] → step_of p w plan ≡ Some (made p plan.fd plan.outcome (changed p w plan.changes))
 nothing-lost p w plan b f r = rw (r, f) refl
 
 pub addresses-told : (p : Providers) (h : Held) (fd amax pmax : ℕ) → is_open_as p fd h ≡ true → list_any is_too_long (Show.address_fields (parts h) amax pmax) ≡ false
-    → Some (made p fd (Done (Addresses (trimmed (address_of (parts h)) amax) (trimmed (Show.shown_peer (parts h)) pmax))) (alone h)) ≡ step_of p (alone h) (showing_addresses p h fd amax pmax)
+    → Some (made p fd (Done (Addresses (trimmed (address_of (parts h)) amax) (trimmed (Show.shown_peer (parts h)) pmax))) (alone h)) ≡ step_of p (alone h) (showing_addresses fd amax pmax p h)
 addresses-told p h fd amax pmax o f =
     let shows = λ (e : Endpoint). plan_of fd e (overflows (Show.address_fields e amax pmax) ∷ []) [] (Done (Addresses (trimmed (address_of e) amax) (trimmed (Show.shown_peer e) pmax))) in
     sym (nothing-lost p (alone h) (shows (parts h)) (list_any is_too_long (Show.address_fields (parts h) amax pmax)) f refl) ∙ ap (λ x. step_of p (alone h) (if_open fd x shows)) (sym (alone-open p fd h o))

@@ -1,5 +1,6 @@
 -- Frames that wait at an endpoint, as what they stand for.
-use Rattle.std.specs.Prelude.{◌≡◌, ℕ, List, [], Option, IfSome}
+use Rattle.std.specs.Prelude.{◌≡◌, ℕ, List, [], Option, option_copied, option_map, IfSome}
+use Rattle.std.specs.Borrow.{Bor}
 use Rattle.std.specs.List.{AllByRecursion}
 use Rattle.tpi_grammar.specs.declared.kind.Kind.{Kind}
 use Rattle.tpi_grammar.specs.declared.kind.Kind.TheVariants as kind
@@ -9,6 +10,10 @@ use Rattle.tpi_prim.specs.Fields.{kind_in, primitive_in}
 use Rattle.xti_model.specs.Endpoint.{Indication, Disconnect, Confirmation, Datagram, DatagramError}
 use Rattle.xti_queue.specs.Indications.{symbols_of}
 use Rattle.xti_end.specs.declared.indications.Ind.{Ind}
+
+-- what a lent frame, if there is one, stands for
+abbrev pub seen_as : {A B : Type 0} → (A → B) → Option (Bor A) → Option B
+seen_as f lent = option_map f (option_copied lent)
 
 abbrev pub no_datagram : Datagram
 no_datagram = record { source = []; options = []; bytes = [] }

@@ -2,10 +2,12 @@
 use Rattle.std.specs.Prelude.{◌≡◌, ℕ, Bool, false, ◌==◌, ◌&&◌, List, [], ◌∷◌, ◌++◌, Option, Some, None, is_some, unwrap_or, option_map, option_and_then, map, remove, slice_get}
 use Rattle.xti_base.specs.declared.kinds.Fd.{Fd}
 use Rattle.xti_base.specs.declared.kinds.Seq.{Seq}
+use Rattle.xti_base.specs.declared.kinds.Prov.{Prov}
 use Rattle.xti_base.specs.declared.kinds.Prov.TheVariants.{Ticlts}
 use Rattle.xti_base.specs.declared.kinds.State.TheVariants.{T_UNINIT}
 use Rattle.xti_model.specs.declared.profile.Providers.{Providers}
-use Rattle.xti_model.specs.Endpoint.{Endpoint, Target, Indication, Disconnect, Datagram, DatagramError, without_number}
+use Rattle.xti_model.specs.Endpoint.{Endpoint, Target, Indication, Disconnect, Confirmation, Datagram, DatagramError, opened, without_number}
+use Rattle.xti_model.specs.Provider.{profile}
 use Rattle.xti_model.specs.Calls.Datagrams.{with_datagram, with_error}
 use Rattle.xti_model.specs.Spot.{spot_bytes}
 use Rattle.xti_model.specs.Symbols as waiting
@@ -81,6 +83,10 @@ parts h = parts_of h.body
 abbrev pub with_parts : (Endpoint → Endpoint) → Held → Held
 with_parts f h = record h { body = option_map f h.body }
 
+-- an endpoint of the provider opens at the place
+abbrev pub with_opened : Providers → Prov → Bool → Held → Held
+with_opened p prov nonblock h = record h { body = Some (opened (profile p prov) prov nonblock) }
+
 -- the descriptor stands for this place and generation, and an endpoint is open
 abbrev pub is_open_as : Providers → ℕ → Held → Bool
 is_open_as p fd h = is_open h && (h.generation == generation_of p fd) && (h.place == place_of p fd)
@@ -135,7 +141,7 @@ endpoint_of e w = record {
   state = e.state;
   address = e.address;
   qlen = e.qlen;
-  last_number = e.connection.last_seq.0;
+  last_number = e.connection.last_number.0;
   pending = map indication_of w.pending.items;
   outstanding = map indication_of w.outstanding.items;
   disconnects = map disconnect_in w.disconnects.items;
@@ -154,13 +160,30 @@ endpoint_of e w = record {
   unfinished_expedited = e.connection.unfinished_expedited;
   flow_normal = e.connection.flow_normal;
   flow_expedited = e.connection.flow_expedited;
-  flow_datagram = option_map spot_bytes e.mark;
+  flow_datagram = option_map spot_bytes e.flow_datagram;
   sndbuf = e.sndbuf;
   rcvbuf = e.rcvbuf;
 }
 
 abbrev pub body_of : Option Parts → Waiting → Option Endpoint
 body_of o w = option_map (λ (e : Parts). endpoint_of e w) o
+
+-- the open endpoint is made of these parts, and of what waits
+abbrev pub IsMadeOf : Held → Parts → Type 0
+IsMadeOf h parts = (w : Waiting) × (h.body ≡ Some (endpoint_of parts w))
+
+-- another datagram flow mark, listener that is asked, other side or confirmation
+abbrev pub with_mark : Option (List ℕ) → Endpoint → Endpoint
+with_mark mark e = record e { flow_datagram = mark }
+
+abbrev pub with_target : Option Target → Endpoint → Endpoint
+with_target target e = record e { target = target }
+
+abbrev pub with_peer : Option ℕ → Endpoint → Endpoint
+with_peer peer e = record e { peer = peer }
+
+abbrev pub with_confirmation : Confirmation → Endpoint → Endpoint
+with_confirmation confirmation e = record e { confirmation = Some confirmation }
 
 -- one more indication, disconnect or run of symbols after the others
 abbrev pub with_pending : Indication → Endpoint → Endpoint
@@ -189,6 +212,13 @@ pub record SameRoom (old new : Held) : Type 0 where
   pub expedited : new.spare_expedited ≡ old.spare_expedited
   pub datagrams : new.spare_datagrams ≡ old.spare_datagrams
   pub datagram_errors : new.spare_datagram_errors ≡ old.spare_datagram_errors
+
+-- only how many more of one kind are taken with no memory may differ
+abbrev pub OnlyRoomForDisconnects : Held → Held → Type 0
+OnlyRoomForDisconnects old new = new ≡ record old { spare_disconnects = new.spare_disconnects }
+
+abbrev pub OnlyRoomForErrors : Held → Held → Type 0
+OnlyRoomForErrors old new = new ≡ record old { spare_datagram_errors = new.spare_datagram_errors }
 
 -- one more waits after the others; how many more are taken with no memory is said apart
 abbrev pub AddsPending : Indication → Held → Held → Type 0
@@ -242,6 +272,9 @@ outstanding_at h place = slice_get (parts h).outstanding place
 
 abbrev pub disconnect_at : Held → ℕ → Option Disconnect
 disconnect_at h place = slice_get (parts h).disconnects place
+
+abbrev pub error_at : Held → ℕ → Option DatagramError
+error_at h place = slice_get (errors_at h.body) place
 
 -- so many bytes were taken of the first normal or expedited message
 abbrev pub without_normal : ℕ → Endpoint → Endpoint

@@ -1,5 +1,5 @@
 -- How t_optmgmt refuses a request, and what it does with one that it does not refuse.
-use Rattle.std.specs.Prelude.{◌≡◌, ℕ, List, [], ◌∷◌, length, Option, Some, Result}
+use Rattle.std.specs.Prelude.{◌≡◌, ℕ, List, [], ◌∷◌, length, Option, Some}
 use Rattle.xti_base.specs.declared.errno.Errno.{Errno}
 use Rattle.xti_base.specs.Negotiation.{Negotiated, Settings, negotiate}
 use Rattle.xti_base.specs.Options.{options_bytes, the_options}
@@ -11,12 +11,13 @@ use Rattle.xti_model.specs.Plan.{Plan, Row, answers, field, first, overflows}
 use Rattle.xti_model.specs.Step.{Step, step_by}
 use Rattle.xti_model.specs.World.{World}
 use Rattle.xti_model.specs.Calls.Show as Show
+use Rattle.xti_end.specs.declared.negotiating.Request.{Request}
 use Rattle.xti_end.specs.Held.{Held, alone, parts}
-use Rattle.xti_end.specs.Taken.{taken, MakesBy}
+use Rattle.xti_end.specs.Taken.{taken}
 
 -- how an endpoint negotiates options
-abbrev pub negotiating : Providers → Held → ℕ → ℕ → List ℕ → ℕ → Plan
-negotiating p h fd action options omax = Show.option_plan p (alone h) fd action options omax
+abbrev pub negotiating : ℕ → Request → ℕ → Providers → Held → Plan
+negotiating fd request omax p h = Show.option_plan p (alone h) fd request.action request.options.now omax
 
 -- so many bytes answer the options, whatever the settings are
 abbrev pub IsAnswerSize : ℕ → List ℕ → ℕ → Type 0
@@ -39,10 +40,6 @@ abbrev pub option_step : Providers → World → ℕ → Negotiated → ℕ → 
 option_step p w fd n action options omax e = step_by p w (Show.option_plan_of fd n action options omax e) (first (answer_overflows n omax))
 
 -- the endpoint that was open made this step
-abbrev pub Negotiates : Providers → ℕ → ℕ → List ℕ → ℕ → Held → Held → Applied → Type 0
-Negotiates p fd action options omax old new a =
-    taken a (alone new) ≡ option_step p (alone old) fd (Show.negotiated p action options (parts old)) action options omax (parts old)
-
--- the answer, if there is one, is that of the negotiation
-abbrev pub MakesNegotiation : {E : Type 0} → Providers → ℕ → ℕ → List ℕ → ℕ → Held → Held → Result Applied E → Type 0
-MakesNegotiation p fd action options omax old new r = MakesBy p (negotiating p old fd action options omax) old new r
+abbrev pub Negotiates : Providers → ℕ → Request → ℕ → Held → Held → Applied → Type 0
+Negotiates p fd request omax old new a =
+    taken a (alone new) ≡ option_step p (alone old) fd (Show.negotiated p request.action request.options.now (parts old)) request.action request.options.now omax (parts old)

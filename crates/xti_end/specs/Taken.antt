@@ -1,5 +1,6 @@
 -- What a step answered, and the world that it left.
-use Rattle.std.specs.Prelude.{◌≡◌, ℕ, false, List, [], ◌∷◌, length, sum, Option, Some, None, Result, IfOk, IsOk}
+use Rattle.std.specs.Prelude.{◌≡◌, ℕ, Bool, false, List, [], ◌∷◌, length, sum, take, Option, Some, None, Result, IfOk, IsOk}
+use Rattle.std.specs.List.{list_any}
 use Rattle.xti_model.specs.declared.call.Call.{Call}
 use Rattle.xti_model.specs.declared.call.Call.TheVariants as call
 use Rattle.xti_model.specs.declared.profile.Providers.{Providers}
@@ -12,19 +13,25 @@ use Rattle.xti_model.specs.declared.entry.Reply.{Reply}
 use Rattle.xti_model.specs.Events.{some_wait}
 use Rattle.xti_model.specs.World.{World, place_of, at_endpoint}
 use Rattle.xti_model.specs.Endpoint.{Endpoint, Confirmation}
-use Rattle.xti_model.specs.Plan.{Plan, Field, field, first, has_effect, overflows, plan_of}
-use Rattle.xti_model.specs.Step.{Step, step_by, step_of}
+use Rattle.xti_model.specs.Plan.{Plan, Field, field, first, has_effect, is_too_long, overflows, plan_of}
+use Rattle.xti_model.specs.Step.{Step, made, step_by, step_of}
 use Rattle.xti_model.specs.Calls.Datagrams as Datagrams
 use Rattle.xti_model.specs.Calls.Connect as Connect
 use Rattle.xti_model.specs.Calls.Disconnect as Disconnect
 use Rattle.xti_model.specs.Calls.Listen as Listen
 use Rattle.xti_model.specs.Calls.Receive as Receive
+use Rattle.xti_model.specs.Calls.Release as Release
 use Rattle.xti_model.specs.Calls.Show as Show
+use Rattle.xti_end.specs.declared.receiving.Sizes.{Sizes}
 use Rattle.xti_end.specs.Held.{Held, alone, parts}
 
 abbrev pub taken : Applied → World → Option Step
 taken (applied.Step outcome after) w = Some (record { outcome = outcome; after = after; world = w })
 taken applied.Blocked w = None
+
+-- the answer is this reply, and the cell is as it is
+abbrev pub Replies : Providers → ℕ → Reply → Held → Applied → Type 0
+Replies p fd reply h a = taken a (alone h) ≡ Some (made p fd (Done reply) (alone h))
 
 -- the step is one of a call that touches one cell, and this is the cell; of t_connect only a later step is
 abbrev pub IsAt : Providers → ℕ → Call → Go → Type 0
@@ -55,37 +62,58 @@ receive_step p w fd sizes max amax omax e =
 abbrev pub error_fields : ℕ → ℕ → Endpoint → List Field
 error_fields amax omax e = field (Datagrams.first_error e).destination amax ∷ field (Datagrams.first_error e).options omax ∷ []
 
+abbrev pub told_error : ℕ → ℕ → Endpoint → Reply
+told_error amax omax e = Datagrams.error_reply (Datagrams.first_error e) amax omax
+
 -- the first error of the endpoint is there: it is told, or lost where a field is too long
 abbrev pub error_step : Providers → World → ℕ → ℕ → ℕ → Endpoint → Option Step
 error_step p w fd amax omax e =
-    step_by p w (plan_of fd e (Datagrams.error_rows amax omax e) (at_endpoint fd Datagrams.without_error ∷ []) (Done (Datagrams.error_reply (Datagrams.first_error e) amax omax)))
+    step_by p w (plan_of fd e (Datagrams.error_rows amax omax e) (at_endpoint fd Datagrams.without_error ∷ []) (Done (told_error amax omax e)))
     (first (overflows (error_fields amax omax e) ∷ []))
+
+-- whether a field of the oldest request is longer than the caller takes, and what is told of it
+abbrev pub request_overflows : ℕ → ℕ → ℕ → Endpoint → Bool
+request_overflows amax omax umax e = list_any is_too_long (Listen.fields (Listen.oldest e) amax omax umax)
+
+abbrev pub told_request : ℕ → ℕ → ℕ → Endpoint → Reply
+told_request amax omax umax e = Listen.listen_reply (Listen.oldest e) amax omax umax
 
 -- a request is pending: it is told, or its number alone where a field is too long
 abbrev pub request_step : Providers → World → ℕ → ℕ → ℕ → ℕ → Endpoint → Option Step
 request_step p w fd amax omax umax e =
-    step_by p w (record (plan_of fd e (Listen.listen_rows amax omax umax e) (at_endpoint fd Listen.listened ∷ []) (Done (Listen.listen_reply (Listen.oldest e) amax omax umax))) { lost_number = (Listen.oldest e).number })
+    step_by p w (record (plan_of fd e (Listen.listen_rows amax omax umax e) (at_endpoint fd Listen.listened ∷ []) (Done (told_request amax omax umax e))) { lost_number = (Listen.oldest e).number })
     (first (overflows (Listen.fields (Listen.oldest e) amax omax umax) ∷ []))
 
 -- the confirmation of an endpoint; an empty one where there is none
 abbrev pub confirmation_of : Endpoint → Confirmation
 confirmation_of e = Connect.confirmation_or e.confirmation
 
+-- whether a field of it is longer than the caller takes, and what is told of it
+abbrev pub confirmation_overflows : ℕ → ℕ → ℕ → Endpoint → Bool
+confirmation_overflows amax omax umax e = list_any is_too_long (Connect.fields (confirmation_of e) amax omax umax)
+
+abbrev pub told_confirmation : ℕ → ℕ → ℕ → Endpoint → Reply
+told_confirmation amax omax umax e = Connect.connected (confirmation_of e) amax omax umax
+
 -- a confirmation is there: it is told, or taken without being told where a field is too long
 abbrev pub confirmation_step : Providers → World → ℕ → ℕ → ℕ → ℕ → Endpoint → Option Step
 confirmation_step p w fd amax omax umax e =
-    step_by p w (plan_of fd e (Connect.confirm_rows amax omax umax e) (at_endpoint fd Connect.confirmed ∷ []) (Done (Connect.connected (confirmation_of e) amax omax umax)))
+    step_by p w (plan_of fd e (Connect.confirm_rows amax omax umax e) (at_endpoint fd Connect.confirmed ∷ []) (Done (told_confirmation amax omax umax e)))
     (first (overflows (Connect.fields (confirmation_of e) amax omax umax) ∷ []))
+
+-- what is told of the oldest disconnect
+abbrev pub told_disconnect : ℕ → Endpoint → Reply
+told_disconnect umax e = Disconnect.receive_reply (Disconnect.oldest e) umax
 
 -- a disconnect is there: it is told, or taken without its data where they are too long
 abbrev pub disconnect_step : Providers → World → ℕ → ℕ → Endpoint → Option Step
 disconnect_step p w fd umax e =
-    step_by p w (plan_of fd e (Disconnect.receive_rows umax e) (at_endpoint fd Disconnect.received ∷ []) (Done (Disconnect.receive_reply (Disconnect.oldest e) umax)))
+    step_by p w (plan_of fd e (Disconnect.receive_rows umax e) (at_endpoint fd Disconnect.received ∷ []) (Done (told_disconnect umax e)))
     (first (overflows (field (Disconnect.oldest e).udata umax ∷ []) ∷ []))
 
 -- the answer, and the cell that is left, are those of the plan's step
-abbrev pub AnswersBy : Providers → Plan → Held → Held → Applied → Type 0
-AnswersBy p plan old new a = taken a (alone new) ≡ step_of p (alone old) plan
+abbrev pub AnswersBy : Providers → (Providers → Held → Plan) → Held → Held → Applied → Type 0
+AnswersBy p plan old new a = taken a (alone new) ≡ step_of p (alone old) (plan p old)
 
 -- the answer, if there is one, and the cell that is left are those of this step
 abbrev pub Makes : {E : Type 0} → Option Step → Held → Result Applied E → Type 0
@@ -96,46 +124,70 @@ abbrev pub StillBlocked : {E : Type 0} → Held → Held → Result Applied E �
 StillBlocked old new r = IfOk r (λ a. taken a (alone new) ≡ None → new ≡ old)
 
 -- memory does not run out where the plan's first row that holds changes nothing
-abbrev pub IsSureBy : {E : Type 0} → Plan → Result Applied E → Type 0
-IsSureBy plan r = has_effect (first plan.rows) ≡ false → IsOk r
+abbrev pub IsSureBy : {E : Type 0} → Providers → (Providers → Held → Plan) → Held → Result Applied E → Type 0
+IsSureBy p plan old r = has_effect (first (plan p old).rows) ≡ false → IsOk r
 
 -- the answer, if there is one, is that of the plan
-abbrev pub MakesBy : {E : Type 0} → Providers → Plan → Held → Held → Result Applied E → Type 0
+abbrev pub MakesBy : {E : Type 0} → Providers → (Providers → Held → Plan) → Held → Held → Result Applied E → Type 0
 MakesBy p plan old new r = IfOk r (AnswersBy p plan old new)
 
+-- so many sizes, and their sum
+abbrev pub all_of : List ℕ → Sizes
+all_of sizes = record { count = length sizes; total = sum sizes }
+
 -- how a datagram is received, and how an error is
-abbrev pub receiving : Providers → Held → ℕ → ℕ → ℕ → ℕ → ℕ → Plan
-receiving p h fd sizes max amax omax = Datagrams.receive_plan p (alone h) fd sizes max amax omax
+abbrev pub receiving : ℕ → Sizes → ℕ → ℕ → Providers → Held → Plan
+receiving fd sizes amax omax p h = Datagrams.receive_plan p (alone h) fd sizes.count sizes.total amax omax
 
 -- the same in all these sizes
-abbrev pub receiving_all : Providers → Held → ℕ → List ℕ → ℕ → ℕ → Plan
-receiving_all p h fd sizes amax omax = receiving p h fd (length sizes) (sum sizes) amax omax
+abbrev pub filling : ℕ → List ℕ → ℕ → ℕ → Providers → Held → Plan
+filling fd sizes amax omax = receiving fd (all_of sizes) amax omax
 
-abbrev pub receiving_error : Providers → Held → ℕ → ℕ → ℕ → Plan
-receiving_error p h fd amax omax = Datagrams.error_plan p (alone h) fd amax omax
+abbrev pub receiving_error : ℕ → ℕ → ℕ → Providers → Held → Plan
+receiving_error fd amax omax p h = Datagrams.error_plan p (alone h) fd amax omax
 
 -- how a request is listened for
-abbrev pub listening : Providers → Held → ℕ → ℕ → ℕ → ℕ → Plan
-listening p h fd amax omax umax = Listen.listen_plan p (alone h) fd amax omax umax
+abbrev pub listening : ℕ → ℕ → ℕ → ℕ → Providers → Held → Plan
+listening fd amax omax umax p h = Listen.listen_plan p (alone h) fd amax omax umax
 
 -- how a confirmation is received
-abbrev pub confirming : Providers → Held → ℕ → ℕ → ℕ → ℕ → Plan
-confirming p h fd amax omax umax = Connect.confirm_plan p (alone h) fd amax omax umax
+abbrev pub confirming : ℕ → ℕ → ℕ → ℕ → Providers → Held → Plan
+confirming fd amax omax umax p h = Connect.confirm_plan p (alone h) fd amax omax umax
 
 -- how data are received in so many sizes, and in all these sizes
-abbrev pub receiving_data : Providers → Held → ℕ → ℕ → ℕ → Plan
-receiving_data p h fd sizes max = Receive.plan p (alone h) fd sizes max
+abbrev pub receiving_data : ℕ → Sizes → Providers → Held → Plan
+receiving_data fd sizes p h = Receive.plan p (alone h) fd sizes.count sizes.total
 
-abbrev pub receiving_data_all : Providers → Held → ℕ → List ℕ → Plan
-receiving_data_all p h fd sizes = receiving_data p h fd (length sizes) (sum sizes)
+abbrev pub filling_data : ℕ → List ℕ → Providers → Held → Plan
+filling_data fd sizes = receiving_data fd (all_of sizes)
 
--- how a disconnect is received
-abbrev pub receiving_disconnect : Providers → Held → ℕ → ℕ → Plan
-receiving_disconnect p h fd umax = Disconnect.receive_plan p (alone h) fd umax
+-- how a disconnect is received, and how a release is
+abbrev pub receiving_disconnect : ℕ → ℕ → Providers → Held → Plan
+receiving_disconnect fd umax p h = Disconnect.receive_plan p (alone h) fd umax
 
--- how the addresses of an endpoint and of its peer are shown
-abbrev pub showing_addresses : Providers → Held → ℕ → ℕ → ℕ → Plan
-showing_addresses p h fd amax pmax = Show.addresses_plan p (alone h) fd amax pmax
+abbrev pub receiving_release : ℕ → Providers → Held → Plan
+receiving_release fd p h = Release.receive_plan p (alone h) fd
+
+-- how the mode is set
+abbrev pub setting_mode : ℕ → Bool → Providers → Held → Plan
+setting_mode fd nonblock p h = Show.mode_plan p (alone h) fd nonblock
+
+-- how the state of an endpoint is shown, its limits, and its and its peer's addresses
+abbrev pub showing_state : ℕ → Providers → Held → Plan
+showing_state fd p h = Show.state_plan p (alone h) fd
+
+abbrev pub showing_limits : ℕ → Providers → Held → Plan
+showing_limits fd p h = Show.info_plan p (alone h) fd
+
+abbrev pub showing_addresses : ℕ → ℕ → ℕ → Providers → Held → Plan
+showing_addresses fd amax pmax p h = Show.addresses_plan p (alone h) fd amax pmax
+
+-- the next bytes of the first datagram, and whether more of it are left then
+abbrev pub first_bytes : ℕ → Endpoint → List ℕ
+first_bytes max e = take max (Datagrams.first_of e).bytes
+
+abbrev pub first_has_rest : ℕ → Endpoint → Bool
+first_has_rest max e = Datagrams.has_rest max (Datagrams.first_of e)
 
 -- the first datagram was received or lost, in however many sizes
 abbrev pub Receives : {E : Type 0} → Providers → ℕ → ℕ → ℕ → ℕ → Held → Held → Result Applied E → Type 0
@@ -148,6 +200,14 @@ TellsRequest p fd amax omax umax old new r = Makes (request_step p (alone old) f
 -- the confirmation was told or lost
 abbrev pub TellsConfirmation : {E : Type 0} → Providers → ℕ → ℕ → ℕ → ℕ → Held → Held → Result Applied E → Type 0
 TellsConfirmation p fd amax omax umax old new r = Makes (confirmation_step p (alone old) fd amax omax umax (parts old)) new r
+
+-- the oldest disconnect was told, or taken without its data
+abbrev pub TellsDisconnect : {E : Type 0} → Providers → ℕ → ℕ → Held → Held → Result Applied E → Type 0
+TellsDisconnect p fd umax old new r = Makes (disconnect_step p (alone old) fd umax (parts old)) new r
+
+-- the first error was told or lost
+abbrev pub TellsError : {E : Type 0} → Providers → ℕ → ℕ → ℕ → Held → Held → Result Applied E → Type 0
+TellsError p fd amax omax old new r = Makes (error_step p (alone old) fd amax omax (parts old)) new r
 
 -- what is told of data: expedited ones where there are any
 abbrev pub data_reply : Providers → ℕ → Held → Reply

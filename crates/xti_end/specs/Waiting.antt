@@ -6,7 +6,7 @@ use Rattle.xti_end.specs.declared.parts.Waiting.{Waiting}
 -- no connection, and none was asked for
 abbrev pub no_connection : Connection
 no_connection = record {
-  last_seq = record { 0 = 0 };
+  last_number = record { 0 = 0 };
   target = None;
   peer = None;
   peer_address = None;

@@ -1,10 +1,9 @@
 //! What a step of one cell answers.
 
-ghost use Rattle.std.specs.Prelude.{◌≡◌, Some};
-ghost use Rattle.xti_model.specs.Step.{made};
+ghost use Rattle.std.specs.Prelude.{◌≡◌};
 ghost use Rattle.xti_model.specs.World.{place_of, endpoint, state_of};
 ghost use Rattle.xti_end.specs.Held.{alone};
-ghost use Rattle.xti_end.specs.Taken.{taken};
+ghost use Rattle.xti_end.specs.Taken.{Replies};
 
 use crate::endpoint::Endpoint;
 use xti_base::{Errno, Fd, State};
@@ -25,7 +24,7 @@ fn state(e: &Endpoint, p: &Providers, fd: Fd) -> State
 /// A call that is done.
 pub(crate) fn done(e: &Endpoint, p: &Providers, fd: Fd, reply: Reply) -> Applied
     requires { place_of p.now fd.0 ≡ e.now.place }
-    ensures { taken result (alone e.now) ≡ Some (made p.now fd.0 (Outcome.Done reply) (alone e.now)) }
+    ensures { Replies p.now fd.0 reply e.now result }
 {
     Applied::Step {
         outcome: Outcome::Done(reply),
@@ -36,7 +35,7 @@ pub(crate) fn done(e: &Endpoint, p: &Providers, fd: Fd, reply: Reply) -> Applied
 /// A refusal.
 pub(crate) fn refused(e: &Endpoint, p: &Providers, fd: Fd, errno: Errno) -> Applied
     requires { place_of p.now fd.0 ≡ e.now.place }
-    ensures { taken result (alone e.now) ≡ Some (made p.now fd.0 (Outcome.Done (Reply.Refused errno)) (alone e.now)) }
+    ensures { Replies p.now fd.0 (Reply.Refused errno) e.now result }
 {
     done(e, p, fd, Reply::Refused { errno })
 }

@@ -1,15 +1,13 @@
 //! t_rcvconnect.
 
 ghost use Rattle.std.specs.Prelude.{◌≡◌, true, is_some, IfOk, OnErr};
-ghost use Rattle.std.specs.List.{list_any};
 ghost use Rattle.tpi_grammar.specs.declared.kind.Kind.TheVariants.{T_CONN_CON};
 ghost use Rattle.tpi_prim.specs.Fields.{kind_in};
-ghost use Rattle.xti_model.specs.Plan.{is_too_long};
 ghost use Rattle.xti_model.specs.World.{place_of};
 ghost use Rattle.xti_model.specs.Calls.Connect as Connect;
 ghost use Rattle.xti_end.specs.Frames.{confirmation_in};
 ghost use Rattle.xti_end.specs.Held.{is_open, is_open_as, parts, with_parts, SameRoom};
-ghost use Rattle.xti_end.specs.Taken.{confirmation_of, confirming, IsSureBy, MakesBy, StillBlocked, TellsConfirmation};
+ghost use Rattle.xti_end.specs.Taken.{confirmation_of, confirmation_overflows, confirming, told_confirmation, IsSureBy, MakesBy, StillBlocked, TellsConfirmation};
 
 use crate::answers::{done, refused};
 use crate::endpoint::Endpoint;
@@ -63,7 +61,7 @@ impl Endpoint {
     fn confirmation_overflows(&self, amax: u32, omax: u32, umax: u32) -> bool
         requires open { is_open self.now ≡ true }
         requires waits { is_some (parts self.now).confirmation ≡ true }
-        ensures { result ≡ list_any is_too_long (Connect.fields (confirmation_of (parts self.now)) amax omax umax) }
+        ensures { result ≡ confirmation_overflows amax omax umax (parts self.now) }
     {
         let frame = self.the_confirmation();
         is_too_long(address(frame), amax)
@@ -75,7 +73,7 @@ impl Endpoint {
     fn confirmation_reply(&self, amax: u32, omax: u32, umax: u32) -> Result<Reply, AllocError>
         requires open { is_open self.now ≡ true }
         requires waits { is_some (parts self.now).confirmation ≡ true }
-        ensures { IfOk result (λ r. r ≡ Connect.connected (confirmation_of (parts self.now)) amax omax umax) }
+        ensures { IfOk result (λ r. r ≡ told_confirmation amax omax umax (parts self.now)) }
     {
         let frame = self.the_confirmation();
         let addr = trimmed_copy(self.alloc, address(frame), amax)?;
@@ -129,11 +127,11 @@ impl Endpoint {
         umax: u32,
     ) -> Result<Applied, AllocError>
         requires { place_of p.now fd.0 ≡ self.old.place }
-        ensures step { MakesBy p.now (confirming p.now self.old fd.0 amax omax umax) self.old self.new result }
+        ensures step { MakesBy p.now (confirming fd.0 amax omax umax) self.old self.new result }
         ensures still { StillBlocked self.old self.new result }
         ensures room { SameRoom self.old self.new }
         ensures err { OnErr result (self.new ≡ self.old) }
-        ensures sure { IsSureBy (confirming p.now self.old fd.0 amax omax umax) result }
+        ensures sure { IsSureBy p.now (confirming fd.0 amax omax umax) self.old result }
     {
         if !self.is(p, fd) {
             return Ok(refused(self, p, fd, Errno::TBADF));

@@ -1,14 +1,13 @@
 //! The datagrams that wait at an endpoint, and the errors of those that it sent.
 
-ghost use Rattle.std.specs.Prelude.{◌≡◌, ◌≤◌, ◌<◌, ◌+◌, [], true, Some, length, map, max, slice_get, IfSome, OnOk, OnErr};
-ghost use Rattle.std.specs.Option.{option_copied, option_map};
+ghost use Rattle.std.specs.Prelude.{◌≡◌, ◌≤◌, ◌<◌, ◌+◌, [], true, Some, length, map, max, IfSome, OnOk, OnErr};
 ghost use Rattle.tpi_grammar.specs.declared.kind.Kind.TheVariants.{T_UNITDATA_IND, T_UDERROR_IND};
 ghost use Rattle.tpi_prim.specs.Fields.{kind_in};
 ghost use Rattle.xti_model.specs.Events.{some_wait};
 ghost use Rattle.xti_model.specs.Sending.{takes_datagram};
 ghost use Rattle.xti_queue.specs.Queue.{frames};
-ghost use Rattle.xti_end.specs.Frames.{datagram_of, datagram_in, error_in, AreDatagrams};
-ghost use Rattle.xti_end.specs.Held.{is_open, parts, with_parts, datagrams_at, errors_at, without_error_at, AddsDatagram, AddsError};
+ghost use Rattle.xti_end.specs.Frames.{datagram_of, datagram_in, error_in, seen_as, AreDatagrams};
+ghost use Rattle.xti_end.specs.Held.{is_open, parts, with_parts, datagrams_at, error_at, errors_at, without_error_at, AddsDatagram, AddsError, OnlyRoomForErrors};
 
 use crate::endpoint::Endpoint;
 use std::alloc::AllocError;
@@ -67,10 +66,7 @@ impl Endpoint {
         requires { is_open self.now ≡ true }
         ensures { result ≡ (parts self.now).begun }
     {
-        match &self.body {
-            Some(parts) => parts.begun,
-            None => unreachable!(),
-        }
+        self.open_parts().begun
     }
 
     /// Sets whether the first datagram of the open endpoint was begun. Takes no memory.
@@ -85,7 +81,7 @@ impl Endpoint {
 
     /// The datagram error at a place, as a T_UDERROR_IND frame; `None` exactly past the end. Takes no memory.
     pub fn datagram_error(&self, place: usize) -> Option<&Frame>
-        ensures error { option_map error_in (option_copied result) ≡ slice_get (errors_at self.now.body) place }
+        ensures error { seen_as error_in result ≡ error_at self.now place }
         ensures kind { IfSome result (λ frame. kind_in frame.now ≡ T_UDERROR_IND) }
     {
         self.waiting.datagram_errors.get(place)
@@ -94,7 +90,7 @@ impl Endpoint {
     /// Takes the datagram error at a place out, a T_UDERROR_IND frame; the others stay in their order. Takes no memory.
     pub fn take_datagram_error(&mut self, place: usize) -> Frame
         requires { place < length (errors_at self.old.body) }
-        ensures error { Some (error_in result) ≡ slice_get (errors_at self.old.body) place }
+        ensures error { Some (error_in result) ≡ error_at self.old place }
         ensures kind { kind_in result ≡ T_UDERROR_IND }
         ensures taken { self.new ≡ with_parts (without_error_at place) self.old }
     {
@@ -118,7 +114,7 @@ impl Endpoint {
 
     /// Makes room for one more datagram error; where memory runs out all is as before.
     pub fn reserve_datagram_errors(&mut self) -> Result<(), AllocError>
-        ensures same { self.new ≡ record self.old { spare_datagram_errors = self.new.spare_datagram_errors } }
+        ensures same { OnlyRoomForErrors self.old self.new }
         ensures kept { self.old.spare_datagram_errors ≤ self.new.spare_datagram_errors }
         ensures spare { OnOk result (1 ≤ self.new.spare_datagram_errors) }
         ensures most { self.new.spare_datagram_errors ≤ max self.old.spare_datagram_errors 1 }

@@ -1,10 +1,11 @@
 //! A place and the endpoint that is open there.
 
-ghost use Rattle.std.specs.Prelude.{◌≡◌, ◌+◌, ◌<◌, None, Some, false, true};
-ghost use Rattle.xti_model.specs.Endpoint.{opened, reset};
-ghost use Rattle.xti_model.specs.Provider.{profile, is_provider};
+ghost use Rattle.std.specs.Prelude.{◌≡◌, ◌+◌, ◌<◌, None, false, true};
+ghost use Rattle.xti_model.specs.Endpoint.{reset};
+ghost use Rattle.xti_model.specs.Provider.{is_provider};
 ghost use Rattle.xti_model.specs.World.{last_generation};
-ghost use Rattle.xti_end.specs.Held.{is_open, is_open_as, with_parts};
+ghost use Rattle.xti_end.specs.Held.{is_open, is_open_as, with_opened, with_parts, IsMadeOf};
+ghost use Rattle.xti_end.specs.Kept.{IsConfirmed, IsReleased};
 
 use crate::parts::{Connection, Parts, Waiting};
 use crate::providers::profile;
@@ -78,7 +79,7 @@ impl Endpoint {
         requires closed { is_open self.old ≡ false }
         requires counted { self.old.generation < last_generation p.now }
         requires provider { is_provider prov ≡ true }
-        ensures { self.new ≡ record self.old { body = Some (opened (profile p.now prov) prov nonblock) } }
+        ensures { self.new ≡ with_opened p.now prov nonblock self.old }
     {
         let profile = profile(p, prov);
         let parts = Parts {
@@ -88,7 +89,7 @@ impl Endpoint {
             address: None,
             qlen: 0,
             begun: false,
-            mark: None,
+            flow_datagram: None,
             sndbuf: profile.sndbuf,
             rcvbuf: profile.rcvbuf,
             connection: Connection::none(),
@@ -105,10 +106,10 @@ impl Endpoint {
         self.waiting.normal.discard_stream();
         self.waiting.expedited.discard_stream();
         if let Some(parts) = &mut self.body {
-            let last_seq = parts.connection.last_seq;
+            let last_number = parts.connection.last_number;
             write_over(&mut parts.connection, Connection::none());
-            parts.connection.last_seq = last_seq;
-            parts.mark = None;
+            parts.connection.last_number = last_number;
+            parts.flow_datagram = None;
         }
     }
 
@@ -120,6 +121,19 @@ impl Endpoint {
         self.generation += 1;
         write_over(&mut self.body, None);
         self.waiting.discard();
+    }
+
+    /// The parts of the open endpoint.
+    pub(crate) fn open_parts(&self) -> &Parts
+        requires { is_open self.now ≡ true }
+        ensures parts { IsMadeOf self.now result.now }
+        ensures confirmation { IsConfirmed result.now }
+        ensures release { IsReleased result.now }
+    {
+        match &self.body {
+            Some(parts) => parts,
+            None => unreachable!(),
+        }
     }
 
     /// The place.

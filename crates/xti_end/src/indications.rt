@@ -1,7 +1,7 @@
 //! The requests to connect that wait at an endpoint, and what is told of its own.
 
 ghost use Rattle.std.specs.Prelude.{◌≡◌, ◌≤◌, ◌<◌, ◌+◌, ◌++◌, [], true, Some, None, is_some, length, map, max, remove, slice_get, IfSome, IfNone, OnOk, OnErr};
-ghost use Rattle.std.specs.Option.{option_copied, option_map};
+ghost use Rattle.std.specs.Option.{option_map};
 ghost use Rattle.tpi_grammar.specs.declared.kind.Kind.TheVariants.{T_CONN_IND, T_CONN_CON, T_DISCON_IND};
 ghost use Rattle.tpi_prim.specs.Fields.{kind_in};
 ghost use Rattle.xti_base.specs.declared.limits.TheConstants.{MOST_TOUCHED};
@@ -11,11 +11,11 @@ ghost use Rattle.xti_model.specs.Endpoint.{find_number, without_number};
 ghost use Rattle.xti_model.specs.Events.{some_wait};
 ghost use Rattle.xti_model.specs.Sound.{is_sound_body, requests};
 ghost use Rattle.xti_model.specs.Touched.{of_some, caller_cells};
-ghost use Rattle.xti_end.specs.Callers.{caller_place, caller_with, numbers_at, numbers_of, request_with, with_numbers, StandsFirstAt};
-ghost use Rattle.xti_end.specs.Frames.{indication_of, request_in, confirmation_in, disconnect_in, AreRequests, IsRequest};
-ghost use Rattle.xti_end.specs.Held.{is_open, parts, with_parts, without_pending, without_pending_at, without_outstanding, without_outstanding_at, without_disconnect_at};
+ghost use Rattle.xti_end.specs.Callers.{caller_place, caller_with, numbers_at, numbers_of, request_with, unanswered, with_numbers, StandsFirstAt, StandsNowhere};
+ghost use Rattle.xti_end.specs.Frames.{indication_of, request_in, confirmation_in, disconnect_in, seen_as, AreRequests, IsRequest};
+ghost use Rattle.xti_end.specs.Held.{is_open, parts, with_confirmation, with_parts, without_pending, without_pending_at, without_outstanding, without_outstanding_at, without_disconnect_at};
 ghost use Rattle.xti_end.specs.Held.{pending_at, outstanding_at, disconnect_at};
-ghost use Rattle.xti_end.specs.Held.{AddsPending, AddsOutstanding, AddsDisconnect};
+ghost use Rattle.xti_end.specs.Held.{AddsPending, AddsOutstanding, AddsDisconnect, OnlyRoomForDisconnects};
 
 use crate::endpoint::Endpoint;
 use std::alloc::AllocError;
@@ -34,7 +34,7 @@ impl Endpoint {
     /// The pending request at a place, a T_CONN_IND; `None` exactly past the end. Takes no memory.
     pub fn pending(&self, place: usize) -> Option<&Ind>
         requires { is_open self.now ≡ true }
-        ensures indication { option_map indication_of (option_copied result) ≡ pending_at self.now place }
+        ensures indication { seen_as indication_of result ≡ pending_at self.now place }
         ensures kind { IfSome result (λ indication. kind_in indication.now.frame ≡ T_CONN_IND) }
     {
         self.waiting.pending.get(place)
@@ -46,17 +46,6 @@ impl Endpoint {
         ensures { result ≡ some_wait (parts self.now).pending }
     {
         !self.waiting.pending.is_empty()
-    }
-
-    /// Takes the pending request at a place out, a T_CONN_IND; the others stay in their order. Takes no memory.
-    pub fn take_pending(&mut self, place: usize) -> Ind
-        requires open { is_open self.old ≡ true }
-        requires there { place < length (parts self.old).pending }
-        ensures indication { Some (indication_of result) ≡ slice_get (parts self.old).pending place }
-        ensures kind { kind_in result.frame ≡ T_CONN_IND }
-        ensures taken { self.new ≡ with_parts (without_pending_at place) self.old }
-    {
-        self.waiting.pending.remove(place)
     }
 
     /// Makes room for one more pending request; where memory runs out all is as before.
@@ -84,49 +73,16 @@ impl Endpoint {
     /// The outstanding request at a place, a T_CONN_IND; `None` exactly past the end. Takes no memory.
     pub fn outstanding(&self, place: usize) -> Option<&Ind>
         requires { is_open self.now ≡ true }
-        ensures indication { option_map indication_of (option_copied result) ≡ outstanding_at self.now place }
+        ensures indication { seen_as indication_of result ≡ outstanding_at self.now place }
         ensures kind { IfSome result (λ indication. kind_in indication.now.frame ≡ T_CONN_IND) }
     {
         self.waiting.outstanding.get(place)
     }
 
-    /// Takes the outstanding request at a place out, a T_CONN_IND; the others stay in their order. Takes no memory.
-    pub fn take_outstanding(&mut self, place: usize) -> Ind
-        requires open { is_open self.old ≡ true }
-        requires there { place < length (parts self.old).outstanding }
-        ensures indication { Some (indication_of result) ≡ slice_get (parts self.old).outstanding place }
-        ensures kind { kind_in result.frame ≡ T_CONN_IND }
-        ensures taken { self.new ≡ with_parts (without_outstanding_at place) self.old }
-    {
-        self.waiting.outstanding.remove(place)
-    }
-
-    /// Makes room for one more outstanding request; where memory runs out all is as before.
-    pub fn reserve_outstanding(&mut self) -> Result<(), AllocError>
-        ensures same { self.new ≡ record self.old { spare_outstanding = self.new.spare_outstanding } }
-        ensures kept { self.old.spare_outstanding ≤ self.new.spare_outstanding }
-        ensures spare { OnOk result (1 ≤ self.new.spare_outstanding) }
-        ensures most { self.new.spare_outstanding ≤ max self.old.spare_outstanding 1 }
-        ensures err { OnErr result (self.new ≡ self.old) }
-    {
-        self.waiting.outstanding.reserve()
-    }
-
-    /// Adds an outstanding request, a T_CONN_IND for which there must be spare room. Takes no memory.
-    pub fn push_outstanding(&mut self, ind: Ind)
-        requires open { is_open self.old ≡ true }
-        requires room { 1 ≤ self.old.spare_outstanding }
-        requires kind { kind_in ind.frame ≡ T_CONN_IND }
-        ensures added { AddsOutstanding (indication_of ind) self.old self.new }
-        ensures spare { self.old.spare_outstanding ≤ self.new.spare_outstanding + 1 }
-    {
-        self.waiting.outstanding.push(ind);
-    }
-
     /// The disconnect at a place, a T_DISCON_IND; `None` exactly past the end. Takes no memory.
     pub fn disconnect(&self, place: usize) -> Option<&Frame>
         requires { is_open self.now ≡ true }
-        ensures disconnect { option_map disconnect_in (option_copied result) ≡ disconnect_at self.now place }
+        ensures disconnect { seen_as disconnect_in result ≡ disconnect_at self.now place }
         ensures kind { IfSome result (λ disconnect. kind_in disconnect.now ≡ T_DISCON_IND) }
     {
         self.waiting.disconnects.get(place)
@@ -144,7 +100,7 @@ impl Endpoint {
     pub fn take_disconnect(&mut self, place: usize) -> Frame
         requires open { is_open self.old ≡ true }
         requires there { place < length (parts self.old).disconnects }
-        ensures disconnect { Some (disconnect_in result) ≡ slice_get (parts self.old).disconnects place }
+        ensures disconnect { Some (disconnect_in result) ≡ disconnect_at self.old place }
         ensures kind { kind_in result ≡ T_DISCON_IND }
         ensures taken { self.new ≡ with_parts (without_disconnect_at place) self.old }
     {
@@ -153,7 +109,7 @@ impl Endpoint {
 
     /// Makes room for one more disconnect; where memory runs out all is as before.
     pub fn reserve_disconnects(&mut self) -> Result<(), AllocError>
-        ensures same { self.new ≡ record self.old { spare_disconnects = self.new.spare_disconnects } }
+        ensures same { OnlyRoomForDisconnects self.old self.new }
         ensures kept { self.old.spare_disconnects ≤ self.new.spare_disconnects }
         ensures spare { OnOk result (1 ≤ self.new.spare_disconnects) }
         ensures most { self.new.spare_disconnects ≤ max self.old.spare_disconnects 1 }
@@ -173,24 +129,13 @@ impl Endpoint {
         self.waiting.disconnects.push(frame);
     }
 
-    /// Takes all disconnects out. Takes no memory.
-    pub fn clear_disconnects(&mut self)
-        requires { is_open self.old ≡ true }
-        ensures { self.new ≡ with_parts (λ e. record e { disconnects = [] }) self.old }
-    {
-        self.waiting.disconnects.clear();
-    }
-
     /// The confirmation of its own request, a T_CONN_CON; `None` exactly where there is none. Takes no memory.
     pub fn confirmation(&self) -> Option<&Frame>
         requires { is_open self.now ≡ true }
-        ensures confirmation { option_map confirmation_in (option_copied result) ≡ (parts self.now).confirmation }
+        ensures confirmation { seen_as confirmation_in result ≡ (parts self.now).confirmation }
         ensures kind { IfSome result (λ frame. kind_in frame.now ≡ T_CONN_CON) }
     {
-        match &self.body {
-            Some(parts) => parts.connection.confirmation.as_ref(),
-            None => unreachable!(),
-        }
+        self.open_parts().connection.confirmation.as_ref()
     }
 
     /// Whether the confirmation of its own request waits.
@@ -205,7 +150,7 @@ impl Endpoint {
     pub fn set_confirmation(&mut self, frame: Frame)
         requires open { is_open self.old ≡ true }
         requires kind { kind_in frame ≡ T_CONN_CON }
-        ensures { self.new ≡ with_parts (λ e. record e { confirmation = Some (confirmation_in frame) }) self.old }
+        ensures { self.new ≡ with_parts (with_confirmation (confirmation_in frame)) self.old }
     {
         if let Some(parts) = &mut self.body {
             write_over(&mut parts.connection.confirmation, Some(frame));
@@ -234,7 +179,7 @@ impl Endpoint {
     /// The outstanding request with this sequence number, a T_CONN_IND; `None` exactly where there is none. Takes no memory.
     pub fn request(&self, seq: Seq) -> Option<&Ind>
         requires { is_open self.now ≡ true }
-        ensures request { option_map indication_of (option_copied result) ≡ request_with seq.0 self.now }
+        ensures request { seen_as indication_of result ≡ request_with seq.0 self.now }
         ensures kind { IfSome result (λ ind. IsRequest ind.now) }
     {
         find_number(self.waiting.outstanding.as_slice(), seq)
@@ -271,7 +216,7 @@ impl Endpoint {
     /// `None` exactly past the end. Takes no memory.
     pub fn request_at(&self, place: usize) -> Option<(Fd, Seq)>
         requires { is_open self.now ≡ true }
-        ensures { option_map numbers_of result ≡ numbers_at ((parts self.now).pending ++ (parts self.now).outstanding) place }
+        ensures { option_map numbers_of result ≡ numbers_at (unanswered (parts self.now)) place }
     {
         let pending = self.waiting.pending.as_slice();
         if place < pending.len() {
@@ -316,7 +261,7 @@ impl Endpoint {
 /// The request with this sequence number; `None` exactly where there is none.
 fn find_number(inds: &[Ind], seq: Seq) -> Option<&Ind>
     requires { AreRequests inds.now }
-    ensures found { option_map indication_of (option_copied result) ≡ find_number seq.0 (map indication_of inds.now) }
+    ensures found { seen_as indication_of result ≡ find_number seq.0 (map indication_of inds.now) }
     ensures kind { IfSome result (λ ind. IsRequest ind.now) }
 {
     for ind in inds {
@@ -341,7 +286,7 @@ fn number_place(inds: &[Ind], seq: Seq) -> Option<usize>
     requires { AreRequests inds.now }
     ensures found { IfSome result (StandsFirstAt seq.0 inds.now) }
     ensures bound { IfSome result (λ place. place < length inds.now) }
-    ensures none { IfNone result (without_number seq.0 (map indication_of inds.now) ≡ map indication_of inds.now) }
+    ensures none { IfNone result (StandsNowhere seq.0 inds.now) }
 {
     for (place, ind) in inds.iter().enumerate() {
         if ind.frame.seq() == seq.0 {

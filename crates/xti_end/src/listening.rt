@@ -6,12 +6,11 @@ ghost use Rattle.xti_base.specs.Kinds.{same_state};
 ghost use Rattle.xti_base.specs.declared.kinds.State.TheVariants.{T_IDLE, T_INCON};
 ghost use Rattle.xti_model.specs.Endpoint.{ocnt};
 ghost use Rattle.xti_model.specs.Events.{some_wait};
-ghost use Rattle.xti_model.specs.Plan.{is_too_long};
 ghost use Rattle.xti_model.specs.World.{place_of};
 ghost use Rattle.xti_model.specs.Calls.Listen as Listen;
 ghost use Rattle.xti_end.specs.Frames.{indication_of, IsRequest};
 ghost use Rattle.xti_end.specs.Held.{is_open, is_open_as, parts, with_parts, SameRoom};
-ghost use Rattle.xti_end.specs.Taken.{listening, IsSureBy, MakesBy, StillBlocked, TellsRequest};
+ghost use Rattle.xti_end.specs.Taken.{listening, request_overflows, told_request, IsSureBy, MakesBy, StillBlocked, TellsRequest};
 
 use crate::answers::{done, refused};
 use crate::endpoint::Endpoint;
@@ -88,7 +87,7 @@ impl Endpoint {
     fn request_overflows(&self, amax: u32, omax: u32, umax: u32) -> bool
         requires open { is_open self.now ≡ true }
         requires waits { some_wait (parts self.now).pending ≡ true }
-        ensures { result ≡ list_any is_too_long (Listen.fields (Listen.oldest (parts self.now)) amax omax umax) }
+        ensures { result ≡ request_overflows amax omax umax (parts self.now) }
     {
         let ind = self.oldest_request();
         is_too_long(caller_address(ind), amax)
@@ -100,7 +99,7 @@ impl Endpoint {
     fn request_reply(&self, amax: u32, omax: u32, umax: u32) -> Result<Reply, AllocError>
         requires open { is_open self.now ≡ true }
         requires waits { some_wait (parts self.now).pending ≡ true }
-        ensures { IfOk result (λ r. r ≡ Listen.listen_reply (Listen.oldest (parts self.now)) amax omax umax) }
+        ensures { IfOk result (λ r. r ≡ told_request amax omax umax (parts self.now)) }
     {
         let ind = self.oldest_request();
         let addr = trimmed_copy(self.alloc, caller_address(ind), amax)?;
@@ -165,11 +164,11 @@ impl Endpoint {
         umax: u32,
     ) -> Result<Applied, AllocError>
         requires { place_of p.now fd.0 ≡ self.old.place }
-        ensures step { MakesBy p.now (listening p.now self.old fd.0 amax omax umax) self.old self.new result }
+        ensures step { MakesBy p.now (listening fd.0 amax omax umax) self.old self.new result }
         ensures still { StillBlocked self.old self.new result }
         ensures room { SameRoom self.old self.new }
         ensures err { OnErr result (self.new ≡ self.old) }
-        ensures sure { IsSureBy (listening p.now self.old fd.0 amax omax umax) result }
+        ensures sure { IsSureBy p.now (listening fd.0 amax omax umax) self.old result }
     {
         if !self.is(p, fd) {
             return Ok(refused(self, p, fd, Errno::TBADF));

@@ -7,6 +7,8 @@ ghost use Rattle.xti_end.specs.Held.{alone, SameRoom};
 ghost use Rattle.xti_end.specs.Taken.{IsAt, Makes, StillBlocked};
 
 use crate::endpoint::Endpoint;
+use crate::negotiating::Request;
+use crate::receiving::Sizes;
 use std::alloc::AllocError;
 use xti_model::{Applied, Call, Go, Providers};
 
@@ -43,7 +45,7 @@ impl Endpoint {
                 umax,
                 ..
             } => return self.rcvconnect(p, *fd, *amax, *omax, *umax),
-            Call::TRcv { fd, max } => return self.rcv(p, *fd, 1, *max as usize),
+            Call::TRcv { fd, max } => return self.rcv(p, *fd, Sizes::one(*max)),
             Call::TRcvV { fd, sizes } => return self.rcvv(p, *fd, sizes.as_slice()),
             Call::TRcvDis { fd, umax } => return self.rcvdis(p, *fd, *umax),
             Call::TRcvRel { fd } => self.rcvrel(p, *fd),
@@ -52,7 +54,7 @@ impl Endpoint {
                 max,
                 amax,
                 omax,
-            } => return self.rcvudata(p, *fd, 1, *max as usize, *amax, *omax),
+            } => return self.rcvudata(p, *fd, Sizes::one(*max), *amax, *omax),
             Call::TRcvVUData {
                 fd,
                 sizes,
@@ -68,7 +70,13 @@ impl Endpoint {
                 action,
                 opt,
                 omax,
-            } => return self.optmgmt(p, *fd, *action, opt.as_slice(), *omax),
+            } => {
+                let asked = Request {
+                    action: *action,
+                    options: opt.as_slice(),
+                };
+                return self.optmgmt(p, *fd, asked, *omax);
+            }
             Call::SetMode { fd, nonblock } => self.set_mode(p, *fd, *nonblock),
             _ => unreachable!(),
         };

@@ -7,8 +7,8 @@ ghost use Rattle.xti_model.specs.Provider.{profile};
 ghost use Rattle.xti_model.specs.World.{place_of};
 ghost use Rattle.xti_model.specs.Calls.Show as Show;
 ghost use Rattle.xti_end.specs.Held.{is_open, is_open_as, parts, with_parts, SameRoom};
-ghost use Rattle.xti_end.specs.Negotiating.{negotiating, IsAnswerSize, IsNegotiated, IsRefusedWith, MakesNegotiation, Negotiates};
-ghost use Rattle.xti_end.specs.Taken.{IsSureBy, StillBlocked};
+ghost use Rattle.xti_end.specs.Negotiating.{negotiating, IsAnswerSize, IsNegotiated, IsRefusedWith, Negotiates};
+ghost use Rattle.xti_end.specs.Taken.{IsSureBy, MakesBy, StillBlocked};
 
 use crate::answers::{done, refused};
 use crate::endpoint::Endpoint;
@@ -19,6 +19,13 @@ use xti_base::limits::MOST_OPTIONS;
 use xti_base::{Errno, Fd, Room, Seq};
 use xti_model::{Applied, Providers, Reply};
 use xti_opt::{OptRefusal, Settings, answer_size, negotiate_bytes};
+
+/// A request to negotiate: what is to be done with the options, and the options.
+#[derive(Clone, Copy)]
+pub(crate) struct Request<'a> {
+    pub(crate) action: u32,
+    pub(crate) options: &'a [u8],
+}
 
 /// How many bytes answer this request, or the error that it is refused with.
 fn size_of_answer(action: u32, options: &[u8]) -> Result<usize, Errno>
@@ -65,21 +72,21 @@ impl Endpoint {
         &mut self,
         p: &Providers,
         fd: Fd,
-        action: u32,
-        options: &[u8],
+        asked: Request<'_>,
         omax: u32,
         mut room: Room,
     ) -> Applied
         requires place { place_of p.now fd.0 ≡ self.old.place }
         requires open { is_open_as p.now fd.0 self.old ≡ true }
-        requires request { (is_action action && is_request options.now) ≡ true }
+        requires request { (is_action asked.action && is_request asked.options.now) ≡ true }
         requires empty { room.bytes ≡ [] }
-        requires room { IsAnswerSize action options.now room.spare }
-        ensures step { Negotiates p.now fd.0 action options.now omax self.old self.new result }
+        requires room { IsAnswerSize asked.action asked.options.now room.spare }
+        ensures step { Negotiates p.now fd.0 asked.entry omax self.old self.new result }
         ensures room { SameRoom self.old self.new }
     {
         let mut settings = self.settings(p);
-        let Ok(result) = negotiate_bytes(&mut settings, action, options, &mut room) else {
+        let Ok(result) = negotiate_bytes(&mut settings, asked.action, asked.options, &mut room)
+        else {
             unreachable!();
         };
         self.set_sizes(settings);
@@ -96,24 +103,23 @@ impl Endpoint {
         &mut self,
         p: &Providers,
         fd: Fd,
-        action: u32,
-        options: &[u8],
+        asked: Request<'_>,
         omax: u32,
     ) -> Result<Applied, AllocError>
         requires { place_of p.now fd.0 ≡ self.old.place }
-        ensures step { MakesNegotiation p.now fd.0 action options.now omax self.old self.new result }
+        ensures step { MakesBy p.now (negotiating fd.0 asked.entry omax) self.old self.new result }
         ensures still { StillBlocked self.old self.new result }
         ensures room { SameRoom self.old self.new }
         ensures err { OnErr result (self.new ≡ self.old) }
-        ensures sure { IsSureBy (negotiating p.now self.old fd.0 action options.now omax) result }
+        ensures sure { IsSureBy p.now (negotiating fd.0 asked.entry omax) self.old result }
     {
         if !self.is(p, fd) {
             return Ok(refused(self, p, fd, Errno::TBADF));
         }
-        match size_of_answer(action, options) {
+        match size_of_answer(asked.action, asked.options) {
             Ok(size) => {
                 let room = Room::new(self.alloc, size)?;
-                Ok(self.negotiate(p, fd, action, options, omax, room))
+                Ok(self.negotiate(p, fd, asked, omax, room))
             }
             Err(errno) => Ok(refused(self, p, fd, errno)),
         }

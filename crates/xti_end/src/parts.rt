@@ -20,7 +20,7 @@ pub(crate) struct Parts {
     pub(crate) address: Option<Octets>,
     pub(crate) qlen: u32,
     pub(crate) begun: bool,
-    pub(crate) mark: Option<Spot>,
+    pub(crate) flow_datagram: Option<Spot>,
     pub(crate) sndbuf: u32,
     pub(crate) rcvbuf: u32,
     pub(crate) connection: Connection,
@@ -29,7 +29,7 @@ pub(crate) struct Parts {
 /// Those among them that a datagram endpoint never uses.
 #[derive(Drop)]
 pub(crate) struct Connection {
-    pub(crate) last_seq: Seq,
+    pub(crate) last_number: Seq,
     pub(crate) target: Option<(Fd, Seq)>,
     pub(crate) peer: Option<Fd>,
     pub(crate) peer_address: Option<Octets>,
@@ -62,7 +62,7 @@ impl Connection {
         ensures { result ≡ no_connection }
     {
         Connection {
-            last_seq: Seq(0),
+            last_number: Seq(0),
             target: None,
             peer: None,
             peer_address: None,

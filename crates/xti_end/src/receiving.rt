@@ -1,13 +1,13 @@
 //! t_rcvudata and t_rcvvudata.
 
-ghost use Rattle.std.specs.Prelude.{◌≡◌, nat_lt, ℕ, [], true, false, length, sum, take, IfOk, IsOk, OnOk, OnErr, None};
+ghost use Rattle.std.specs.Prelude.{◌≡◌, nat_lt, ℕ, [], true, false, length, sum, IfOk, IsOk, OnOk, OnErr, None};
 ghost use Rattle.tpi_grammar.specs.Frame.{AreBytes};
 ghost use Rattle.xti_model.specs.Arguments.{is_too_many};
 ghost use Rattle.xti_model.specs.Events.{some_wait};
 ghost use Rattle.xti_model.specs.World.{place_of};
 ghost use Rattle.xti_model.specs.Calls.Datagrams as Datagrams;
 ghost use Rattle.xti_end.specs.Held.{is_open, is_open_as, parts, with_parts, SameRoom};
-ghost use Rattle.xti_end.specs.Taken.{receiving, receiving_all, IsSureBy, MakesBy, Receives, StillBlocked};
+ghost use Rattle.xti_end.specs.Taken.{first_bytes, first_has_rest, receiving, filling, IsSureBy, MakesBy, Receives, StillBlocked};
 
 use crate::answers::{done, refused};
 use crate::endpoint::Endpoint;
@@ -25,6 +25,36 @@ fn is_more(bytes: &[u8], max: usize) -> bool
     ensures bytes { AreBytes bytes.now }
 {
     bytes.len() > max
+}
+
+/// How many sizes bytes are received into, and how many bytes these are.
+#[derive(Clone, Copy)]
+pub(crate) struct Sizes {
+    pub(crate) count: usize,
+    pub(crate) total: usize,
+}
+
+impl Sizes {
+    /// One size.
+    pub(crate) fn one(size: u32) -> Sizes
+        ensures { result ≡ record { count = 1; total = size } }
+    {
+        Sizes {
+            count: 1,
+            total: size as usize,
+        }
+    }
+
+    /// All these sizes. Where there are too many, which is refused whatever their sum is, the total is left open.
+    pub(crate) fn all(sizes: &[u32]) -> Sizes
+        ensures count { result.count ≡ length sizes.now }
+        ensures total { is_too_many (length sizes.now) ≡ false → result.total ≡ sum sizes.now }
+    {
+        Sizes {
+            count: sizes.len(),
+            total: total(sizes),
+        }
+    }
 }
 
 /// Bytes of a datagram, and whether more of it are left.
@@ -89,8 +119,8 @@ impl Endpoint {
     fn take_bytes(&mut self, max: usize) -> Result<Received, AllocError>
         requires open { is_open self.old ≡ true }
         requires waits { some_wait (parts self.old).datagrams ≡ true }
-        ensures bytes { IfOk result (λ r. r.bytes ≡ take max (Datagrams.first_of (parts self.old)).bytes) }
-        ensures more { IfOk result (λ r. r.more ≡ Datagrams.has_rest max (Datagrams.first_of (parts self.old))) }
+        ensures bytes { IfOk result (λ r. r.bytes ≡ first_bytes max (parts self.old)) }
+        ensures more { IfOk result (λ r. r.more ≡ first_has_rest max (parts self.old)) }
         ensures left { OnOk result (self.new ≡ with_parts (Datagrams.received max) self.old) }
         ensures err { OnErr result (self.new ≡ self.old) }
     {
@@ -139,22 +169,21 @@ impl Endpoint {
         Ok(done(self, p, fd, reply))
     }
 
-    /// t_rcvudata of at most `max` bytes, or t_rcvvudata into so many sizes with that sum.
+    /// t_rcvudata, or t_rcvvudata into these sizes.
     pub(crate) fn rcvudata(
         &mut self,
         p: &Providers,
         fd: Fd,
-        sizes: usize,
-        max: usize,
+        sizes: Sizes,
         amax: u32,
         omax: u32,
     ) -> Result<Applied, AllocError>
         requires { place_of p.now fd.0 ≡ self.old.place }
-        ensures step { MakesBy p.now (receiving p.now self.old fd.0 sizes max amax omax) self.old self.new result }
+        ensures step { MakesBy p.now (receiving fd.0 sizes amax omax) self.old self.new result }
         ensures still { StillBlocked self.old self.new result }
         ensures room { SameRoom self.old self.new }
         ensures err { OnErr result (self.new ≡ self.old) }
-        ensures sure { IsSureBy (receiving p.now self.old fd.0 sizes max amax omax) result }
+        ensures sure { IsSureBy p.now (receiving fd.0 sizes amax omax) self.old result }
     {
         if !self.is(p, fd) {
             return Ok(refused(self, p, fd, Errno::TBADF));
@@ -165,7 +194,7 @@ impl Endpoint {
         if !self.state().is(State::T_IDLE) {
             return Ok(refused(self, p, fd, Errno::TOUTSTATE));
         }
-        if sizes > MOST_PARTS {
+        if sizes.count > MOST_PARTS {
             return Ok(refused(self, p, fd, Errno::TBADDATA));
         }
         if self.has_datagram_error() {
@@ -173,7 +202,7 @@ impl Endpoint {
             return Ok(done(self, p, fd, Reply::Look { event }));
         }
         if self.has_datagram() {
-            self.receive_or_lose(p, fd, max, amax, omax)
+            self.receive_or_lose(p, fd, sizes.total, amax, omax)
         } else if self.nonblock() {
             Ok(refused(self, p, fd, Errno::TNODATA))
         } else {
@@ -191,18 +220,18 @@ impl Endpoint {
         omax: u32,
     ) -> Result<Applied, AllocError>
         requires { place_of p.now fd.0 ≡ self.old.place }
-        ensures step { MakesBy p.now (receiving_all p.now self.old fd.0 sizes.now amax omax) self.old self.new result }
+        ensures step { MakesBy p.now (filling fd.0 sizes.now amax omax) self.old self.new result }
         ensures still { StillBlocked self.old self.new result }
         ensures room { SameRoom self.old self.new }
         ensures err { OnErr result (self.new ≡ self.old) }
-        ensures sure { IsSureBy (receiving_all p.now self.old fd.0 sizes.now amax omax) result }
+        ensures sure { IsSureBy p.now (filling fd.0 sizes.now amax omax) self.old result }
     {
-        self.rcvudata(p, fd, sizes.len(), total(sizes), amax, omax)
+        self.rcvudata(p, fd, Sizes::all(sizes), amax, omax)
     }
 }
 
 /// The sum of the sizes, where there are not too many; those are refused whatever their sum is.
-pub(crate) fn total(sizes: &[u32]) -> usize
+fn total(sizes: &[u32]) -> usize
     ensures { is_too_many (length sizes.now) ≡ false → result ≡ sum sizes.now }
 {
     if sizes.len() > MOST_PARTS {

@@ -6,12 +6,12 @@ ghost use Rattle.xti_model.specs.Symbols as waiting;
 ghost use Rattle.xti_model.specs.World.{place_of};
 ghost use Rattle.xti_model.specs.Calls.Receive as Receive;
 ghost use Rattle.xti_end.specs.Held.{is_open, parts, with_parts, without_normal, without_expedited, SameRoom};
-ghost use Rattle.xti_end.specs.Taken.{data_reply, receiving_data, receiving_data_all, IsSureBy, MakesBy, StillBlocked};
+ghost use Rattle.xti_end.specs.Taken.{data_reply, receiving_data, filling_data, IsSureBy, MakesBy, StillBlocked};
 
 use crate::answers::{done, refused};
 use crate::endpoint::Endpoint;
 use crate::providers::{has_connections, is_stream};
-use crate::receiving::total;
+use crate::receiving::Sizes;
 use crate::receiving_release::is_receiving;
 use std::alloc::AllocError;
 use xti_base::limits::MOST_PARTS;
@@ -90,20 +90,14 @@ impl Endpoint {
         Ok(Reply::Got { bytes, flags })
     }
 
-    /// t_rcv of at most `max` bytes, or t_rcvv into so many sizes with that sum.
-    pub(crate) fn rcv(
-        &mut self,
-        p: &Providers,
-        fd: Fd,
-        sizes: usize,
-        max: usize,
-    ) -> Result<Applied, AllocError>
+    /// t_rcv, or t_rcvv into these sizes.
+    pub(crate) fn rcv(&mut self, p: &Providers, fd: Fd, sizes: Sizes) -> Result<Applied, AllocError>
         requires { place_of p.now fd.0 ≡ self.old.place }
-        ensures step { MakesBy p.now (receiving_data p.now self.old fd.0 sizes max) self.old self.new result }
+        ensures step { MakesBy p.now (receiving_data fd.0 sizes) self.old self.new result }
         ensures still { StillBlocked self.old self.new result }
         ensures room { SameRoom self.old self.new }
         ensures err { OnErr result (self.new ≡ self.old) }
-        ensures sure { IsSureBy (receiving_data p.now self.old fd.0 sizes max) result }
+        ensures sure { IsSureBy p.now (receiving_data fd.0 sizes) self.old result }
     {
         if !self.is(p, fd) {
             return Ok(refused(self, p, fd, Errno::TBADF));
@@ -114,14 +108,14 @@ impl Endpoint {
         if !is_receiving(self.state()) {
             return Ok(refused(self, p, fd, Errno::TOUTSTATE));
         }
-        if sizes > MOST_PARTS {
+        if sizes.count > MOST_PARTS {
             return Ok(refused(self, p, fd, Errno::TBADDATA));
         }
         if let Some(event) = self.event_before_data() {
             return Ok(done(self, p, fd, Reply::Look { event }));
         }
         if !self.has_nothing() {
-            let reply = self.receive_data(p, max)?;
+            let reply = self.receive_data(p, sizes.total)?;
             Ok(done(self, p, fd, reply))
         } else if self.nonblock() {
             Ok(refused(self, p, fd, Errno::TNODATA))
@@ -138,12 +132,12 @@ impl Endpoint {
         sizes: &[u32],
     ) -> Result<Applied, AllocError>
         requires { place_of p.now fd.0 ≡ self.old.place }
-        ensures step { MakesBy p.now (receiving_data_all p.now self.old fd.0 sizes.now) self.old self.new result }
+        ensures step { MakesBy p.now (filling_data fd.0 sizes.now) self.old self.new result }
         ensures still { StillBlocked self.old self.new result }
         ensures room { SameRoom self.old self.new }
         ensures err { OnErr result (self.new ≡ self.old) }
-        ensures sure { IsSureBy (receiving_data_all p.now self.old fd.0 sizes.now) result }
+        ensures sure { IsSureBy p.now (filling_data fd.0 sizes.now) self.old result }
     {
-        self.rcv(p, fd, sizes.len(), total(sizes))
+        self.rcv(p, fd, Sizes::all(sizes))
     }
 }

@@ -10,8 +10,8 @@ ghost use Rattle.xti_model.specs.Plan.{field, is_too_long};
 ghost use Rattle.xti_model.specs.World.{place_of};
 ghost use Rattle.xti_model.specs.Calls.Disconnect as Disconnect;
 ghost use Rattle.xti_end.specs.Frames.{disconnect_in};
-ghost use Rattle.xti_end.specs.Held.{alone, is_open, is_open_as, parts, with_parts, SameRoom};
-ghost use Rattle.xti_end.specs.Taken.{disconnect_step, receiving_disconnect, IsSureBy, Makes, MakesBy, StillBlocked};
+ghost use Rattle.xti_end.specs.Held.{is_open, is_open_as, parts, with_parts, SameRoom};
+ghost use Rattle.xti_end.specs.Taken.{receiving_disconnect, told_disconnect, IsSureBy, MakesBy, StillBlocked, TellsDisconnect};
 
 use crate::answers::{done, refused};
 use crate::endpoint::Endpoint;
@@ -75,7 +75,7 @@ impl Endpoint {
     fn disconnect_reply(&self, umax: u32) -> Result<Reply, AllocError>
         requires open { is_open self.now ≡ true }
         requires waits { some_wait (parts self.now).disconnects ≡ true }
-        ensures { IfOk result (λ r. r ≡ Disconnect.receive_reply (Disconnect.oldest (parts self.now)) umax) }
+        ensures { IfOk result (λ r. r ≡ told_disconnect umax (parts self.now)) }
     {
         let frame = self.oldest_disconnect();
         Ok(Reply::Discon {
@@ -106,7 +106,7 @@ impl Endpoint {
         requires place { place_of p.now fd.0 ≡ self.old.place }
         requires open { is_open_as p.now fd.0 self.old ≡ true }
         requires waits { some_wait (parts self.old).disconnects ≡ true }
-        ensures step { Makes (disconnect_step p.now (alone self.old) fd.0 umax (parts self.old)) self.new result }
+        ensures step { TellsDisconnect p.now fd.0 umax self.old self.new result }
         ensures still { StillBlocked self.old self.new result }
         ensures room { SameRoom self.old self.new }
         ensures err { OnErr result (self.new ≡ self.old) }
@@ -123,11 +123,11 @@ impl Endpoint {
     /// t_rcvdis.
     pub(crate) fn rcvdis(&mut self, p: &Providers, fd: Fd, umax: u32) -> Result<Applied, AllocError>
         requires { place_of p.now fd.0 ≡ self.old.place }
-        ensures step { MakesBy p.now (receiving_disconnect p.now self.old fd.0 umax) self.old self.new result }
+        ensures step { MakesBy p.now (receiving_disconnect fd.0 umax) self.old self.new result }
         ensures still { StillBlocked self.old self.new result }
         ensures room { SameRoom self.old self.new }
         ensures err { OnErr result (self.new ≡ self.old) }
-        ensures sure { IsSureBy (receiving_disconnect p.now self.old fd.0 umax) result }
+        ensures sure { IsSureBy p.now (receiving_disconnect fd.0 umax) self.old result }
     {
         if !self.is(p, fd) {
             return Ok(refused(self, p, fd, Errno::TBADF));

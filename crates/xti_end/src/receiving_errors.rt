@@ -9,8 +9,8 @@ ghost use Rattle.xti_model.specs.Plan.{is_too_long};
 ghost use Rattle.xti_model.specs.World.{place_of};
 ghost use Rattle.xti_model.specs.Calls.Datagrams as Datagrams;
 ghost use Rattle.xti_end.specs.Frames.{error_in};
-ghost use Rattle.xti_end.specs.Held.{alone, is_open, is_open_as, parts, with_parts, SameRoom};
-ghost use Rattle.xti_end.specs.Taken.{error_fields, error_step, receiving_error, IsSureBy, Makes, MakesBy, StillBlocked};
+ghost use Rattle.xti_end.specs.Held.{is_open, is_open_as, parts, with_parts, SameRoom};
+ghost use Rattle.xti_end.specs.Taken.{error_fields, receiving_error, told_error, IsSureBy, MakesBy, StillBlocked, TellsError};
 
 use crate::answers::{done, refused};
 use crate::endpoint::Endpoint;
@@ -71,7 +71,7 @@ impl Endpoint {
     /// What is told of the first datagram error.
     fn error_reply(&self, amax: u32, omax: u32) -> Result<Reply, AllocError>
         requires { some_wait (parts self.now).datagram_errors ≡ true }
-        ensures { IfOk result (λ r. r ≡ Datagrams.error_reply (Datagrams.first_error (parts self.now)) amax omax) }
+        ensures { IfOk result (λ r. r ≡ told_error amax omax (parts self.now)) }
     {
         let frame = self.first_error();
         let addr = trimmed_copy(self.alloc, destination(frame), amax)?;
@@ -102,7 +102,7 @@ impl Endpoint {
         requires place { place_of p.now fd.0 ≡ self.old.place }
         requires open { is_open_as p.now fd.0 self.old ≡ true }
         requires waits { some_wait (parts self.old).datagram_errors ≡ true }
-        ensures step { Makes (error_step p.now (alone self.old) fd.0 amax omax (parts self.old)) self.new result }
+        ensures step { TellsError p.now fd.0 amax omax self.old self.new result }
         ensures still { StillBlocked self.old self.new result }
         ensures room { SameRoom self.old self.new }
         ensures err { OnErr result (self.new ≡ self.old) }
@@ -125,11 +125,11 @@ impl Endpoint {
         omax: u32,
     ) -> Result<Applied, AllocError>
         requires { place_of p.now fd.0 ≡ self.old.place }
-        ensures step { MakesBy p.now (receiving_error p.now self.old fd.0 amax omax) self.old self.new result }
+        ensures step { MakesBy p.now (receiving_error fd.0 amax omax) self.old self.new result }
         ensures still { StillBlocked self.old self.new result }
         ensures room { SameRoom self.old self.new }
         ensures err { OnErr result (self.new ≡ self.old) }
-        ensures sure { IsSureBy (receiving_error p.now self.old fd.0 amax omax) result }
+        ensures sure { IsSureBy p.now (receiving_error fd.0 amax omax) self.old result }
     {
         if !self.is(p, fd) {
             return Ok(refused(self, p, fd, Errno::TBADF));

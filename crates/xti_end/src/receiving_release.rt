@@ -8,7 +8,7 @@ ghost use Rattle.xti_model.specs.Events.{is_here, receiving, some_wait};
 ghost use Rattle.xti_model.specs.World.{place_of};
 ghost use Rattle.xti_model.specs.Calls.Release as Release;
 ghost use Rattle.xti_end.specs.Held.{alone, is_open, parts, with_parts, SameRoom};
-ghost use Rattle.xti_end.specs.Taken.{taken, AnswersBy};
+ghost use Rattle.xti_end.specs.Taken.{receiving_release, taken, AnswersBy};
 
 use crate::answers::{done, refused};
 use crate::endpoint::Endpoint;
@@ -60,7 +60,7 @@ impl Endpoint {
     /// t_rcvrel.
     pub(crate) fn rcvrel(&mut self, p: &Providers, fd: Fd) -> Applied
         requires { place_of p.now fd.0 ≡ self.old.place }
-        ensures step { AnswersBy p.now (Release.receive_plan p.now (alone self.old) fd.0) self.old self.new result }
+        ensures step { AnswersBy p.now (receiving_release fd.0) self.old self.new result }
         ensures still { taken result (alone self.new) ≡ None → self.new ≡ self.old }
         ensures room { SameRoom self.old self.new }
     {

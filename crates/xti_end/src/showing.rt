@@ -5,7 +5,7 @@ ghost use Rattle.xti_model.specs.Endpoint.{address_of};
 ghost use Rattle.xti_model.specs.World.{place_of};
 ghost use Rattle.xti_model.specs.Calls.Show as Show;
 ghost use Rattle.xti_end.specs.Held.{alone, is_open, parts, SameRoom};
-ghost use Rattle.xti_end.specs.Taken.{taken, showing_addresses, AnswersBy, IsSureBy, MakesBy};
+ghost use Rattle.xti_end.specs.Taken.{setting_mode, showing_addresses, showing_limits, showing_state, taken, AnswersBy, IsSureBy, MakesBy};
 
 use crate::answers::{done, refused};
 use crate::endpoint::Endpoint;
@@ -19,7 +19,7 @@ impl Endpoint {
     /// t_getstate and t_sync.
     pub(crate) fn getstate(&self, p: &Providers, fd: Fd) -> Applied
         requires { place_of p.now fd.0 ≡ self.now.place }
-        ensures { AnswersBy p.now (Show.state_plan p.now (alone self.now) fd.0) self.now self.now result }
+        ensures { AnswersBy p.now (showing_state fd.0) self.now self.now result }
     {
         if !self.is(p, fd) {
             return refused(self, p, fd, Errno::TBADF);
@@ -31,7 +31,7 @@ impl Endpoint {
     /// Sets O_NONBLOCK, or clears it.
     pub(crate) fn set_mode(&mut self, p: &Providers, fd: Fd, nonblock: bool) -> Applied
         requires { place_of p.now fd.0 ≡ self.old.place }
-        ensures step { AnswersBy p.now (Show.mode_plan p.now (alone self.old) fd.0 nonblock) self.old self.new result }
+        ensures step { AnswersBy p.now (setting_mode fd.0 nonblock) self.old self.new result }
         ensures still { taken result (alone self.new) ≡ None → self.new ≡ self.old }
         ensures room { SameRoom self.old self.new }
     {
@@ -45,7 +45,7 @@ impl Endpoint {
     /// t_getinfo.
     pub(crate) fn getinfo(&self, p: &Providers, fd: Fd) -> Applied
         requires { place_of p.now fd.0 ≡ self.now.place }
-        ensures { AnswersBy p.now (Show.info_plan p.now (alone self.now) fd.0) self.now self.now result }
+        ensures { AnswersBy p.now (showing_limits fd.0) self.now self.now result }
     {
         if !self.is(p, fd) {
             return refused(self, p, fd, Errno::TBADF);
@@ -90,8 +90,8 @@ impl Endpoint {
         pmax: u32,
     ) -> Result<Applied, AllocError>
         requires { place_of p.now fd.0 ≡ self.now.place }
-        ensures step { MakesBy p.now (showing_addresses p.now self.now fd.0 amax pmax) self.now self.now result }
-        ensures sure { IsSureBy (showing_addresses p.now self.now fd.0 amax pmax) result }
+        ensures step { MakesBy p.now (showing_addresses fd.0 amax pmax) self.now self.now result }
+        ensures sure { IsSureBy p.now (showing_addresses fd.0 amax pmax) self.now result }
     {
         if !self.is(p, fd) {
             return Ok(refused(self, p, fd, Errno::TBADF));

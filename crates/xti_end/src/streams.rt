@@ -30,14 +30,6 @@ impl Endpoint {
         self.waiting.normal.bytes_len() != 0 || self.waiting.normal.ends_len() != 0
     }
 
-    /// Takes all normal data out. Takes no memory.
-    pub fn clear_normal(&mut self)
-        requires { is_open self.old ≡ true }
-        ensures { self.new ≡ with_parts (λ e. record e { normal = [] }) self.old }
-    {
-        self.waiting.normal.discard_stream();
-    }
-
     /// Makes room for one more T_DATA_IND; where memory runs out all is as before.
     pub fn reserve_normal(&mut self) -> Result<(), AllocError>
         ensures same { self.new ≡ record self.old { spare_normal = self.new.spare_normal } }
@@ -75,14 +67,6 @@ impl Endpoint {
         self.waiting.expedited.bytes_len() != 0 || self.waiting.expedited.ends_len() != 0
     }
 
-    /// Takes all expedited data out. Takes no memory.
-    pub fn clear_expedited(&mut self)
-        requires { is_open self.old ≡ true }
-        ensures { self.new ≡ with_parts (λ e. record e { expedited = [] }) self.old }
-    {
-        self.waiting.expedited.discard_stream();
-    }
-
     /// Makes room for one more T_EXDATA_IND; where memory runs out all is as before.
     pub fn reserve_expedited(&mut self) -> Result<(), AllocError>
         ensures same { self.new ≡ record self.old { spare_expedited = self.new.spare_expedited } }
@@ -111,10 +95,7 @@ impl Endpoint {
         ensures release { is_some result ≡ (parts self.now).release }
         ensures kind { IfSome result (λ frame. kind_in frame.now ≡ T_ORDREL_IND) }
     {
-        match &self.body {
-            Some(parts) => parts.connection.release.as_ref(),
-            None => unreachable!(),
-        }
+        self.open_parts().connection.release.as_ref()
     }
 
     /// Sets the release mark of the open endpoint, by a T_ORDREL_IND. Takes no memory.

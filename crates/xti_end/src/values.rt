@@ -6,7 +6,7 @@ ghost use Rattle.xti_base.specs.Kinds.{same_state};
 ghost use Rattle.xti_base.specs.declared.kinds.State.TheVariants.{T_UNINIT};
 ghost use Rattle.xti_model.specs.Provider.{is_provider};
 ghost use Rattle.xti_model.specs.Spot.{spot_bytes};
-ghost use Rattle.xti_end.specs.Held.{is_open, parts, with_parts, mark_at, peer_at, target_at, target_number_at, target_of};
+ghost use Rattle.xti_end.specs.Held.{is_open, parts, with_parts, with_mark, with_peer, with_target, mark_at, peer_at, target_at, target_number_at, target_of};
 
 use crate::endpoint::Endpoint;
 use xti_base::{Fd, Octets, Prov, Seq, State, write_over};
@@ -18,21 +18,7 @@ impl Endpoint {
         requires { is_open self.now ≡ true }
         ensures { result ≡ (parts self.now).prov }
     {
-        match &self.body {
-            Some(parts) => parts.prov,
-            None => unreachable!(),
-        }
-    }
-
-    /// Sets the provider of the open endpoint.
-    pub fn set_prov(&mut self, prov: Prov)
-        requires open { is_open self.old ≡ true }
-        requires provider { is_provider prov ≡ true }
-        ensures { self.new ≡ with_parts (λ e. record e { prov = prov }) self.old }
-    {
-        if let Some(parts) = &mut self.body {
-            parts.prov = prov;
-        }
+        self.open_parts().prov
     }
 
     /// Whether the open endpoint has O_NONBLOCK set.
@@ -40,10 +26,7 @@ impl Endpoint {
         requires { is_open self.now ≡ true }
         ensures { result ≡ (parts self.now).nonblock }
     {
-        match &self.body {
-            Some(parts) => parts.nonblock,
-            None => unreachable!(),
-        }
+        self.open_parts().nonblock
     }
 
     /// Sets O_NONBLOCK of the open endpoint, or clears it.
@@ -61,10 +44,7 @@ impl Endpoint {
         requires { is_open self.now ≡ true }
         ensures { result ≡ (parts self.now).state }
     {
-        match &self.body {
-            Some(parts) => parts.state,
-            None => unreachable!(),
-        }
+        self.open_parts().state
     }
 
     /// Sets the state of the open endpoint.
@@ -83,10 +63,7 @@ impl Endpoint {
         requires { is_open self.now ≡ true }
         ensures { option_copied result ≡ (parts self.now).address }
     {
-        match &self.body {
-            Some(parts) => parts.address.as_ref(),
-            None => unreachable!(),
-        }
+        self.open_parts().address.as_ref()
     }
 
     /// Sets the address of the open endpoint.
@@ -104,10 +81,7 @@ impl Endpoint {
         requires { is_open self.now ≡ true }
         ensures { result ≡ (parts self.now).qlen }
     {
-        match &self.body {
-            Some(parts) => parts.qlen,
-            None => unreachable!(),
-        }
+        self.open_parts().qlen
     }
 
     /// Sets how many requests to connect the open endpoint queues.
@@ -125,10 +99,7 @@ impl Endpoint {
         requires { is_open self.now ≡ true }
         ensures { result ≡ (parts self.now).sndbuf }
     {
-        match &self.body {
-            Some(parts) => parts.sndbuf,
-            None => unreachable!(),
-        }
+        self.open_parts().sndbuf
     }
 
     /// Sets the send size of the open endpoint, in bytes.
@@ -146,10 +117,7 @@ impl Endpoint {
         requires { is_open self.now ≡ true }
         ensures { result ≡ (parts self.now).rcvbuf }
     {
-        match &self.body {
-            Some(parts) => parts.rcvbuf,
-            None => unreachable!(),
-        }
+        self.open_parts().rcvbuf
     }
 
     /// Sets the receive size of the open endpoint, in bytes.
@@ -164,41 +132,38 @@ impl Endpoint {
 
     /// Where the datagram went that the provider could not take; `None` where the datagram flow mark isn't set, as at a closed
     /// place.
-    pub fn mark(&self) -> Option<Spot>
+    pub fn flow_datagram(&self) -> Option<Spot>
         ensures { option_map spot_bytes result ≡ mark_at self.now.body }
     {
         let parts = self.body.as_ref()?;
-        parts.mark
+        parts.flow_datagram
     }
 
     /// Sets the datagram flow mark of the open endpoint, or clears it.
-    pub fn set_mark(&mut self, to: Option<Spot>)
+    pub fn set_flow_datagram(&mut self, to: Option<Spot>)
         requires { is_open self.old ≡ true }
-        ensures { self.new ≡ with_parts (λ e. record e { flow_datagram = option_map spot_bytes to }) self.old }
+        ensures { self.new ≡ with_parts (with_mark (option_map spot_bytes to)) self.old }
     {
         if let Some(parts) = &mut self.body {
-            parts.mark = to;
+            parts.flow_datagram = to;
         }
     }
 
     /// The sequence number that the open endpoint gave last; 0 where it gave none.
-    pub fn last_seq(&self) -> Seq
+    pub fn last_number(&self) -> Seq
         requires { is_open self.now ≡ true }
         ensures { result.0 ≡ (parts self.now).last_number }
     {
-        match &self.body {
-            Some(parts) => parts.connection.last_seq,
-            None => unreachable!(),
-        }
+        self.open_parts().connection.last_number
     }
 
     /// Sets the sequence number that the open endpoint gave last.
-    pub fn set_last_seq(&mut self, seq: Seq)
+    pub fn set_last_number(&mut self, seq: Seq)
         requires { is_open self.old ≡ true }
         ensures { self.new ≡ with_parts (λ e. record e { last_number = seq.0 }) self.old }
     {
         if let Some(parts) = &mut self.body {
-            parts.connection.last_seq = seq;
+            parts.connection.last_number = seq;
         }
     }
 
@@ -221,7 +186,7 @@ impl Endpoint {
     /// Sets the listener that the open endpoint asks for a connection, with the number of its request, or that it asks none.
     pub fn set_target(&mut self, target: Option<(Fd, Seq)>)
         requires { is_open self.old ≡ true }
-        ensures { self.new ≡ with_parts (λ e. record e { target = option_map target_of target }) self.old }
+        ensures { self.new ≡ with_parts (with_target (option_map target_of target)) self.old }
     {
         if let Some(parts) = &mut self.body {
             parts.connection.target = target;
@@ -238,7 +203,7 @@ impl Endpoint {
     /// Sets the other side of the open endpoint's connection, or that there is none.
     pub fn set_peer(&mut self, peer: Option<Fd>)
         requires { is_open self.old ≡ true }
-        ensures { self.new ≡ with_parts (λ e. record e { peer = option_map (λ fd. fd.0) peer }) self.old }
+        ensures { self.new ≡ with_parts (with_peer (option_map (λ fd. fd.0) peer)) self.old }
     {
         if let Some(parts) = &mut self.body {
             parts.connection.peer = peer;
@@ -250,10 +215,7 @@ impl Endpoint {
         requires { is_open self.now ≡ true }
         ensures { option_copied result ≡ (parts self.now).peer_address }
     {
-        match &self.body {
-            Some(parts) => parts.connection.peer_address.as_ref(),
-            None => unreachable!(),
-        }
+        self.open_parts().connection.peer_address.as_ref()
     }
 
     /// Sets the address of the other side of the open endpoint's connection.
@@ -271,10 +233,7 @@ impl Endpoint {
         requires { is_open self.now ≡ true }
         ensures { result ≡ (parts self.now).mid_expedited }
     {
-        match &self.body {
-            Some(parts) => parts.connection.mid_expedited,
-            None => unreachable!(),
-        }
+        self.open_parts().connection.mid_expedited
     }
 
     /// Sets whether the open endpoint is in the middle of an expedited message.
@@ -292,10 +251,7 @@ impl Endpoint {
         requires { is_open self.now ≡ true }
         ensures { result ≡ (parts self.now).unfinished_normal }
     {
-        match &self.body {
-            Some(parts) => parts.connection.unfinished_normal,
-            None => unreachable!(),
-        }
+        self.open_parts().connection.unfinished_normal
     }
 
     /// Sets the bytes so far of the normal message that the open endpoint sends.
@@ -313,10 +269,7 @@ impl Endpoint {
         requires { is_open self.now ≡ true }
         ensures { result ≡ (parts self.now).unfinished_expedited }
     {
-        match &self.body {
-            Some(parts) => parts.connection.unfinished_expedited,
-            None => unreachable!(),
-        }
+        self.open_parts().connection.unfinished_expedited
     }
 
     /// Sets the bytes so far of the expedited message that the open endpoint sends.
@@ -334,10 +287,7 @@ impl Endpoint {
         requires { is_open self.now ≡ true }
         ensures { result ≡ (parts self.now).flow_normal }
     {
-        match &self.body {
-            Some(parts) => parts.connection.flow_normal,
-            None => unreachable!(),
-        }
+        self.open_parts().connection.flow_normal
     }
 
     /// Sets the normal flow mark of the open endpoint, or clears it.
@@ -355,10 +305,7 @@ impl Endpoint {
         requires { is_open self.now ≡ true }
         ensures { result ≡ (parts self.now).flow_expedited }
     {
-        match &self.body {
-            Some(parts) => parts.connection.flow_expedited,
-            None => unreachable!(),
-        }
+        self.open_parts().connection.flow_expedited
     }
 
     /// Sets the expedited flow mark of the open endpoint, or clears it.

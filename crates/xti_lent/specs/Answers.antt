@@ -1,5 +1,5 @@
 -- What a step on lent cells answers, and what it leaves of them.
-use Rattle.std.specs.Prelude.{◌≡◌, ℕ, false, List, Option, Some, None, Result, IsOk}
+use Rattle.std.specs.Prelude.{◌≡◌, ℕ, false, List, Option, Some, None, option_map, Result, IfOk, IsOk}
 use Rattle.xti_model.specs.declared.call.Call.{Call}
 use Rattle.xti_model.specs.declared.entry.Applied.{Applied}
 use Rattle.xti_model.specs.declared.entry.Go.{Go}
@@ -7,11 +7,15 @@ use Rattle.xti_model.specs.declared.entry.Outcome.{Outcome}
 use Rattle.xti_model.specs.declared.entry.Outcome.TheVariants.{Done}
 use Rattle.xti_model.specs.declared.entry.Reply.{Reply}
 use Rattle.xti_model.specs.Memory.{may_run_out}
-use Rattle.xti_model.specs.Plan.{Plan, first, has_effect}
+use Rattle.xti_model.specs.Plan.{Plan, Refusal, answers, first, has_effect}
 use Rattle.xti_model.specs.Step.{Step, step, step_of, made}
 use Rattle.xti_model.specs.World.{Change, changed}
 use Rattle.xti_end.specs.Taken.{taken}
 use Rattle.xti_lent.specs.Lending.{Lending, cells}
+
+-- what refuses a call, where its reply is this one
+abbrev pub answered : Option Reply → Option Refusal
+answered reply = option_map (λ r. answers r) reply
 
 -- the step has this outcome, and the lent cells are as they were
 abbrev pub IsMade : Lending → ℕ → Outcome → Applied → Type 0
@@ -28,6 +32,10 @@ Answers s new a = taken a (cells new) ≡ s
 -- of the plan's step
 abbrev pub AnswersBy : Plan → Lending → Lending → Applied → Type 0
 AnswersBy plan old new a = Answers (step_of old.providers (cells old) plan) new a
+
+-- the same of the answer, if there is one
+abbrev pub MakesBy : {E : Type 0} → Plan → Lending → Lending → Result Applied E → Type 0
+MakesBy plan old new r = IfOk r (AnswersBy plan old new)
 
 -- of one step of the call
 abbrev pub AnswersCall : Call → Go → Lending → Lending → Applied → Type 0

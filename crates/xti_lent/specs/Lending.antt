@@ -1,13 +1,16 @@
 -- What contracts see of the cells that a step was lent.
-use Rattle.std.specs.Prelude.{ℕ, ◌+◌, ◌==◌, Bool, List, [], ◌∷◌, ◌++◌, Option, Some, None, option_map, is_some, if◌then◌else◌}
+use Rattle.std.specs.Prelude.{◌≡◌, ℕ, ◌+◌, ◌==◌, Bool, true, List, [], ◌∷◌, ◌++◌, Option, Some, None, IfSome, option_map, option_and_then, is_some, if◌then◌else◌}
+use Rattle.std.specs.Borrow.{Bor}
 use Rattle.std.specs.List.{flat_map}
+use Rattle.std.specs.Option.{option_copied}
+use Rattle.xti_base.specs.declared.kinds.Fd.{Fd}
 use Rattle.xti_model.specs.declared.profile.Providers.{Providers}
 use Rattle.xti_model.specs.Endpoint.{Endpoint}
-use Rattle.xti_model.specs.Links.{linked}
-use Rattle.xti_model.specs.World.{World, Cell, switch_cell, places, switch_number}
+use Rattle.xti_model.specs.Links.{linked, if_back}
+use Rattle.xti_model.specs.World.{World, Cell, Switch, switch_cell, places, switch_number, endpoint, the_switch}
 use Rattle.xti_model.specs.Robin.{numbers}
 use Rattle.xti_registry.specs.Known.{Known}
-use Rattle.xti_end.specs.Held.{Held, cell}
+use Rattle.xti_end.specs.Held.{Held, cell, is_open, parts}
 
 -- the providers of the step; the endpoints that are lent, with their places' numbers in the same order; and the switch's table
 pub record Lending : Type 0 where
@@ -72,6 +75,29 @@ cells_by p at = flat_map (λ n. numbered_cell n (at n)) (numbers 0 (places p + 1
 -- the lent cells
 abbrev pub cells : Lending → World
 cells l = cells_by l.providers (cell_lent l)
+
+-- the endpoint that is open with the descriptor, among those that are lent
+abbrev pub open_at : Lending → ℕ → Option Endpoint
+open_at l fd = endpoint l.providers (cells l) fd
+
+-- the switch, as far as it is lent
+abbrev pub lent_switch : Lending → Switch
+lent_switch l = the_switch l.providers (cells l)
+
+-- the number of a descriptor, if there is one
+abbrev pub number_of : Option Fd → Option ℕ
+number_of fd = option_map (λ (fd : Fd). fd.0) fd
+
+-- the endpoint behind a reference, if there is one; it is open
+abbrev pub seen : Option (Bor Held) → Option Endpoint
+seen o = option_map parts (option_copied o)
+
+abbrev pub IsSeen : Option (Bor Held) → Type 0
+IsSeen o = IfSome o (λ e. is_open e.now ≡ true)
+
+-- the endpoint that is linked with one that names this peer
+abbrev pub linked_with : Lending → ℕ → Option ℕ → Option Endpoint
+linked_with l fd peer = option_and_then (λ number. option_and_then (if_back fd) (open_at l number)) peer
 
 -- the endpoint that one with the descriptor is linked with, among those that are lent
 abbrev pub linked_in : Lending → ℕ → Endpoint → Option Endpoint

@@ -5,12 +5,12 @@ ghost use Rattle.std.specs.Borrow.{sem};
 ghost use Rattle.std.specs.Option.{option_copied};
 ghost use Rattle.xti_base.specs.declared.limits.TheConstants.{MOST_PLACES};
 ghost use Rattle.xti_model.specs.Profile.{valid};
-ghost use Rattle.xti_model.specs.World.{endpoint, place_of, places};
-ghost use Rattle.xti_end.specs.Held.{is_open_as, parts};
+ghost use Rattle.xti_model.specs.World.{place_of, places};
+ghost use Rattle.xti_end.specs.Held.{is_open_as};
 ghost use Rattle.xti_lent.specs.Fit.{AtOwnPlaces};
 ghost use Rattle.xti_lent.specs.Kept.{Distinct};
-ghost use Rattle.xti_lent.specs.Lending.{held_at, is_lent, cells, lending, without_place};
-ghost use Rattle.xti_lent.specs.Lends.{IsOpenAt, LendsEndpoint, LendsRegistry};
+ghost use Rattle.xti_lent.specs.Lending.{held_at, is_lent, lending, open_at, seen, without_place};
+ghost use Rattle.xti_lent.specs.Lends.{IsOpenAt, LendsEndpoint, LendsRegistry, StandsAt};
 
 use crate::slot::Slot;
 use arrayvec::ArrayVec;
@@ -154,9 +154,9 @@ impl Lent {
     /// The endpoint that is open with this descriptor, among those that are lent.
     pub fn open_endpoint(&self, fd: Fd) -> Option<&Endpoint>
         requires { AtOwnPlaces self.now }
-        ensures endpoint { option_map parts (option_copied result) ≡ endpoint self.now.providers (cells self.now) fd.0 }
+        ensures endpoint { seen result ≡ open_at self.now fd.0 }
         ensures open { IfSome result (λ e. is_open_as self.now.providers fd.0 e.now ≡ true) }
-        ensures held { IfSome result (λ e. held_at self.now (place_of self.now.providers fd.0) ≡ Some e.now) }
+        ensures held { IfSome result (λ e. StandsAt self.now fd.0 e.now) }
     {
         let e = self.find(self.place_of(fd))?;
         if e.is(&self.providers, fd) {
@@ -170,7 +170,7 @@ impl Lent {
     pub fn open_place(&self, fd: Fd) -> Option<u32>
         requires { AtOwnPlaces self.now }
         ensures place { IfSome result (λ place. IsOpenAt self.now fd.0 place) }
-        ensures none { IfNone result (endpoint self.now.providers (cells self.now) fd.0 ≡ None) }
+        ensures none { IfNone result (open_at self.now fd.0 ≡ None) }
     {
         let _endpoint = self.open_endpoint(fd)?;
         Some(self.place_of(fd))

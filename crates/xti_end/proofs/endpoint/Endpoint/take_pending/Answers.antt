@@ -1,6 +1,0 @@
-use Rattle.std.proofs.Common.{refl}
-use Rattle.xti_end.proofs.Views.{pending-removed}
-use Rattle.xti_end.proofs.endpoint.Endpoint.take_pending.Goals as goal
-
-pub returns-clause-taken : goal.returns-clause-taken
-returns-clause-taken c = rw (← c.self.view_is, c.remove.ensures.spare, pending-removed c.self.inside.body c.self.inside.waiting c.remove.new.self c.args.place c.remove.ensures.items) refl
