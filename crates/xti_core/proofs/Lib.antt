@@ -10,3 +10,4 @@ pub mod Standing
 pub mod OpeningWorld
 pub mod Shown
 pub mod Written
+pub mod Families

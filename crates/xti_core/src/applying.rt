@@ -11,16 +11,42 @@ ghost use Rattle.xti_lent.specs.Fit.{AllLent, AtOwnPlaces, IsFit, SameCells};
 ghost use Rattle.xti_switch.specs.Calls.{goes_through_switch};
 ghost use Rattle.xti_data.specs.Sends.{IsData};
 ghost use Rattle.xti_dgram.specs.Sends.{IsSend};
-ghost use Rattle.xti_core.specs.Written.{IsWritten, StepsInto};
+ghost use Rattle.xti_core.specs.Written.{told, AlwaysSteps, IsLook, IsWritten, Steps, StepsBySwitch, StayUnmade};
 
 use crate::looking::look;
 use std::alloc::AllocError;
-use xti_base::{Fd, State, let_go, write_over};
+use xti_base::{Fd, State, write_over};
 use xti_data::data_step;
 use xti_dgram::dgram_step;
 use xti_lent::Lent;
 use xti_model::{Applied, Call, Go, Outcome};
 use xti_switch::switch_step;
+
+/// One step of a call that touches the cell of its descriptor alone.
+#[inline(always)]
+fn local(lent: &mut Lent, call: &Call, fd: Fd, go: Go) -> Result<Applied, AllocError>
+    requires at { IsAt lent.old.providers (place_of lent.old.providers fd.0) call.now go }
+    requires places { AtOwnPlaces lent.old }
+    requires lent { is_lent lent.old (place_of lent.old.providers fd.0) ≡ true }
+    ensures step { Steps call.now go lent.old lent.new result }
+    ensures kept { SameCells lent.old lent.new }
+    ensures err { OnErr result (lent.new ≡ lent.old) }
+{
+    let p = *lent.providers();
+    let e = lent.endpoint(p.place_of(fd));
+    e.local(call, go, &p)
+}
+
+/// One step of t_look.
+#[inline(always)]
+fn seen(lent: &mut Lent, fd: Fd) -> Result<Applied, AllocError>
+    requires { AtOwnPlaces lent.old }
+    ensures step { IsLook fd lent.old lent.new result }
+    ensures kept { SameCells lent.old lent.new }
+    ensures err { OnErr result (lent.new ≡ lent.old) }
+{
+    Ok(look(lent, fd))
+}
 
 /// Writes what a step answered where the caller keeps it, and answers whether a step was made. Each family of calls does so by
 /// itself below, so that the place for its answer is cleared where it is needed alone.
@@ -48,9 +74,9 @@ fn write(
     }
 }
 
-/// One step of a call that touches the cell of its descriptor alone.
+/// `local`, written where the caller keeps it.
 #[inline(always)]
-fn local(
+fn local_into(
     lent: &mut Lent,
     call: &Call,
     fd: Fd,
@@ -61,18 +87,17 @@ fn local(
     requires at { IsAt lent.old.providers (place_of lent.old.providers fd.0) call.now go }
     requires places { AtOwnPlaces lent.old }
     requires lent { is_lent lent.old (place_of lent.old.providers fd.0) ≡ true }
-    ensures step { StepsInto call.now go lent.old lent.new outcome.old outcome.new after.old after.new result }
+    ensures step { Steps call.now go lent.old lent.new (told result outcome.new after.new) }
+    ensures unmade { StayUnmade result outcome.old outcome.new after.old after.new }
     ensures kept { SameCells lent.old lent.new }
     ensures err { OnErr result (lent.new ≡ lent.old) }
 {
-    let p = *lent.providers();
-    let e = lent.endpoint(p.place_of(fd));
-    write(e.local(call, go, &p), outcome, after)
+    write(local(lent, call, fd, go), outcome, after)
 }
 
-/// One step of a call that opens, closes, binds, unbinds, accepts or disconnects, or of a connect that begins.
+/// The same of a call that opens, closes, binds, unbinds, accepts or disconnects, or of a connect that begins.
 #[inline(always)]
-fn switch(
+fn switch_into(
     lent: &mut Lent,
     call: &Call,
     outcome: &mut Outcome,
@@ -81,16 +106,17 @@ fn switch(
     requires call { goes_through_switch call.now Go.Begin ≡ true }
     requires fit { IsFit lent.old }
     requires lent { AllLent lent.old (touched lent.old.providers (cells lent.old) call.now) }
-    ensures step { (g : Go) → goes_through_switch call.now g ≡ true → StepsInto call.now g lent.old lent.new outcome.old outcome.new after.old after.new result }
+    ensures step { StepsBySwitch call.now lent.old lent.new (told result outcome.new after.new) }
+    ensures unmade { StayUnmade result outcome.old outcome.new after.old after.new }
     ensures kept { SameCells lent.old lent.new }
     ensures err { OnErr result (IsUnchanged lent.old lent.new) }
 {
     write(switch_step(lent, call), outcome, after)
 }
 
-/// One step of a call that sends on a connection, or releases it.
+/// The same of a call that sends on a connection, or releases it.
 #[inline(always)]
-fn data(
+fn data_into(
     lent: &mut Lent,
     call: &Call,
     go: Go,
@@ -100,16 +126,17 @@ fn data(
     requires call { IsData call.now }
     requires fit { IsFit lent.old }
     requires lent { AllLent lent.old (touched lent.old.providers (cells lent.old) call.now) }
-    ensures step { StepsInto call.now go lent.old lent.new outcome.old outcome.new after.old after.new result }
+    ensures step { Steps call.now go lent.old lent.new (told result outcome.new after.new) }
+    ensures unmade { StayUnmade result outcome.old outcome.new after.old after.new }
     ensures kept { SameCells lent.old lent.new }
     ensures err { OnErr result (lent.new ≡ lent.old) }
 {
     write(data_step(lent, call, go), outcome, after)
 }
 
-/// One step of a call that sends a datagram.
+/// The same of a call that sends a datagram.
 #[inline(always)]
-fn datagram(
+fn dgram_into(
     lent: &mut Lent,
     call: &Call,
     outcome: &mut Outcome,
@@ -118,27 +145,58 @@ fn datagram(
     requires call { IsSend call.now }
     requires fit { IsFit lent.old }
     requires lent { AllLent lent.old (touched lent.old.providers (cells lent.old) call.now) }
-    ensures step { (g : Go) → StepsInto call.now g lent.old lent.new outcome.old outcome.new after.old after.new result }
+    ensures step { AlwaysSteps call.now lent.old lent.new (told result outcome.new after.new) }
+    ensures unmade { StayUnmade result outcome.old outcome.new after.old after.new }
     ensures kept { SameCells lent.old lent.new }
     ensures err { OnErr result (lent.new ≡ lent.old) }
 {
     write(dgram_step(lent, call), outcome, after)
 }
 
-/// One step of t_look.
+/// The same of t_look.
 #[inline(always)]
-fn seen(
+fn seen_into(
     lent: &mut Lent,
     fd: Fd,
     outcome: &mut Outcome,
     after: &mut State,
 ) -> Result<bool, AllocError>
     requires { AtOwnPlaces lent.old }
-    ensures step { (g : Go) → StepsInto (Call.TLookAt fd) g lent.old lent.new outcome.old outcome.new after.old after.new result }
+    ensures step { IsLook fd lent.old lent.new (told result outcome.new after.new) }
+    ensures unmade { StayUnmade result outcome.old outcome.new after.old after.new }
     ensures kept { SameCells lent.old lent.new }
     ensures err { OnErr result (lent.new ≡ lent.old) }
 {
-    write(Ok(look(lent, fd)), outcome, after)
+    write(seen(lent, fd), outcome, after)
+}
+
+/// One step of a call, by that of these functions which its family has; they are handed the places too that follow.
+macro_rules! by_family {
+    (
+        $lent:ident, $call:ident, $go:ident,
+        $switch:ident, $data:ident, $dgram:ident, $seen:ident, $local:ident $(, $place:ident)*
+    ) => {{
+        let Some(fd) = $call.fd() else {
+            return $switch($lent, $call $(, $place)*);
+        };
+        match $call {
+            Call::TConnect { .. } => match $go {
+                Go::Begin => $switch($lent, $call $(, $place)*),
+                Go::More(_) => $local($lent, $call, fd, $go $(, $place)*),
+            },
+            Call::TClose { .. }
+            | Call::TBind { .. }
+            | Call::TUnbind { .. }
+            | Call::TAccept { .. }
+            | Call::TSndDis { .. } => $switch($lent, $call $(, $place)*),
+            Call::TSnd { .. } | Call::TSndV { .. } | Call::TSndRel { .. } => {
+                $data($lent, $call, $go $(, $place)*)
+            }
+            Call::TSndUData { .. } | Call::TSndVUData { .. } => $dgram($lent, $call $(, $place)*),
+            Call::TLookAt { fd } => $seen($lent, *fd $(, $place)*),
+            _ => $local($lent, $call, fd, $go $(, $place)*),
+        }
+    }};
 }
 
 /// One step of a call over the lent cells, which are to be those that it touches. What it answers, and the state of its endpoint
@@ -154,42 +212,23 @@ pub(crate) fn apply_into(
 ) -> Result<bool, AllocError>
     requires fit { IsFit lent.old }
     requires lent { AllLent lent.old (touched lent.old.providers (cells lent.old) call.now) }
-    ensures step { StepsInto call.now go lent.old lent.new outcome.old outcome.new after.old after.new result }
+    ensures step { Steps call.now go lent.old lent.new (told result outcome.new after.new) }
+    ensures unmade { StayUnmade result outcome.old outcome.new after.old after.new }
     ensures kept { SameCells lent.old lent.new }
     ensures err { OnErr result (IsUnchanged lent.old lent.new) }
 {
-    match call {
-        Call::TConnect { fd, .. } => match go {
-            Go::Begin => switch(lent, call, outcome, after),
-            Go::More(_) => local(lent, call, *fd, go, outcome, after),
-        },
-        Call::TOpen { .. }
-        | Call::TClose { .. }
-        | Call::TBind { .. }
-        | Call::TUnbind { .. }
-        | Call::TAccept { .. }
-        | Call::TSndDis { .. } => switch(lent, call, outcome, after),
-        Call::TSnd { .. } | Call::TSndV { .. } | Call::TSndRel { .. } => data(
-            lent, call, go, outcome, after,
-        ),
-        Call::TSndUData { .. } | Call::TSndVUData { .. } => datagram(lent, call, outcome, after),
-        Call::TLookAt { fd } => seen(lent, *fd, outcome, after),
-        Call::TRcvConnect { fd, .. }
-        | Call::TListen { fd, .. }
-        | Call::TRcv { fd, .. }
-        | Call::TRcvV { fd, .. }
-        | Call::TRcvDis { fd, .. }
-        | Call::TRcvRel { fd }
-        | Call::TRcvUData { fd, .. }
-        | Call::TRcvVUData { fd, .. }
-        | Call::TRcvUDErr { fd, .. }
-        | Call::TGetState { fd }
-        | Call::TSync { fd }
-        | Call::TGetInfo { fd }
-        | Call::TGetProtAddr { fd, .. }
-        | Call::TOptMgmt { fd, .. }
-        | Call::SetMode { fd, .. } => local(lent, call, *fd, go, outcome, after),
-    }
+    by_family!(
+        lent,
+        call,
+        go,
+        switch_into,
+        data_into,
+        dgram_into,
+        seen_into,
+        local_into,
+        outcome,
+        after
+    )
 }
 
 /// One step of a call over the lent cells, which are to be those that it touches: what it answers, and the state of its endpoint
@@ -205,17 +244,14 @@ pub fn apply(lent: &mut Lent, call: &Call, go: Go) -> Result<Applied, AllocError
     ensures err { OnErr result (IsUnchanged lent.old lent.new) }
     ensures sure { IsSureOf call.now go lent.old result }
 {
-    let mut outcome = Outcome::Part { taken: 0 };
-    let mut after = State::T_UNINIT;
-    match apply_into(lent, call, go, &mut outcome, &mut after) {
-        Ok(true) => Ok(Applied::Step { outcome, after }),
-        Ok(false) => {
-            let_go(outcome);
-            Ok(Applied::Blocked)
-        }
-        Err(error) => {
-            let_go(outcome);
-            Err(error)
-        }
-    }
+    by_family!(
+        lent,
+        call,
+        go,
+        switch_step,
+        data_step,
+        dgram_step,
+        seen,
+        local
+    )
 }

@@ -1,15 +1,16 @@
 //! t_look.
 
-ghost use Rattle.std.specs.Prelude.{◌≡◌, ◌∷◌, [], ℕ, true, is_some, find, option_map};
+ghost use Rattle.std.specs.Prelude.{◌≡◌, ◌∷◌, [], ℕ, true, is_some, find};
 ghost use Rattle.xti_model.specs.Calls.Show as Show;
-ghost use Rattle.xti_model.specs.Events.{around, can_send_again, is_here, is_pending, is_state, receiving};
+ghost use Rattle.xti_model.specs.Events.{is_here, is_state, receiving};
 ghost use Rattle.xti_model.specs.declared.entry.Go.{Go};
-ghost use Rattle.xti_model.specs.World.{change_endpoint, at_endpoint, place_of, generation_of};
-ghost use Rattle.xti_end.specs.Held.{cell, is_open, parts, with_parts};
+ghost use Rattle.xti_model.specs.World.{at_endpoint, place_of};
+ghost use Rattle.xti_end.specs.Held.{is_open, parts, with_parts};
 ghost use Rattle.xti_lent.specs.Answers.{AnswersCall, Changed, StaysBlocked};
 ghost use Rattle.xti_lent.specs.Fit.{AtOwnPlaces, SameCells};
-ghost use Rattle.xti_lent.specs.Lending.{cells, held_at};
-ghost use Rattle.xti_core.specs.Looks.{around_lent, goes_again, sight_in};
+ghost use Rattle.xti_lent.specs.Lending.{held_at};
+ghost use Rattle.xti_lent.specs.Lends.{ChangesAt};
+ghost use Rattle.xti_core.specs.Looks.{can_send_among, goes_again, is_pending_among, sight_among, shown};
 
 use crate::touching::bound;
 use xti_base::{Errno, Event, Fd, State};
@@ -63,7 +64,7 @@ fn is_here(e: &Endpoint, event: Event) -> bool
 fn can_send_again(lent: &Lent, fd: Fd, e: &Endpoint, expedited: bool) -> bool
     requires own { AtOwnPlaces lent.now }
     requires open { is_open e.now ≡ true }
-    ensures { result ≡ can_send_again (around_lent lent.now fd.0 (parts e.now)) expedited (parts e.now) }
+    ensures { result ≡ can_send_among lent.now fd.0 expedited (parts e.now) }
 {
     match lent.linked(fd, e) {
         Some(peer) => is_ready(e, peer, expedited),
@@ -77,7 +78,7 @@ fn goes_again(lent: &Lent, e: &Endpoint) -> bool
     requires open { is_open e.now ≡ true }
     ensures { (fd : ℕ) → result ≡ goes_again lent.now fd (parts e.now) }
 {
-    let Some(address) = e.mark() else {
+    let Some(address) = e.flow_datagram() else {
         return false;
     };
     let Some(to) = bound(lent, e.prov(), address.as_slice()) else {
@@ -93,7 +94,7 @@ fn goes_again(lent: &Lent, e: &Endpoint) -> bool
 fn is_pending(lent: &Lent, fd: Fd, e: &Endpoint, event: Event) -> bool
     requires own { AtOwnPlaces lent.now }
     requires open { is_open e.now ≡ true }
-    ensures { result ≡ is_pending (around_lent lent.now fd.0 (parts e.now)) (parts e.now) event }
+    ensures { result ≡ is_pending_among lent.now fd.0 (parts e.now) event }
 {
     match event {
         Event::T_GOEXDATA => e.flow_expedited() && can_send_again(lent, fd, e, true),
@@ -108,7 +109,7 @@ fn is_pending(lent: &Lent, fd: Fd, e: &Endpoint, event: Event) -> bool
 fn first_pending(lent: &Lent, fd: Fd, e: &Endpoint, events: &[Event]) -> Option<Event>
     requires own { AtOwnPlaces lent.now }
     requires open { is_open e.now ≡ true }
-    ensures { result ≡ find (is_pending (around_lent lent.now fd.0 (parts e.now)) (parts e.now)) events.now }
+    ensures { result ≡ find (is_pending_among lent.now fd.0 (parts e.now)) events.now }
 {
     events
         .iter()
@@ -127,7 +128,7 @@ pub struct Sight {
 /// a `t_look` of it touches; `None` where none is open. Unlike `t_look` it changes nothing. Takes no memory.
 pub fn sight_of(lent: &Lent, fd: Fd) -> Option<Sight>
     requires { AtOwnPlaces lent.now }
-    ensures { option_map (λ s. (s.state, s.event)) result ≡ sight_in lent.now.providers (cells lent.now) fd.0 }
+    ensures { shown result ≡ sight_among lent.now fd.0 }
 {
     let e = lent.open_endpoint(fd)?;
     Some(Sight {
@@ -144,7 +145,7 @@ fn show_in(e: &mut Endpoint, event: Option<Event>)
     match event {
         Some(Event::T_GODATA) => {
             e.set_flow_normal(false);
-            e.set_mark(None);
+            e.set_flow_datagram(None);
         }
         Some(Event::T_GOEXDATA) => e.set_flow_expedited(false),
         _ => {}
@@ -154,7 +155,7 @@ fn show_in(e: &mut Endpoint, event: Option<Event>)
 /// The same of the endpoint with this descriptor, where it is open.
 fn show_at(e: &mut Endpoint, p: &Providers, fd: Fd, event: Option<Event>)
     requires { e.old.place ≡ place_of p.now fd.0 }
-    ensures cell { cell e.new ≡ change_endpoint (generation_of p.now fd.0) (Show.shown event) (cell e.old) }
+    ensures cell { ChangesAt p.now fd.0 (Show.shown event) e.old e.new }
     ensures place { e.new.place ≡ e.old.place }
 {
     if e.is(p, fd) {

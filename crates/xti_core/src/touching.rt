@@ -1,17 +1,17 @@
 //! The cells that a call touches.
 
-ghost use Rattle.std.specs.Prelude.{◌≡◌, ◌≤◌, ◌<◌, ◌∷◌, ◌++◌, [], true, length, List, ℕ, ◌+◌, option_map, option_to_list};
+ghost use Rattle.std.specs.Prelude.{◌≡◌, ◌≤◌, ◌<◌, ◌∷◌, [], true, length, List, ℕ, ◌+◌, option_to_list};
 ghost use Rattle.std.specs.List.{AllByRecursion};
 ghost use Rattle.xti_base.specs.declared.limits.TheConstants.{MOST_TOUCHED};
 ghost use Rattle.xti_model.specs.Cells.{listed};
 ghost use Rattle.xti_model.specs.Sound.{is_sound_body};
 ghost use Rattle.xti_model.specs.Switch.{bound, listener, opening_place};
-ghost use Rattle.xti_model.specs.Touched.{touched, of_some, cell_of, marked_cells};
-ghost use Rattle.xti_model.specs.World.{the_switch, place_of};
+ghost use Rattle.xti_model.specs.Touched.{touched, of_some, cell_of};
+ghost use Rattle.xti_model.specs.World.{place_of};
 ghost use Rattle.xti_end.specs.Held.{is_open, parts};
 ghost use Rattle.xti_lent.specs.Lending.{cells};
 ghost use Rattle.xti_lent.specs.Fit.{AtOwnPlaces, IsSound};
-ghost use Rattle.xti_core.specs.Touches.{known, told, with_switch, opening_cells, closing_cells, accepting_cells, disconnecting_cells, receiving_cell, listening_cell, calling_cell, connected_cell, looking_cells, HasRoomForTwo};
+ghost use Rattle.xti_core.specs.Touches.{number_of, lent_switch, known, told, marked_by, with_switch, opening_cells, closing_cells, accepting_cells, disconnecting_cells, receiving_cell, listening_cell, calling_cell, connected_cell, looking_cells, HasRoomForTwo, ListsWith};
 
 use xti_base::{Fd, Prov, Seq};
 use xti_end::Endpoint;
@@ -20,7 +20,7 @@ use xti_model::{Call, Cells};
 
 /// The descriptor that is bound to the address, as far as the switch is lent. Takes no memory.
 pub(crate) fn bound(lent: &Lent, prov: Prov, addr: &[u8]) -> Option<Fd>
-    ensures { option_map (λ fd. fd.0) result ≡ bound (the_switch lent.now.providers (cells lent.now)) prov addr.now }
+    ensures { number_of result ≡ bound (lent_switch lent.now) prov addr.now }
 {
     let registry = lent.find_registry()?;
     registry.bound(prov, addr, false)
@@ -28,7 +28,7 @@ pub(crate) fn bound(lent: &Lent, prov: Prov, addr: &[u8]) -> Option<Fd>
 
 /// The least descriptor but this one that listens at the address, as far as the switch is lent.
 fn listener(lent: &Lent, prov: Prov, addr: &[u8], except: Fd) -> Option<Fd>
-    ensures { option_map (λ fd. fd.0) result ≡ listener (the_switch lent.now.providers (cells lent.now)) prov addr.now except.0 }
+    ensures { number_of result ≡ listener (lent_switch lent.now) prov addr.now except.0 }
 {
     let registry = lent.find_registry()?;
     registry.listener(prov, addr, except)
@@ -36,7 +36,7 @@ fn listener(lent: &Lent, prov: Prov, addr: &[u8], except: Fd) -> Option<Fd>
 
 /// The place that opens, as far as the switch is lent.
 fn opening_place(lent: &Lent, prov: Prov) -> Option<u32>
-    ensures { result ≡ opening_place lent.now.providers (the_switch lent.now.providers (cells lent.now)) prov }
+    ensures { result ≡ opening_place lent.now.providers (lent_switch lent.now) prov }
 {
     if !is_provider(prov) {
         return None;
@@ -48,7 +48,7 @@ fn opening_place(lent: &Lent, prov: Prov) -> Option<u32>
 /// These cells, and one more where it is named. Takes no memory.
 fn with(mut cells: Cells, cell: Option<u32>) -> Cells
     requires { length cells < MOST_TOUCHED }
-    ensures cells { (ns : List ℕ) → cells ≡ listed ns → result ≡ listed (option_to_list cell ++ ns) }
+    ensures cells { ListsWith cell cells result }
     ensures few { length result ≤ length cells + 1 }
 {
     if let Some(n) = cell {
@@ -59,12 +59,19 @@ fn with(mut cells: Cells, cell: Option<u32>) -> Cells
 
 /// The place of a descriptor that is named.
 fn place_of_named(lent: &Lent, fd: Option<Fd>) -> Option<u32>
-    ensures { option_to_list result ≡ cell_of lent.now.providers (option_map (λ fd. fd.0) fd) }
+    ensures { option_to_list result ≡ cell_of lent.now.providers (number_of fd) }
 {
     match fd {
         Some(fd) => Some(lent.place_of(fd)),
         None => None,
     }
+}
+
+/// The cell of a descriptor that is named.
+fn named_cell(lent: &Lent, fd: Option<Fd>) -> Cells
+    ensures { result ≡ listed (cell_of lent.now.providers (number_of fd)) }
+{
+    with(Cells::new(), place_of_named(lent, fd))
 }
 
 /// The cells of an open: the switch's, and that of the place that opens.
@@ -203,10 +210,10 @@ fn disconnecting_cells(lent: &Lent, fd: Fd, seq: Seq) -> Cells
 /// The cells of an open endpoint's datagram mark.
 fn marked_cells(lent: &Lent, e: &Endpoint) -> Cells
     requires { is_open e.now ≡ true }
-    ensures cells { result ≡ listed (marked_cells lent.now.providers (cells lent.now) (parts e.now)) }
+    ensures cells { result ≡ listed (marked_by lent.now (parts e.now)) }
     ensures few { HasRoomForTwo result }
 {
-    match e.mark() {
+    match e.flow_datagram() {
         Some(address) => {
             let receiver = bound(lent, e.prov(), address.as_slice());
             let marked = with(Cells::new(), place_of_named(lent, receiver));
@@ -257,20 +264,6 @@ pub fn touch(call: &Call, lent: &Lent) -> Cells
             switch_cells(lent, *fd, bound_place(lent, *fd, addr.as_slice()))
         }
         Call::TLookAt { fd } => looking_cells(lent, *fd),
-        Call::TRcvConnect { fd, .. }
-        | Call::TListen { fd, .. }
-        | Call::TRcv { fd, .. }
-        | Call::TRcvV { fd, .. }
-        | Call::TRcvDis { fd, .. }
-        | Call::TRcvRel { fd }
-        | Call::TRcvUData { fd, .. }
-        | Call::TRcvVUData { fd, .. }
-        | Call::TRcvUDErr { fd, .. }
-        | Call::TGetState { fd }
-        | Call::TSync { fd }
-        | Call::TGetInfo { fd }
-        | Call::TGetProtAddr { fd, .. }
-        | Call::TOptMgmt { fd, .. }
-        | Call::SetMode { fd, .. } => own_cells(lent, *fd, None),
+        _ => named_cell(lent, call.fd()),
     }
 }

@@ -1,12 +1,10 @@
 //! Calls that are seen to wait before their step is tried.
 
-ghost use Rattle.std.specs.Prelude.{◌≡◌, true, None};
-ghost use Rattle.xti_model.specs.declared.entry.Go.{Go};
-ghost use Rattle.xti_model.specs.Step.{step};
+ghost use Rattle.std.specs.Prelude.{◌≡◌, true};
 ghost use Rattle.xti_end.specs.Held.{is_open, parts};
 ghost use Rattle.xti_lent.specs.Fit.{AtOwnPlaces};
 ghost use Rattle.xti_lent.specs.Lending.{cells};
-ghost use Rattle.xti_core.specs.Waits.{AwaitsDatagram};
+ghost use Rattle.xti_core.specs.Waits.{AwaitsDatagram, IsBlocked};
 
 use xti_base::State;
 use xti_end::{Endpoint, has_datagrams};
@@ -29,7 +27,7 @@ fn awaits_datagram(e: &Endpoint) -> bool
 #[tactic(auto, unfolding(xti_model::specs::Step::step, xti_model::specs::Step::plan))]
 pub(crate) fn waits(lent: &Lent, call: &Call) -> bool
     requires { AtOwnPlaces lent.now }
-    ensures { result ≡ true → (g : Go) → step lent.now.providers (cells lent.now) call.now g ≡ None }
+    ensures { result ≡ true → IsBlocked lent.now.providers (cells lent.now) call.now }
 {
     match call {
         Call::TRcvUData { fd, .. } => match lent.open_endpoint(*fd) {

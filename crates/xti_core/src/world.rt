@@ -1,19 +1,20 @@
 //! The world for one thread.
 
-ghost use Rattle.std.specs.Prelude.{◌≡◌, true, false, None, IfOk, IsOk, OnErr};
-ghost use Rattle.xti_model.specs.Memory.{may_run_out};
-ghost use Rattle.xti_model.specs.declared.entry.Go.{Go};
+ghost use Rattle.std.specs.Prelude.{◌≡◌, true, false, None, IfOk, OnErr};
 ghost use Rattle.xti_model.specs.Profile.{valid};
-ghost use Rattle.xti_model.specs.Step.{step};
 ghost use Rattle.xti_model.specs.World.{opening};
 ghost use Rattle.xti_end.specs.Taken.{taken};
-ghost use Rattle.xti_core.specs.Written.{answer, StayUnmade};
+ghost use Rattle.xti_core.specs.Looks.{shown, sight_in};
+ghost use Rattle.xti_core.specs.Standing.{IsStep, IsSureAt};
+ghost use Rattle.xti_core.specs.Waits.{IsBlocked};
+ghost use Rattle.xti_core.specs.Written.{StayUnmade, StepsTo};
 
 use crate::applying::{apply, apply_into};
+use crate::looking::{Sight, sight_of};
 use crate::waiting::waits;
 use std::alloc::{AllocError, Global};
 use std::marker::Model;
-use xti_base::{State, let_go};
+use xti_base::{Fd, State, let_go};
 use xti_end::Endpoint;
 use xti_lent::Lent;
 use xti_model::{Applied, Call, Go, Outcome, Providers};
@@ -70,11 +71,11 @@ impl World {
     /// The cells are fit for the step, as those of every world that `worlds_stay_sound` speaks of; the world stays one of these.
     #[inline(always)]
     pub fn step(&mut self, call: &Call, go: Go) -> Result<Applied, AllocError>
-        ensures step { IfOk result (λ a. taken a self.new.cells ≡ step self.old.providers self.old.cells call.now go) }
+        ensures step { IfOk result (IsStep call.now go self.old self.new) }
         ensures still { IfOk result (λ a. taken a self.new.cells ≡ None → self.new ≡ self.old) }
         ensures providers { self.new.providers ≡ self.old.providers }
         ensures err { OnErr result (self.new ≡ self.old) }
-        ensures sure { may_run_out self.old.providers self.old.cells call.now go ≡ false → IsOk result }
+        ensures sure { IsSureAt self.old call.now go result }
     {
         apply(&mut self.lent, call, go)
     }
@@ -89,12 +90,12 @@ impl World {
         outcome: &mut Outcome,
         after: &mut State,
     ) -> Result<bool, AllocError>
-        ensures step { IfOk result (λ made. taken (answer made outcome.new after.new) self.new.cells ≡ step self.old.providers self.old.cells call.now go) }
+        ensures step { IfOk result (StepsTo call.now go self.old self.new outcome.new after.new) }
         ensures still { IfOk result (λ made. made ≡ false → self.new ≡ self.old) }
         ensures places { StayUnmade result outcome.old outcome.new after.old after.new }
         ensures providers { self.new.providers ≡ self.old.providers }
         ensures err { OnErr result (self.new ≡ self.old) }
-        ensures sure { may_run_out self.old.providers self.old.cells call.now go ≡ false → IsOk result }
+        ensures sure { IsSureAt self.old call.now go result }
     {
         apply_into(&mut self.lent, call, go, outcome, after)
     }
@@ -102,8 +103,16 @@ impl World {
     /// Whether the call is seen to be blocked, for less than its step costs: only t_rcvudata is. `false` says nothing.
     #[inline(always)]
     pub fn waits(&self, call: &Call) -> bool
-        ensures { result ≡ true → (g : Go) → step self.now.providers self.now.cells call.now g ≡ None }
+        ensures { result ≡ true → IsBlocked self.now.providers self.now.cells call.now }
     {
         waits(&self.lent, call)
+    }
+
+    /// What the endpoint that is open with the descriptor shows; `None` where none is open. Unlike `t_look` it changes nothing.
+    /// Takes no memory.
+    pub fn sight(&self, fd: Fd) -> Option<Sight>
+        ensures { shown result ≡ sight_in self.now.providers self.now.cells fd.0 }
+    {
+        sight_of(&self.lent, fd)
     }
 }

@@ -8,14 +8,13 @@ use Rattle.xti_model.specs.Endpoint.{Endpoint}
 use Rattle.xti_model.specs.Touched.{peer_cell, of_open, of_some, cell_of}
 use Rattle.xti_model.specs.World.{is_among, endpoint, place_of}
 use Rattle.xti_end.specs.Held.{peer_at, parts_of}
-use Rattle.xti_lent.specs.Lending.{Lending, cells, held_at}
+use Rattle.xti_lent.specs.Lending.{Lending, cells, held_at, number_of}
 use Rattle.xti_lent.specs.Fit.{AllLent, SameCells}
 use Rattle.xti_lent.proofs.Places.{place-below}
 use Rattle.xti_lent.proofs.Named.{first-among, later-among, named-lent, held-lent}
 use Rattle.xti_lent.proofs.Written.{still-held}
 use Rattle.xti_lent.specs.Lends.{IsHeld}
 use Rattle.xti_data.specs.Reach.{CanReach}
-use Rattle.xti_data.specs.Sends.{number_of}
 
 -- the cells that a send names
 abbrev named : Lending → ℕ → List ℕ

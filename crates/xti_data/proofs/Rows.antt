@@ -22,7 +22,8 @@ use Rattle.xti_model.specs.Step.{step_of, step_by, made, send}
 use Rattle.xti_model.specs.Calls.Send as Send
 use Rattle.xti_data.specs.declared.portions.Portion.{Portion}
 use Rattle.xti_data.specs.Portions.{giving, portion_of, IsWithin}
-use Rattle.xti_data.specs.Sends.{taken_before, told, flow_marks}
+use Rattle.xti_data.specs.Sends.{told, flow_marks}
+use Rattle.xti_model.specs.History.{taken_before}
 
 abbrev row : Bool → Refusal → Row
 row b r = record { holds = b; refusal = r }

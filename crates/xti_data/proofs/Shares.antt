@@ -3,7 +3,7 @@ use Rattle.std.proofs.Common.{◌≡◌, ◌+◌, ◌-◌, ℕ, zero, suc, Bool,
 use Rattle.std.specs.Prelude.{min}
 use Rattle.std.proofs.lemmas.Bool.Decides.{nat_tests}
 use Rattle.std.proofs.lemmas.List.{length-take, length-drop, drop_min, take_min}
-use Rattle.tpi_prim.specs.Gathering.{data_ind, kind_for}
+use Rattle.tpi_prim.specs.Indication.{data_ind, kind_for}
 use Rattle.tpi_prim.specs.Primitive.{kind_of}
 use Rattle.xti_model.specs.Symbols.{piece}
 use Rattle.xti_queue.specs.Indications.{symbols_of, ends_message}

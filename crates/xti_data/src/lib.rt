@@ -1,16 +1,15 @@
 //! The steps that send data and releases on connections, on lent cells.
 #![tactic(auto)]
 
-mod gather;
 mod limits;
 mod places;
 mod portions;
-mod readiness;
 mod refusals;
 mod releasing;
+mod send_parts;
 mod sending;
 mod step;
 mod writes;
 
-pub use gather::Gather;
+pub use send_parts::SendParts;
 pub use step::data_step;

@@ -1,12 +1,11 @@
 //! Messages: their limits, their ends, and what of them was sent.
 
-ghost use Rattle.std.specs.Prelude.{◌≡◌, ◌+◌, ◌-◌, ◌<◌, ◌≤◌, ◌^◌, true, false, length, Some};
-ghost use Rattle.std.specs.List.{concat};
+ghost use Rattle.std.specs.Prelude.{◌≡◌, ◌≤◌, true, false};
 ghost use Rattle.xti_base.specs.declared.limits.TheConstants.{MOST_SEND};
 ghost use Rattle.xti_model.specs.Arguments as Arguments;
-ghost use Rattle.xti_model.specs.Calls.Send as Send;
 ghost use Rattle.xti_model.specs.Sending as Sending;
 ghost use Rattle.xti_end.specs.Held as Held;
+ghost use Rattle.xti_data.specs.Portions.{count_after, passes_limit};
 
 use xti_base::Limit;
 use xti_base::limits::MOST_EXPEDITED_MESSAGE;
@@ -65,7 +64,7 @@ pub(crate) fn unfinished(e: &Endpoint, expedited: bool) -> u32
 pub(crate) fn is_over(p: &Providers, e: &Endpoint, expedited: bool, more: usize) -> bool
     requires open { Held.is_open e.now ≡ true }
     requires few { more ≤ MOST_SEND }
-    ensures { result ≡ Send.is_over (Sending.message_limit p.now (Held.parts e.now) expedited) (Sending.unfinished expedited (Held.parts e.now) + more) }
+    ensures { result ≡ passes_limit p.now expedited more (Held.parts e.now) }
 {
     match message_limit(p, e, expedited) {
         Some(limit) => unfinished(e, expedited) as usize + more > limit as usize,
@@ -82,8 +81,8 @@ pub(crate) fn count_more(
     more: usize,
 ) -> u32
     requires open { Held.is_open e.now ≡ true }
-    requires within { Send.is_over (Sending.message_limit p.now (Held.parts e.now) expedited) (Sending.unfinished expedited (Held.parts e.now) + more) ≡ false }
-    ensures { result ≡ Send.count_more (Sending.message_limit p.now (Held.parts e.now) expedited) ends (Sending.unfinished expedited (Held.parts e.now) + more) }
+    requires within { passes_limit p.now expedited more (Held.parts e.now) ≡ false }
+    ensures { result ≡ count_after p.now expedited ends more (Held.parts e.now) }
 {
     match message_limit(p, e, expedited) {
         Some(_) if !ends => unfinished(e, expedited) + more as u32,

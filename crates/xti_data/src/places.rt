@@ -3,15 +3,13 @@
 ghost use Rattle.std.specs.Prelude.{◌≡◌, ◌&&◌, true, IfSome, OnOk, OnErr};
 ghost use Rattle.tpi_grammar.specs.declared.kind.Kind.TheVariants.{T_ORDREL_IND};
 ghost use Rattle.tpi_prim.specs.Fields.{kind_in};
-ghost use Rattle.tpi_prim.specs.Gathering.{kind_for};
+ghost use Rattle.tpi_prim.specs.Indication.{kind_for};
 ghost use Rattle.xti_model.specs.Calls.Release as Release;
 ghost use Rattle.xti_model.specs.Calls.Send as Send;
 ghost use Rattle.xti_model.specs.Links.{if_names, names};
-ghost use Rattle.xti_model.specs.World.{endpoint_in, generation_of};
-ghost use Rattle.xti_end.specs.Frames.{symbols_in};
-ghost use Rattle.xti_end.specs.Held.{cell, is_open, is_open_as, parts, peer_at, with_parts};
+ghost use Rattle.xti_end.specs.Held.{is_open, is_open_as, parts, peer_at, with_parts};
 ghost use Rattle.xti_lent.specs.Lends.{ChangesAt, IsPlaceOf};
-ghost use Rattle.xti_data.specs.Portions.{IsWithin};
+ghost use Rattle.xti_data.specs.Portions.{counted, open_in, IsWithin, TakesData};
 
 use crate::limits::count_more;
 use crate::portions::Portion;
@@ -80,7 +78,7 @@ pub(crate) fn push_data(
 ) -> Result<(), AllocError>
     requires place { IsPlaceOf p.now fd.0 at.old }
     requires kind { kind_in frame ≡ kind_for expedited }
-    ensures cell { OnOk result (ChangesAt p.now fd.0 (if_names from.0 (Send.received expedited (symbols_in frame))) at.old at.new) }
+    ensures cell { OnOk result (TakesData p.now fd.0 from.0 expedited frame at.old at.new) }
     ensures place { at.new.place ≡ at.old.place }
     ensures err { OnErr result (at.new ≡ at.old) }
 {
@@ -101,7 +99,7 @@ pub(crate) fn push_data(
 fn count(e: &mut Endpoint, p: &Providers, portion: Portion)
     requires open { is_open e.old ≡ true }
     requires within { IsWithin p.now portion (parts e.old) }
-    ensures { e.new ≡ with_parts (Send.sent p.now portion.expedited portion.ends portion.count) e.old }
+    ensures { e.new ≡ with_parts (counted p.now portion) e.old }
 {
     let bytes = count_more(p, e, portion.expedited, portion.ends, portion.count);
     if portion.expedited {
@@ -116,8 +114,8 @@ fn count(e: &mut Endpoint, p: &Providers, portion: Portion)
 /// The endpoint with this descriptor counts what it sent, where it is open. Takes no memory.
 pub(crate) fn count_sent(at: &mut Endpoint, p: &Providers, fd: Fd, portion: Portion)
     requires place { IsPlaceOf p.now fd.0 at.old }
-    requires within { IfSome (endpoint_in (generation_of p.now fd.0) (cell at.old)) (IsWithin p.now portion) }
-    ensures cell { ChangesAt p.now fd.0 (Send.sent p.now portion.expedited portion.ends portion.count) at.old at.new }
+    requires within { IfSome (open_in p.now fd.0 at.old) (IsWithin p.now portion) }
+    ensures cell { ChangesAt p.now fd.0 (counted p.now portion) at.old at.new }
     ensures place { at.new.place ≡ at.old.place }
 {
     if at.is(p, fd) {

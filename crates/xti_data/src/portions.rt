@@ -1,17 +1,16 @@
 //! What the peer takes of a send in one step.
 
-ghost use Rattle.std.specs.Prelude.{◌≡◌, ◌≤◌, ◌-◌, true, length, not, IfOk};
+ghost use Rattle.std.specs.Prelude.{◌≡◌, ◌≤◌, true, length, IfOk};
 ghost use Rattle.std.specs.List.{concat};
 ghost use Rattle.xti_base.specs.declared.limits.TheConstants.{MOST_SEND};
-ghost use Rattle.tpi_prim.specs.Fields.{kind_in, primitive_in};
-ghost use Rattle.tpi_prim.specs.Gathering.{data_ind, kind_for};
-ghost use Rattle.xti_end.specs.Frames.{symbols_in};
+ghost use Rattle.tpi_prim.specs.Fields.{kind_in};
+ghost use Rattle.tpi_prim.specs.Indication.{kind_for};
 ghost use Rattle.xti_end.specs.Held as Held;
-ghost use Rattle.xti_data.specs.Portions.{bytes_of, piece_of, portion_of, IsOfParts};
+ghost use Rattle.xti_data.specs.Portions.{portion_of, IsIndication, IsOfParts, IsPiece};
 
 use crate::limits::{has_ends, has_more, is_expedited};
 use std::alloc::{AllocError, Global};
-use tpi_prim::{Frame, Gathering};
+use tpi_prim::{Frame, IndicationWriter};
 use xti_base::Octets;
 use xti_end::Endpoint;
 use xti_lent::total;
@@ -54,11 +53,16 @@ pub(crate) fn next_portion(
 }
 
 /// The T_DATA_IND or T_EXDATA_IND of a portion of the parts. Each of its bytes is copied once.
-fn gather(alloc: Global, parts: &[Octets], portion: Portion) -> Result<Frame, AllocError>
+fn fill(alloc: Global, parts: &[Octets], portion: Portion) -> Result<Frame, AllocError>
     requires { IsOfParts parts.now portion }
-    ensures { IfOk result (λ frame. primitive_in frame ≡ data_ind portion.expedited (not portion.ends) (bytes_of (concat parts.now) portion)) }
+    ensures { IfOk result (IsIndication parts.now portion) }
 {
-    let mut gathering = Gathering::begin(alloc, portion.expedited, !portion.ends, portion.count)?;
+    let mut writer = IndicationWriter::begin(
+        alloc,
+        portion.expedited,
+        !portion.ends,
+        portion.count,
+    )?;
     let mut skip = portion.before;
     let mut left = portion.count;
     for part in parts {
@@ -66,11 +70,11 @@ fn gather(alloc: Global, parts: &[Octets], portion: Portion) -> Result<Frame, Al
         let skipped = skip.min(bytes.len());
         let rest = &bytes[skipped..];
         let taken = left.min(rest.len());
-        gathering.put(&rest[..taken]);
+        writer.put(&rest[..taken]);
         skip -= skipped;
         left -= taken;
     }
-    Ok(gathering.finish())
+    Ok(writer.finish())
 }
 
 /// The same, as what waits at the peer.
@@ -81,7 +85,7 @@ pub(crate) fn indication(
 ) -> Result<Frame, AllocError>
     requires { IsOfParts parts.now portion }
     ensures kind { IfOk result (λ frame. kind_in frame ≡ kind_for portion.expedited) }
-    ensures symbols { IfOk result (λ frame. symbols_in frame ≡ piece_of (concat parts.now) portion) }
+    ensures symbols { IfOk result (IsPiece parts.now portion) }
 {
-    gather(alloc, parts, portion)
+    fill(alloc, parts, portion)
 }

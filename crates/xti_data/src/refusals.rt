@@ -1,13 +1,13 @@
 //! What refuses a send before its flow is looked at.
 
-ghost use Rattle.std.specs.Prelude.{◌≡◌, ◌≤◌, true, length, option_map};
+ghost use Rattle.std.specs.Prelude.{◌≡◌, ◌≤◌, true, length};
 ghost use Rattle.std.specs.List.{concat};
 ghost use Rattle.xti_base.specs.declared.limits.TheConstants.{MOST_SEND};
 ghost use Rattle.xti_model.specs.Arguments as Arguments;
 ghost use Rattle.xti_model.specs.Calls.Send as Send;
-ghost use Rattle.xti_model.specs.Plan.{answers};
 ghost use Rattle.xti_end.specs.Held as Held;
-ghost use Rattle.xti_data.specs.Sends.{refusal_of};
+ghost use Rattle.xti_lent.specs.Answers.{answered};
+ghost use Rattle.xti_data.specs.Sends.{are_bad_parts, refusal_of};
 
 use crate::limits::{is_expedited, is_over};
 use crate::releasing::is_sending;
@@ -28,7 +28,7 @@ fn is_too_much(parts: &[Octets]) -> bool
 fn is_bad_data(p: &Providers, e: &Endpoint, parts: &[Octets], expedited: bool, taken: usize) -> bool
     requires open { Held.is_open e.now ≡ true }
     requires few { length (concat parts.now) ≤ MOST_SEND }
-    ensures { result ≡ Send.is_bad_data p.now (concat parts.now) expedited taken (Held.parts e.now) }
+    ensures { result ≡ are_bad_parts p.now parts.now expedited taken (Held.parts e.now) }
 {
     let len = total(parts);
     len == 0 && !profile(p, e.prov()).sendzero
@@ -44,7 +44,7 @@ pub(crate) fn refusal(
     taken: usize,
 ) -> Option<Reply>
     requires { Held.is_open e.now ≡ true }
-    ensures { option_map (λ reply. answers reply) result ≡ refusal_of p.now parts.now flags taken e.now }
+    ensures { answered result ≡ refusal_of p.now parts.now flags taken e.now }
 {
     let errno = if !has_connections(e.prov()) {
         Errno::TNOTSUPPORT

@@ -1,18 +1,18 @@
 //! t_sndrel.
 
-ghost use Rattle.std.specs.Prelude.{◌≡◌, true, IfOk, IfSome, OnOk, OnErr, option_map};
+ghost use Rattle.std.specs.Prelude.{◌≡◌, true, IfOk, IfSome, OnOk, OnErr};
 ghost use Rattle.std.specs.List.{list_any};
 ghost use Rattle.tpi_grammar.specs.declared.kind.Kind.TheVariants.{T_ORDREL_IND};
 ghost use Rattle.tpi_prim.specs.Fields.{kind_in};
 ghost use Rattle.xti_base.specs.Kinds.{same_state};
 ghost use Rattle.xti_model.specs.Events.{sending};
-ghost use Rattle.xti_model.specs.Plan.{answers};
 ghost use Rattle.xti_end.specs.Held as Held;
-ghost use Rattle.xti_lent.specs.Answers.{AnswersBy, Changed, IsSureBy, StaysBlocked};
+ghost use Rattle.xti_lent.specs.Answers.{answered, Changed, IsSureBy, MakesBy, StaysBlocked};
 ghost use Rattle.xti_lent.specs.Fit.{AtOwnPlaces, IsFit, SameCells};
+ghost use Rattle.xti_lent.specs.Lending.{number_of};
 ghost use Rattle.xti_lent.specs.Lends.{IsHeld};
 ghost use Rattle.xti_data.specs.Reach.{CanReach};
-ghost use Rattle.xti_data.specs.Sends.{number_of, release_refusal, releasing, telling};
+ghost use Rattle.xti_data.specs.Sends.{release_refusal, releasing, telling};
 
 use crate::writes::{release, tell_release};
 use std::alloc::{AllocError, Global};
@@ -41,7 +41,7 @@ pub(crate) fn is_sending(state: State) -> bool
 /// What refuses a release of the open endpoint.
 fn refusal(e: &Endpoint) -> Option<Reply>
     requires { Held.is_open e.now ≡ true }
-    ensures { option_map (λ reply. answers reply) result ≡ release_refusal e.now }
+    ensures { answered result ≡ release_refusal e.now }
 {
     let errno = if !has_release(e.prov()) {
         Errno::TNOTSUPPORT
@@ -88,7 +88,7 @@ fn tell(lent: &mut Lent, fd: Fd, peer: Option<Fd>) -> Result<(), AllocError>
 pub(crate) fn sndrel(lent: &mut Lent, fd: Fd) -> Result<Applied, AllocError>
     requires fit { IsFit lent.old }
     requires reach { CanReach lent.old fd.0 }
-    ensures step { IfOk result (AnswersBy (releasing lent.old fd.0) lent.old lent.new) }
+    ensures step { MakesBy (releasing lent.old fd.0) lent.old lent.new result }
     ensures still { IfOk result (StaysBlocked lent.old lent.new) }
     ensures kept { SameCells lent.old lent.new }
     ensures err { OnErr result (lent.new ≡ lent.old) }

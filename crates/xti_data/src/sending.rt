@@ -3,35 +3,23 @@
 ghost use Rattle.std.specs.Prelude.{◌≡◌, ◌≤◌, ◌==◌, ◌||◌, length, true, IfOk, IfSome, OnOk, OnErr};
 ghost use Rattle.std.specs.List.{concat};
 ghost use Rattle.xti_base.specs.declared.limits.TheConstants.{MOST_SEND};
-ghost use Rattle.xti_model.specs.Calls.Send as Send;
 ghost use Rattle.xti_end.specs.Held as Held;
-ghost use Rattle.xti_lent.specs.Answers.{AnswersBy, Changed, IsDoneAfter, IsSureBy, StaysBlocked};
+ghost use Rattle.xti_lent.specs.Answers.{IsSureBy, MakesBy, StaysBlocked};
 ghost use Rattle.xti_lent.specs.Fit.{AtOwnPlaces, IsFit, SameCells};
 ghost use Rattle.xti_lent.specs.Lends.{IsHeld};
-ghost use Rattle.xti_data.specs.Portions.{giving, pushing, IsOfParts, IsWithin};
+ghost use Rattle.xti_data.specs.Portions.{Gives, IsOfParts, IsWithin, Pushes};
 ghost use Rattle.xti_data.specs.Reach.{CanReach};
-ghost use Rattle.xti_data.specs.Sends.{flow_marks, number_of, outcome_of, sender, sending, taken_before, told};
+ghost use Rattle.xti_data.specs.Sends.{outcome_of, sender, sending, told, RefusesFlow};
 
 use crate::limits::is_expedited;
 use crate::portions::{Portion, indication, next_portion};
-use crate::readiness::{linked, room};
 use crate::refusals::refusal;
 use crate::writes::{count_sent, mark_flow, push_data};
 use std::alloc::AllocError;
 use xti_base::{Errno, Fd, Octets};
 use xti_end::Endpoint;
-use xti_lent::{Lent, done, refused, total, with_outcome};
+use xti_lent::{Lent, done, refused, room, total, with_outcome};
 use xti_model::{Applied, Go, Outcome, Reply};
-
-/// How many bytes were taken before the step.
-fn taken_before(go: Go) -> u32
-    ensures { result ≡ taken_before go }
-{
-    match go {
-        Go::Begin => 0,
-        Go::More(taken) => taken,
-    }
-}
 
 /// What a step answers that is refused so: a later one how many bytes were taken before.
 fn told(go: Go, reply: Reply) -> Reply
@@ -74,7 +62,7 @@ fn push(
     requires own { AtOwnPlaces lent.old }
     requires peer { IfSome peer (λ peer. IsHeld lent.old peer.0) }
     requires parts { IsOfParts parts.now portion }
-    ensures ok { OnOk result (Changed (pushing fd.0 (number_of peer) (concat parts.now) portion) lent.old lent.new) }
+    ensures ok { OnOk result (Pushes lent.old lent.new fd.0 peer parts.now portion) }
     ensures kept { SameCells lent.old lent.new }
     ensures err { OnErr result (lent.new ≡ lent.old) }
 {
@@ -101,7 +89,7 @@ fn give(
     requires peer { IfSome peer (λ peer. IsHeld lent.old peer.0) }
     requires within { IfSome (sender lent.old fd.0) (IsWithin lent.old.providers portion) }
     requires parts { IsOfParts parts.now portion }
-    ensures ok { OnOk result (Changed (giving lent.old.providers fd.0 (number_of peer) (concat parts.now) portion) lent.old lent.new) }
+    ensures ok { OnOk result (Gives lent.old lent.new fd.0 peer parts.now portion) }
     ensures kept { SameCells lent.old lent.new }
     ensures err { OnErr result (lent.new ≡ lent.old) }
 {
@@ -114,7 +102,7 @@ fn give(
 fn refuse_flow(lent: &mut Lent, fd: Fd, flags: u32, go: Go) -> Applied
     requires own { AtOwnPlaces lent.old }
     requires there { IsHeld lent.old fd.0 }
-    ensures step { IsDoneAfter (flow_marks fd.0 flags go) lent.old lent.new fd.0 (told go (Reply.Refused Errno.TFLOW)) result }
+    ensures step { RefusesFlow fd.0 flags go lent.old lent.new result }
     ensures kept { SameCells lent.old lent.new }
 {
     match go {
@@ -136,7 +124,7 @@ pub(crate) fn send(
 ) -> Result<Applied, AllocError>
     requires fit { IsFit lent.old }
     requires reach { CanReach lent.old fd.0 }
-    ensures step { IfOk result (AnswersBy (sending lent.old fd.0 parts.now flags go) lent.old lent.new) }
+    ensures step { MakesBy (sending lent.old fd.0 parts.now flags go) lent.old lent.new result }
     ensures still { IfOk result (StaysBlocked lent.old lent.new) }
     ensures kept { SameCells lent.old lent.new }
     ensures err { OnErr result (lent.new ≡ lent.old) }
@@ -146,12 +134,12 @@ pub(crate) fn send(
         let errno = Errno::TBADF;
         return Ok(done(lent, fd, told(go, Reply::Refused { errno })));
     };
-    let before = taken_before(go) as usize;
+    let before = go.taken_before() as usize;
     if let Some(reply) = refusal(e, lent.providers(), parts, flags, before) {
         return Ok(done(lent, fd, told(go, reply)));
     }
     let peer = e.peer();
-    match room(e, linked(lent, fd, peer), is_expedited(flags)) {
+    match room(e, lent.linked_with(fd, peer), is_expedited(flags)) {
         Some(room) => {
             let portion = next_portion(lent.providers(), e, parts, flags, before, room);
             let taken = before + portion.count;

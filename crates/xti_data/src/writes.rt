@@ -1,19 +1,16 @@
 //! What a send makes of lent cells.
 
-ghost use Rattle.std.specs.Prelude.{◌≡◌, ◌∷◌, [], true, IfSome, OnOk, OnErr};
+ghost use Rattle.std.specs.Prelude.{◌≡◌, ◌∷◌, [], IfSome, OnOk, OnErr};
 ghost use Rattle.tpi_grammar.specs.declared.kind.Kind.TheVariants.{T_ORDREL_IND};
 ghost use Rattle.tpi_prim.specs.Fields.{kind_in};
-ghost use Rattle.tpi_prim.specs.Gathering.{kind_for};
+ghost use Rattle.tpi_prim.specs.Indication.{kind_for};
 ghost use Rattle.xti_model.specs.Calls.Release as Release;
-ghost use Rattle.xti_model.specs.Calls.Send as Send;
-ghost use Rattle.xti_model.specs.Links.{if_names};
 ghost use Rattle.xti_model.specs.World.{at_endpoint};
 ghost use Rattle.xti_lent.specs.Answers.{Changed};
 ghost use Rattle.xti_lent.specs.Fit.{AtOwnPlaces, SameCells};
-ghost use Rattle.xti_end.specs.Frames.{symbols_in};
 ghost use Rattle.xti_lent.specs.Lends.{IsHeld};
-ghost use Rattle.xti_data.specs.Portions.{IsWithin};
-ghost use Rattle.xti_data.specs.Sends.{sender};
+ghost use Rattle.xti_data.specs.Portions.{counting, taking_data, IsWithin};
+ghost use Rattle.xti_data.specs.Sends.{marking, sender, told_of_release};
 
 use crate::places;
 use crate::portions::Portion;
@@ -27,7 +24,7 @@ pub(crate) fn tell_release(lent: &mut Lent, fd: Fd, from: Fd, frame: Frame)
     requires own { AtOwnPlaces lent.old }
     requires there { IsHeld lent.old fd.0 }
     requires kind { kind_in frame ≡ T_ORDREL_IND }
-    ensures cells { Changed (at_endpoint fd.0 (if_names from.0 Release.released) ∷ []) lent.old lent.new }
+    ensures cells { Changed (told_of_release fd.0 from.0) lent.old lent.new }
     ensures kept { SameCells lent.old lent.new }
 {
     let p = *lent.providers();
@@ -56,7 +53,7 @@ pub(crate) fn push_data(
     requires own { AtOwnPlaces lent.old }
     requires there { IsHeld lent.old fd.0 }
     requires kind { kind_in frame ≡ kind_for expedited }
-    ensures ok { OnOk result (Changed (at_endpoint fd.0 (if_names from.0 (Send.received expedited (symbols_in frame))) ∷ []) lent.old lent.new) }
+    ensures ok { OnOk result (Changed (taking_data fd.0 from.0 expedited frame) lent.old lent.new) }
     ensures kept { SameCells lent.old lent.new }
     ensures err { OnErr result (lent.new ≡ lent.old) }
 {
@@ -76,7 +73,7 @@ pub(crate) fn count_sent(lent: &mut Lent, fd: Fd, portion: Portion)
     requires own { AtOwnPlaces lent.old }
     requires there { IsHeld lent.old fd.0 }
     requires within { IfSome (sender lent.old fd.0) (IsWithin lent.old.providers portion) }
-    ensures cells { Changed (at_endpoint fd.0 (Send.sent lent.old.providers portion.expedited portion.ends portion.count) ∷ []) lent.old lent.new }
+    ensures cells { Changed (counting lent.old.providers fd.0 portion) lent.old lent.new }
     ensures kept { SameCells lent.old lent.new }
 {
     let p = *lent.providers();
@@ -87,7 +84,7 @@ pub(crate) fn count_sent(lent: &mut Lent, fd: Fd, portion: Portion)
 pub(crate) fn mark_flow(lent: &mut Lent, fd: Fd, expedited: bool)
     requires own { AtOwnPlaces lent.old }
     requires there { IsHeld lent.old fd.0 }
-    ensures cells { Changed (at_endpoint fd.0 (Send.mark_flow expedited true) ∷ []) lent.old lent.new }
+    ensures cells { Changed (marking fd.0 expedited) lent.old lent.new }
     ensures kept { SameCells lent.old lent.new }
 {
     let p = *lent.providers();

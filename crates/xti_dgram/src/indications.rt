@@ -7,9 +7,9 @@ ghost use Rattle.tpi_grammar.specs.declared.kind.Kind.TheVariants.{T_UNITDATA_IN
 ghost use Rattle.tpi_prim.specs.Fields.{kind_in};
 ghost use Rattle.xti_model.specs.Endpoint.{address_of};
 ghost use Rattle.xti_model.specs.Calls.Datagrams.{error_to};
-ghost use Rattle.xti_end.specs.Frames.{datagram_in, error_in};
+ghost use Rattle.xti_end.specs.Frames.{error_in};
 ghost use Rattle.xti_end.specs.Held as Held;
-ghost use Rattle.xti_dgram.specs.Sends.{IsDatagram, IsDatagramOf};
+ghost use Rattle.xti_dgram.specs.Sends.{HoldsDatagram, IsDatagramOf};
 
 use std::alloc::{AllocError, Global};
 use tpi_prim::{EncodeFail, Frame, encode_uderror_ind, encode_unitdata_ind};
@@ -67,7 +67,7 @@ fn datagram_of(
     requires options { length options.now ≤ MOST_OPTIONS }
     requires data { length bytes.now ≤ MOST_SEND }
     ensures kind { IfOk result (λ frame. kind_in frame ≡ T_UNITDATA_IND) }
-    ensures datagram { IfOk result (λ frame. IsDatagram source.now options.now bytes.now (datagram_in frame)) }
+    ensures datagram { IfOk result (HoldsDatagram source.now options.now bytes.now) }
     ensures fits { IsErrOf result EncodeFail.TooBig → ⊥ }
 {
     encode_unitdata_ind(alloc, source, options, bytes)

@@ -4,9 +4,9 @@ ghost use Rattle.std.specs.Prelude.{◌≡◌, OnOk, OnErr, option_map};
 ghost use Rattle.tpi_grammar.specs.declared.kind.Kind.TheVariants.{T_UNITDATA_IND, T_UDERROR_IND};
 ghost use Rattle.tpi_prim.specs.Fields.{kind_in};
 ghost use Rattle.xti_model.specs.Spot.{spot_bytes};
-ghost use Rattle.xti_model.specs.Calls.Datagrams.{mark_flow, with_datagram, with_error_unmarked};
-ghost use Rattle.xti_end.specs.Frames.{datagram_in, error_in};
+ghost use Rattle.xti_model.specs.Calls.Datagrams.{mark_flow};
 ghost use Rattle.xti_lent.specs.Lends.{ChangesAt, IsPlaceOf};
+ghost use Rattle.xti_dgram.specs.Sends.{TakesDatagram, TakesError};
 
 use std::alloc::AllocError;
 use tpi_prim::Frame;
@@ -21,7 +21,7 @@ pub(crate) fn mark_flow(at: &mut Endpoint, p: &Providers, fd: Fd, to: Option<Spo
     ensures place { at.new.place ≡ at.old.place }
 {
     if at.is(p, fd) {
-        at.set_mark(to);
+        at.set_flow_datagram(to);
     }
 }
 
@@ -34,7 +34,7 @@ pub(crate) fn push_datagram(
 ) -> Result<(), AllocError>
     requires place { IsPlaceOf p.now fd.0 at.old }
     requires kind { kind_in frame ≡ T_UNITDATA_IND }
-    ensures cell { OnOk result (ChangesAt p.now fd.0 (with_datagram (datagram_in frame)) at.old at.new) }
+    ensures cell { OnOk result (TakesDatagram p.now fd.0 frame at.old at.new) }
     ensures place { at.new.place ≡ at.old.place }
     ensures err { OnErr result (at.new ≡ at.old) }
 {
@@ -55,14 +55,14 @@ pub(crate) fn push_error(
 ) -> Result<(), AllocError>
     requires place { IsPlaceOf p.now fd.0 at.old }
     requires kind { kind_in frame ≡ T_UDERROR_IND }
-    ensures cell { OnOk result (ChangesAt p.now fd.0 (with_error_unmarked (error_in frame)) at.old at.new) }
+    ensures cell { OnOk result (TakesError p.now fd.0 frame at.old at.new) }
     ensures place { at.new.place ≡ at.old.place }
     ensures err { OnErr result (at.new ≡ at.old) }
 {
     if at.is(p, fd) {
         at.reserve_datagram_errors()?;
         at.push_datagram_error(frame);
-        at.set_mark(None);
+        at.set_flow_datagram(None);
     }
     Ok(())
 }

@@ -1,10 +1,10 @@
 //! What refuses a datagram before its flow is looked at.
 
-ghost use Rattle.std.specs.Prelude.{◌≡◌, ◌^◌, ◌-◌, ℕ, true, min, option_map};
+ghost use Rattle.std.specs.Prelude.{◌≡◌, ◌^◌, ◌-◌, ℕ, true, min};
 ghost use Rattle.std.specs.List.{concat};
 ghost use Rattle.xti_model.specs.Calls.Datagrams.{is_over, is_bad_datagram};
-ghost use Rattle.xti_model.specs.Plan.{answers};
 ghost use Rattle.xti_end.specs.Held as Held;
+ghost use Rattle.xti_lent.specs.Answers.{answered};
 ghost use Rattle.xti_dgram.specs.Sends.{refusal_of};
 
 use xti_base::limits::MOST_PARTS;
@@ -41,7 +41,7 @@ pub(crate) fn refusal(
     parts: &[Octets],
 ) -> Option<Reply>
     requires { Held.is_open e.now ≡ true }
-    ensures { option_map (λ reply. answers reply) result ≡ refusal_of p.now address.now options.now parts.now e.now }
+    ensures { answered result ≡ refusal_of p.now address.now options.now parts.now e.now }
 {
     let errno = if !has_datagrams(e.prov()) {
         Errno::TNOTSUPPORT

@@ -1,19 +1,18 @@
 //! Sending a datagram, whole or in parts.
 
-ghost use Rattle.std.specs.Prelude.{◌≡◌, ◌≤◌, true, IfOk, IfSome, IsErrOf, OnOk, OnErr, is_some, length};
+ghost use Rattle.std.specs.Prelude.{◌≡◌, ◌≤◌, true, IfOk, IfSome, IsErrOf, OnErr, is_some, length};
 ghost use Rattle.xti_base.specs.declared.limits.TheConstants.{MOST_ADDRESS, MOST_OPTIONS, MOST_SEND};
 ghost use Rattle.std.specs.List.{concat};
 ghost use Rattle.tpi_grammar.specs.declared.kind.Kind.TheVariants.{T_UNITDATA_IND};
 ghost use Rattle.tpi_prim.specs.Fields.{kind_in};
 ghost use Rattle.xti_model.specs.Sending.{takes_datagram};
 ghost use Rattle.xti_model.specs.Switch.{bound};
-ghost use Rattle.xti_model.specs.World.{the_switch};
-ghost use Rattle.xti_lent.specs.Answers.{AnswersBy, IsSureBy, StaysBlocked};
+ghost use Rattle.xti_lent.specs.Answers.{IsSureBy, StaysBlocked};
 ghost use Rattle.xti_lent.specs.Fit.{AtOwnPlaces, IsFit, SameCells};
-ghost use Rattle.xti_lent.specs.Lending.{cells};
+ghost use Rattle.xti_lent.specs.Lending.{lent_switch, number_of};
 ghost use Rattle.xti_lent.specs.Lends.{IsHeld};
 ghost use Rattle.xti_dgram.specs.Reach.{CanReach};
-ghost use Rattle.xti_dgram.specs.Sends.{number_of, receiver_at, sender, sending, Delivers, IsDatagramOf};
+ghost use Rattle.xti_dgram.specs.Sends.{receiver_at, sender, sending, IsDatagramOf, IsDelivered, IsSent};
 
 use crate::indications::{datagram, datagram_error};
 use crate::refusals::refusal;
@@ -27,7 +26,7 @@ use xti_model::{Applied, Reply, Spot};
 /// The endpoint that is bound to the address; of several the least descriptor.
 fn receiver(lent: &Lent, prov: Prov, address: &[u8]) -> Option<Fd>
     requires { is_some lent.now.registry ≡ true }
-    ensures { number_of result ≡ bound (the_switch lent.now.providers (cells lent.now)) prov address.now }
+    ensures { number_of result ≡ bound (lent_switch lent.now) prov address.now }
 {
     lent.registry_ref().bound(prov, address, false)
 }
@@ -78,7 +77,7 @@ fn deliver(
     requires address { length address.now ≤ MOST_ADDRESS }
     requires options { length options.now ≤ MOST_OPTIONS }
     requires data { length (concat parts.now) ≤ MOST_SEND }
-    ensures ok { OnOk result (Delivers lent.old lent.new fd.0 address.now options.now parts.now to) }
+    ensures ok { IsDelivered lent.old lent.new fd.0 address.now options.now parts.now to result }
     ensures kept { SameCells lent.old lent.new }
     ensures err { OnErr result (lent.new ≡ lent.old) }
 {
@@ -105,7 +104,7 @@ pub(crate) fn send(
 ) -> Result<Applied, AllocError>
     requires fit { IsFit lent.old }
     requires reach { CanReach lent.old fd.0 address.now }
-    ensures step { IfOk result (AnswersBy (sending lent.old fd.0 address.now options.now parts.now) lent.old lent.new) }
+    ensures step { IsSent lent.old lent.new fd.0 address.now options.now parts.now result }
     ensures still { IfOk result (StaysBlocked lent.old lent.new) }
     ensures kept { SameCells lent.old lent.new }
     ensures err { OnErr result (lent.new ≡ lent.old) }

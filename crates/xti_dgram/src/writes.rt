@@ -1,16 +1,13 @@
 //! What a send makes of lent cells.
 
-ghost use Rattle.std.specs.Prelude.{◌≡◌, ◌∷◌, [], OnOk, OnErr, option_map};
+ghost use Rattle.std.specs.Prelude.{◌≡◌, OnOk, OnErr};
 ghost use Rattle.tpi_grammar.specs.declared.kind.Kind.TheVariants.{T_UNITDATA_IND, T_UDERROR_IND};
 ghost use Rattle.tpi_prim.specs.Fields.{kind_in};
-ghost use Rattle.xti_model.specs.Spot.{spot_bytes};
-ghost use Rattle.xti_model.specs.World.{at_endpoint};
-ghost use Rattle.xti_model.specs.Calls.Datagrams.{mark_flow, with_datagram};
 ghost use Rattle.xti_end.specs.Frames.{datagram_in, error_in};
 ghost use Rattle.xti_lent.specs.Answers.{Changed};
 ghost use Rattle.xti_lent.specs.Fit.{AtOwnPlaces, SameCells};
 ghost use Rattle.xti_lent.specs.Lends.{IsHeld};
-ghost use Rattle.xti_dgram.specs.Sends.{failing, giving};
+ghost use Rattle.xti_dgram.specs.Sends.{failing, giving, marking, receiving};
 
 use crate::places;
 use std::alloc::AllocError;
@@ -23,7 +20,7 @@ use xti_model::Spot;
 pub(crate) fn mark_flow(lent: &mut Lent, fd: Fd, to: Option<Spot>)
     requires own { AtOwnPlaces lent.old }
     requires there { IsHeld lent.old fd.0 }
-    ensures cells { Changed (at_endpoint fd.0 (mark_flow (option_map spot_bytes to)) ∷ []) lent.old lent.new }
+    ensures cells { Changed (marking fd.0 to) lent.old lent.new }
     ensures kept { SameCells lent.old lent.new }
 {
     let p = *lent.providers();
@@ -35,7 +32,7 @@ fn push_datagram(lent: &mut Lent, fd: Fd, frame: Frame) -> Result<(), AllocError
     requires own { AtOwnPlaces lent.old }
     requires there { IsHeld lent.old fd.0 }
     requires kind { kind_in frame ≡ T_UNITDATA_IND }
-    ensures ok { OnOk result (Changed (at_endpoint fd.0 (with_datagram (datagram_in frame)) ∷ []) lent.old lent.new) }
+    ensures ok { OnOk result (Changed (receiving fd.0 frame) lent.old lent.new) }
     ensures kept { SameCells lent.old lent.new }
     ensures err { OnErr result (lent.new ≡ lent.old) }
 {

@@ -23,9 +23,8 @@ use Rattle.xti_end.specs.Frames.{indication_of, IsRequest}
 use Rattle.xti_end.specs.Taken.{taken}
 use Rattle.xti_end.proofs.Callers.{request-is}
 use Rattle.xti_lent.specs.Answers.{Changed, IsDone}
-use Rattle.xti_lent.specs.Lending.{Lending, cells}
+use Rattle.xti_lent.specs.Lending.{Lending, cells, open_at}
 use Rattle.xti_switch.specs.Accepts.{linking, Accepts}
-use Rattle.xti_switch.specs.Connects.{open_at}
 use Rattle.xti_switch.specs.declared.accept.Acceptance.{Acceptance}
 
 pub caller-is : (i : Ind) → IsRequest i → (indication_of i).caller ≡ i.caller.0

@@ -15,9 +15,9 @@ use Rattle.xti_model.specs.Calls.Connect as Connect
 use Rattle.xti_end.specs.Frames.{request_in}
 use Rattle.xti_end.specs.Taken.{taken}
 use Rattle.xti_lent.specs.Answers.{Changed, IsMade}
-use Rattle.xti_lent.specs.Lending.{Lending, cells}
+use Rattle.xti_lent.specs.Lending.{Lending, cells, open_at}
 use Rattle.xti_lent.proofs.Opened.{open_alike, then_changed}
-use Rattle.xti_switch.specs.Connects.{open_at, number_for, queued, IsRequestOf, Requests}
+use Rattle.xti_switch.specs.Connects.{number_for, queued, IsRequestOf, Requests}
 
 abbrev given : Bool → Bool → ℕ → Result Seq ℕ
 given a b n = cond a (Err NO_LISTENER) (cond b (Err QUEUE_FULL) (Ok (record { 0 = n })))

@@ -75,6 +75,17 @@ pub record TakesRoom (old new : Lending) : Type 0 where
 abbrev pub Silences : Lending → Notice → Notice → Type 0
 Silences l n m = IfSome (endpoint l.providers (cells l) n.to.0) (λ e. concerns n.news e ≡ true → concerns m.news (heard n.news (disconnect_in n.frame) e) ≡ false)
 
+-- what one of them does not silence stays ready for it; and where there may be none
+abbrev pub KeepsReady : Lending → Lending → Notice → Type 0
+KeepsReady old new n = (other : Notice) → Silences old n other → IsReady old other → IsReady new other
+
+abbrev pub KeepsReadyAny : Lending → Lending → Option Notice → Type 0
+KeepsReadyAny old new o = (other : Notice) → IfSome o (λ n. Silences old n other) → IsReady old other → IsReady new other
+
+-- a notice of a rejection stays ready
+abbrev pub KeepsRejections : Lending → Lending → Type 0
+KeepsRejections old new = (n : Notice) → n.news ≡ news.Rejected → IsReady old n → IsReady new n
+
 -- the notice has these news for the endpoint with the descriptor
 pub record IsNotice (to : Fd) (n : News) (reason : ℕ) (udata : List ℕ) (notice : Notice) : Type 0 where
   pub receiver : notice.to ≡ to

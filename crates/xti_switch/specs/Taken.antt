@@ -21,6 +21,10 @@ IsOpen l fd = is_some (endpoint l.providers (cells l) fd) ≡ true
 abbrev pub IsFreeAt : Lending → ℕ → Type 0
 IsFreeAt l place = is_free l.providers (place_at (the_switch l.providers (cells l)) place) ≡ true
 
+-- how an endpoint opens
+abbrev pub opening : Lending → Prov → Bool → Plan
+opening l prov nonblock = Open.plan l.providers (cells l) prov nonblock
+
 -- an endpoint opens at the place
 abbrev pub opening_at : Lending → ℕ → Prov → Bool → Option Step
 opening_at l place prov nonblock = step_by l.providers (cells l) (Open.plan_at l.providers (the_switch l.providers (cells l)) prov nonblock place) None
@@ -36,6 +40,10 @@ bound address qlen amax = if is_too_long (field address amax) then Overflow (rec
 -- the address was given
 abbrev pub IsBound : Lending → Lending → ℕ → Prov → List ℕ → ℕ → ℕ → Applied → Type 0
 IsBound old new fd prov address qlen amax a = IsDoneAfter (Bind.changes fd prov address qlen) old new fd (bound address qlen amax) a
+
+-- how an address is given up
+abbrev pub giving_up_address : Lending → ℕ → Plan
+giving_up_address l fd = Bind.unbind_plan l.providers (cells l) fd
 
 -- the endpoint's address is given up
 abbrev pub unbinding : ℕ → List Change

@@ -7,13 +7,13 @@ ghost use Rattle.xti_base.specs.declared.limits.TheConstants.{MOST_ADDRESS, MOST
 ghost use Rattle.xti_model.specs.Endpoint.{address_of, find_number};
 ghost use Rattle.xti_model.specs.Calls.Listen.{bound_like};
 ghost use Rattle.xti_end.specs.Held.{is_open, parts};
-ghost use Rattle.xti_lent.specs.Answers.{AnswersBy, Changed, IsSureBy, StaysBlocked};
+ghost use Rattle.xti_lent.specs.Answers.{Changed, IsSureBy, StaysBlocked};
 ghost use Rattle.xti_lent.specs.Fit.{AtOwnPlaces, IsFit, SameCells};
-ghost use Rattle.xti_switch.specs.Accepts.{accepting, linking, Accepts, IsGiven};
+ghost use Rattle.xti_switch.specs.Accepts.{accepting, linking, AcceptsAt, IsAccepted, IsGiven};
 
 use crate::frames;
 use crate::links::{Given, confirm, give, reserve, respond, take_out};
-use crate::refusals::accept_refusal;
+use crate::refusals::{Answering, accept_refusal};
 use std::alloc::{AllocError, Global};
 use tpi_prim::Frame;
 use xti_base::{Errno, Fd, Octets, Seq, State};
@@ -79,7 +79,7 @@ fn prepare(
     requires address { length (address_of (bound_like (parts e.now) (parts r.now))) ≤ MOST_ADDRESS }
     requires options { length opt.now ≤ MOST_OPTIONS }
     requires data { length udata.now ≤ MOST_CONNECT_DATA }
-    ensures { IfOk result (Accepts (parts e.now) (parts r.now) (find_number seq.0 (parts e.now).outstanding) opt.now udata.now) }
+    ensures { IfOk result (AcceptsAt (parts e.now) (parts r.now) seq.0 opt.now udata.now) }
 {
     let Some(ind) = e.request(seq) else {
         unreachable!();
@@ -142,7 +142,7 @@ pub(crate) fn accept(
 ) -> Result<Applied, AllocError>
     requires fit { IsFit lent.old }
     requires switch { is_some lent.old.registry ≡ true }
-    ensures step { IfOk result (AnswersBy (accepting lent.old fd.0 resfd.0 seq.0 opt.now udata.now) lent.old lent.new) }
+    ensures step { IsAccepted lent.old lent.new fd.0 resfd.0 seq.0 opt.now udata.now result }
     ensures still { IfOk result (StaysBlocked lent.old lent.new) }
     ensures kept { SameCells lent.old lent.new }
     ensures err { OnErr result (lent.new ≡ lent.old) }
@@ -154,7 +154,15 @@ pub(crate) fn accept(
     let Some(r) = lent.open_endpoint(resfd) else {
         return Ok(refused(lent, fd, Errno::TBADF));
     };
-    if let Some(reply) = accept_refusal(lent.providers(), fd == resfd, e, r, seq, opt, udata) {
+    let is_same = fd == resfd;
+    if let Some(reply) = accept_refusal(
+        lent.providers(),
+        e,
+        r,
+        Answering { seq, is_same },
+        opt,
+        udata,
+    ) {
         return Ok(done(lent, fd, reply));
     }
     let acceptance = prepare(lent.alloc(), e, r, seq, opt, udata)?;

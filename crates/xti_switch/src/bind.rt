@@ -4,7 +4,7 @@ ghost use Rattle.std.specs.Prelude.{◌≡◌, true, is_some, IfOk, OnOk, OnErr}
 ghost use Rattle.xti_model.specs.Switch.{chosen, has_listener};
 ghost use Rattle.xti_model.specs.Calls.Bind as Bind;
 ghost use Rattle.xti_end.specs.Held.{is_open, with_parts};
-ghost use Rattle.xti_lent.specs.Answers.{AnswersBy, Changed, IsSureBy, StaysBlocked};
+ghost use Rattle.xti_lent.specs.Answers.{Changed, IsSureBy, MakesBy, StaysBlocked};
 ghost use Rattle.xti_lent.specs.Fit.{IsFit, SameCells};
 ghost use Rattle.xti_switch.specs.Taken.{binding, IsBound, IsOpen};
 
@@ -25,7 +25,7 @@ pub(crate) fn bind(
 ) -> Result<Applied, AllocError>
     requires fit { IsFit lent.old }
     requires switch { is_some lent.old.registry ≡ true }
-    ensures step { IfOk result (AnswersBy (binding lent.old fd.0 addr.now qlen amax) lent.old lent.new) }
+    ensures step { MakesBy (binding lent.old fd.0 addr.now qlen amax) lent.old lent.new result }
     ensures still { IfOk result (StaysBlocked lent.old lent.new) }
     ensures kept { SameCells lent.old lent.new }
     ensures err { OnErr result (lent.new ≡ lent.old) }

@@ -2,11 +2,10 @@
 
 ghost use Rattle.std.specs.Prelude.{◌≡◌, ◌≤◌, true, length, IfSome, IsOk, OnErr, OnOk};
 ghost use Rattle.xti_base.specs.declared.limits.TheConstants.{MOST_CONNECT_DATA};
-ghost use Rattle.xti_model.specs.World.{endpoint};
 ghost use Rattle.xti_end.specs.Held.{is_open, parts};
 ghost use Rattle.xti_lent.specs.Answers.{IsUnchanged};
 ghost use Rattle.xti_lent.specs.Fit.{IsFit, SameCells};
-ghost use Rattle.xti_lent.specs.Lending.{cells};
+ghost use Rattle.xti_lent.specs.Lending.{open_at};
 ghost use Rattle.xti_switch.specs.Hearing.{listener_news, peer_news, Breaks, CanBreak, HasNoLinks};
 ghost use Rattle.xti_switch.specs.Taken.{IsOpen};
 
@@ -45,13 +44,13 @@ pub(crate) fn break_off(
 ) -> Result<(), AllocError>
     requires fit { IsFit lent.old }
     requires open { IsOpen lent.old fd.0 }
-    requires reach { IfSome (endpoint lent.old.providers (cells lent.old) fd.0) (CanBreak lent.old) }
+    requires reach { IfSome (open_at lent.old fd.0) (CanBreak lent.old) }
     requires udata { length udata.now ≤ MOST_CONNECT_DATA }
     ensures ok { OnOk result (Breaks lent.old lent.new fd.0 reason udata.now) }
     ensures kept { SameCells lent.old lent.new }
     ensures registry { lent.new.registry ≡ lent.old.registry }
     ensures err { OnErr result (IsUnchanged lent.old lent.new) }
-    ensures sure { IfSome (endpoint lent.old.providers (cells lent.old) fd.0) HasNoLinks → IsOk result }
+    ensures sure { IfSome (open_at lent.old fd.0) HasNoLinks → IsOk result }
 {
     let (peer, listener) = match lent.open_endpoint(fd) {
         Some(e) => (peer_news(e, fd), listener_news(e)),

@@ -1,13 +1,11 @@
 //! The callers that a listener gives up.
 
-ghost use Rattle.std.specs.Prelude.{◌≡◌, ◌<◌, Some, length, map, option_map, slice_get, IfOk, OnErr, OnOk};
+ghost use Rattle.std.specs.Prelude.{◌≡◌, ◌<◌, Some, length, map, IfOk, OnErr, OnOk};
 ghost use Rattle.std.specs.List.{AllByRecursion};
-ghost use Rattle.xti_model.specs.Calls.Close.{give_up_caller};
-ghost use Rattle.xti_end.specs.Callers.{caller_and_number, numbers_of};
+ghost use Rattle.xti_end.specs.Callers.{numbers_of};
 ghost use Rattle.xti_lent.specs.Answers.{Changed, IsUnchanged};
 ghost use Rattle.xti_lent.specs.Fit.{AtOwnPlaces, IsFit, SameCells};
-ghost use Rattle.xti_lent.specs.Lends.{IsHeld};
-ghost use Rattle.xti_switch.specs.Closes.{unanswered_at, IsReadyAmong};
+ghost use Rattle.xti_switch.specs.Closes.{giving_up, unanswered_at, unanswered_place, CanGiveUp, IsReadyAmong};
 ghost use Rattle.xti_switch.specs.Hearing.{telling, TakesRoom};
 
 use crate::notices::{News, Notice, prepare, tell};
@@ -32,7 +30,7 @@ fn requests(lent: &Lent, fd: Fd) -> usize
 fn request(lent: &Lent, fd: Fd, place: usize) -> (Fd, Seq)
     requires own { AtOwnPlaces lent.now }
     requires there { place < length (unanswered_at lent.now fd.0) }
-    ensures { Some (numbers_of result) ≡ option_map caller_and_number (slice_get (unanswered_at lent.now fd.0) place) }
+    ensures { Some (numbers_of result) ≡ unanswered_place lent.now fd.0 place }
 {
     match lent.open_endpoint(fd) {
         Some(e) => match e.request_at(place) {
@@ -46,9 +44,9 @@ fn request(lent: &Lent, fd: Fd, place: usize) -> (Fd, Seq)
 /// A notice for each caller that the endpoint didn't answer, and room for it there; where memory runs out the cells are as before.
 fn notices_to_callers(lent: &mut Lent, fd: Fd) -> Result<VecDeque<Notice>, AllocError>
     requires fit { IsFit lent.old }
-    requires reach { AllByRecursion (λ i. IsHeld lent.old i.caller) (unanswered_at lent.old fd.0) }
+    requires reach { CanGiveUp lent.old fd.0 }
     ensures room { TakesRoom lent.old lent.new }
-    ensures notices { IfOk result (λ ns. map telling ns.items ≡ map (give_up_caller fd.0) (unanswered_at lent.old fd.0)) }
+    ensures notices { IfOk result (λ ns. map telling ns.items ≡ giving_up lent.old fd.0) }
     ensures ready { IfOk result (λ ns. AllByRecursion (IsReadyAmong lent.new) ns.items) }
 {
     let count = requests(lent, fd);
@@ -90,8 +88,8 @@ fn tell_all(lent: &mut Lent, mut notices: VecDeque<Notice>)
 /// as before.
 pub(crate) fn give_up_callers(lent: &mut Lent, fd: Fd) -> Result<(), AllocError>
     requires fit { IsFit lent.old }
-    requires reach { AllByRecursion (λ i. IsHeld lent.old i.caller) (unanswered_at lent.old fd.0) }
-    ensures ok { OnOk result (Changed (map (give_up_caller fd.0) (unanswered_at lent.old fd.0)) lent.old lent.new) }
+    requires reach { CanGiveUp lent.old fd.0 }
+    ensures ok { OnOk result (Changed (giving_up lent.old fd.0) lent.old lent.new) }
     ensures kept { SameCells lent.old lent.new }
     ensures registry { lent.new.registry ≡ lent.old.registry }
     ensures err { OnErr result (IsUnchanged lent.old lent.new) }

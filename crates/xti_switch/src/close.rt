@@ -1,18 +1,16 @@
 //! t_close.
 
 ghost use Rattle.std.specs.Prelude.{◌≡◌, ◌||◌, false, true, is_some, IfOk, IfSome, IsOk, OnErr, OnOk};
-ghost use Rattle.std.specs.List.{AllByRecursion};
 ghost use Rattle.xti_model.specs.Calls.Close as Close;
 ghost use Rattle.xti_model.specs.Events.{some_wait};
 ghost use Rattle.xti_model.specs.Memory.{has_others};
-ghost use Rattle.xti_model.specs.Touched.{touched};
-ghost use Rattle.xti_model.specs.World.{close_cell, endpoint, generation_of};
+ghost use Rattle.xti_model.specs.World.{close_cell, generation_of};
 ghost use Rattle.xti_end.specs.Held.{cell, is_open, parts};
-ghost use Rattle.xti_lent.specs.Answers.{AnswersBy, Changed, IsUnchanged, StaysBlocked};
-ghost use Rattle.xti_lent.specs.Fit.{AllLent, AtOwnPlaces, IsFit, SameCells};
-ghost use Rattle.xti_lent.specs.Lending.{cells};
+ghost use Rattle.xti_lent.specs.Answers.{Changed, IsUnchanged, MakesBy, StaysBlocked};
+ghost use Rattle.xti_lent.specs.Fit.{AtOwnPlaces, HasCellsOf, IsFit, SameCells};
+ghost use Rattle.xti_lent.specs.Lending.{open_at};
 ghost use Rattle.xti_lent.specs.Lends.{IsHeld, IsPlaceOf};
-ghost use Rattle.xti_switch.specs.Closes.{unanswered_at, IsKnownOpen, TellsOthers};
+ghost use Rattle.xti_switch.specs.Closes.{closing, CanGiveUp, IsKnownOpen, TellsOthers};
 ghost use Rattle.xti_switch.specs.Hearing.{CanBreak};
 ghost use Rattle.xti_switch.specs.Taken.{IsOpen};
 
@@ -38,13 +36,13 @@ fn is_asked(e: &Endpoint) -> bool
 fn tell_others(lent: &mut Lent, fd: Fd) -> Result<(), AllocError>
     requires fit { IsFit lent.old }
     requires open { IsOpen lent.old fd.0 }
-    requires links { IfSome (endpoint lent.old.providers (cells lent.old) fd.0) (CanBreak lent.old) }
-    requires callers { AllByRecursion (λ i. IsHeld lent.old i.caller) (unanswered_at lent.old fd.0) }
+    requires links { IfSome (open_at lent.old fd.0) (CanBreak lent.old) }
+    requires callers { CanGiveUp lent.old fd.0 }
     ensures ok { OnOk result (TellsOthers lent.old lent.new fd.0) }
     ensures kept { SameCells lent.old lent.new }
     ensures registry { lent.new.registry ≡ lent.old.registry }
     ensures err { OnErr result (IsUnchanged lent.old lent.new) }
-    ensures sure { has_others (endpoint lent.old.providers (cells lent.old) fd.0) ≡ false → IsOk result }
+    ensures sure { has_others (open_at lent.old fd.0) ≡ false → IsOk result }
 {
     let asked = match lent.open_endpoint(fd) {
         Some(e) => is_asked(e),
@@ -87,12 +85,12 @@ fn close_own(lent: &mut Lent, fd: Fd)
 
 pub(crate) fn close(lent: &mut Lent, fd: Fd) -> Result<Applied, AllocError>
     requires fit { IsFit lent.old }
-    requires lent { AllLent lent.old (touched lent.old.providers (cells lent.old) (Call.TClose fd)) }
-    ensures step { IfOk result (AnswersBy (Close.plan lent.old.providers (cells lent.old) fd.0) lent.old lent.new) }
+    requires lent { HasCellsOf lent.old (Call.TClose fd) }
+    ensures step { MakesBy (closing lent.old fd.0) lent.old lent.new result }
     ensures still { IfOk result (StaysBlocked lent.old lent.new) }
     ensures kept { SameCells lent.old lent.new }
     ensures err { OnErr result (IsUnchanged lent.old lent.new) }
-    ensures sure { has_others (endpoint lent.old.providers (cells lent.old) fd.0) ≡ false → IsOk result }
+    ensures sure { has_others (open_at lent.old fd.0) ≡ false → IsOk result }
 {
     if lent.open_endpoint(fd).is_none() {
         return Ok(refused(lent, fd, Errno::TBADF));

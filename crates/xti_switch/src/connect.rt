@@ -1,15 +1,16 @@
 //! t_connect, whose second step is t_rcvconnect.
 
-ghost use Rattle.std.specs.Prelude.{◌≡◌, ◌≤◌, Ok, true, is_some, length, IfOk, OnErr, OnOk, if◌then◌else◌};
+ghost use Rattle.std.specs.Prelude.{◌≡◌, ◌≤◌, Ok, true, is_some, length, IfOk, OnErr, OnOk};
 ghost use Rattle.tpi_grammar.specs.declared.kind.Kind.TheVariants.{T_CONN_IND};
 ghost use Rattle.tpi_prim.specs.Fields.{kind_in};
 ghost use Rattle.xti_base.specs.declared.limits.TheConstants.{MOST_CONNECT_DATA, MOST_OPTIONS};
 ghost use Rattle.xti_model.specs.Sound.{is_sound_body};
 ghost use Rattle.xti_model.specs.Calls.Connect as Connect;
 ghost use Rattle.xti_end.specs.Held.{is_open, parts};
-ghost use Rattle.xti_lent.specs.Answers.{AnswersBy, IsSureBy, StaysBlocked};
+ghost use Rattle.xti_lent.specs.Answers.{IsSureBy, StaysBlocked};
 ghost use Rattle.xti_lent.specs.Fit.{IsFit, SameCells};
-ghost use Rattle.xti_switch.specs.Connects.{connecting, number_for, number_of, open_at, Asks, IsRequestOf, Requests};
+ghost use Rattle.xti_lent.specs.Lending.{open_at};
+ghost use Rattle.xti_switch.specs.Connects.{connecting, first_outcome, number_for, Asks, IsConnecting, IsRequestAt, IsRequested};
 
 use crate::frames;
 use crate::refusals::connect_refusal;
@@ -29,7 +30,7 @@ fn is_full(l: &Endpoint) -> bool
     requires sound { is_sound_body l.now.body ≡ true }
     ensures { result ≡ Connect.is_full (parts l.now) }
 {
-    l.requests() == l.qlen() as usize || l.last_seq().0 == LAST_SEQUENCE
+    l.requests() == l.qlen() as usize || l.last_number().0 == LAST_SEQUENCE
 }
 
 /// The number that the endpoint gives the next request, or the reason why it takes none.
@@ -41,7 +42,7 @@ fn number_for(lent: &Lent, listener: Fd) -> Result<Seq, u32>
         None => Err(NO_LISTENER),
         Some(l) if !is_listening(l.state()) => Err(NO_LISTENER),
         Some(l) if is_full(l) => Err(QUEUE_FULL),
-        Some(l) => Ok(Seq(l.last_seq().0 + 1)),
+        Some(l) => Ok(Seq(l.last_number().0 + 1)),
     }
 }
 
@@ -58,7 +59,7 @@ fn request_frame(
     requires options { length opt.now ≤ MOST_OPTIONS }
     requires data { length udata.now ≤ MOST_CONNECT_DATA }
     ensures kind { IfOk result (λ frame. kind_in frame ≡ T_CONN_IND) }
-    ensures request { IfOk result (IsRequestOf (open_at lent.now fd.0) fd.0 seq.0 opt.now udata.now) }
+    ensures request { IfOk result (IsRequestAt lent.now fd.0 seq.0 opt.now udata.now) }
 {
     match lent.open_endpoint(fd) {
         Some(e) => frames::request(lent.alloc(), e, seq, opt, udata),
@@ -102,7 +103,7 @@ fn request(
     requires open { is_some (open_at lent.old fd.0) ≡ true }
     requires options { length opt.now ≤ MOST_OPTIONS }
     requires data { length udata.now ≤ MOST_CONNECT_DATA }
-    ensures ok { OnOk result (Requests lent.old lent.new fd.0 (number_of listener) opt.now udata.now) }
+    ensures ok { IsRequested lent.old lent.new fd.0 listener opt.now udata.now result }
     ensures kept { SameCells lent.old lent.new }
     ensures err { OnErr result (lent.new ≡ lent.old) }
 {
@@ -117,7 +118,7 @@ fn request(
 
 /// A caller that waits for the answer makes a second step.
 fn outcome(nonblock: bool) -> Outcome
-    ensures { result ≡ (if nonblock then Outcome.Done (Reply.Refused Errno.TNODATA) else Outcome.Part 0) }
+    ensures { result ≡ first_outcome nonblock }
 {
     if nonblock {
         let errno = Errno::TNODATA;
@@ -136,7 +137,7 @@ pub(crate) fn connect(
 ) -> Result<Applied, AllocError>
     requires fit { IsFit lent.old }
     requires switch { is_some lent.old.registry ≡ true }
-    ensures step { IfOk result (AnswersBy (connecting lent.old fd.0 addr.now opt.now udata.now) lent.old lent.new) }
+    ensures step { IsConnecting lent.old lent.new fd.0 addr.now opt.now udata.now result }
     ensures still { IfOk result (StaysBlocked lent.old lent.new) }
     ensures kept { SameCells lent.old lent.new }
     ensures err { OnErr result (lent.new ≡ lent.old) }

@@ -4,18 +4,15 @@ ghost use Rattle.std.specs.Prelude.{◌≡◌, ◌≤◌, ◌∷◌, [], Some, t
 ghost use Rattle.xti_base.specs.declared.limits.TheConstants.{MOST_CONNECT_DATA};
 ghost use Rattle.xti_model.specs.Calls.Disconnect as Disconnect;
 ghost use Rattle.xti_model.specs.Calls.Listen.{taken_out};
-ghost use Rattle.xti_model.specs.Plan.{answers, first};
-ghost use Rattle.xti_model.specs.Touched.{touched};
-ghost use Rattle.xti_model.specs.World.{at_endpoint, endpoint};
+ghost use Rattle.xti_model.specs.Plan.{first};
+ghost use Rattle.xti_model.specs.World.{at_endpoint};
 ghost use Rattle.xti_end.specs.Held.{is_open, parts};
-ghost use Rattle.xti_lent.specs.Answers.{AnswersBy, Changed, IsSureBy, IsUnchanged, StaysBlocked};
-ghost use Rattle.xti_lent.specs.Fit.{AllLent, AtOwnPlaces, IsFit, SameCells};
-ghost use Rattle.xti_lent.specs.Lending.{cells};
+ghost use Rattle.xti_lent.specs.Answers.{answered, Changed, IsSureBy, IsUnchanged, MakesBy, StaysBlocked};
+ghost use Rattle.xti_lent.specs.Fit.{AtOwnPlaces, HasCellsOf, IsFit, SameCells};
+ghost use Rattle.xti_lent.specs.Lending.{open_at};
 ghost use Rattle.xti_lent.specs.Lends.{ChangesAt, IsHeld, IsPlaceOf};
-ghost use Rattle.xti_switch.specs.Hearing.{CanBreak, IsReady};
-ghost use Rattle.xti_switch.specs.Disconnects.{asked, disconnecting, EndsOwn};
-ghost use Rattle.xti_switch.specs.declared.notices.News.TheVariants as news;
-ghost use Rattle.xti_switch.specs.declared.notices.Notice.{Notice};
+ghost use Rattle.xti_switch.specs.Hearing.{CanBreak, KeepsRejections};
+ghost use Rattle.xti_switch.specs.Disconnects.{asked, disconnecting, rejecting, EndsOwn};
 ghost use Rattle.xti_switch.specs.Taken.{IsOpen};
 
 use crate::breaking::break_off;
@@ -31,7 +28,7 @@ use xti_model::{Applied, Call, Providers, Reply};
 /// What refuses the disconnect of an open endpoint.
 fn refusal(e: &Endpoint, seq: Seq, udata: &[u8]) -> Option<Reply>
     requires { is_open e.now ≡ true }
-    ensures { option_map (λ reply. answers reply) result ≡ first (Disconnect.send_rows seq.0 udata.now (parts e.now)) }
+    ensures { answered result ≡ first (Disconnect.send_rows seq.0 udata.now (parts e.now)) }
 {
     let errno = if !has_connections(e.prov()) {
         Errno::TNOTSUPPORT
@@ -69,7 +66,7 @@ fn take_out(lent: &mut Lent, fd: Fd, seq: Seq)
     ensures cells { Changed (at_endpoint fd.0 (taken_out seq.0) ∷ []) lent.old lent.new }
     ensures kept { SameCells lent.old lent.new }
     ensures registry { lent.new.registry ≡ lent.old.registry }
-    ensures ready { (n : Notice) → n.news ≡ news.Rejected → IsReady lent.old n → IsReady lent.new n }
+    ensures ready { KeepsRejections lent.old lent.new }
 {
     let p = *lent.providers();
     take_out_at(lent.endpoint(p.place_of(fd)), &p, fd, seq);
@@ -120,7 +117,7 @@ fn reject(lent: &mut Lent, fd: Fd, seq: Seq, udata: &[u8]) -> Result<(), AllocEr
     requires asked { is_some (asked lent.old fd.0 seq.0) ≡ true }
     requires reach { IfSome (asked lent.old fd.0 seq.0) (λ i. IsHeld lent.old i.caller) }
     requires udata { length udata.now ≤ MOST_CONNECT_DATA }
-    ensures ok { OnOk result (Changed (Disconnect.reject fd.0 udata.now (asked lent.old fd.0 seq.0)) lent.old lent.new) }
+    ensures ok { OnOk result (Changed (rejecting lent.old fd.0 seq.0 udata.now) lent.old lent.new) }
     ensures kept { SameCells lent.old lent.new }
     ensures err { OnErr result (IsUnchanged lent.old lent.new) }
 {
@@ -135,7 +132,7 @@ fn reject(lent: &mut Lent, fd: Fd, seq: Seq, udata: &[u8]) -> Result<(), AllocEr
 fn end_own(lent: &mut Lent, fd: Fd, udata: &[u8]) -> Result<(), AllocError>
     requires fit { IsFit lent.old }
     requires open { IsOpen lent.old fd.0 }
-    requires reach { IfSome (endpoint lent.old.providers (cells lent.old) fd.0) (CanBreak lent.old) }
+    requires reach { IfSome (open_at lent.old fd.0) (CanBreak lent.old) }
     requires udata { length udata.now ≤ MOST_CONNECT_DATA }
     ensures ok { OnOk result (EndsOwn lent.old lent.new fd.0 udata.now) }
     ensures kept { SameCells lent.old lent.new }
@@ -148,8 +145,8 @@ fn end_own(lent: &mut Lent, fd: Fd, udata: &[u8]) -> Result<(), AllocError>
 
 pub(crate) fn snddis(lent: &mut Lent, fd: Fd, seq: Seq, udata: &[u8]) -> Result<Applied, AllocError>
     requires fit { IsFit lent.old }
-    requires lent { AllLent lent.old (touched lent.old.providers (cells lent.old) (Call.TSndDis fd seq udata.now)) }
-    ensures step { IfOk result (AnswersBy (disconnecting lent.old fd.0 seq.0 udata.now) lent.old lent.new) }
+    requires lent { HasCellsOf lent.old (Call.TSndDis fd seq udata.now) }
+    ensures step { MakesBy (disconnecting lent.old fd.0 seq.0 udata.now) lent.old lent.new result }
     ensures still { IfOk result (StaysBlocked lent.old lent.new) }
     ensures kept { SameCells lent.old lent.new }
     ensures err { OnErr result (IsUnchanged lent.old lent.new) }

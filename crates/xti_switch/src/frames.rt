@@ -1,12 +1,12 @@
 //! The frames of requests to connect, of their answers, and of disconnects.
 
-ghost use Rattle.std.specs.Prelude.{◌≡◌, ◌≤◌, ℕ, length, true, IfOk};
+ghost use Rattle.std.specs.Prelude.{◌≡◌, ◌≤◌, length, true, IfOk};
 ghost use Rattle.xti_base.specs.declared.limits.TheConstants.{MOST_ADDRESS, MOST_CONNECT_DATA, MOST_OPTIONS};
 ghost use Rattle.tpi_grammar.specs.declared.kind.Kind.TheVariants.{T_CONN_IND, T_CONN_CON, T_DISCON_IND};
 ghost use Rattle.tpi_prim.specs.Fields.{kind_in};
 ghost use Rattle.xti_model.specs.Endpoint.{address_of};
-ghost use Rattle.xti_end.specs.Frames.{request_in, confirmation_in, disconnect_in};
 ghost use Rattle.xti_end.specs.Held as Held;
+ghost use Rattle.xti_switch.specs.Frames.{IsConfirmation, IsDisconnect, IsRequestBy};
 
 use std::alloc::{AllocError, Global};
 use tpi_prim::{Frame, encode_conn_con, encode_conn_ind, encode_discon_ind};
@@ -27,7 +27,7 @@ pub(crate) fn request(
     requires options { length options.now ≤ MOST_OPTIONS }
     requires data { length udata.now ≤ MOST_CONNECT_DATA }
     ensures kind { IfOk result (λ frame. kind_in frame ≡ T_CONN_IND) }
-    ensures request { IfOk result (λ frame. (caller : ℕ) → request_in caller frame ≡ record { number = seq.0; caller = caller; address = address_of (Held.parts e.now); options = options.now; udata = udata.now }) }
+    ensures request { IfOk result (IsRequestBy (Held.parts e.now) seq.0 options.now udata.now) }
 {
     unless_too_big(encode_conn_ind(alloc, address_of(e), options, seq.0, udata))
 }
@@ -43,7 +43,7 @@ pub(crate) fn confirmation(
     requires options { length options.now ≤ MOST_OPTIONS }
     requires data { length udata.now ≤ MOST_CONNECT_DATA }
     ensures kind { IfOk result (λ frame. kind_in frame ≡ T_CONN_CON) }
-    ensures confirmation { IfOk result (λ frame. confirmation_in frame ≡ record { address = address.now; options = options.now; udata = udata.now }) }
+    ensures confirmation { IfOk result (IsConfirmation address.now options.now udata.now) }
 {
     unless_too_big(encode_conn_con(alloc, address, options, udata))
 }
@@ -57,7 +57,7 @@ pub(crate) fn disconnect(
 ) -> Result<Frame, AllocError>
     requires { length udata.now ≤ MOST_CONNECT_DATA }
     ensures kind { IfOk result (λ frame. kind_in frame ≡ T_DISCON_IND) }
-    ensures disconnect { IfOk result (λ frame. disconnect_in frame ≡ record { reason = reason; number = number; udata = udata.now }) }
+    ensures disconnect { IfOk result (IsDisconnect reason number udata.now) }
 {
     unless_too_big(encode_discon_ind(alloc, reason, number, udata))
 }

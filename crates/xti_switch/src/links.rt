@@ -5,11 +5,10 @@ ghost use Rattle.tpi_grammar.specs.declared.kind.Kind.TheVariants.{T_CONN_CON};
 ghost use Rattle.tpi_prim.specs.Fields.{kind_in};
 ghost use Rattle.xti_model.specs.World.{at_endpoint};
 ghost use Rattle.xti_model.specs.Calls.Listen.{taken_out};
-ghost use Rattle.xti_end.specs.Frames.{confirmation_in};
 ghost use Rattle.xti_end.specs.Held.{is_open, with_parts};
 ghost use Rattle.xti_lent.specs.Answers.{Changed, IsUnchanged};
 ghost use Rattle.xti_lent.specs.Fit.{AtOwnPlaces, SameCells};
-ghost use Rattle.xti_switch.specs.Accepts.{accepted_by, giving, giving_if, responding_to, with_address, HasRoomFor, TakesOne};
+ghost use Rattle.xti_switch.specs.Accepts.{confirmed_by, confirming, giving, giving_if, responding, responding_to, with_address, HasRoomFor, TakesOne};
 
 use std::alloc::AllocError;
 use tpi_prim::Frame;
@@ -52,7 +51,7 @@ fn set_responding(r: &mut Endpoint, caller: Fd, source: Octets)
 fn set_accepted(c: &mut Endpoint, resfd: Fd, address: Octets, confirmation: Frame)
     requires open { is_open c.old ≡ true }
     requires kind { kind_in confirmation ≡ T_CONN_CON }
-    ensures { c.new ≡ with_parts (accepted_by resfd.0 address (confirmation_in confirmation)) c.old }
+    ensures { c.new ≡ with_parts (confirmed_by resfd.0 address confirmation) c.old }
 {
     c.set_target(None);
     c.set_peer(Some(resfd));
@@ -131,7 +130,7 @@ pub(crate) fn give(lent: &mut Lent, resfd: Fd, given: Option<Given>)
 /// The endpoint is connected with a caller, where it is open.
 pub(crate) fn respond(lent: &mut Lent, resfd: Fd, caller: Fd, source: Octets)
     requires { AtOwnPlaces lent.old }
-    ensures changed { Changed (at_endpoint resfd.0 (responding_to caller.0 source) ∷ []) lent.old lent.new }
+    ensures changed { Changed (responding resfd.0 caller.0 source) lent.old lent.new }
     ensures kept { SameCells lent.old lent.new }
 {
     if let Some(place) = lent.open_place(resfd) {
@@ -145,7 +144,7 @@ pub(crate) fn respond(lent: &mut Lent, resfd: Fd, caller: Fd, source: Octets)
 pub(crate) fn confirm(lent: &mut Lent, caller: Fd, resfd: Fd, address: Octets, confirmation: Frame)
     requires own { AtOwnPlaces lent.old }
     requires kind { kind_in confirmation ≡ T_CONN_CON }
-    ensures changed { Changed (at_endpoint caller.0 (accepted_by resfd.0 address (confirmation_in confirmation)) ∷ []) lent.old lent.new }
+    ensures changed { Changed (confirming caller.0 resfd.0 address confirmation) lent.old lent.new }
     ensures kept { SameCells lent.old lent.new }
 {
     if let Some(place) = lent.open_place(caller) {

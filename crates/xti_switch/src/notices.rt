@@ -11,7 +11,7 @@ ghost use Rattle.xti_end.specs.Held.{is_open, parts};
 ghost use Rattle.xti_lent.specs.Answers.{Changed};
 ghost use Rattle.xti_lent.specs.Fit.{AtOwnPlaces, SameCells};
 ghost use Rattle.xti_lent.specs.Lends.{IsHeld, IsPlaceOf};
-ghost use Rattle.xti_switch.specs.Hearing.{told_number, is_told, telling, telling_any, HasRoom, Hears, IsNotice, IsNoticeOf, IsReady, Silences, TakesRoom};
+ghost use Rattle.xti_switch.specs.Hearing.{told_number, is_told, telling, telling_any, HasRoom, Hears, IsNotice, IsNoticeOf, IsReady, KeepsReady, KeepsReadyAny, TakesRoom};
 
 use crate::frames::disconnect;
 use std::alloc::{AllocError, Global};
@@ -125,7 +125,7 @@ pub(crate) fn tell(lent: &mut Lent, notice: Notice)
     ensures cells { Changed (telling notice ∷ []) lent.old lent.new }
     ensures kept { SameCells lent.old lent.new }
     ensures registry { lent.new.registry ≡ lent.old.registry }
-    ensures ready { (other : Notice) → Silences lent.old notice other → IsReady lent.old other → IsReady lent.new other }
+    ensures ready { KeepsReady lent.old lent.new notice }
 {
     let p = *lent.providers();
     let Notice { to, news, frame } = notice;
@@ -179,7 +179,7 @@ pub(crate) fn tell_any(lent: &mut Lent, notice: Option<Notice>)
     ensures cells { Changed (telling_any notice) lent.old lent.new }
     ensures kept { SameCells lent.old lent.new }
     ensures registry { lent.new.registry ≡ lent.old.registry }
-    ensures ready { (other : Notice) → IfSome notice (λ n. Silences lent.old n other) → IsReady lent.old other → IsReady lent.new other }
+    ensures ready { KeepsReadyAny lent.old lent.new notice }
 {
     if let Some(notice) = notice {
         tell(lent, notice);

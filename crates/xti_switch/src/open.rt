@@ -3,12 +3,10 @@
 ghost use Rattle.std.specs.Prelude.{◌≡◌, ◌<◌, true, is_some};
 ghost use Rattle.xti_model.specs.Provider.{is_provider};
 ghost use Rattle.xti_model.specs.World.{places};
-ghost use Rattle.xti_model.specs.Touched.{touched};
-ghost use Rattle.xti_model.specs.Calls.Open as Open;
 ghost use Rattle.xti_lent.specs.Answers.{Answers, AnswersBy, StaysBlocked};
-ghost use Rattle.xti_lent.specs.Lending.{cells, held_at};
-ghost use Rattle.xti_lent.specs.Fit.{IsFit, AllLent, SameCells};
-ghost use Rattle.xti_switch.specs.Taken.{opening_at, IsFreeAt};
+ghost use Rattle.xti_lent.specs.Lending.{held_at};
+ghost use Rattle.xti_lent.specs.Fit.{HasCellsOf, IsFit, SameCells};
+ghost use Rattle.xti_switch.specs.Taken.{opening, opening_at, IsFreeAt};
 
 use xti_base::limits::NO_NUMBER;
 use xti_base::{Errno, Fd, Prov};
@@ -18,8 +16,8 @@ use xti_model::{Applied, Call, Reply};
 pub(crate) fn open(lent: &mut Lent, prov: Prov, nonblock: bool) -> Applied
     requires fit { IsFit lent.old }
     requires switch { is_some lent.old.registry ≡ true }
-    requires lent { AllLent lent.old (touched lent.old.providers (cells lent.old) (Call.TOpen prov nonblock)) }
-    ensures step { AnswersBy (Open.plan lent.old.providers (cells lent.old) prov nonblock) lent.old lent.new result }
+    requires lent { HasCellsOf lent.old (Call.TOpen prov nonblock) }
+    ensures step { AnswersBy (opening lent.old prov nonblock) lent.old lent.new result }
     ensures still { StaysBlocked lent.old lent.new result }
     ensures kept { SameCells lent.old lent.new }
 {

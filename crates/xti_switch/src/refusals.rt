@@ -1,13 +1,14 @@
 //! What refuses to ask for a connection, and to accept one.
 
-ghost use Rattle.std.specs.Prelude.{◌≡◌, ◌==◌, ◌&&◌, ◌∷◌, [], ℕ, nat_lt, not, true, option_map};
+ghost use Rattle.std.specs.Prelude.{◌≡◌, ◌&&◌, ◌∷◌, [], nat_lt, not, true};
 ghost use Rattle.xti_model.specs.Endpoint.{ocnt};
-ghost use Rattle.xti_model.specs.Events.{is_state, looks_connecting};
-ghost use Rattle.xti_model.specs.Plan.{answers, first, looks};
-ghost use Rattle.xti_model.specs.Provider.{profile};
+ghost use Rattle.xti_model.specs.Events.{looks_connecting};
+ghost use Rattle.xti_model.specs.Plan.{first, looks};
 ghost use Rattle.xti_model.specs.Calls.Connect as Connect;
 ghost use Rattle.xti_model.specs.Calls.Listen as Listen;
 ghost use Rattle.xti_end.specs.Held.{is_open, parts};
+ghost use Rattle.xti_lent.specs.Answers.{answered};
+ghost use Rattle.xti_switch.specs.Accepts.{is_at_bad_address, is_engaged, RefusesAccept};
 
 use xti_base::{Errno, Event, Seq, State};
 use xti_end::{Endpoint, has_connections, profile};
@@ -17,7 +18,7 @@ use xti_model::{Providers, Reply};
 /// TLOOK, where a disconnect or a request waits at the open endpoint.
 fn looked(e: &Endpoint) -> Option<Reply>
     requires { is_open e.now ≡ true }
-    ensures { option_map (λ reply. answers reply) result ≡ first (looks looks_connecting (parts e.now) ∷ []) }
+    ensures { answered result ≡ first (looks looks_connecting (parts e.now) ∷ []) }
 {
     let event = if e.has_disconnect() {
         Event::T_DISCONNECT
@@ -32,7 +33,7 @@ fn looked(e: &Endpoint) -> Option<Reply>
 /// What refuses the request of an open endpoint.
 pub(crate) fn connect_refusal(e: &Endpoint, addr: &[u8], opt: &[u8], udata: &[u8]) -> Option<Reply>
     requires { is_open e.now ≡ true }
-    ensures { option_map (λ reply. answers reply) result ≡ first (Connect.rows addr.now opt.now udata.now (parts e.now)) }
+    ensures { answered result ≡ first (Connect.rows addr.now opt.now udata.now (parts e.now)) }
 {
     let errno = if !has_connections(e.prov()) {
         Errno::TNOTSUPPORT
@@ -53,7 +54,7 @@ pub(crate) fn connect_refusal(e: &Endpoint, addr: &[u8], opt: &[u8], udata: &[u8
 /// Whether another endpoint than the listener isn't in a state to answer.
 fn is_engaged(r: &Endpoint, is_same: bool) -> bool
     requires { is_open r.now ≡ true }
-    ensures { result ≡ (not is_same && not (is_state (State.T_UNBND ∷ State.T_IDLE ∷ []) (parts r.now))) }
+    ensures { result ≡ is_engaged is_same (parts r.now) }
 {
     !is_same && !r.state().is(State::T_UNBND) && !r.state().is(State::T_IDLE)
 }
@@ -90,25 +91,30 @@ fn is_elsewhere(e: &Endpoint, r: &Endpoint) -> bool
 fn is_at_bad_address(p: &Providers, e: &Endpoint, r: &Endpoint) -> bool
     requires listener { is_open e.now ≡ true }
     requires responding { is_open r.now ≡ true }
-    ensures { result ≡ ((profile p.now (parts e.now).prov).same_addr && Listen.is_elsewhere (parts e.now) (parts r.now).address) }
+    ensures { result ≡ is_at_bad_address p.now (parts e.now) (parts r.now) }
 {
     profile(p, e.prov()).same_addr && is_elsewhere(e, r)
 }
 
-/// What refuses to accept the request with this number of the open endpoint `e` on the open endpoint `r`, which is the same one
-/// or another.
+/// Which request of a listener is answered, and whether by the listener itself.
+#[derive(Clone, Copy)]
+pub(crate) struct Answering {
+    pub(crate) seq: Seq,
+    pub(crate) is_same: bool,
+}
+
+/// What refuses to accept a request of the open endpoint `e` on the open endpoint `r`, which is the same one or another.
 pub(crate) fn accept_refusal(
     p: &Providers,
-    is_same: bool,
     e: &Endpoint,
     r: &Endpoint,
-    seq: Seq,
+    answering: Answering,
     opt: &[u8],
     udata: &[u8],
 ) -> Option<Reply>
     requires listener { is_open e.now ≡ true }
     requires responding { is_open r.now ≡ true }
-    ensures { (fd resfd : ℕ) → is_same ≡ (fd == resfd) → option_map (λ reply. answers reply) result ≡ first (Listen.accept_rows p.now fd resfd seq.0 opt.now udata.now (parts e.now) (parts r.now)) }
+    ensures { RefusesAccept p.now answering opt.now udata.now (parts e.now) (parts r.now) result }
 {
     let errno = if !has_connections(e.prov()) {
         Errno::TNOTSUPPORT
@@ -116,13 +122,13 @@ pub(crate) fn accept_refusal(
         Errno::TOUTSTATE
     } else if !e.prov().is(r.prov()) {
         Errno::TPROVMISMATCH
-    } else if is_engaged(r, is_same) {
+    } else if is_engaged(r, answering.is_same) {
         Errno::TOUTSTATE
-    } else if e.request(seq).is_none() {
+    } else if e.request(answering.seq).is_none() {
         Errno::TBADSEQ
-    } else if has_more_requests(e, is_same) {
+    } else if has_more_requests(e, answering.is_same) {
         Errno::TINDOUT
-    } else if is_listener_too(r, is_same) {
+    } else if is_listener_too(r, answering.is_same) {
         Errno::TRESQLEN
     } else if is_at_bad_address(p, e, r) {
         Errno::TRESADDR

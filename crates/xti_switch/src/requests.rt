@@ -4,12 +4,11 @@ ghost use Rattle.std.specs.Prelude.{◌≡◌, ◌∷◌, [], true, OnOk, OnErr}
 ghost use Rattle.tpi_grammar.specs.declared.kind.Kind.TheVariants.{T_CONN_IND, T_DISCON_IND};
 ghost use Rattle.tpi_prim.specs.Fields.{kind_in};
 ghost use Rattle.xti_model.specs.World.{at_endpoint};
-ghost use Rattle.xti_model.specs.Calls.Connect.{asking, turned_away};
-ghost use Rattle.xti_end.specs.Frames.{disconnect_in, request_in};
-ghost use Rattle.xti_end.specs.Held.{cell, is_open, with_disconnect, with_parts};
+ghost use Rattle.xti_model.specs.Calls.Connect.{asking};
+ghost use Rattle.xti_end.specs.Held.{is_open, with_parts};
 ghost use Rattle.xti_lent.specs.Answers.{Changed};
 ghost use Rattle.xti_lent.specs.Fit.{AtOwnPlaces, SameCells};
-ghost use Rattle.xti_switch.specs.Connects.{queued};
+ghost use Rattle.xti_switch.specs.Connects.{queuing, turning_away, Queues, TurnsAway};
 
 use crate::frames;
 use std::alloc::AllocError;
@@ -22,13 +21,13 @@ use xti_lent::Lent;
 fn push_request(l: &mut Endpoint, caller: Fd, seq: Seq, frame: Frame) -> Result<(), AllocError>
     requires open { is_open l.old ≡ true }
     requires kind { kind_in frame ≡ T_CONN_IND }
-    ensures cell { OnOk result (cell l.new ≡ cell (with_parts (queued (request_in caller.0 frame) seq.0) l.old)) }
+    ensures cell { OnOk result (Queues caller.0 seq.0 frame l.old l.new) }
     ensures place { l.new.place ≡ l.old.place }
     ensures err { OnErr result (l.new ≡ l.old) }
 {
     or_drop!(l.reserve_pending(), frame);
     l.push_pending(caller, frame);
-    l.set_last_seq(seq);
+    l.set_last_number(seq);
     Ok(())
 }
 
@@ -36,7 +35,7 @@ fn push_request(l: &mut Endpoint, caller: Fd, seq: Seq, frame: Frame) -> Result<
 fn push_refusal(e: &mut Endpoint, frame: Frame) -> Result<(), AllocError>
     requires open { is_open e.old ≡ true }
     requires kind { kind_in frame ≡ T_DISCON_IND }
-    ensures cell { OnOk result (cell e.new ≡ cell (with_parts (λ e. record (with_disconnect (disconnect_in frame) e) { state = State.T_OUTCON }) e.old)) }
+    ensures cell { OnOk result (TurnsAway frame e.old e.new) }
     ensures place { e.new.place ≡ e.old.place }
     ensures err { OnErr result (e.new ≡ e.old) }
 {
@@ -65,7 +64,7 @@ pub(crate) fn queue(
 ) -> Result<(), AllocError>
     requires own { AtOwnPlaces lent.old }
     requires kind { kind_in frame ≡ T_CONN_IND }
-    ensures ok { OnOk result (Changed (at_endpoint listener.0 (queued (request_in caller.0 frame) seq.0) ∷ []) lent.old lent.new) }
+    ensures ok { OnOk result (Changed (queuing listener.0 caller.0 seq.0 frame) lent.old lent.new) }
     ensures kept { SameCells lent.old lent.new }
     ensures err { OnErr result (lent.new ≡ lent.old) }
 {
@@ -92,7 +91,7 @@ pub(crate) fn set_target(lent: &mut Lent, fd: Fd, listener: Fd, seq: Seq)
 /// A disconnect answers the request of the endpoint, where that is open; where memory runs out all is as before.
 pub(crate) fn turn_away(lent: &mut Lent, fd: Fd, reason: u32) -> Result<(), AllocError>
     requires { AtOwnPlaces lent.old }
-    ensures ok { OnOk result (Changed (at_endpoint fd.0 (turned_away reason) ∷ []) lent.old lent.new) }
+    ensures ok { OnOk result (Changed (turning_away fd.0 reason) lent.old lent.new) }
     ensures kept { SameCells lent.old lent.new }
     ensures err { OnErr result (lent.new ≡ lent.old) }
 {

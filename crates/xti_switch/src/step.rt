@@ -3,10 +3,10 @@
 ghost use Rattle.std.specs.Prelude.{◌≡◌, true, IfOk, OnErr};
 ghost use Rattle.xti_model.specs.declared.entry.Go.{Go};
 ghost use Rattle.xti_model.specs.Touched.{touched};
-ghost use Rattle.xti_lent.specs.Answers.{AnswersCall, IsSureOf, IsUnchanged, StaysBlocked};
+ghost use Rattle.xti_lent.specs.Answers.{IsUnchanged, StaysBlocked};
 ghost use Rattle.xti_lent.specs.Lending.{cells};
 ghost use Rattle.xti_lent.specs.Fit.{IsFit, AllLent, SameCells};
-ghost use Rattle.xti_switch.specs.Calls.{goes_through_switch};
+ghost use Rattle.xti_switch.specs.Calls.{goes_through_switch, AnswersThroughSwitch, IsSureThroughSwitch};
 
 use crate::accept::accept;
 use crate::bind::bind;
@@ -28,11 +28,11 @@ pub fn switch_step(lent: &mut Lent, call: &Call) -> Result<Applied, AllocError>
     requires call { goes_through_switch call.now Go.Begin ≡ true }
     requires fit { IsFit lent.old }
     requires lent { AllLent lent.old (touched lent.old.providers (cells lent.old) call.now) }
-    ensures step { IfOk result (λ a. (g : Go) → goes_through_switch call.now g ≡ true → AnswersCall call.now g lent.old lent.new a) }
+    ensures step { IfOk result (AnswersThroughSwitch call.now lent.old lent.new) }
     ensures still { IfOk result (StaysBlocked lent.old lent.new) }
     ensures kept { SameCells lent.old lent.new }
     ensures err { OnErr result (IsUnchanged lent.old lent.new) }
-    ensures sure { (g : Go) → goes_through_switch call.now g ≡ true → IsSureOf call.now g lent.old result }
+    ensures sure { IsSureThroughSwitch call.now lent.old result }
 {
     match call {
         Call::TOpen { prov, nonblock } => Ok(open(lent, *prov, *nonblock)),

@@ -8,9 +8,8 @@ ghost use Rattle.xti_model.specs.Events.{looked, looks_unbind};
 ghost use Rattle.xti_model.specs.Calls.Bind as Bind;
 ghost use Rattle.xti_end.specs.Held.{is_open, parts, with_parts};
 ghost use Rattle.xti_lent.specs.Answers.{AnswersBy, IsDoneAfter, StaysBlocked};
-ghost use Rattle.xti_lent.specs.Lending.{cells};
 ghost use Rattle.xti_lent.specs.Fit.{IsFit, SameCells};
-ghost use Rattle.xti_switch.specs.Taken.{IsOpen, unbinding};
+ghost use Rattle.xti_switch.specs.Taken.{giving_up_address, unbinding, IsOpen};
 
 use xti_base::{Errno, Event, Fd, State};
 use xti_end::Endpoint;
@@ -20,7 +19,7 @@ use xti_model::{Applied, Reply};
 pub(crate) fn unbind(lent: &mut Lent, fd: Fd) -> Applied
     requires fit { IsFit lent.old }
     requires switch { is_some lent.old.registry ≡ true }
-    ensures step { AnswersBy (Bind.unbind_plan lent.old.providers (cells lent.old) fd.0) lent.old lent.new result }
+    ensures step { AnswersBy (giving_up_address lent.old fd.0) lent.old lent.new result }
     ensures still { StaysBlocked lent.old lent.new result }
     ensures kept { SameCells lent.old lent.new }
 {
@@ -65,7 +64,7 @@ fn unbind_endpoint(e: &mut Endpoint)
     e.clear_datagram_errors();
     e.set_flow_normal(false);
     e.set_flow_expedited(false);
-    e.set_mark(None);
+    e.set_flow_datagram(None);
 }
 
 /// The open endpoint's address is given up.

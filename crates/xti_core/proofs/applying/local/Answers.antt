@@ -7,7 +7,6 @@ use Rattle.xti_lent.proofs.Open.{own-place}
 use Rattle.xti_lent.proofs.Written.{same-back}
 use Rattle.xti_core.proofs.Settling.{none-taken}
 use Rattle.xti_core.proofs.OneCell.{lifted, runs-out-alike, same-cells, if-ok, on-err}
-use Rattle.xti_core.proofs.Written.{written-on-err, written-step}
 use Rattle.xti_core.proofs.applying.local.Goals as goal
 
 pub local-requires : goal.local-requires
@@ -26,10 +25,11 @@ returns c =
     let at : IsAt l.providers n c.args.call.now c.args.go = subst (λ m. IsAt l.providers m c.args.call.now c.args.go) (sym q) c.requires.at in
     let lt : n < places l.providers = subst (λ (x : Providers). n < places x) c.providers.ensures.providers c.place_of.ensures.bound in
     record {
-      step = written-step c.args.call.now c.args.go l _ c.local.result _ _ _ _ _ c.write.ensures
-          (if-ok c.local.result _ _ (λ a h. lifted l n c.endpoint-e.result.now c.local.new.self c.args.call.now c.args.go a lt at c.requires.places e c.local.ensures.room (rw c.providers.ensures.providers at h)) c.local.ensures.step)
-          (if-ok c.local.result _ _ (λ a h i. same-back l n c.endpoint-e.result.now c.local.new.self e (h (none-taken a _ _ i))) c.local.ensures.still)
-          (λ h. c.local.ensures.sure (rw c.providers.ensures.providers (runs-out-alike l n c.endpoint-e.result.now c.args.call.now c.args.go lt at c.requires.places e) ∙ h));
+      step = record {
+        step = if-ok c.local.result _ _ (λ a h. lifted l n c.endpoint-e.result.now c.local.new.self c.args.call.now c.args.go a lt at c.requires.places e c.local.ensures.room (rw c.providers.ensures.providers at h)) c.local.ensures.step;
+        still = if-ok c.local.result _ _ (λ a h i. same-back l n c.endpoint-e.result.now c.local.new.self e (h (none-taken a _ _ i))) c.local.ensures.still;
+        sure = λ h. c.local.ensures.sure (rw c.providers.ensures.providers (runs-out-alike l n c.endpoint-e.result.now c.args.call.now c.args.go lt at c.requires.places e) ∙ h);
+      };
       kept = same-cells l n c.endpoint-e.result.now c.local.new.self e c.local.ensures.room;
-      err = written-on-err _ c.local.result _ _ _ _ _ c.write.ensures (on-err c.local.result _ _ (same-back l n c.endpoint-e.result.now c.local.new.self e) c.local.ensures.err);
+      err = on-err c.local.result _ _ (same-back l n c.endpoint-e.result.now c.local.new.self e) c.local.ensures.err;
     }

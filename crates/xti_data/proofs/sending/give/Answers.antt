@@ -4,9 +4,8 @@ use Rattle.std.specs.List.{concat}
 use Rattle.xti_model.specs.declared.profile.Providers.{Providers}
 use Rattle.xti_model.specs.Calls.Send as Send
 use Rattle.xti_model.specs.World.{World, endpoint, changed, at_endpoint}
-use Rattle.xti_lent.specs.Lending.{cells}
+use Rattle.xti_lent.specs.Lending.{cells, number_of}
 use Rattle.xti_data.specs.Portions.{pushing, piece_of, IsWithin}
-use Rattle.xti_data.specs.Sends.{number_of}
 use Rattle.xti_data.proofs.Changes.{changed-append, linked-stays}
 use Rattle.xti_data.proofs.Reached.{held-after}
 use Rattle.xti_data.proofs.sending.give.Goals as goal

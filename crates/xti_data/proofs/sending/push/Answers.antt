@@ -2,9 +2,8 @@ use Rattle.std.proofs.Common.{sym, subst, Option}
 use Rattle.std.specs.List.{concat}
 use Rattle.xti_base.specs.declared.kinds.Fd.{Fd}
 use Rattle.xti_lent.specs.Answers.{Changed}
-use Rattle.xti_lent.specs.Lending.{cells}
+use Rattle.xti_lent.specs.Lending.{cells, number_of}
 use Rattle.xti_data.specs.Portions.{pushing, piece_of}
-use Rattle.xti_data.specs.Sends.{number_of}
 use Rattle.xti_data.proofs.Changes.{nothing-comes, empty-piece}
 use Rattle.xti_data.proofs.sending.push.Goals as goal
 

@@ -10,10 +10,10 @@ use Rattle.xti_model.specs.Sending.{ready_for, room_for}
 use Rattle.xti_model.specs.Step.{made}
 use Rattle.xti_model.specs.World.{endpoint, changed}
 use Rattle.xti_end.specs.Held.{parts}
-use Rattle.xti_lent.specs.Lending.{cells}
+use Rattle.xti_lent.specs.Lending.{cells, linked_with, number_of, seen}
 use Rattle.xti_data.specs.declared.portions.Portion.{Portion}
 use Rattle.xti_data.specs.Portions.{giving, portion_of, IsWithin}
-use Rattle.xti_data.specs.Sends.{linked_with, number_of, peer_seen, taken_before}
+use Rattle.xti_model.specs.History.{taken_before}
 use Rattle.xti_data.proofs.Changes.{made-after}
 use Rattle.xti_data.proofs.Reached.{peer-named, peer-reached}
 use Rattle.xti_data.proofs.Rows.{early, few-bytes, has-room, portion-within, send-blocked, send-flow, send-refused, send-went, taken_of, Unrefused}
@@ -59,7 +59,7 @@ returns-in_err-give-in-Some-room-clause-sure c none =
     let e = parts c.in-Some.e.now in
     let u : Unrefused l.providers (length c.args.parts.now) (concat c.args.parts.now) c.args.flags (taken_before c.args.go) e = rw (c.providers.ensures.providers, c.taken_before-before.ensures) at (sym c.in_default-refusal.ensures) in
     let peer : number_of c.peer-peer.result ≡ e.peer = c.peer-peer.ensures ∙ peer-named c.in-Some.e.now.body in
-    let link : peer_seen c.linked.result ≡ linked l.providers (cells l) c.args.fd.0 e = c.linked.ensures.linked ∙ ap (linked_with l c.args.fd.0) peer in
+    let link : seen c.linked_with.result ≡ linked l.providers (cells l) c.args.fd.0 e = c.linked_with.ensures.linked ∙ ap (linked_with l c.args.fd.0) peer in
     let t : ready_for (is_expedited c.args.flags) e (linked l.providers (cells l) c.args.fd.0 e) ≡ true = rw (link, c.is_expedited.ensures) at (sym c.in-Some-room.ensures.ready) in
     let h = has-room l.providers (cells l) c.args.fd.0 (length c.args.parts.now) (concat c.args.parts.now) c.args.flags c.args.go e (sym c.in-Some.ensures.endpoint) u t in
     let no : true ≡ false = sym h ∙ none in
@@ -75,7 +75,7 @@ returns-in_ok-give-in-Some-room-clause-step c =
     let before = taken_before c.args.go in
     let u : Unrefused l.providers (length c.args.parts.now) bytes c.args.flags before e = rw (c.providers.ensures.providers, c.taken_before-before.ensures) at (sym c.in_default-refusal.ensures) in
     let peer : number_of c.peer-peer.result ≡ e.peer = c.peer-peer.ensures ∙ peer-named c.in-Some.e.now.body in
-    let link : peer_seen c.linked.result ≡ linked l.providers (cells l) fd e = c.linked.ensures.linked ∙ ap (linked_with l fd) peer in
+    let link : seen c.linked_with.result ≡ linked l.providers (cells l) fd e = c.linked_with.ensures.linked ∙ ap (linked_with l fd) peer in
     let t : ready_for (is_expedited c.args.flags) e (linked l.providers (cells l) fd e) ≡ true = rw (link, c.is_expedited.ensures) at (sym c.in-Some-room.ensures.ready) in
     let room : c.in-Some-room.room ≡ room_for (is_expedited c.args.flags) e (linked l.providers (cells l) fd e) = rw (link, c.is_expedited.ensures) at c.in-Some-room.ensures.room in
     let q : c.next_portion-portion.result ≡ taken_of l.providers (cells l) fd c.args.parts.now c.args.flags before e =
@@ -93,7 +93,7 @@ returns-in-None-clause-step c =
     let e = parts c.in-Some.e.now in
     let u : Unrefused l.providers (length c.args.parts.now) (concat c.args.parts.now) c.args.flags (taken_before c.args.go) e = rw (c.providers.ensures.providers, c.taken_before-before.ensures) at (sym c.in_default-refusal.ensures) in
     let peer : number_of c.peer-peer.result ≡ e.peer = c.peer-peer.ensures ∙ peer-named c.in-Some.e.now.body in
-    let link : peer_seen c.linked.result ≡ linked l.providers (cells l) c.args.fd.0 e = c.linked.ensures.linked ∙ ap (linked_with l c.args.fd.0) peer in
+    let link : seen c.linked_with.result ≡ linked l.providers (cells l) c.args.fd.0 e = c.linked_with.ensures.linked ∙ ap (linked_with l c.args.fd.0) peer in
     let t : ready_for (is_expedited c.args.flags) e (linked l.providers (cells l) c.args.fd.0 e) ≡ false = rw (link, c.is_expedited.ensures) at (sym c.in-None.ensures.ready) in
     c.refuse_flow.ensures.step ∙ sym (send-flow l.providers (cells l) c.args.fd.0 (length c.args.parts.now) (concat c.args.parts.now) c.args.flags c.args.go e (sym c.in-Some.ensures.endpoint) u t (sym c.nonblock.ensures ∙ c.if-nonblock.true))
 
@@ -103,6 +103,6 @@ returns-in-None-2-clause-step c =
     let e = parts c.in-Some.e.now in
     let u : Unrefused l.providers (length c.args.parts.now) (concat c.args.parts.now) c.args.flags (taken_before c.args.go) e = rw (c.providers.ensures.providers, c.taken_before-before.ensures) at (sym c.in_default-refusal.ensures) in
     let peer : number_of c.peer-peer.result ≡ e.peer = c.peer-peer.ensures ∙ peer-named c.in-Some.e.now.body in
-    let link : peer_seen c.linked.result ≡ linked l.providers (cells l) c.args.fd.0 e = c.linked.ensures.linked ∙ ap (linked_with l c.args.fd.0) peer in
+    let link : seen c.linked_with.result ≡ linked l.providers (cells l) c.args.fd.0 e = c.linked_with.ensures.linked ∙ ap (linked_with l c.args.fd.0) peer in
     let t : ready_for (is_expedited c.args.flags) e (linked l.providers (cells l) c.args.fd.0 e) ≡ false = rw (link, c.is_expedited.ensures) at (sym c.in-None-2.ensures.ready) in
     sym (send-blocked l.providers (cells l) c.args.fd.0 (length c.args.parts.now) (concat c.args.parts.now) c.args.flags c.args.go e (sym c.in-Some.ensures.endpoint) u t (sym c.nonblock.ensures ∙ c.if-nonblock.false))

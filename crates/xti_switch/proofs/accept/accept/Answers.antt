@@ -14,20 +14,20 @@ prepare-requires-clause-address c =
 
 pub prepare-requires-clause-options : goal.prepare-requires-clause-options
 prepare-requires-clause-options c =
-    short-options c.providers.result.now c.args.fd.0 c.args.resfd.0 c.args.seq.0 c.args.opt.now c.args.udata.now (parts c.in-Some.e.now) (parts c.in-Some-open_endpoint.r.now) (c.in_default-accept_refusal.ensures c.args.fd.0 c.args.resfd.0 c.eq.ensures)
+    short-options c.providers.result.now c.args.fd.0 c.args.resfd.0 c.args.seq.0 c.args.opt.now c.args.udata.now (parts c.in-Some.e.now) (parts c.in-Some-open_endpoint.r.now) (c.in_default-accept_refusal.ensures c.args.fd.0 c.args.resfd.0 c.eq-is_same.ensures)
 
 pub prepare-requires-clause-data : goal.prepare-requires-clause-data
 prepare-requires-clause-data c =
-    short-data c.providers.result.now c.args.fd.0 c.args.resfd.0 c.args.seq.0 c.args.opt.now c.args.udata.now (parts c.in-Some.e.now) (parts c.in-Some-open_endpoint.r.now) (c.in_default-accept_refusal.ensures c.args.fd.0 c.args.resfd.0 c.eq.ensures)
+    short-data c.providers.result.now c.args.fd.0 c.args.resfd.0 c.args.seq.0 c.args.opt.now c.args.udata.now (parts c.in-Some.e.now) (parts c.in-Some-open_endpoint.r.now) (c.in_default-accept_refusal.ensures c.args.fd.0 c.args.resfd.0 c.eq-is_same.ensures)
 
 pub link-requires-clause-kind : goal.link-requires-clause-kind
 link-requires-clause-kind c =
     accepts-kind (parts c.in-Some.e.now) (parts c.in-Some-open_endpoint.r.now) (find_number c.args.seq.0 (parts c.in-Some.e.now).outstanding) c.args.opt.now c.args.udata.now c.in_ok-acceptance.acceptance
-    (request-there c.providers.result.now c.args.fd.0 c.args.resfd.0 c.args.seq.0 c.args.opt.now c.args.udata.now (parts c.in-Some.e.now) (parts c.in-Some-open_endpoint.r.now) (c.in_default-accept_refusal.ensures c.args.fd.0 c.args.resfd.0 c.eq.ensures)) c.in_ok-acceptance.ensures
+    (request-there c.providers.result.now c.args.fd.0 c.args.resfd.0 c.args.seq.0 c.args.opt.now c.args.udata.now (parts c.in-Some.e.now) (parts c.in-Some-open_endpoint.r.now) (c.in_default-accept_refusal.ensures c.args.fd.0 c.args.resfd.0 c.eq-is_same.ensures)) c.in_ok-acceptance.ensures
 
 pub returns-clause-step : goal.returns-clause-step
 returns-clause-step c =
     let u : Unrefused c.args.lent.now.providers c.args.fd.0 c.args.resfd.0 c.args.seq.0 c.args.opt.now c.args.udata.now (parts c.in-Some.e.now) (parts c.in-Some-open_endpoint.r.now) =
-    rw c.providers.ensures.providers at (c.in_default-accept_refusal.ensures c.args.fd.0 c.args.resfd.0 c.eq.ensures) in
+    rw c.providers.ensures.providers at (c.in_default-accept_refusal.ensures c.args.fd.0 c.args.resfd.0 c.eq-is_same.ensures) in
     accepts c.args.lent.now c.link.new.lent c.args.fd.0 c.args.resfd.0 c.args.seq.0 c.args.opt.now c.args.udata.now (parts c.in-Some.e.now) (parts c.in-Some-open_endpoint.r.now) c.in_ok-acceptance.acceptance c.done-2.result
     (sym c.in-Some.ensures.endpoint) (sym c.in-Some-open_endpoint.ensures.endpoint) u c.in_ok-acceptance.ensures c.in_ok-link.ensures.ok c.in_ok-link.ensures.kept.providers c.done-2.ensures

@@ -1,4 +1,4 @@
-use Rattle.xti_switch.specs.Connects.{open_at}
+use Rattle.xti_lent.specs.Lending.{open_at}
 use Rattle.xti_switch.proofs.Asking.{asks}
 use Rattle.xti_switch.proofs.connect.ask.Goals as goal
 

@@ -2,9 +2,8 @@ use Rattle.std.proofs.Common.{◌≡◌, sym}
 use Rattle.xti_model.specs.Switch.{listener}
 use Rattle.xti_model.specs.World.{the_switch}
 use Rattle.xti_end.specs.Held.{parts}
-use Rattle.xti_lent.specs.Lending.{cells}
+use Rattle.xti_lent.specs.Lending.{cells, number_of}
 use Rattle.xti_lent.proofs.Lendings.{switch-is}
-use Rattle.xti_switch.specs.Connects.{number_of}
 use Rattle.xti_switch.proofs.Asking.{connects}
 use Rattle.xti_switch.proofs.connect.connect.Goals as goal
 

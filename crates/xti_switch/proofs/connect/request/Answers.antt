@@ -1,8 +1,8 @@
 use Rattle.std.proofs.Common.{◌≡◌, ◌∙◌, List, Ok, Err, sym, ap}
 use Rattle.std.proofs.lemmas.Result.{IfOk-weaker}
 use Rattle.xti_model.specs.World.{Change, changed}
-use Rattle.xti_lent.specs.Lending.{cells}
-use Rattle.xti_switch.specs.Connects.{open_at, number_for}
+use Rattle.xti_lent.specs.Lending.{cells, open_at}
+use Rattle.xti_switch.specs.Connects.{number_for}
 use Rattle.xti_switch.proofs.Asking.{if-some, if-some-too, request-taken, request-turned}
 use Rattle.xti_switch.proofs.connect.request.Goals as goal
 

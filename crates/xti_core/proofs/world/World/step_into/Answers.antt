@@ -1,6 +1,8 @@
+use Rattle.std.proofs.Common.{refl, ap}
 use Rattle.xti_core.proofs.AllLent.{all-there}
-use Rattle.xti_core.proofs.Standing.{fit-standing, stands}
-use Rattle.xti_core.proofs.Written.{told, told-if-ok, told-on-err}
+use Rattle.xti_core.proofs.Standing.{fit-standing, stands, standing}
+use Rattle.xti_core.specs.Written.{told}
+use Rattle.xti_core.proofs.Written.{told-if-ok, told-is-ok, told-on-err}
 use Rattle.xti_core.proofs.world.World.step_into.Goals as goal
 
 pub apply_into-requires-clause-fit : goal.apply_into-requires-clause-fit
@@ -12,7 +14,5 @@ apply_into-requires-clause-lent c = all-there c.self.inside.lent c.args.call.now
 pub invariant_of-self : goal.invariant_of-self
 invariant_of-self c =
     stands c.self.inside.lent c.apply_into.new.lent c.args.call.now c.args.go (told c.apply_into.result c.apply_into.new.outcome c.apply_into.new.after) c.self.invariant
-    (told-if-ok _ c.apply_into.result _ _ c.apply_into.ensures.step.step)
-    (told-if-ok _ c.apply_into.result _ _ c.apply_into.ensures.step.still)
-    c.apply_into.ensures.kept
+    c.apply_into.ensures.step.step c.apply_into.ensures.step.still c.apply_into.ensures.kept
     (told-on-err _ c.apply_into.result _ _ c.apply_into.ensures.err)

@@ -6,14 +6,14 @@ use std::alloc::{AllocError, Global};
 use std::marker::Model;
 use xti_base::{Octets, Parts};
 
-/// The parts that a t_sndv sends joined, gathered piece by piece. Contracts see the list of the parts.
+/// The parts that a t_sndv sends joined, added piece by piece. Contracts see the list of the parts.
 #[derive(Drop)]
-pub struct Gather {
+pub struct SendParts {
     alloc: Global,
     parts: Parts,
 }
 
-impl Model for Gather {
+impl Model for SendParts {
     ghost use Rattle.std.specs.Prelude.{ℕ, List};
 
     ghost Value = { List (List ℕ) };
@@ -21,12 +21,12 @@ impl Model for Gather {
     ghost view = { λ g. g.parts };
 }
 
-impl Gather {
+impl SendParts {
     /// No parts. Takes no memory.
-    pub fn new(alloc: Global) -> Gather
+    pub fn new(alloc: Global) -> SendParts
         ensures { result ≡ [] }
     {
-        Gather {
+        SendParts {
             alloc,
             parts: Parts::new(alloc),
         }
