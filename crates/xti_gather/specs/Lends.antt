@@ -1,5 +1,5 @@
 -- Cells that are lent to a step, and those that its seat holds.
-use Rattle.std.specs.Prelude.{◌≡◌, ℕ, true, List, Option, Some, None, is_some}
+use Rattle.std.specs.Prelude.{◌≡◌, ℕ, true, false, List, Option, Some, None, is_some}
 use Rattle.std.specs.List.{AllByRecursion}
 use Rattle.xti_model.specs.declared.call.Call.{Call}
 use Rattle.xti_model.specs.declared.entry.Entry.{Entry}
@@ -24,10 +24,22 @@ pub record Lends (v : View) (l : Lending) : Type 0 where
   pub held : (n : ℕ) → at v n ≡ cell_lent l n
   pub somewhen : Somewhen v.setting l
 
+-- of these cells is lent afterwards what was lent before
+abbrev pub KeepsOf : List ℕ → Lending → Lending → Type 0
+KeepsOf ns old new = (n : ℕ) → is_among ns n ≡ true → cell_lent new n ≡ cell_lent old n
+
+-- of all other cells is lent afterwards what was lent before
+abbrev pub KeepsBut : List ℕ → Lending → Lending → Type 0
+KeepsBut ns old new = (n : ℕ) → is_among ns n ≡ false → cell_lent new n ≡ cell_lent old n
+
+-- no cell is lent
+abbrev pub LendsNone : Lending → Type 0
+LendsNone l = (n : ℕ) → cell_lent l n ≡ None
+
 -- nothing is lent
 pub record IsEmpty (l : Lending) : Type 0 where
   pub loan : IsLoan l
-  pub none : (n : ℕ) → cell_lent l n ≡ None
+  pub none : LendsNone l
 
 -- these cells are those that the call touches, and no others
 pub record Just (p : Providers) (l : ℕ → Option Cell) (c : Call) : Type 0 where

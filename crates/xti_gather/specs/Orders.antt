@@ -23,6 +23,10 @@ LentWithin l ns = (n : ℕ) → is_lent l n ≡ true → is_among ns n ≡ true
 abbrev pub AllBelow : Lending → ℕ → Type 0
 AllBelow l k = (n : ℕ) → is_lent l n ≡ true → n < k
 
+-- a lent cell has this number or a higher one
+abbrev pub SomeNotBelow : Lending → ℕ → Type 0
+SomeNotBelow l k = (n : ℕ) × (is_lent l n ≡ true) × (k ≤ n)
+
 -- the least of these cells that is not lent
 pub record IsLeastMissing (l : Lending) (ns : List ℕ) (k : ℕ) : Type 0 where
   pub among : is_among ns k ≡ true

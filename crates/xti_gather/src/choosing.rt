@@ -6,7 +6,7 @@ ghost use Rattle.xti_model.specs.World.{is_among, places};
 ghost use Rattle.xti_lent.specs.Fit.{AllLent};
 ghost use Rattle.xti_lent.specs.Lending.{is_lent};
 ghost use Rattle.xti_core.specs.Standing.{IsLoan};
-ghost use Rattle.xti_gather.specs.Orders.{AllBelow, LentWithin, IsLeastMissing};
+ghost use Rattle.xti_gather.specs.Orders.{AllBelow, SomeNotBelow, LentWithin, IsLeastMissing};
 
 use xti_lent::Lent;
 use xti_model::Cells;
@@ -103,7 +103,7 @@ fn all_lower(places: &[u32], cell: u32) -> bool
 pub(crate) fn all_below(lent: &Lent, cell: u32) -> bool
     requires loan { IsLoan lent.now }
     requires cell { cell < places lent.now.providers + 1 }
-    ensures { MatchBool result (AllBelow lent.now cell) ((n : ℕ) × (is_lent lent.now n ≡ true) × (cell ≤ n)) }
+    ensures { MatchBool result (AllBelow lent.now cell) (SomeNotBelow lent.now cell) }
 {
     if lent.has(lent.providers().switch_number()) {
         return false;

@@ -6,9 +6,9 @@ ghost use Rattle.xti_lent.specs.Fit.{AllLent};
 ghost use Rattle.xti_lent.specs.Lending.{cell_lent, is_lent};
 ghost use Rattle.xti_hall_rule.specs.Steps.{refused_at};
 ghost use Rattle.xti_hall.specs.Seats.{bare};
-ghost use Rattle.xti_hall.specs.Words.{setting_of, IsSeatOf, IsSameSeat};
-ghost use Rattle.xti_gather.specs.Cells.{IsWhole};
-ghost use Rattle.xti_gather.specs.Lends.{Lends};
+ghost use Rattle.xti_hall.specs.Words.{IsSameSeat};
+ghost use Rattle.xti_gather.specs.Cells.{InHall};
+ghost use Rattle.xti_gather.specs.Lends.{KeepsBut, Lends};
 ghost use Rattle.xti_gather.specs.Orders.{AreCells, AllBelow, InOrder};
 
 use crate::cell::Cell;
@@ -27,7 +27,7 @@ pub(crate) fn enter<R: Wait>(
     lent: &mut Lent,
     cell: u32,
 )
-    requires hall { IsSeatOf hall.now seat.old × (IsWhole (setting_of hall.now) lent.old.providers) }
+    requires hall { InHall hall.now seat.old lent.old.providers }
     requires free { seat.old.view.journal ≡ false }
     requires lends { Lends seat.old.view lent.old }
     requires cell { cell < places lent.old.providers + 1 }
@@ -48,7 +48,7 @@ pub(crate) fn enter<R: Wait>(
 /// One try at a cell, which is lent where its turn is free; whether it is lent then, as it may have been before. Where the turn
 /// was held, nothing changes but that the seat's view has one refusal more. Takes no memory, and waits for nobody.
 pub fn try_enter(hall: &Hall<Cell>, seat: &mut Seat<Cell>, lent: &mut Lent, cell: u32) -> bool
-    requires hall { IsSeatOf hall.now seat.old × (IsWhole (setting_of hall.now) lent.old.providers) }
+    requires hall { InHall hall.now seat.old lent.old.providers }
     requires free { seat.old.view.journal ≡ false }
     requires lends { Lends seat.old.view lent.old }
     requires cell { cell < places lent.old.providers + 1 }
@@ -80,7 +80,7 @@ pub(crate) fn try_missing(
     lent: &mut Lent,
     cells: &Cells,
 ) -> bool
-    requires hall { IsSeatOf hall.now seat.old × (IsWhole (setting_of hall.now) lent.old.providers) }
+    requires hall { InHall hall.now seat.old lent.old.providers }
     requires free { seat.old.view.journal ≡ false }
     requires lends { Lends seat.old.view lent.old }
     requires cells { AreCells lent.old.providers cells.now }
@@ -88,7 +88,7 @@ pub(crate) fn try_missing(
     ensures rest { bare seat.new.view ≡ bare seat.old.view }
     ensures lends { Lends seat.new.view lent.new }
     ensures all { result ≡ true → AllLent lent.new cells.now }
-    ensures others { (n : ℕ) → is_among cells.now n ≡ false → cell_lent lent.new n ≡ cell_lent lent.old n }
+    ensures others { KeepsBut cells.now lent.old lent.new }
 {
     for place in 0..cells.len() {
         let Some(cell) = cells.get(place) else {
@@ -109,7 +109,7 @@ pub(crate) fn enter_missing<R: Wait>(
     lent: &mut Lent,
     cells: &Cells,
 )
-    requires hall { IsSeatOf hall.now seat.old × (IsWhole (setting_of hall.now) lent.old.providers) }
+    requires hall { InHall hall.now seat.old lent.old.providers }
     requires free { seat.old.view.journal ≡ false }
     requires lends { Lends seat.old.view lent.old }
     requires cells { AreCells lent.old.providers cells.now }

@@ -3,8 +3,8 @@
 ghost use Rattle.std.specs.Prelude.{◌≡◌, false, IfSome};
 ghost use Rattle.xti_lent.specs.Lending.{cell_lent};
 ghost use Rattle.xti_hall.specs.Seats.{bare, HoldsNone};
-ghost use Rattle.xti_hall.specs.Words.{setting_of, IsSeatOf, IsSameSeat};
-ghost use Rattle.xti_gather.specs.Cells.{IsWhole};
+ghost use Rattle.xti_hall.specs.Words.{IsSameSeat};
+ghost use Rattle.xti_gather.specs.Cells.{InHall};
 ghost use Rattle.xti_gather.specs.Lends.{Lends, IsEmpty, Just};
 ghost use Rattle.xti_gather.specs.Orders.{AreCells, TouchesAlone};
 
@@ -24,22 +24,20 @@ fn own_place(call: &Call, lent: &Lent) -> Option<u32>
     ensures { IfSome result (λ n. TouchesAlone lent.now.providers n call.now) }
 {
     match call {
-        Call::TRcvConnect { fd, .. }
-        | Call::TListen { fd, .. }
-        | Call::TRcv { fd, .. }
-        | Call::TRcvV { fd, .. }
-        | Call::TRcvDis { fd, .. }
-        | Call::TRcvRel { fd }
-        | Call::TRcvUData { fd, .. }
-        | Call::TRcvVUData { fd, .. }
-        | Call::TRcvUDErr { fd, .. }
-        | Call::TGetState { fd }
-        | Call::TSync { fd }
-        | Call::TGetInfo { fd }
-        | Call::TGetProtAddr { fd, .. }
-        | Call::TOptMgmt { fd, .. }
-        | Call::SetMode { fd, .. } => Some(lent.place_of(*fd)),
-        _ => None,
+        Call::TOpen { .. }
+        | Call::TClose { .. }
+        | Call::TBind { .. }
+        | Call::TUnbind { .. }
+        | Call::TConnect { .. }
+        | Call::TAccept { .. }
+        | Call::TSnd { .. }
+        | Call::TSndV { .. }
+        | Call::TSndRel { .. }
+        | Call::TSndDis { .. }
+        | Call::TSndUData { .. }
+        | Call::TSndVUData { .. }
+        | Call::TLookAt { .. } => None,
+        _ => call.fd().map(|fd| lent.place_of(fd)),
     }
 }
 
@@ -55,7 +53,7 @@ fn settle<R: Wait>(
     call: &Call,
     first: &mut Cells,
 )
-    requires hall { IsSeatOf hall.now seat.old × (IsWhole (setting_of hall.now) lent.old.providers) }
+    requires hall { InHall hall.now seat.old lent.old.providers }
     requires free { seat.old.view.journal ≡ false }
     requires lends { Lends seat.old.view lent.old }
     ensures hall { IsSameSeat seat.old seat.new }
@@ -93,7 +91,7 @@ pub fn gather<R: Wait>(
     call: &Call,
     first: &mut Cells,
 )
-    requires hall { IsSeatOf hall.now seat.old × (IsWhole (setting_of hall.now) lent.old.providers) }
+    requires hall { InHall hall.now seat.old lent.old.providers }
     requires free { seat.old.view.journal ≡ false }
     requires none { HoldsNone seat.old.view }
     requires empty { IsEmpty lent.old }

@@ -5,9 +5,9 @@ ghost use Rattle.xti_model.specs.World.{is_among, places};
 ghost use Rattle.xti_lent.specs.Lending.{cell_lent, is_lent};
 ghost use Rattle.xti_core.specs.Standing.{IsLoan};
 ghost use Rattle.xti_hall.specs.Seats.{bare, HoldsNone};
-ghost use Rattle.xti_hall.specs.Words.{setting_of, IsSeatOf, IsSameSeat};
-ghost use Rattle.xti_gather.specs.Cells.{IsWhole};
-ghost use Rattle.xti_gather.specs.Lends.{Lends, IsEmpty};
+ghost use Rattle.xti_hall.specs.Words.{IsSameSeat};
+ghost use Rattle.xti_gather.specs.Cells.{InHall};
+ghost use Rattle.xti_gather.specs.Lends.{KeepsOf, Lends, LendsNone, IsEmpty};
 ghost use Rattle.xti_gather.specs.Orders.{AllBelow, InOrder, IsLeastMissing};
 
 use crate::cell::Cell;
@@ -19,7 +19,7 @@ use xti_model::Cells;
 
 /// Gives back a cell that is lent.
 fn leave(hall: &Hall<Cell>, seat: &mut Seat<Cell>, lent: &mut Lent, cell: u32)
-    requires hall { IsSeatOf hall.now seat.old × (IsWhole (setting_of hall.now) lent.old.providers) }
+    requires hall { InHall hall.now seat.old lent.old.providers }
     requires lends { Lends seat.old.view lent.old }
     requires lent { is_lent lent.old cell ≡ true }
     ensures hall { IsSameSeat seat.old seat.new }
@@ -37,13 +37,13 @@ fn leave(hall: &Hall<Cell>, seat: &mut Seat<Cell>, lent: &mut Lent, cell: u32)
 
 /// Gives back the cells that are not among these.
 pub(crate) fn give_back(hall: &Hall<Cell>, seat: &mut Seat<Cell>, lent: &mut Lent, cells: &Cells)
-    requires hall { IsSeatOf hall.now seat.old × (IsWhole (setting_of hall.now) lent.old.providers) }
+    requires hall { InHall hall.now seat.old lent.old.providers }
     requires lends { Lends seat.old.view lent.old }
     ensures hall { IsSameSeat seat.old seat.new }
     ensures rest { bare seat.new.view ≡ bare seat.old.view }
     ensures refused { seat.new.view.refused ≡ seat.old.view.refused }
     ensures lends { Lends seat.new.view lent.new }
-    ensures kept { (n : ℕ) → is_among cells.now n ≡ true → cell_lent lent.new n ≡ cell_lent lent.old n }
+    ensures kept { KeepsOf cells.now lent.old lent.new }
     ensures only { (n : ℕ) → is_among cells.now n ≡ false → cell_lent lent.new n ≡ None }
 {
     while let Some(cell) = surplus(lent, cells) {
@@ -55,7 +55,7 @@ pub(crate) fn give_back(hall: &Hall<Cell>, seat: &mut Seat<Cell>, lent: &mut Len
 /// nothing is lent.
 fn last_lent(lent: &Lent) -> Option<u32>
     requires { IsLoan lent.now }
-    ensures { MatchOption result ((n : ℕ) → cell_lent lent.now n ≡ None) (λ n. is_lent lent.now n ≡ true) }
+    ensures { MatchOption result (LendsNone lent.now) (λ n. is_lent lent.now n ≡ true) }
 {
     let switch = lent.providers().switch_number();
     if lent.has(switch) {
@@ -66,7 +66,7 @@ fn last_lent(lent: &Lent) -> Option<u32>
 
 /// Gives every cell back. Takes no memory, and waits for nobody.
 pub fn leave_all(hall: &Hall<Cell>, seat: &mut Seat<Cell>, lent: &mut Lent)
-    requires hall { IsSeatOf hall.now seat.old × (IsWhole (setting_of hall.now) lent.old.providers) }
+    requires hall { InHall hall.now seat.old lent.old.providers }
     requires lends { Lends seat.old.view lent.old }
     ensures hall { IsSameSeat seat.old seat.new }
     ensures rest { bare seat.new.view ≡ bare seat.old.view }
@@ -88,7 +88,7 @@ pub(crate) fn leave_unless_in_order(
     cells: &Cells,
     least: u32,
 )
-    requires hall { IsSeatOf hall.now seat.old × (IsWhole (setting_of hall.now) lent.old.providers) }
+    requires hall { InHall hall.now seat.old lent.old.providers }
     requires lends { Lends seat.old.view lent.old }
     requires cell { least < places lent.old.providers + 1 }
     requires least { IsLeastMissing lent.old cells.now least }

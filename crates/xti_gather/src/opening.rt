@@ -1,11 +1,9 @@
 //! The hall of the opening world.
 
-ghost use Rattle.std.specs.Prelude.{◌≡◌, ◌+◌, true, IfOk, vec_len, Bool};
+ghost use Rattle.std.specs.Prelude.{◌≡◌, ◌+◌, true, IfOk, vec_len};
 ghost use Rattle.xti_model.specs.World.{places};
-ghost use Rattle.xti_hall_rule.specs.Rule.{newcomer};
-ghost use Rattle.xti_hall.specs.Seats.{StandInOrder};
-ghost use Rattle.xti_hall.specs.Words.{setting_of, id_of};
-ghost use Rattle.xti_gather.specs.Cells.{StandsFor, whole};
+ghost use Rattle.xti_hall.specs.Words.{setting_of};
+ghost use Rattle.xti_gather.specs.Cells.{AreOpeningCells, IsFirstSeat, whole};
 
 use crate::cell::Cell;
 use std::alloc::{AllocError, Global};
@@ -17,7 +15,7 @@ use xti_registry::Registry;
 /// The cells of the opening world, in their order.
 pub fn opening_cells(alloc: Global, p: &Providers) -> Result<Vec<Cell>, AllocError>
     ensures many { IfOk result (λ v. vec_len v ≡ places p.now + 1) }
-    ensures stand { IfOk result (λ v. (keeps : Bool) → StandInOrder (λ s. StandsFor s.providers) (whole p.now keeps) v.items) }
+    ensures stand { IfOk result (λ v. AreOpeningCells p.now v.items) }
 {
     let registry = Box::new(alloc, Registry::fresh(alloc, p)?)?;
     let mut cells = Vec::with_capacity(alloc, p.places() as usize + 1)?;
@@ -36,7 +34,7 @@ pub fn open_hall(
     keeps: bool,
 ) -> Result<(Hall<Cell>, Seat<Cell>), AllocError>
     ensures hall { IfOk result (λ r. setting_of r.0 ≡ whole p.now keeps) }
-    ensures seat { IfOk result (λ r. (r.1.hall ≡ id_of r.0) × (r.1.view ≡ newcomer (whole p.now keeps))) }
+    ensures seat { IfOk result (λ r. IsFirstSeat p.now keeps r.0 r.1) }
 {
     let cells = opening_cells(alloc, p)?;
     Hall::new(alloc, p, cells, keeps)

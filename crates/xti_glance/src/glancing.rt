@@ -7,8 +7,8 @@ ghost use Rattle.xti_model.specs.Touched.{touched};
 ghost use Rattle.xti_lent.specs.Fit.{AllLent, AtOwnPlaces, IsSound};
 ghost use Rattle.xti_lent.specs.Lending.{cells};
 ghost use Rattle.xti_hall.specs.Seats.{HoldsNone};
-ghost use Rattle.xti_hall.specs.Words.{setting_of, IsSeatOf, IsSameSeat};
-ghost use Rattle.xti_gather.specs.Cells.{IsWhole};
+ghost use Rattle.xti_hall.specs.Words.{IsSameSeat};
+ghost use Rattle.xti_gather.specs.Cells.{InHall};
 ghost use Rattle.xti_gather.specs.Lends.{IsEmpty};
 ghost use Rattle.xti_gather.specs.Orders.{IsLeastMissing};
 ghost use Rattle.xti_glance.specs.Glances.{IsSameLater, Finds};
@@ -41,7 +41,7 @@ fn next_cell(lent: &Lent, fd: Fd) -> Option<u32>
 /// all are lent, the whole history is looked at: the cells are then as after it, and what they show is what the world shows. All
 /// are given back. Takes no memory, and changes nothing that another seat can see but that these turns are held meanwhile.
 pub fn glance(hall: &Hall<Cell>, seat: &mut Seat<Cell>, lent: &mut Lent, fd: Fd) -> Glance
-    requires hall { IsSeatOf hall.now seat.old × (IsWhole (setting_of hall.now) lent.old.providers) }
+    requires hall { InHall hall.now seat.old lent.old.providers }
     requires free { seat.old.view.journal ≡ false }
     requires none { HoldsNone seat.old.view }
     requires empty { IsEmpty lent.old }

@@ -9,7 +9,7 @@ use Rattle.xti_model.specs.declared.entry.Outcome.{Outcome}
 use Rattle.xti_model.specs.declared.entry.Outcome.TheVariants.{Done, Part}
 use Rattle.xti_model.specs.declared.entry.Entry.{Entry}
 use Rattle.xti_model.specs.History.{Going, Fits, call_after, going_after, made_by, doing, unfinished_from, step_going}
-use Rattle.xti_model.specs.Wants.{taken_before}
+use Rattle.xti_model.specs.History.{taken_before}
 use Rattle.xti_model.proofs.Working.{call_from, unfinished_from-snoc, IsCallOf, call_of-from}
 use Rattle.xti_hall_rule.specs.Histories.{own, after}
 use Rattle.xti_hall_rule.specs.declared.view.View.{View}

@@ -6,6 +6,7 @@ use Rattle.xti_hall_rule.specs.declared.view.Journal.{Journal}
 use Rattle.xti_hall_rule.specs.declared.view.Mark.{Mark}
 use Rattle.xti_hall_rule.specs.declared.view.View.{View}
 use Rattle.xti_hall_rule.specs.declared.setting.Setting.{Setting}
+use Rattle.xti_hall_rule.specs.Rule.{HasLog}
 use Rattle.xti_hall.specs.Seats.{SeatView}
 
 -- the hall of the seat that holds the journal, its number and the history that it recorded, and the marks that the journal has
@@ -23,3 +24,15 @@ pen_view hall v j = record { hall = hall; setting = v.setting; number = v.number
 abbrev pub IsPenOf : SeatView → PenView → Type 0
 IsPenOf s p =
     (p.hall ≡ s.hall) × (p.setting ≡ s.view.setting) × (p.number ≡ s.view.number) × (p.history ≡ s.view.history) × (p.marks ≡ s.view.marks)
+
+-- the pen is of this seat
+abbrev pub IsOfSeat : SeatView → PenView → Type 0
+IsOfSeat s p = (p.hall ≡ s.hall) × (p.setting ≡ s.view.setting) × (p.number ≡ s.view.number)
+
+-- it has the history that the seat recorded, and this journal's marks
+abbrev pub HasFound : SeatView → Journal → PenView → Type 0
+HasFound s j p = (p.history ≡ s.view.history) × (p.marks ≡ j.marks.items)
+
+-- the journal is the pen's
+abbrev pub IsJournalOf : PenView → Journal → Type 0
+IsJournalOf p j = HasLog p.setting j p.history × (p.marks ≡ j.marks.items)

@@ -5,7 +5,7 @@ use Rattle.atomic_table.specs.Seated.{TableId}
 use Rattle.atomic_table.specs.declared.shared.Seat.{Seat}
 use Rattle.xti_hall_rule.specs.declared.setting.Setting.{Setting}
 use Rattle.xti_hall_rule.specs.declared.view.View.{View}
-use Rattle.xti_hall_rule.specs.Rule.{Slot}
+use Rattle.xti_hall_rule.specs.Rule.{Slot, newcomer}
 use Rattle.xti_hall.specs.declared.hall.Hall.{Hall}
 use Rattle.xti_hall.specs.Seats.{SeatView}
 
@@ -13,10 +13,18 @@ use Rattle.xti_hall.specs.Seats.{SeatView}
 abbrev pub setting : Providers → ℕ → Bool → Setting
 setting p cells keeps = record { providers = p; cells = cells; keeps = keeps }
 
+-- the view of the first seat of a hall of these providers, with so many cells
+abbrev pub first_view : Providers → ℕ → Bool → View
+first_view p cells keeps = newcomer (setting p cells keeps)
+
 module _ {C : Type 0} where
   -- the providers of the hall, and the number of its cells
   abbrev pub setting_of : Hall C → Setting
   setting_of h = h.table.shared.key
+
+  -- the number of its cells, which is that of the journal's slot too
+  abbrev pub cells_of : Hall C → ℕ
+  cells_of h = h.table.shared.key.cells
 
   -- which hall it is
   abbrev pub id_of : Hall C → TableId

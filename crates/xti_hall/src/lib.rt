@@ -3,6 +3,7 @@
 
 mod ended;
 mod hall;
+mod made_step;
 mod marks;
 mod pen;
 mod record;
@@ -12,6 +13,7 @@ mod stall;
 
 pub use ended::Ended;
 pub use hall::{Hall, NoSeat, Rings};
+pub use made_step::MadeStep;
 pub use pen::Pen;
 pub use seat::Seat;
 pub use stall::{Stall, Waited};

@@ -1,5 +1,6 @@
 ghost use Rattle.std.specs.Prelude.{◌≡◌, length};
 ghost use Rattle.xti_hall_rule.specs.Rule.{HasLog};
+ghost use Rattle.xti_hall.specs.Pens.{HasFound, IsJournalOf, IsOfSeat};
 ghost use Rattle.xti_hall.specs.Records.{HasRoom};
 
 use crate::seat::Seat;
@@ -10,7 +11,7 @@ use xti_hall_rule::{Journal, Mark, Pass};
 /// The journal while a seat holds its turn, with room for one entry where entries are kept. It can't be let go: `commit` or
 /// `return_pen` gives it back.
 pub struct Pen<C> {
-    journal: Journal,
+    journal: Box<Journal>,
     of: Snapshot<Pass<C>>,
 }
 
@@ -21,18 +22,18 @@ impl<C> Model for Pen<C> {
 
     ghost Value = { PenView };
 
-    ghost view = { λ p. pen_view p.of.value.table_id p.of.value.me.0 p.journal };
+    ghost view = { λ p. pen_view p.of.value.table_id p.of.value.me.0 p.journal.value };
 
-    ghost invariant = { λ p. HasRoom p.journal × HasLog p.of.value.me.0.setting p.journal p.of.value.me.0.history };
+    ghost invariant = { λ p. HasRoom p.journal.value × HasLog p.of.value.me.0.setting p.journal.value p.of.value.me.0.history };
 }
 
 impl<C> Pen<C> {
     /// The pen of a seat.
-    pub(crate) fn of(seat: &Seat<C>, journal: Journal) -> Pen<C>
-        requires room { HasRoom journal }
-        requires log { HasLog seat.now.view.setting journal seat.now.view.history }
-        ensures seat { (result.hall ≡ seat.now.hall) × (result.setting ≡ seat.now.view.setting) × (result.number ≡ seat.now.view.number) }
-        ensures journal { (result.history ≡ seat.now.view.history) × (result.marks ≡ journal.marks.items) }
+    pub(crate) fn of(seat: &Seat<C>, journal: Box<Journal>) -> Pen<C>
+        requires room { HasRoom journal.value }
+        requires log { HasLog seat.now.view.setting journal.value seat.now.view.history }
+        ensures seat { IsOfSeat seat.now result }
+        ensures journal { HasFound seat.now journal.value result }
     {
         Pen {
             journal,
@@ -41,9 +42,9 @@ impl<C> Pen<C> {
     }
 
     /// The journal, which has room for one more entry.
-    pub(crate) fn into_journal(self) -> Journal
-        ensures room { HasRoom result }
-        ensures journal { HasLog self.setting result self.history × (self.marks ≡ result.marks.items) }
+    pub(crate) fn into_journal(self) -> Box<Journal>
+        ensures room { HasRoom result.value }
+        ensures journal { IsJournalOf self result.value }
     {
         let Pen { journal, of: _ } = self;
         journal

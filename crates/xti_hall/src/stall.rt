@@ -1,8 +1,11 @@
 //! What a waiter is told.
 
+use thiserror::Error;
+
 /// In the history of this length so many seats waited, each for what is blocked there, so many rested, and no other was
 /// out.
-#[derive(Clone, Copy)]
+#[derive(Clone, Copy, Debug, Error)]
+#[error("{waiting} seats wait for what is blocked, and {resting} rest")]
 pub struct Stall {
     /// The length of the history.
     pub at: u64,

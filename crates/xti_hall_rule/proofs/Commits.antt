@@ -18,8 +18,7 @@ use Rattle.xti_hall_rule.specs.Histories.{World, Blocked, part, own, next_world,
 use Rattle.xti_hall_rule.proofs.Laws.{own-append, own-other, after-more, legal-more, bytes-more, untouched}
 use Rattle.xti_hall_rule.specs.declared.view.View.{View}
 use Rattle.xti_hall_rule.specs.declared.view.Held.TheVariants.{Cell, Journal}
-use Rattle.xti_hall_rule.specs.declared.view.Journal.{Journal as Book}
-use Rattle.xti_hall_rule.specs.Rule.{Slot, Turn, free, kept, opened, by, CellIn, PenIn, SeatOk, HallRule, mark_of, MarkFits}
+use Rattle.xti_hall_rule.specs.Rule.{Slot, Boxed, Turn, free, kept, opened, by, CellIn, PenIn, SeatOk, HallRule, mark_of, MarkFits}
 use Rattle.xti_hall_rule.specs.Steps.{renew_from, renew, committed, Seated, wrote, added}
 use Rattle.xti_hall_rule.specs.Steps.{Marked, Commits, at}
 use Rattle.xti_hall_rule.proofs.Lookups.{at_has}
@@ -145,33 +144,33 @@ module _ {C : Type 0} (stands : C → List (ℕ × MCell) → Type 0) (p : Setti
       value homes log' k (kept j) e q = q
       value homes log' k (opened j) e q = tt
 
-  commits' : (n id : ℕ) (v : View) (b : Book) (e : Entry) (more : List (ℕ × Slot C)) → v.live ≡ true → v.numbered ≡ true → v.journal ≡ true → e.worker ≡ v.number → added b.last.value ≡ e ∷ [] → Right p v.history e → BeginsBytes e.act → ((i : ℕ) → Touches p (after p v.history) (doing v.history e) i → (m : MCell) × (get_elem? v.held i ≡ some (Some m)))
+  commits' : (n id : ℕ) (v : View) (b : Boxed) (e : Entry) (more : List (ℕ × Slot C)) → v.live ≡ true → v.numbered ≡ true → v.journal ≡ true → e.worker ≡ v.number → added b.value.last.value ≡ e ∷ [] → Right p v.history e → BeginsBytes e.act → ((i : ℕ) → Touches p (after p v.history) (doing v.history e) i → (m : MCell) × (get_elem? v.held i ≡ some (Some m)))
       → length v.history + 1 < 2 ^ 64
       → Allows H n id (v, (p.cells, Some (Journal b)) ∷ more) 0 (λ k. (k + 1) % 2 ^ 64) (λ _ m'. wrote (v, (p.cells, Some (Journal b)) ∷ more) m')
   commits' n id v b e more live numbered on self is right sent covers small s r wide at fits = let ok = r.each_seat id v at live in let pen = ok.journal.held on in let f : ℕ = get_or s.words 0 0 in
-      let log' : List Entry = r.log ++ e ∷ [] in let same : v.history ++ added b.last.value ≡ log' = ap (λ z. v.history ++ z) is ∙ ap (λ z. z ++ e ∷ []) pen.1 in let long : length v.history ≡ length r.log = ap length pen.1 in let count : f ≡ length r.log = r.count in
+      let log' : List Entry = r.log ++ e ∷ [] in let same : v.history ++ added b.value.last.value ≡ log' = ap (λ z. v.history ++ z) is ∙ ap (λ z. z ++ e ∷ []) pen.1 in let long : length v.history ≡ length r.log = ap length pen.1 in let count : f ≡ length r.log = r.count in
       let word : (f + 1) % 2 ^ 64 ≡ length r.log + 1 = mod-eq_of_lt (omega arith) ∙ (omega arith) in
       let r' = commit_step s r id v e at live numbered on self (subst (λ z. Right p z e) pen.1 right) sent (λ i t. covers i (subst (λ z. Touches p (after p z) (doing z e) i) (sym pen.1) t)) in (
-        committed v (v.history ++ added b.last.value),
+        committed v (v.history ++ added b.value.last.value),
         keeps,
         tt,
         subst (λ (z : ℕ × List Entry). H record { words = set s.words 0 z.0; homes = s.homes; views = set s.views id (committed v z.1) }) (λ q. (sym word q, sym same q)) r',
-        λ m b' more' z. let y : b ≡ b' = front_book m b' more' z in λ q. (committed v (v.history ++ added (y q).last.value), (p.cells, Some (Journal b)) ∷ more),
+        λ m b' more' z. let y : b ≡ b' = front_book m b' more' z in λ q. (committed v (v.history ++ added (y q).value.last.value), (p.cells, Some (Journal b)) ∷ more),
       )
     where
-      inner : Book → List (ℕ × Slot C) → Book
+      inner : Boxed → List (ℕ × Slot C) → Boxed
       inner d [] = d
       inner d ((k, Some (Journal x)) ∷ xs) = x
       inner d ((k, Some (Cell x)) ∷ xs) = d
       inner d ((k, None) ∷ xs) = d
 
-      front_book : (m : ℕ) (b' : Book) (more' : List (ℕ × Slot C)) → (p.cells, Some (Journal b)) ∷ more ≡ (m, Some (Journal b')) ∷ more' → b ≡ b'
+      front_book : (m : ℕ) (b' : Boxed) (more' : List (ℕ × Slot C)) → (p.cells, Some (Journal b)) ∷ more ≡ (m, Some (Journal b')) ∷ more' → b ≡ b'
       front_book m b' more' z = ap (inner b) z
 
-  pub commits_at : (n id : ℕ) (v : View) (me : Seated C) (b : Book) (e : Entry) (more : List (ℕ × Slot C)) → me ≡ (v, (p.cells, Some (Journal b)) ∷ more) → v.live ≡ true → v.numbered ≡ true → v.journal ≡ true → added b.last.value ≡ e ∷ [] → length v.history + 1 < 2 ^ 64
+  pub commits_at : (n id : ℕ) (v : View) (me : Seated C) (b : Boxed) (e : Entry) (more : List (ℕ × Slot C)) → me ≡ (v, (p.cells, Some (Journal b)) ∷ more) → v.live ≡ true → v.numbered ≡ true → v.journal ≡ true → added b.value.last.value ≡ e ∷ [] → length v.history + 1 < 2 ^ 64
       → v.setting ≡ p → Commits v e → Allows H n id me 0 (λ k. (k + 1) % 2 ^ 64) (λ _ m'. wrote me m')
   commits_at n id v me b e more is live numbered on h small ab c = subst (λ (z : Seated C). Allows H n id z 0 (λ k. (k + 1) % 2 ^ 64) (λ _ m'. wrote z m')) (sym is)
       (commits' n id v b e more live numbered on c.mine h (subst (λ (z : Setting). Right z v.history e) ab c.right) c.bytes (λ i t. let q = c.covers i (subst (λ (z : Setting). Touches z (after z v.history) (doing v.history e) i) (sym ab) t) in (q.0, at_has v.held i q.0 q.1)) small)
 
-pub written : {C : Type 0} (k : ℕ) (v : View) (me m' : Seated C) (b : Book) (more : List (ℕ × Slot C)) → me ≡ (v, (k, Some (Journal b)) ∷ more) → wrote me m' → (e : Entry) → added b.last.value ≡ e ∷ [] → m' ≡ (committed v (v.history ++ e ∷ []), (k, Some (Journal b)) ∷ more)
+pub written : {C : Type 0} (k : ℕ) (v : View) (me m' : Seated C) (b : Boxed) (more : List (ℕ × Slot C)) → me ≡ (v, (k, Some (Journal b)) ∷ more) → wrote me m' → (e : Entry) → added b.value.last.value ≡ e ∷ [] → m' ≡ (committed v (v.history ++ e ∷ []), (k, Some (Journal b)) ∷ more)
 written k v me m' b more is r e adds = r k b more (ap (λ z. z.1) is) ∙ (λ i. (committed (is i).0 ((is i).0.history ++ adds i), (is i).1))

@@ -13,8 +13,7 @@ use Rattle.xti_hall_rule.specs.Histories.{part, own, after, Legal}
 use Rattle.xti_hall_rule.specs.declared.view.Mark.TheVariants.{Absent}
 use Rattle.xti_hall_rule.specs.declared.view.View.{View}
 use Rattle.xti_hall_rule.specs.declared.view.Held.TheVariants.{Cell, Journal}
-use Rattle.xti_hall_rule.specs.declared.view.Journal.{Journal as Book}
-use Rattle.xti_hall_rule.specs.Rule.{Slot, HasLog, free, HasAsNumber, SeatOk, HallRule, mark_of, MarkFits, newcomer, opening_marks}
+use Rattle.xti_hall_rule.specs.Rule.{Slot, Boxed, HasLog, free, HasAsNumber, SeatOk, HallRule, mark_of, MarkFits, newcomer, opening_marks}
 use Rattle.xti_hall_rule.specs.Steps.{Seated, with_seen, looked}
 use Rattle.xti_hall_rule.proofs.Frames.{has_as, pen_as, number_as, over}
 
@@ -45,7 +44,7 @@ module _ {C : Type 0} (stands : C → List (ℕ × MCell) → Type 0) (p : Setti
     pub zeros : (k : ℕ) → get_or ws k 0 ≡ 0
     pub deep : length xs ≡ p.cells + 1
     pub cells : (i : ℕ) → i < p.cells → (x : C) × (get_elem? xs i ≡ some (Some (Cell x))) × stands x ((i, part i (histories.opening p)) ∷ [])
-    pub book : (b : Book) × (get_elem? xs p.cells ≡ some (Some (Journal b))) × HasLog p b [] × (b.marks.items ≡ opening_marks)
+    pub book : (b : Boxed) × (get_elem? xs p.cells ≡ some (Some (Journal b))) × HasLog p b.value [] × (b.value.marks.items ≡ opening_marks)
 
   pub starts : (ws : List ℕ) (xs : List (Slot C)) → Opens ws xs → H (opening ws xs (newcomer p))
   starts ws xs o = let v : View = newcomer p in record {
@@ -161,8 +160,8 @@ there (x ∷ xs) zero h = (x, refl)
 there (x ∷ xs) (suc i) h = there xs i (omega arith)
 
 -- the words, the cells and the journal of a new hall
-pub opens_with : {C : Type 0} (stands : C → List (ℕ × MCell) → Type 0) (p : Setting) (n : ℕ) (xs : List C) (ws : List ℕ) (slots : List (Slot C)) (b : Book) → n ≡ p.cells → length xs ≡ p.cells
-    → ((i : ℕ) (x : C) → get_elem? xs i ≡ some x → stands x ((i, part i (histories.opening p)) ∷ [])) → ws ≡ replicate (n + 35) 0 → slots ≡ map (λ x. Some (Cell x)) xs ++ Some (Journal b) ∷ [] → HasLog p b [] → b.marks.items ≡ opening_marks
+pub opens_with : {C : Type 0} (stands : C → List (ℕ × MCell) → Type 0) (p : Setting) (n : ℕ) (xs : List C) (ws : List ℕ) (slots : List (Slot C)) (b : Boxed) → n ≡ p.cells → length xs ≡ p.cells
+    → ((i : ℕ) (x : C) → get_elem? xs i ≡ some x → stands x ((i, part i (histories.opening p)) ∷ [])) → ws ≡ replicate (n + 35) 0 → slots ≡ map (λ x. Some (Cell x)) xs ++ Some (Journal b) ∷ [] → HasLog p b.value [] → b.value.marks.items ≡ opening_marks
     → HallRule stands p (opening ws slots (newcomer p))
 opens_with {C} stands p n xs ws slots b num many good words all clean marks = starts stands p ws slots record {
   wide = ap length words ∙ (length-replicate (n + 35) 0 ∙ ap (λ (z : ℕ). z + 35) num);

@@ -16,8 +16,7 @@ use Rattle.xti_hall_rule.specs.declared.setting.Setting.{Setting}
 use Rattle.xti_hall_rule.specs.Histories.{part, own, after, Legal}
 use Rattle.xti_hall_rule.specs.declared.view.View.{View}
 use Rattle.xti_hall_rule.specs.declared.view.Held.TheVariants.{Cell, Journal}
-use Rattle.xti_hall_rule.specs.declared.view.Journal.{Journal as Book}
-use Rattle.xti_hall_rule.specs.Rule.{Slot, HasLog, HasAsNumber, PenIn, KnowsHistory, KnowsNumbers, SeatOk, HallRule, mark_of, MarkFits}
+use Rattle.xti_hall_rule.specs.Rule.{Slot, Boxed, HasLog, HasAsNumber, PenIn, KnowsHistory, KnowsNumbers, SeatOk, HallRule, mark_of, MarkFits}
 use Rattle.xti_hall_rule.specs.Steps.{with_pen, given_back, gave_back, Seated, Began, began}
 use Rattle.xti_hall_rule.specs.declared.view.Mark.{Mark}
 use Rattle.xti_hall_rule.specs.Steps.{Marked}
@@ -109,8 +108,8 @@ module _ {C : Type 0} (stands : C → List (ℕ × MCell) → Type 0) (p : Setti
   begins n id me live s r wide at small = let f : ℕ = get_or s.words (p.cells + 1) 0 in let told = began (step n (p.cells + 1) 0 1 none) me in let i : ℕ = p.cells in let v : View = me.0 in
       exchanged f 0 1 (Goes stands p s (i + 1) id me told f)
       (λ hit. let ok = r.each_seat id v at live in let unheld : r.pen ≡ 0 = free_pen r.pen f r.journal.word hit in
-      let here = subst (PenIn stands p s.homes r.log r.marks) unheld r.journal.value in let b : Book = here.0 in let h = ok.history in
-      let w : View = with_pen v r.log b.marks.items in
+      let here = subst (PenIn stands p s.homes r.log r.marks) unheld r.journal.value in let b : Boxed = here.0 in let h = ok.history in
+      let w : View = with_pen v r.log b.value.marks.items in
       let knows : SeatOk p r.log r.turns r.marks (suc id) r.owner id w = record {
         history = record { setting = h.setting; seen = h.seen; mine = h.mine; mine_seen = h.mine_seen; no_calls = h.no_calls; heard = h.heard };
         cells = record { room = ok.cells.room; held = ok.cells.held; opened_is = ok.cells.opened_is; is_opened = ok.cells.is_opened };
@@ -128,7 +127,7 @@ module _ {C : Type 0} (stands : C → List (ℕ × MCell) → Type 0) (p : Setti
             b,
             r.log,
             refl,
-            subst (λ (z : Setting). HasLog z b r.log) (sym h.setting) here.2,
+            subst (λ (z : Setting). HasLog z b.value r.log) (sym h.setting) here.2,
             record {
               journal = refl;
               legal = subst (λ (z : Setting). Legal z r.log) (sym h.setting) r.legal;
@@ -147,16 +146,16 @@ module _ {C : Type 0} (stands : C → List (ℕ × MCell) → Type 0) (p : Setti
       ))
       (λ miss. stays stands p s r (i + 1) id me told at ((λ hit. absurd (miss hit)), λ _. refl))
 
-  returns' : (sees : View → List Entry) (n id : ℕ) (v : View) (b : Book) (more : List (ℕ × Slot C)) → Sees p sees v → v.live ≡ true → v.numbered ≡ true → v.journal ≡ true → HasLog v.setting b v.history → Marked v b.marks.items → v.setting ≡ p
+  returns' : (sees : View → List Entry) (n id : ℕ) (v : View) (b : Boxed) (more : List (ℕ × Slot C)) → Sees p sees v → v.live ≡ true → v.numbered ≡ true → v.journal ≡ true → HasLog v.setting b.value v.history → Marked v b.value.marks.items → v.setting ≡ p
       → Allows H n id (v, (p.cells, Some (Journal b)) ∷ more) (p.cells + 1) (λ _. 0) (λ _ m'. gave_back sees (v, (p.cells, Some (Journal b)) ∷ more) m')
   returns' sees n id v b more sight live numbered on is marked ab s r wide at small = let ok = r.each_seat id v at live in let i : ℕ = p.cells in let y : maybe.Option (Slot C) = some (Some (Journal b)) in let q = ok.journal.held on in
       let hs : ℕ = length s.homes in let deep : hs ≡ p.cells + 1 = r.deep in let k = ok.numbers numbered in let h = ok.history in
-      let w : View = given_back v (sees v) (mark_of b.marks.items v.number) in let saw = sight r.log h q.1 in
-      let fits : (j : ℕ) → Dec (j ≡ v.number) → MarkFits p r.log (mark_of b.marks.items j) = λ j. elim [
-        | yes e ↦ subst (λ (z : Setting × (ℕ × List Entry)). MarkFits z.0 z.1.1 (mark_of b.marks.items z.1.0)) (λ x. (ab x, (sym e x, q.1 x))) marked.fits
+      let w : View = given_back v (sees v) (mark_of b.value.marks.items v.number) in let saw = sight r.log h q.1 in
+      let fits : (j : ℕ) → Dec (j ≡ v.number) → MarkFits p r.log (mark_of b.value.marks.items j) = λ j. elim [
+        | yes e ↦ subst (λ (z : Setting × (ℕ × List Entry)). MarkFits z.0 z.1.1 (mark_of b.value.marks.items z.1.0)) (λ x. (ab x, (sym e x, q.1 x))) marked.fits
         | no ne ↦ subst (λ (z : Mark). MarkFits p r.log z) (sym (marked.others j ne ∙ ap (λ (l : List Mark). mark_of l j) q.2)) (r.marked j)
       ] in
-      let knows : SeatOk p r.log r.turns b.marks.items 0 r.owner id w = record {
+      let knows : SeatOk p r.log r.turns b.value.marks.items 0 r.owner id w = record {
         history = record { setting = h.setting; seen = saw.0; mine = h.mine; mine_seen = saw.1; no_calls = h.no_calls; heard = h.heard };
         cells = record { room = ok.cells.room; held = ok.cells.held; opened_is = ok.cells.opened_is; is_opened = ok.cells.is_opened };
         journal = record { held = λ e. absurd (cc) };
@@ -165,19 +164,19 @@ module _ {C : Type 0} (stands : C → List (ℕ × MCell) → Type 0) (p : Setti
         w,
         gives,
         tt,
-        pen_step s r id 0 v w (set s.homes i y) 0 b.marks.items at live (length-set s.homes i y) (λ k ne. set_else s.homes i k y ne) ((λ e. refl), (λ j e. absurd (omega arith)))
-            (b, set_here s.homes i y (omega arith), subst (λ (z : Setting × List Entry). HasLog z.0 b z.1) (λ x. (ab x, q.1 x)) is, refl) (inr q.0) (inl refl) marked.many (λ j. fits j (ℕ_discrete j v.number))
+        pen_step s r id 0 v w (set s.homes i y) 0 b.value.marks.items at live (length-set s.homes i y) (λ k ne. set_else s.homes i k y ne) ((λ e. refl), (λ j e. absurd (omega arith)))
+            (b, set_here s.homes i y (omega arith), subst (λ (z : Setting × List Entry). HasLog z.0 b.value z.1) (λ x. (ab x, q.1 x)) is, refl) (inr q.0) (inl refl) marked.many (λ j. fits j (ℕ_discrete j v.number))
             (λ j ne. marked.others j (λ e. ne (ap r.owner e ∙ k.owned)) ∙ ap (λ (l : List Mark). mark_of l j) q.2) live refl (λ k x. x) knows (λ e. absurd (omega arith)),
-        λ m b' more' z. let e = fronts m b' more' z in λ t. (given_back v (sees v) (mark_of (e.0 t).marks.items v.number), e.1 t),
+        λ m b' more' z. let e = fronts m b' more' z in λ t. (given_back v (sees v) (mark_of (e.0 t).value.marks.items v.number), e.1 t),
       )
     where
-      inner : Book → List (ℕ × Slot C) → Book
+      inner : Boxed → List (ℕ × Slot C) → Boxed
       inner d [] = d
       inner d ((k, Some (Journal x)) ∷ xs) = x
       inner d ((k, Some (Cell x)) ∷ xs) = d
       inner d ((k, None) ∷ xs) = d
 
-      fronts : (m : ℕ) (b' : Book) (more' : List (ℕ × Slot C)) → (p.cells, Some (Journal b)) ∷ more ≡ (m, Some (Journal b')) ∷ more' → (b ≡ b') × (more ≡ more')
+      fronts : (m : ℕ) (b' : Boxed) (more' : List (ℕ × Slot C)) → (p.cells, Some (Journal b)) ∷ more ≡ (m, Some (Journal b')) ∷ more' → (b ≡ b') × (more ≡ more')
       fronts m b' more' z = (ap (inner b) z, ap rest z)
 
   -- the same at a word that is the journal's
@@ -185,12 +184,12 @@ module _ {C : Type 0} (stands : C → List (ℕ × MCell) → Type 0) (p : Setti
   begins_at n id i me is live = subst (λ (z : ℕ). Allows H n id me (z + 1) (λ k. either (eqb k 0) 1 k) (began (step n (z + 1) 0 1 none) me)) (sym is) (begins n id me live)
 
   -- me is the seat v with the journal b in its slot
-  pub returns_at : (sees : View → List Entry) (n id i : ℕ) (v : View) (me : Seated C) (b : Book) (more : List (ℕ × Slot C)) → me ≡ (v, (p.cells, Some (Journal b)) ∷ more) → Sees p sees v → i ≡ p.cells → v.live ≡ true → v.numbered ≡ true → v.journal ≡ true
-      → HasLog v.setting b v.history → Marked v b.marks.items → v.setting ≡ p → Allows H n id me (i + 1) (λ _. 0) (λ _ m'. gave_back sees me m')
+  pub returns_at : (sees : View → List Entry) (n id i : ℕ) (v : View) (me : Seated C) (b : Boxed) (more : List (ℕ × Slot C)) → me ≡ (v, (p.cells, Some (Journal b)) ∷ more) → Sees p sees v → i ≡ p.cells → v.live ≡ true → v.numbered ≡ true → v.journal ≡ true
+      → HasLog v.setting b.value v.history → Marked v b.value.marks.items → v.setting ≡ p → Allows H n id me (i + 1) (λ _. 0) (λ _ m'. gave_back sees me m')
   returns_at sees n id i v me b more e sight is live numbered on h marked ab =
       subst (λ (z : ℕ × Seated C). Allows H n id z.1 (z.0 + 1) (λ _. 0) (λ _ m'. gave_back sees z.1 m')) (λ k. (sym is k, sym e k)) (returns' sees n id v b more sight live numbered on h marked ab)
 
 -- what the seat is afterwards
-pub after_return : {C : Type 0} (sees : View → List Entry) (k : ℕ) (v : View) (me m' : Seated C) (b : Book) (more : List (ℕ × Slot C)) → me ≡ (v, (k, Some (Journal b)) ∷ more) → gave_back sees me m'
-    → m' ≡ (given_back v (sees v) (mark_of b.marks.items v.number), more)
-after_return sees k v me m' b more e r = r k b more (ap (λ z. z.1) e) ∙ (λ i. (given_back (e i).0 (sees (e i).0) (mark_of b.marks.items (e i).0.number), more))
+pub after_return : {C : Type 0} (sees : View → List Entry) (k : ℕ) (v : View) (me m' : Seated C) (b : Boxed) (more : List (ℕ × Slot C)) → me ≡ (v, (k, Some (Journal b)) ∷ more) → gave_back sees me m'
+    → m' ≡ (given_back v (sees v) (mark_of b.value.marks.items v.number), more)
+after_return sees k v me m' b more e r = r k b more (ap (λ z. z.1) e) ∙ (λ i. (given_back (e i).0 (sees (e i).0) (mark_of b.value.marks.items (e i).0.number), more))

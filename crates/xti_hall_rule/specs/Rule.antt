@@ -6,7 +6,8 @@
 -- Slot i has the value of the cell i, and slot n the journal: the length of the history, its entries where they are kept, and a
 -- mark for each number from 0 to 32. The slot of a turn that is held is empty.
 -- Each seat has a view, which says what it knows (`View`). The rule speaks of the live views.
-use Rattle.std.specs.Prelude.{take, ◌≡◌, ℕ, zero, suc, ◌+◌, ◌<◌, ◌≤◌, true, false, List, [], ◌∷◌, length, replicate, Option, Some, None, option_map, Bool, ◌⊎◌}
+use Rattle.std.specs.Prelude.{take, ◌≡◌, Box, ℕ, zero, suc, ◌+◌, ◌<◌, ◌≤◌, true, false, List, [], ◌∷◌, length, replicate, Option, Some, None, option_map, Bool, ◌⊎◌}
+use Rattle.std.specs.declared.alloc.Global.{Global}
 use mathlib.Core.Option.{some}
 use mathlib.Core.Option as maybe
 use mathlib.Core.List.{IsPrefix}
@@ -32,6 +33,10 @@ pub data Turn : Type 0 where
   free : Turn
   kept : ℕ → Turn
   opened : ℕ → Turn
+
+-- the journal as it stands in its slot
+abbrev pub Boxed : Type 0
+Boxed = Box Book Global
 
 -- the word of the turn
 abbrev pub bit : Turn → ℕ
@@ -158,8 +163,8 @@ module _ {C : Type 0} (stands : C → List (ℕ × MCell) → Type 0) (p : Setti
   -- a journal at home is that of the history, and has the marks
   abbrev pub PenIn : List (maybe.Option (Slot C)) → List Entry → List Mark → ℕ → Type 0
   PenIn homes log marks zero =
-      (x : Book) × (get_elem? homes p.cells ≡ some (some (Some (Journal x))))
-      × HasLog p x log × (x.marks.items ≡ marks)
+      (x : Boxed) × (get_elem? homes p.cells ≡ some (some (Some (Journal x))))
+      × HasLog p x.value log × (x.value.marks.items ≡ marks)
   PenIn homes log marks (suc j) = Unit {0}
 
   -- What the rule says of the journal, whose turn is free (0) or held by the seat `pen` - 1.

@@ -27,13 +27,12 @@ use Rattle.xti_hall_rule.specs.Histories.{World, part, own, after, Legal, Right,
 use Rattle.xti_hall_rule.specs.declared.setting.Setting.{Setting}
 use Rattle.xti_hall_rule.specs.declared.view.View.{View}
 use Rattle.xti_hall_rule.specs.declared.view.Held.TheVariants.{Cell, Journal}
-use Rattle.xti_hall_rule.specs.declared.view.Journal.{Journal as Book}
 use Rattle.xti_hall_rule.specs.declared.view.Mark.{Mark}
 use Rattle.xti_hall_rule.specs.declared.view.Mark.TheVariants.{Absent}
 use Rattle.xti_hall_rule.specs.declared.view.Shown.{Shown}
 use Rattle.xti_hall_rule.specs.declared.view.Shown.TheVariants.{Whole, Parts}
 use Rattle.xti_model.specs.Robin.{act_of}
-use Rattle.xti_hall_rule.specs.Rule.{Slot, mark_of, MarkFits, HasLog}
+use Rattle.xti_hall_rule.specs.Rule.{Slot, Boxed, mark_of, MarkFits, HasLog}
 
 -- a seat: its view, and the slots that it has open
 abbrev pub Seated : Type 0 → Type 0
@@ -123,8 +122,8 @@ pub record Marked (v : View) (marks : List Mark) : Type 0 where
 module _ {C : Type 0} where
   abbrev pub Began : Seated C → ℕ → Seated C → Type 0
   Began m n m' =
-      (b : Book) × (h : List Entry) × (m' ≡ (with_pen m.0 h b.marks.items, (n, Some (Journal b)) ∷ m.1))
-      × HasLog m.0.setting b h × Holds m'.0
+      (b : Boxed) × (h : List Entry) × (m' ≡ (with_pen m.0 h b.value.marks.items, (n, Some (Journal b)) ∷ m.1))
+      × HasLog m.0.setting b.value h × Holds m'.0
 
   -- a try at the journal's turn: taken where the word was 0, and nothing else
   abbrev pub began : Step (Slot C) → Seated C → ℕ → Seated C → Type 0
@@ -132,8 +131,8 @@ module _ {C : Type 0} where
 
   -- the journal goes back with the mark that it has at the seat's number, and so much is seen
   abbrev pub gave_back : (View → List Entry) → Seated C → Seated C → Type 0
-  gave_back sees m m' = (n : ℕ) (b : Book) (more : List (ℕ × Slot C))
-      → m.1 ≡ (n, Some (Journal b)) ∷ more → m' ≡ (given_back m.0 (sees m.0) (mark_of b.marks.items m.0.number), more)
+  gave_back sees m m' = (n : ℕ) (b : Boxed) (more : List (ℕ × Slot C))
+      → m.1 ≡ (n, Some (Journal b)) ∷ more → m' ≡ (given_back m.0 (sees m.0) (mark_of b.value.marks.items m.0.number), more)
 
   abbrev pub returned : Seated C → Seated C → Type 0
   returned m m' = gave_back (λ v. v.history) m m'
@@ -174,8 +173,8 @@ added (Some s) = shown s ∷ []
 
 -- the entry is the one that the journal in the open slot shows
 abbrev pub wrote : {C : Type 0} → Seated C → Seated C → Type 0
-wrote {C} m m' = (n : ℕ) (b : Book) (more : List (ℕ × Slot C))
-    → m.1 ≡ (n, Some (Journal b)) ∷ more → m' ≡ (committed m.0 (m.0.history ++ added b.last.value), m.1)
+wrote {C} m m' = (n : ℕ) (b : Boxed) (more : List (ℕ × Slot C))
+    → m.1 ≡ (n, Some (Journal b)) ∷ more → m' ≡ (committed m.0 (m.0.history ++ added b.value.last.value), m.1)
 
 abbrev pub with_seen : View → List Entry → View
 with_seen v h = record v { seen = h }

@@ -105,6 +105,6 @@ pub struct Journal {
 pub enum Held<C> {
     /// The value of a cell.
     Cell(C),
-    /// The journal.
-    Journal(Journal),
+    /// The journal, in a box, so that a slot is small.
+    Journal(Box<Journal>),
 }

@@ -1,5 +1,5 @@
 -- What one step of a call tells its seat.
-use Rattle.std.specs.Prelude.{◌≡◌, ℕ, ◌+◌, List, [], ◌∷◌, ◌++◌, length, Some, None, false}
+use Rattle.std.specs.Prelude.{◌≡◌, ◌⊎◌, ℕ, ◌+◌, List, [], ◌∷◌, ◌++◌, length, Some, None, false}
 use mathlib.Core.List.{IsPrefix}
 use Rattle.xti_base.specs.declared.kinds.State.{State}
 use Rattle.xti_model.specs.declared.call.Call.{Call}
@@ -11,6 +11,7 @@ use Rattle.xti_model.specs.declared.entry.Applied.TheVariants as applied
 use Rattle.xti_model.specs.History.{made_by, unfinished_from, Fits}
 use Rattle.xti_model.specs.Robin.{act_of}
 use Rattle.xti_model.specs.Step.{step}
+use Rattle.xti_hall_rule.specs.declared.view.Mark.TheVariants.{Free}
 use Rattle.xti_hall_rule.specs.declared.view.View.{View}
 use Rattle.xti_hall_rule.specs.Histories.{after}
 use Rattle.xti_hall.specs.Seats.{HoldsNone, entry_of}
@@ -18,6 +19,10 @@ use Rattle.xti_hall.specs.Seats.{HoldsNone, entry_of}
 -- a seat between two calls holds neither a cell nor the journal
 abbrev pub HoldsNothing : View → Type 0
 HoldsNothing v = (v.journal ≡ false) × HoldsNone v
+
+-- the seat's mark is as before, or free
+abbrev pub KeepsOrFreesMark : View → View → Type 0
+KeepsOrFreesMark v v' = (v'.mark ≡ v.mark) ⊎ (v'.mark ≡ Free)
 
 -- the same seat later: what was seen before is a prefix of what is seen now
 pub record Later (v v' : View) : Type 0 where

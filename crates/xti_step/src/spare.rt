@@ -5,6 +5,7 @@ ghost use Rattle.xti_base.specs.declared.limits.TheConstants.{MOST_ADDRESS, MOST
 ghost use Rattle.xti_model.specs.Families.{is_connection_news, is_received};
 ghost use Rattle.xti_laws_sound.specs.Replies.{lengths, lengths_of, news_lengths, bound_length, answered_length};
 ghost use Rattle.xti_laws_sound.specs.Replies.{IsShort, IsShortOutcome};
+ghost use Rattle.xti_step.specs.Copies.{datagram_lengths};
 ghost use Rattle.xti_step.specs.Families.{has_no_bytes};
 
 use std::alloc::{AllocError, Global};
@@ -138,7 +139,7 @@ impl Spare {
 
     /// Room for the address, the options and so many bytes of a datagram.
     fn for_datagram(alloc: Global, amax: u32, omax: u32, bytes: usize) -> Result<Spare, AllocError>
-        ensures { IfOk result (λ s. s ≡ lengths (min amax MOST_ADDRESS) (min omax MOST_OPTIONS) bytes) }
+        ensures { IfOk result (λ s. s ≡ datagram_lengths amax omax bytes) }
     {
         Spare::with(
             alloc,

@@ -1,30 +1,30 @@
 //! One step of a call.
 
-ghost use Rattle.std.specs.Prelude.{◌≡◌, ◌⊎◌, true, IfOk, OnErr};
+ghost use Rattle.std.specs.Prelude.{◌≡◌, true, IfOk, OnErr};
 ghost use Rattle.xti_model.specs.Robin.{act_of};
 ghost use Rattle.xti_hall_rule.specs.declared.view.Mark.TheVariants.{Free};
 ghost use Rattle.xti_hall_rule.specs.Steps.{without_pen, Holds, Commits};
 ghost use Rattle.xti_hall.specs.Pens.{IsPenOf};
-ghost use Rattle.xti_hall.specs.Seats.{bare, entry_of, wrote_entry, HoldsNone, IsStanding};
+ghost use Rattle.xti_hall.specs.Seats.{bare, entry_of_step, HoldsNone, IsStanding, Writes};
 ghost use Rattle.xti_hall.specs.Words.{setting_of, IsSeatOf, IsSameSeat};
-ghost use Rattle.xti_gather.specs.Cells.{IsWhole};
+ghost use Rattle.xti_gather.specs.Cells.{InHall};
 ghost use Rattle.xti_gather.specs.Lends.{Lends, IsEmpty};
 ghost use Rattle.xti_gather.specs.Orders.{AreCells};
 ghost use Rattle.xti_laws_sound.specs.Replies.{lengths_of, IsShortOutcome};
-ghost use Rattle.xti_step.specs.Copies.{AreCopies, entry_with};
-ghost use Rattle.xti_step.specs.Steps.{HoldsNothing, Later, MayGo, Tells, SeenAt};
+ghost use Rattle.xti_step.specs.Copies.{AreCopies, IsCopy, entry_with};
+ghost use Rattle.xti_step.specs.Steps.{KeepsOrFreesMark, HoldsNothing, Later, MayGo, Tells, SeenAt};
 
 use crate::gate::Gate;
 use crate::spare::Spare;
 use crate::waking::concerned;
 use std::alloc::{AllocError, Global};
 use std::sync::Wait;
-use xti_base::{State, let_go};
+use xti_base::let_go;
 use xti_core::apply;
 use xti_gather::{Cell, gather, leave_all};
-use xti_hall::{Hall, Pen, Rings, Seat};
+use xti_hall::{Hall, MadeStep, Pen, Rings, Seat};
 use xti_lent::Lent;
-use xti_model::{Act, Applied, Call, Cells, Entry, Go, Outcome, calls_send_bytes};
+use xti_model::{Act, Applied, Call, Cells, Entry, Go, calls_send_bytes};
 
 /// What the entry of a step shows of its call.
 fn act(call: &Call, go: Go) -> Result<Act, AllocError>
@@ -39,7 +39,7 @@ fn act(call: &Call, go: Go) -> Result<Act, AllocError>
 /// What the entry shows of the call, and room for the caller's copy of the reply.
 #[inline(never)]
 fn copied(alloc: Global, call: &Call, go: Go) -> Result<Box<(Act, Spare)>, AllocError>
-    ensures { IfOk result (λ b. (b.value.0 ≡ act_of go call.now) × (b.value.1 ≡ lengths_of call.now)) }
+    ensures { IfOk result (IsCopy call.now go) }
 {
     let spare = Spare::of(alloc, call)?;
     let act = or_drop!(act(call, go), spare);
@@ -71,7 +71,7 @@ fn give_up(
     pen: Pen<Cell>,
     copies: Option<Box<(Act, Spare)>>,
 )
-    requires hall { IsSeatOf hall.now seat.old × IsWhole (setting_of hall.now) lent.old.providers }
+    requires hall { InHall hall.now seat.old lent.old.providers }
     requires holds { Holds seat.old.view }
     requires pen { IsPenOf seat.old pen }
     requires lends { Lends seat.old.view lent.old }
@@ -85,7 +85,7 @@ fn give_up(
     let_go(copies);
 }
 
-/// Writes an entry that is kept, and gives the journal back; a copy of what the step answered. It is called and not inlined, so that
+/// Writes an entry that is kept, of a copy of what the step answered, and gives the journal back. It is called and not inlined, so that
 /// a step whose entry isn't kept has none of its room to clear.
 #[inline(never)]
 fn write_kept(
@@ -93,62 +93,51 @@ fn write_kept(
     seat: &mut Seat<Cell>,
     pen: Pen<Cell>,
     copies: Box<(Act, Spare)>,
-    outcome: Outcome,
-    after: State,
+    made: MadeStep<'_>,
     wakes: u64,
-) -> (Outcome, Rings)
+) -> Rings
     requires hall { IsSeatOf hall.now seat.old }
     requires holds { Holds seat.old.view }
     requires pen { IsPenOf seat.old pen }
     requires keeps { (setting_of hall.now).keeps ≡ true }
-    requires short { IsShortOutcome copies.value.1 outcome }
-    requires entry { Commits seat.old.view (entry_with copies.value.0 seat.old.view outcome after) }
+    requires short { IsShortOutcome copies.value.1 made.outcome.now }
+    requires entry { Commits seat.old.view (entry_with copies seat.old.view made) }
     ensures hall { IsSameSeat seat.old seat.new }
-    ensures view { seat.new.view ≡ without_pen (wrote_entry seat.old.view (entry_with copies.value.0 seat.old.view outcome after)) Free }
+    ensures view { Writes seat.old.view (entry_with copies seat.old.view made.entry) seat.new.view }
     ensures standing { IsStanding seat.new.view }
-    ensures told { result.0 ≡ outcome }
 {
     let (act, spare) = Box::into_inner(copies);
-    let told = spare.copy(&outcome);
     let entry = Entry {
         worker: seat.number(),
         act,
-        outcome,
-        after,
+        outcome: spare.copy(made.outcome),
+        after: made.after,
     };
-    let rings = hall.commit(seat, pen, entry, wakes);
-    (told, rings)
+    hall.commit(seat, pen, entry, wakes)
 }
 
-/// Writes the entry of a step, and gives the journal back; what the step answered, which is copied where the entry is kept.
+/// Writes the entry of a step, and gives the journal back. What the step answered is copied where the entry is kept.
 fn write(
     hall: &Hall<Cell>,
     seat: &mut Seat<Cell>,
     pen: Pen<Cell>,
     copies: Option<Box<(Act, Spare)>>,
-    call: &Call,
-    go: Go,
-    outcome: Outcome,
-    after: State,
+    made: MadeStep<'_>,
     wakes: u64,
-) -> (Outcome, Rings)
+) -> Rings
     requires hall { IsSeatOf hall.now seat.old }
     requires holds { Holds seat.old.view }
     requires pen { IsPenOf seat.old pen }
-    requires copies { AreCopies (setting_of hall.now).keeps call.now go copies }
-    requires short { IsShortOutcome (lengths_of call.now) outcome }
-    requires entry { Commits seat.old.view (entry_of seat.old.view call.now go outcome after) }
+    requires copies { AreCopies (setting_of hall.now).keeps made.call.now made.go copies }
+    requires short { IsShortOutcome (lengths_of made.call.now) made.outcome.now }
+    requires entry { Commits seat.old.view (entry_of_step seat.old.view made) }
     ensures hall { IsSameSeat seat.old seat.new }
-    ensures view { seat.new.view ≡ without_pen (wrote_entry seat.old.view (entry_of seat.old.view call.now go outcome after)) Free }
+    ensures view { Writes seat.old.view (entry_of_step seat.old.view made.entry) seat.new.view }
     ensures standing { IsStanding seat.new.view }
-    ensures told { result.0 ≡ outcome }
 {
     match copies {
-        Some(kept) => write_kept(hall, seat, pen, kept, outcome, after, wakes),
-        None => {
-            let rings = hall.commit_unkept(seat, pen, call, go, &outcome, after, wakes);
-            (outcome, rings)
-        }
+        Some(kept) => write_kept(hall, seat, pen, kept, made, wakes),
+        None => hall.commit_unkept(seat, pen, made, wakes),
     }
 }
 
@@ -169,7 +158,7 @@ pub fn step<G: Gate, R: Wait + Sync>(
     call: &Call,
     go: Go,
 ) -> Result<(Applied, u64), AllocError>
-    requires hall { IsSeatOf hall.now seat.old × (IsWhole (setting_of hall.now) lent.old.providers) }
+    requires hall { InHall hall.now seat.old lent.old.providers }
     requires idle { HoldsNothing seat.old.view }
     requires empty { IsEmpty lent.old }
     requires first { AreCells lent.old.providers first.old }
@@ -184,7 +173,7 @@ pub fn step<G: Gate, R: Wait + Sync>(
     ensures free { IfOk result (λ r. seat.new.view.mark ≡ Free) }
     ensures at { IfOk result (λ r. SeenAt r.0 r.1 seat.new.view) }
     ensures err { OnErr result (seat.new.view.mine ≡ seat.old.view.mine) }
-    ensures mark { OnErr result ((seat.new.view.mark ≡ seat.old.view.mark) ⊎ (seat.new.view.mark ≡ Free)) }
+    ensures mark { OnErr result (KeepsOrFreesMark seat.old.view seat.new.view) }
 {
     calls_send_bytes(call);
     let worker = seat.number();
@@ -208,16 +197,16 @@ pub fn step<G: Gate, R: Wait + Sync>(
         }
         Ok(Applied::Step { outcome, after }) => {
             let wakes = concerned(&pen, lent, call);
-            let (told, rings) = write(hall, seat, pen, copies, call, go, outcome, after, wakes);
+            let made = MadeStep {
+                call,
+                go,
+                outcome: &outcome,
+                after,
+            };
+            let rings = write(hall, seat, pen, copies, made, wakes);
             leave_all(hall, seat, lent);
             hall.wake(seat, rings);
-            Ok((
-                Applied::Step {
-                    outcome: told,
-                    after,
-                },
-                at,
-            ))
+            Ok((Applied::Step { outcome, after }, at))
         }
     }
 }

@@ -1,22 +1,23 @@
-ghost use Rattle.std.specs.Prelude.{◌≡◌, ◌<◌, ◌∷◌, ◌++◌, [], true, false, IfOk, OnErr};
+ghost use Rattle.std.specs.Prelude.{◌≡◌, ◌<◌, true, false, IfOk, OnErr};
 ghost use Rattle.xti_hall_rule.specs.declared.view.Mark.TheVariants.{Free};
-ghost use Rattle.xti_hall_rule.specs.Rule.{mark_of, HasLog};
+ghost use Rattle.xti_hall_rule.specs.Rule.{mark_of};
 ghost use Rattle.xti_hall_rule.specs.Steps.{with_pen, without_pen, Holds, Commits, Marked, shown};
 ghost use Rattle.xti_hall.specs.Pens.{IsPenOf};
-ghost use Rattle.xti_hall.specs.Seats.{IsStanding, LookedAt, Looks, wrote_entry, entry_of, taken_in};
+ghost use Rattle.xti_hall.specs.Seats.{HasLogWith, IsStanding, LookedAt, Looks, Writes, entry_of_step, taken_in};
 ghost use Rattle.xti_hall.specs.Words.{IsSeatOf, IsSameSeat, setting_of};
 
 use super::Hall;
 use crate::ended::Ended;
+use crate::made_step::MadeStep;
 use crate::pen::Pen;
-use crate::record::{length, reserve, with_entry};
+use crate::record::{add, length, reserve};
 use crate::seat::Seat;
 use std::alloc::{AllocError, Global};
 use std::snapshot::Snapshot;
 use std::sync::Wait;
-use xti_base::{State, let_go};
+use xti_base::let_go;
 use xti_hall_rule::{Journal, Mark, Shown, Stands};
-use xti_model::{Call, Entries, Entry, Go, Outcome};
+use xti_model::{Entries, Entry, Outcome};
 
 /// How many bytes are taken of a call that goes on after this outcome.
 fn taken_in(outcome: &Outcome) -> Option<u32>
@@ -111,12 +112,13 @@ impl<C: Stands> Hall<C> {
         requires entry { Commits seat.old.view entry }
         requires keeps { (setting_of self.now).keeps ≡ true }
         ensures hall { IsSameSeat seat.old seat.new }
-        ensures view { seat.new.view ≡ without_pen (wrote_entry seat.old.view entry) Free }
+        ensures view { Writes seat.old.view entry seat.new.view }
         ensures standing { IsStanding seat.new.view }
     {
         let unfinished = taken_in(&entry.outcome);
         let shown = Shown::Whole(Snapshot::of(&entry));
-        let mut journal = with_entry(pen.into_journal(), entry);
+        let mut journal = pen.into_journal();
+        add(&mut journal, entry);
         journal.marks[seat.number as usize] = Mark::Free;
         let rings = Rings {
             seats: journal.bells.ring(wakes),
@@ -131,28 +133,25 @@ impl<C: Stands> Hall<C> {
         &self,
         seat: &mut Seat<C>,
         pen: Pen<C>,
-        call: &Call,
-        go: Go,
-        outcome: &Outcome,
-        after: State,
+        step: MadeStep<'_>,
         wakes: u64,
     ) -> Rings
         requires hall { IsSeatOf self.now seat.old }
         requires holds { Holds seat.old.view }
         requires pen { IsPenOf seat.old pen }
-        requires entry { Commits seat.old.view (entry_of seat.old.view call.now go outcome.now after) }
+        requires entry { Commits seat.old.view (entry_of_step seat.old.view step) }
         requires keeps { (setting_of self.now).keeps ≡ false }
         ensures hall { IsSameSeat seat.old seat.new }
-        ensures view { seat.new.view ≡ without_pen (wrote_entry seat.old.view (entry_of seat.old.view call.now go outcome.now after)) Free }
+        ensures view { Writes seat.old.view (entry_of_step seat.old.view step.entry) seat.new.view }
         ensures standing { IsStanding seat.new.view }
     {
-        let unfinished = taken_in(outcome);
+        let unfinished = taken_in(step.outcome);
         let shown = Shown::Parts {
             worker: seat.number(),
-            call: Snapshot::of(call),
-            go,
-            outcome: Snapshot::of(outcome),
-            after,
+            call: Snapshot::of(step.call),
+            go: step.go,
+            outcome: Snapshot::of(step.outcome),
+            after: step.after,
         };
         let mut journal = pen.into_journal();
         journal.length += 1;
@@ -173,16 +172,22 @@ impl<C: Stands> Hall<C> {
     }
 
     /// Adds the entry that is shown, with which the journal is, and gives the journal back.
-    fn append(&self, seat: &mut Seat<C>, journal: Journal, entry: Shown, unfinished: Option<u32>)
+    fn append(
+        &self,
+        seat: &mut Seat<C>,
+        journal: Box<Journal>,
+        entry: Shown,
+        unfinished: Option<u32>,
+    )
         requires hall { IsSeatOf self.now seat.old }
         requires holds { Holds seat.old.view }
-        requires log { HasLog seat.old.view.setting journal (seat.old.view.history ++ shown entry ∷ []) }
-        requires marks { Marked seat.old.view journal.marks.items }
-        requires freed { mark_of journal.marks.items seat.old.view.number ≡ Free }
+        requires log { HasLogWith seat.old.view journal.value (shown entry) }
+        requires marks { Marked seat.old.view journal.value.marks.items }
+        requires freed { mark_of journal.value.marks.items seat.old.view.number ≡ Free }
         requires entry { Commits seat.old.view (shown entry) }
         requires unfinished { unfinished ≡ taken_in (shown entry).outcome }
         ensures hall { IsSameSeat seat.old seat.new }
-        ensures view { seat.new.view ≡ without_pen (wrote_entry seat.old.view (shown entry)) Free }
+        ensures view { Writes seat.old.view (shown entry) seat.new.view }
         ensures standing { IsStanding seat.new.view }
     {
         let _length = length(&journal);
@@ -203,7 +208,7 @@ impl<C: Stands> Hall<C> {
     {
         let journal = self.look(rt, &mut seat);
         let _length = self.length(&mut seat);
-        let Journal { kept, .. } = journal;
+        let Journal { kept, .. } = Box::into_inner(journal);
         let Some(entries) = kept else { unreachable!() };
         let history = Entries::from_vec(entries);
         Ended {

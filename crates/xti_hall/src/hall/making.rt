@@ -1,8 +1,8 @@
 ghost use Rattle.std.specs.Prelude.{◌≡◌, ◌<◌, ◌^◌, ◌+◌, map, IfOk, vec_len, vec_capacity, ◌≤◌, Some};
 ghost use Rattle.xti_hall_rule.specs.declared.view.Held.TheVariants.{Cell};
-ghost use Rattle.xti_hall_rule.specs.Rule.{newcomer, opening_marks};
+ghost use Rattle.xti_hall_rule.specs.Rule.{opening_marks};
 ghost use Rattle.xti_hall.specs.Seats.{StandInOrder};
-ghost use Rattle.xti_hall.specs.Words.{setting, setting_of, id_of};
+ghost use Rattle.xti_hall.specs.Words.{first_view, setting, setting_of, id_of};
 
 use super::Hall;
 use crate::record::empty;
@@ -38,7 +38,8 @@ macro_rules! or_drop {
 
 /// The cells in their slots, and room for the journal's.
 fn slots_of<C: Drop>(alloc: Global, cells: Vec<C>) -> Result<Vec<Option<Held<C>>>, AllocError>
-    ensures { IfOk result (λ v. (v.items ≡ map (λ x. Some (Cell x)) cells.items) × (vec_len v + 1 ≤ vec_capacity v)) }
+    ensures slots { IfOk result (λ v. v.items ≡ map (λ x. Some (Cell x)) cells.items) }
+    ensures room { IfOk result (λ v. vec_len v + 1 ≤ vec_capacity v) }
 {
     let mut slots = or_drop!(Vec::with_capacity(alloc, cells.len()), cells);
     for cell in cells {
@@ -65,7 +66,7 @@ impl<C: Stands> Hall<C> {
         requires stand { StandInOrder C.stands (setting p.now (vec_len cells) keeps) cells.items }
         ensures hall { IfOk result (λ r. setting_of r.0 ≡ setting p.now (vec_len cells) keeps) }
         ensures hall_of_seat { IfOk result (λ r. r.1.hall ≡ id_of r.0) }
-        ensures seat { IfOk result (λ r. r.1.view ≡ newcomer (setting p.now (vec_len cells) keeps)) }
+        ensures seat { IfOk result (λ r. r.1.view ≡ first_view p.now (vec_len cells) keeps) }
     {
         let setting = Setting {
             providers: *p,
@@ -75,7 +76,8 @@ impl<C: Stands> Hall<C> {
         let words = or_drop!(Vec::from_elem(alloc, 0u64, cells.len() + 35), cells);
         let marks = or_drop!(first_marks(alloc), cells, words);
         let mut slots = or_drop!(slots_of(alloc, cells), words, marks);
-        slots.push_reserved(Some(Held::Journal(empty(alloc, keeps, marks))));
+        let journal = or_drop!(empty(alloc, keeps, marks), slots, words);
+        slots.push_reserved(Some(Held::Journal(journal)));
         match Table::new(alloc, words.as_slice(), slots, &setting) {
             Ok((table, pass)) => Ok((
                 Hall {

@@ -1,13 +1,11 @@
 //! The steps on the journal's turn.
 
-ghost use Rattle.std.specs.Prelude.{◌≡◌, ◌<◌, ◌++◌, ◌∷◌, [], true, MatchBool, Some, None};
-ghost use Rattle.atomic_table.specs.Table.{rest};
-ghost use Rattle.xti_hall_rule.specs.declared.view.Held.TheVariants.{Journal as InJournal};
-ghost use Rattle.xti_hall_rule.specs.declared.view.Journal.{Journal as Book};
-ghost use Rattle.xti_hall_rule.specs.Rule.{HasLog, mark_of};
-ghost use Rattle.xti_hall_rule.specs.Steps.{without_pen, without_pen_unseen, committed, Began, Commits, Marked, shown};
-ghost use Rattle.xti_hall.specs.Seats.{Sits, HasJournal, MayGoBack};
-ghost use Rattle.xti_hall.specs.Words.{IsOf, IsSame, setting_of};
+ghost use Rattle.std.specs.Prelude.{◌≡◌, ◌<◌, true, None};
+ghost use Rattle.xti_hall_rule.specs.Rule.{Boxed};
+ghost use Rattle.xti_hall_rule.specs.Steps.{Began, Commits, Marked, shown};
+ghost use Rattle.xti_hall.specs.Seats.{Sits, HasBook, HasJournal, HasLogWith, HasOpen, MayGoBack, TriesPen};
+ghost use Rattle.xti_hall.specs.Seats.{gave, gave_unseen, gave_with, with_book, with_open};
+ghost use Rattle.xti_hall.specs.Words.{IsOf, IsSame, cells_of, setting_of};
 
 use super::Hall;
 use crate::record::length;
@@ -22,7 +20,7 @@ impl<C: Stands> Hall<C> {
         requires hall { IsOf self.now pass.old }
         requires seat { Sits pass.old.me.0 }
         ensures hall { IsSame pass.old pass.new }
-        ensures began { MatchBool result (Began pass.old.me (setting_of self.now).cells pass.new.me) (pass.new.me ≡ pass.old.me) }
+        ensures began { TriesPen pass.old.me (cells_of self.now) result pass.new.me }
     {
         self.table
             .shared
@@ -35,24 +33,27 @@ impl<C: Stands> Hall<C> {
         requires hall { IsOf self.now pass.old }
         requires seat { Sits pass.old.me.0 }
         ensures hall { IsSame pass.old pass.new }
-        ensures began { Began pass.old.me (setting_of self.now).cells pass.new.me }
+        ensures began { Began pass.old.me (cells_of self.now) pass.new.me }
     {
+        if self.try_pen(pass) {
+            return;
+        }
         for _ in rt.forever() {
+            self.linger_for_turn(rt, self.cells);
             if self.try_pen(pass) {
                 return;
             }
-            self.linger_for_turn(rt, self.cells);
         }
         unreachable!()
     }
 
     /// Takes the journal out of its slot.
-    pub(super) fn take_journal(&self, pass: &mut Pass<C>) -> Journal
+    pub(super) fn take_journal(&self, pass: &mut Pass<C>) -> Box<Journal>
         requires hall { IsOf self.now pass.old }
-        requires taken { (b : Book) × (pass.old.me.1 ≡ ((setting_of self.now).cells, Some (InJournal b)) ∷ rest pass.old.me.1) }
+        requires taken { (b : Boxed) × HasBook pass.old.me (cells_of self.now) b }
         ensures hall { IsSame pass.old pass.new }
-        ensures journal { pass.old.me.1 ≡ ((setting_of self.now).cells, Some (InJournal result)) ∷ rest pass.old.me.1 }
-        ensures view { pass.new.me ≡ (pass.old.me.0, ((setting_of self.now).cells, None) ∷ rest pass.old.me.1) }
+        ensures journal { HasBook pass.old.me (cells_of self.now) result }
+        ensures view { pass.new.me ≡ with_open pass.old.me (cells_of self.now) None }
     {
         match self.table.shared.exchange(pass, self.cells as usize, None) {
             Some(Held::Journal(journal)) => journal,
@@ -61,11 +62,11 @@ impl<C: Stands> Hall<C> {
     }
 
     /// Puts the journal into its slot.
-    fn put_journal(&self, pass: &mut Pass<C>, journal: Journal)
+    fn put_journal(&self, pass: &mut Pass<C>, journal: Box<Journal>)
         requires hall { IsOf self.now pass.old }
-        requires taken { pass.old.me.1 ≡ ((setting_of self.now).cells, None) ∷ rest pass.old.me.1 }
+        requires taken { HasOpen pass.old.me (cells_of self.now) None }
         ensures hall { IsSame pass.old pass.new }
-        ensures view { pass.new.me ≡ (pass.old.me.0, ((setting_of self.now).cells, Some (InJournal journal)) ∷ rest pass.old.me.1) }
+        ensures view { pass.new.me ≡ with_book pass.old.me (cells_of self.now) journal }
     {
         let empty = self
             .table
@@ -75,14 +76,14 @@ impl<C: Stands> Hall<C> {
     }
 
     /// Gives the journal back. The seat has then seen the history.
-    pub(super) fn give_pen(&self, pass: &mut Pass<C>, journal: Journal)
+    pub(super) fn give_pen(&self, pass: &mut Pass<C>, journal: Box<Journal>)
         requires hall { IsOf self.now pass.old }
         requires seat { Sits pass.old.me.0 }
-        requires taken { HasJournal (setting_of self.now).cells pass.old.me }
-        requires journal { MayGoBack pass.old.me.0 journal }
+        requires taken { HasJournal (cells_of self.now) pass.old.me }
+        requires journal { MayGoBack pass.old.me.0 journal.value }
         requires setting { pass.old.me.0.setting ≡ setting_of self.now }
         ensures hall { IsSame pass.old pass.new }
-        ensures view { pass.new.me ≡ (without_pen pass.old.me.0 (mark_of journal.marks.items pass.old.me.0.number), rest pass.old.me.1) }
+        ensures view { pass.new.me ≡ gave pass.old.me journal.value }
     {
         self.put_journal(pass, journal);
         self.table
@@ -92,14 +93,14 @@ impl<C: Stands> Hall<C> {
     }
 
     /// Gives the journal back. The seat has seen as much as before.
-    pub(super) fn give_pen_unseen(&self, pass: &mut Pass<C>, journal: Journal)
+    pub(super) fn give_pen_unseen(&self, pass: &mut Pass<C>, journal: Box<Journal>)
         requires hall { IsOf self.now pass.old }
         requires seat { Sits pass.old.me.0 }
-        requires taken { HasJournal (setting_of self.now).cells pass.old.me }
-        requires journal { MayGoBack pass.old.me.0 journal }
+        requires taken { HasJournal (cells_of self.now) pass.old.me }
+        requires journal { MayGoBack pass.old.me.0 journal.value }
         requires setting { pass.old.me.0.setting ≡ setting_of self.now }
         ensures hall { IsSame pass.old pass.new }
-        ensures view { pass.new.me ≡ (without_pen_unseen pass.old.me.0 (mark_of journal.marks.items pass.old.me.0.number), rest pass.old.me.1) }
+        ensures view { pass.new.me ≡ gave_unseen pass.old.me journal.value }
     {
         self.put_journal(pass, journal);
         self.table
@@ -109,16 +110,16 @@ impl<C: Stands> Hall<C> {
     }
 
     /// Adds 1 to the length, as the journal is that of the history with the entry that is shown, and gives the journal back.
-    pub(super) fn write(&self, pass: &mut Pass<C>, mut journal: Journal, entry: Shown)
+    pub(super) fn write(&self, pass: &mut Pass<C>, mut journal: Box<Journal>, entry: Shown)
         requires hall { IsOf self.now pass.old }
         requires seat { Sits pass.old.me.0 }
-        requires taken { HasJournal (setting_of self.now).cells pass.old.me }
-        requires log { HasLog pass.old.me.0.setting journal (pass.old.me.0.history ++ shown entry ∷ []) }
-        requires marks { Marked pass.old.me.0 journal.marks.items }
+        requires taken { HasJournal (cells_of self.now) pass.old.me }
+        requires log { HasLogWith pass.old.me.0 journal.value (shown entry) }
+        requires marks { Marked pass.old.me.0 journal.value.marks.items }
         requires entry { Commits pass.old.me.0 (shown entry) }
         requires setting { pass.old.me.0.setting ≡ setting_of self.now }
         ensures hall { IsSame pass.old pass.new }
-        ensures view { pass.new.me ≡ (without_pen (committed pass.old.me.0 (pass.old.me.0.history ++ shown entry ∷ [])) (mark_of journal.marks.items pass.old.me.0.number), rest pass.old.me.1) }
+        ensures view { pass.new.me ≡ gave_with pass.old.me journal.value (shown entry) }
     {
         let _length = length(&journal);
         let last = Some(entry);

@@ -1,16 +1,17 @@
-ghost use Rattle.std.specs.Prelude.{◌≡◌, ◌<◌, ◌≤◌, false, IfOk, MatchResult, List};
-ghost use Rattle.xti_model.specs.declared.entry.Entry.{Entry};
-ghost use Rattle.xti_hall_rule.specs.Steps.{giver, given, told, with_seen, Looked};
-ghost use Rattle.xti_hall.specs.Seats.{CutsOff, HasNoneToSpare, IsStanding, Meets};
+ghost use Rattle.std.specs.Prelude.{◌≡◌, ◌<◌, ◌≤◌, false, IfOk};
+ghost use Rattle.xti_hall_rule.specs.Steps.{giver, given, told};
+ghost use Rattle.xti_hall.specs.Seats.{IsStanding, Meets, SeesLength, Splits};
 ghost use Rattle.xti_hall.specs.Words.{IsSeatOf, IsSameSeat};
 
 use super::Hall;
 use crate::seat::Seat;
 use std::sync::Wait;
+use thiserror::Error;
 use xti_hall_rule::{Give, Look, Mark, Note, Stands};
 
 /// The given seat has no spare number.
-#[derive(Drop)]
+#[derive(Drop, Debug, Error)]
+#[error("the seat has no spare number")]
 pub struct NoSeat;
 
 impl<C: Stands> Hall<C> {
@@ -42,7 +43,7 @@ impl<C: Stands> Hall<C> {
         requires hall { IsSeatOf self.now seat.old }
         requires free { seat.old.view.journal ≡ false }
         ensures hall { IsSameSeat seat.old seat.new }
-        ensures seats { MatchResult result (λ s. CutsOff seat.old seat.new s) (λ _. HasNoneToSpare seat.old seat.new) }
+        ensures seats { Splits seat.old seat.new result }
         ensures standing { IsStanding seat.new.view × IfOk result (λ s. IsStanding s.view) }
     {
         if seat.next >= 33 {
@@ -83,7 +84,7 @@ impl<C: Stands> Hall<C> {
     pub fn length(&self, seat: &mut Seat<C>) -> u64
         requires hall { IsSeatOf self.now seat.old }
         ensures hall { IsSameSeat seat.old seat.new }
-        ensures seen { (h : List Entry) × (seat.new.view ≡ with_seen seat.old.view h) × Looked seat.old.view result h }
+        ensures seen { SeesLength seat.old.view result seat.new.view }
     {
         self.table.shared.load::<Look>(&mut seat.pass, 0)
     }

@@ -1,14 +1,11 @@
 //! The steps on a cell's turn. Between two calls a seat has no cell's slot open: the slot of a cell that is held is at home, and
 //! empty.
 
-ghost use Rattle.std.specs.Prelude.{◌≡◌, ◌+◌, ◌<◌, ℕ, [], ◌∷◌, set, true, Some, None, MatchBool};
-ghost use mathlib.Core.Option.{some};
-ghost use lib.ListN.{get_elem?};
+ghost use Rattle.std.specs.Prelude.{◌≡◌, ◌+◌, ◌<◌, ◌∷◌, true, Some};
 ghost use Rattle.atomic_table.specs.Table.{rest};
-ghost use Rattle.xti_model.specs.World.{Cell as MCell};
 ghost use Rattle.xti_hall_rule.specs.declared.view.Held.TheVariants.{Cell};
-ghost use Rattle.xti_hall_rule.specs.Steps.{Took, refused_at, with_held};
-ghost use Rattle.xti_hall.specs.Seats.{Sits};
+ghost use Rattle.xti_hall_rule.specs.Steps.{Took, settled};
+ghost use Rattle.xti_hall.specs.Seats.{Sits, StandsForHeld, TriesCell, TriesOnce, without_cell};
 ghost use Rattle.xti_hall.specs.Words.{IsOf, IsSame, setting_of};
 
 use super::Hall;
@@ -22,7 +19,7 @@ impl<C: Stands> Hall<C> {
         requires cell { cell < (setting_of self.now).cells }
         requires seat { Sits pass.old.me.0 }
         ensures hall { IsSame pass.old pass.new }
-        ensures took { MatchBool result (Took C.stands pass.old.me cell pass.new.me) (pass.new.me ≡ pass.old.me) }
+        ensures took { TriesCell C.stands pass.old.me cell result pass.new.me }
     {
         self.table
             .shared
@@ -36,7 +33,7 @@ impl<C: Stands> Hall<C> {
         requires cell { cell < (setting_of self.now).cells }
         requires seat { Sits pass.old.me.0 }
         ensures hall { IsSame pass.old pass.new }
-        ensures took { MatchBool result (Took C.stands pass.old.me cell pass.new.me) (pass.new.me ≡ (refused_at pass.old.me.0 cell, pass.old.me.1)) }
+        ensures took { TriesOnce C.stands pass.old.me cell result pass.new.me }
     {
         self.table
             .shared
@@ -52,11 +49,14 @@ impl<C: Stands> Hall<C> {
         ensures hall { IsSame pass.old pass.new }
         ensures took { Took C.stands pass.old.me cell pass.new.me }
     {
+        if self.try_take(pass, cell) {
+            return;
+        }
         for _ in rt.forever() {
+            self.linger_for_turn(rt, cell);
             if self.try_take(pass, cell) {
                 return;
             }
-            self.linger_for_turn(rt, cell);
         }
         unreachable!()
     }
@@ -70,7 +70,7 @@ impl<C: Stands> Hall<C> {
         requires taken { (x : C) × (pass.old.me.1 ≡ (cell, Some (Cell x)) ∷ rest pass.old.me.1) }
         ensures hall { IsSame pass.old pass.new }
         ensures value { pass.old.me.1 ≡ (cell, Some (Cell result)) ∷ rest pass.old.me.1 }
-        ensures view { pass.new.me ≡ (with_held pass.old.me.0 pass.old.me.0.held 0, rest pass.old.me.1) }
+        ensures view { settled pass.old.me pass.new.me }
     {
         let shared = &self.table.shared;
         let value = shared.exchange(pass, cell as usize, None);
@@ -87,9 +87,9 @@ impl<C: Stands> Hall<C> {
         requires cell { cell < (setting_of self.now).cells }
         requires seat { Sits pass.old.me.0 }
         requires setting { pass.old.me.0.setting ≡ setting_of self.now }
-        requires held { (m : MCell) × (get_elem? pass.old.me.0.held cell ≡ some (Some m)) × C.stands (setting_of self.now) value ((cell, m) ∷ []) }
+        requires held { StandsForHeld C.stands (setting_of self.now) pass.old.me.0 cell value }
         ensures hall { IsSame pass.old pass.new }
-        ensures gone { pass.new.me ≡ (with_held pass.old.me.0 (set pass.old.me.0.held cell None) 0, pass.old.me.1) }
+        ensures gone { pass.new.me ≡ (without_cell pass.old.me.0 cell, pass.old.me.1) }
     {
         let shared = &self.table.shared;
         let turn = cell as usize + 1;

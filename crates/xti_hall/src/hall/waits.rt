@@ -1,8 +1,8 @@
 ghost use Rattle.std.specs.Prelude.{◌≡◌, ◌<◌, ◌≤◌, ◌+◌, true, false, length, take};
 ghost use Rattle.xti_hall_rule.specs.declared.view.Mark.TheVariants.{Resting, Waiting};
 ghost use Rattle.xti_hall_rule.specs.Rule.{MarkFits, HasLog};
-ghost use Rattle.xti_hall_rule.specs.Steps.{with_pen, without_pen, Holds};
-ghost use Rattle.xti_hall.specs.Seats.{HoldsNone, IsStanding, Looks};
+ghost use Rattle.xti_hall_rule.specs.Steps.{without_pen, Holds};
+ghost use Rattle.xti_hall.specs.Seats.{HoldsNone, IsStanding, Looks, TakesJournal};
 ghost use Rattle.xti_hall.specs.Stalls.{WasBlocked, Sees, WaitedFor};
 ghost use Rattle.xti_hall.specs.Words.{IsSeatOf, IsSameSeat};
 
@@ -19,12 +19,12 @@ const EVERYONE: u64 = u64::MAX;
 
 impl<C: Stands> Hall<C> {
     /// Takes the journal without the room of an entry.
-    pub(super) fn look<R: Wait>(&self, rt: &R, seat: &mut Seat<C>) -> Journal
+    pub(super) fn look<R: Wait>(&self, rt: &R, seat: &mut Seat<C>) -> Box<Journal>
         requires hall { IsSeatOf self.now seat.old }
         requires free { seat.old.view.journal ≡ false }
         ensures hall { IsSameSeat seat.old seat.new }
-        ensures look { seat.new.view ≡ with_pen seat.old.view seat.new.view.history result.marks.items }
-        ensures log { HasLog seat.new.view.setting result seat.new.view.history }
+        ensures look { TakesJournal seat.old.view result.value seat.new.view }
+        ensures log { HasLog seat.new.view.setting result.value seat.new.view.history }
         ensures holds { Holds seat.new.view × (seat.new.view.numbered ≡ true) }
     {
         self.take_pen(rt, &mut seat.pass);
@@ -32,11 +32,11 @@ impl<C: Stands> Hall<C> {
     }
 
     /// Gives the journal back with a mark.
-    pub(super) fn give_marked(&self, seat: &mut Seat<C>, mut journal: Journal, mark: Mark)
+    pub(super) fn give_marked(&self, seat: &mut Seat<C>, mut journal: Box<Journal>, mark: Mark)
         requires hall { IsSeatOf self.now seat.old }
         requires holds { Holds seat.old.view }
-        requires log { HasLog seat.old.view.setting journal seat.old.view.history }
-        requires marks { journal.marks.items ≡ seat.old.view.marks }
+        requires log { HasLog seat.old.view.setting journal.value seat.old.view.history }
+        requires marks { journal.value.marks.items ≡ seat.old.view.marks }
         requires mark { MarkFits seat.old.view.setting seat.old.view.history mark }
         ensures hall { IsSameSeat seat.old seat.new }
         ensures view { seat.new.view ≡ without_pen seat.old.view mark }
@@ -103,7 +103,8 @@ impl<C: Stands> Hall<C> {
         requires free { seat.old.view.journal ≡ false }
         requires want { WasBlocked seat.old.view at want }
         requires set { set ≡ true → seat.old.view.mark ≡ Waiting want at }
-        ensures hall { IsSameSeat seat.old seat.new × (seat.new.view.setting ≡ seat.old.view.setting) }
+        ensures hall { IsSameSeat seat.old seat.new }
+        ensures setting { seat.new.view.setting ≡ seat.old.view.setting }
         ensures sight { Sees seat.new.view want at result }
         ensures looks { Looks seat.old.view seat.new.view }
         ensures free { seat.new.view.journal ≡ false }

@@ -62,8 +62,8 @@ give_up-requires-in-Ok-Blocked-clause-lends g c =
     let still = c.in-Ok-Blocked.ensures.still (ap (λ (z : Applied). taken z (cells c.apply.new.lent)) c.in-Ok-Blocked.field-0-is) in
     subst (λ (z : Lending). Lends c.begin.new.seat.view z) (sym still) (ready_lent r)
 
-pub write-told-requires-clause-short : goal.write-told-requires-clause-short
-write-told-requires-clause-short g c =
+pub write-rings-requires-clause-short : goal.write-rings-requires-clause-short
+write-rings-requires-clause-short g c =
     let r : Ready c.args.seat.now.view c.gather.new.seat.view c.begin.new.seat.view c.gather.new.lent c.args.call.now c.args.go c.in-Ok.pen.history c.in-Ok.pen.marks = record {
       may = c.requires.go;
       sends = c.calls_send_bytes.ensures;
@@ -77,8 +77,8 @@ write-told-requires-clause-short g c =
     let e = ap (λ (z : Applied). taken z (cells c.apply.new.lent)) (sym c.in-Ok-Step.field-0-is) ∙ c.in-Ok-Step.ensures.step in
     ready_short r c.apply.new.lent c.in-Ok-Step.outcome c.in-Ok-Step.after c.in-Ok-Step.ensures.kept e
 
-pub write-told-requires-clause-entry : goal.write-told-requires-clause-entry
-write-told-requires-clause-entry g c =
+pub write-rings-requires-clause-entry : goal.write-rings-requires-clause-entry
+write-rings-requires-clause-entry g c =
     let r : Ready c.args.seat.now.view c.gather.new.seat.view c.begin.new.seat.view c.gather.new.lent c.args.call.now c.args.go c.in-Ok.pen.history c.in-Ok.pen.marks = record {
       may = c.requires.go;
       sends = c.calls_send_bytes.ensures;
@@ -111,7 +111,7 @@ leave_all-requires-in-Ok-Step-clause-lends g c =
     let o : Outcome = c.in-Ok-Step.outcome in
     let s : State = c.in-Ok-Step.after in
     let e = ap (λ (z : Applied). taken z (cells c.apply.new.lent)) (sym c.in-Ok-Step.field-0-is) ∙ c.in-Ok-Step.ensures.step in
-    subst (λ (z : View). Lends z c.apply.new.lent) (sym c.write-told.ensures.view) (ready_lends r c.apply.new.lent k o s refl e c.in-Ok-Step.ensures.kept)
+    subst (λ (z : View). Lends z c.apply.new.lent) (sym c.write-rings.ensures.view) (ready_lends r c.apply.new.lent k o s refl e c.in-Ok-Step.ensures.kept)
 
 pub returns-in-Ok-Blocked-clause-ok : goal.returns-in-Ok-Blocked-clause-ok
 returns-in-Ok-Blocked-clause-ok g c =
@@ -144,8 +144,8 @@ returns-in-Ok-Step-clause-ok g c =
     let o : Outcome = c.in-Ok-Step.outcome in
     let s : State = c.in-Ok-Step.after in
     let e = ap (λ (z : Applied). taken z (cells c.apply.new.lent)) (sym c.in-Ok-Step.field-0-is) ∙ c.in-Ok-Step.ensures.step in
-    let all = ap (λ (z : SeatView). bare z.view) c.wake.ensures ∙ (c.leave_all-in-Ok-Step.ensures.rest ∙ ap bare c.write-told.ensures.view) in
-    ready_made r c.apply.new.lent k o c.write-told.result.0 s c.wake.new.seat.view refl c.in-Ok-Step.ensures.kept e c.write-told.ensures.told all
+    let all = ap (λ (z : SeatView). bare z.view) c.wake.ensures ∙ (c.leave_all-in-Ok-Step.ensures.rest ∙ ap bare c.write-rings.ensures.view) in
+    ready_made r c.apply.new.lent k o o s c.wake.new.seat.view refl c.in-Ok-Step.ensures.kept e refl all
 
 pub returns-in-Ok-Step-clause-standing : goal.returns-in-Ok-Step-clause-standing
-returns-in-Ok-Step-clause-standing g c = stands-still c.write-told.new.seat.view c.wake.new.seat.view (ap (λ (z : SeatView). bare z.view) c.wake.ensures ∙ c.leave_all-in-Ok-Step.ensures.rest) c.write-told.ensures.standing
+returns-in-Ok-Step-clause-standing g c = stands-still c.write-rings.new.seat.view c.wake.new.seat.view (ap (λ (z : SeatView). bare z.view) c.wake.ensures ∙ c.leave_all-in-Ok-Step.ensures.rest) c.write-rings.ensures.standing

@@ -23,7 +23,7 @@ pub invariant_of-seat : goal.invariant_of-seat
 invariant_of-seat g c = let v : View = c.args.seat.now.view in let is = ap (λ s. s.view) c.seat.view_is in let inv = c.seat.invariant in
     let numbered = ap (λ (z : View). z.numbered) (sym is) ∙ inv.1.numbered in
     let mine = c.requires.holds.mine numbered in
-    let mark : Mark = mark_of c.args.journal.marks.items c.seat.inside.pass.me.0.number in
+    let mark : Mark = mark_of c.args.journal.value.marks.items c.seat.inside.pass.me.0.number in
     let new = c.write.ensures.view ∙ ap (λ (z : View). (without_pen (committed c.seat.inside.pass.me.0 (z.history ++ shown c.args.entry ∷ [])) mark, rest c.seat.inside.pass.me.1)) is in
     after-commit v c.seat.inside.pass.me c.write.new.pass.me mark (shown c.args.entry) _ _ _ _ is new inv.1 inv.0 (ap (λ (z : View). z.journal) is ∙ c.requires.holds.journal) c.requires.holds c.requires.entry inv.6.numbered inv.6.below inv.2 inv.3
     (ap (λ (z : ℕ). z + 1) (inv.4 ∙ ap (λ (z : View). length z.mine) is) ∙ sym (one_more v (shown c.args.entry) mine c.requires.entry)) (c.requires.unfinished ∙ unfinished-more v (shown c.args.entry) mine c.requires.entry)
@@ -32,7 +32,7 @@ pub returns-clause-standing : goal.returns-clause-standing
 returns-clause-standing g c = let v : View = c.args.seat.now.view in let is = ap (λ s. s.view) c.seat.view_is in let inv = c.seat.invariant in
     let numbered = ap (λ (z : View). z.numbered) (sym is) ∙ inv.1.numbered in
     let mine = c.requires.holds.mine numbered in
-    let mark : Mark = mark_of c.args.journal.marks.items c.seat.inside.pass.me.0.number in
+    let mark : Mark = mark_of c.args.journal.value.marks.items c.seat.inside.pass.me.0.number in
     let new = c.write.ensures.view ∙ ap (λ (z : View). (without_pen (committed c.seat.inside.pass.me.0 (z.history ++ shown c.args.entry ∷ [])) mark, rest c.seat.inside.pass.me.1)) is in
     (after-commit v c.seat.inside.pass.me c.write.new.pass.me mark (shown c.args.entry) _ _ _ _ is new inv.1 inv.0 (ap (λ (z : View). z.journal) is ∙ c.requires.holds.journal) c.requires.holds c.requires.entry inv.6.numbered inv.6.below inv.2 inv.3
     (ap (λ (z : ℕ). z + 1) (inv.4 ∙ ap (λ (z : View). length z.mine) is) ∙ sym (one_more v (shown c.args.entry) mine c.requires.entry)) (c.requires.unfinished ∙ unfinished-more v (shown c.args.entry) mine c.requires.entry)).6
