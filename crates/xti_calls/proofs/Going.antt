@@ -16,7 +16,8 @@ use Rattle.xti_model.specs.declared.entry.Outcome.TheVariants.{Done, Part}
 use Rattle.xti_model.specs.declared.entry.Reply.{Reply}
 use Rattle.xti_model.specs.Robin.{act_of}
 use Rattle.xti_model.specs.Step.{step}
-use Rattle.xti_model.specs.Wants.{HasLeft, taken_before}
+use Rattle.xti_model.specs.Wants.{HasLeft}
+use Rattle.xti_model.specs.History.{taken_before}
 use Rattle.xti_model.specs.History.{Going, call_after, going_after, unfinished_from, made_by}
 use Rattle.xti_model.proofs.Working.{call_from, unfinished_from-snoc, call_of-from}
 use Rattle.xti_model.proofs.Appending.{all-append}

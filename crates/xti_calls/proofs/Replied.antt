@@ -9,7 +9,7 @@ use Rattle.xti_model.specs.declared.entry.Reply.{Reply}
 use Rattle.xti_model.specs.declared.entry.Reply.TheVariants as reply
 use Rattle.xti_model.specs.History.{after}
 use Rattle.xti_hall_rule.specs.declared.view.View.{View}
-use Rattle.xti_hall.specs.Seats.{IsStanding}
+use Rattle.xti_hall.specs.Seats.{IsStanding, SeatView}
 use Rattle.xti_verbs.specs.declared.verb.Verb.{Verb}
 use Rattle.xti_verbs.specs.declared.answer.Answer.TheVariants.{Got, UData}
 use Rattle.xti_verbs.specs.Verbs.{answer_of, answer_to, verb_of, MayAnswer}
@@ -26,7 +26,7 @@ use Rattle.xti_calls.specs.declared.answers.Fail.{Fail}
 use Rattle.xti_calls.specs.declared.answers.Fail.TheVariants as fail
 use Rattle.xti_calls.specs.Calling.{Answered}
 use Rattle.xti_calls.specs.Typed.{MayBe, Says, HasAtMost}
-use Rattle.xti_calls.specs.Forms.{Makes}
+use Rattle.xti_calls.specs.Forms.{IsAnswered, Makes}
 use Rattle.xti_calls.proofs.LastSteps.{IsStepOf, answered-step}
 
 may-be : (verb : Verb) (r : Reply) → MayAnswer verb (answer_to (Done r)) → MayBe (answer_of verb) r
@@ -76,10 +76,11 @@ datagram_fits a o n m (reply.Got bytes flags) k s h = absurd (cc k)
 datagram_fits a o n m (reply.UData addr opt bytes flags) k s h = omega (arith, s.2, h)
 datagram_fits a o n m other k s h = tt
 
-pub makes_said : {T : Type 0} (is : T → Reply → Type 0) (v : View) (c : Call) (v' : View) (r : Reply) (result : Result T Fail) → Answered v c Begin v' r → Says is r result → Makes c is v v' result
-makes_said is v c v' r (Ok a) k s = (r, k, s)
-makes_said is v c v' r (Err (fail.Err errno)) k s = subst (Answered v c Begin v') s k
-makes_said is v c v' r (Err (fail.Look event)) k s = subst (Answered v c Begin v') s k
-makes_said is v c v' r (Err (fail.Overflow seq)) k s = subst (Answered v c Begin v') s k
-makes_said is v c v' r (Err (fail.Halt halt)) k s = absurd s
-makes_said is v c v' r (Err (fail.Memory e)) k s = absurd s
+pub makes_said : {T : Type 0} (is : T → Reply → Type 0) (s : SeatView) (c : Call) (s' : SeatView) (r : Reply) (result : Result T Fail) → IsAnswered c s s' r → Says is r result → Makes c is s s' result
+makes_said is s c s' r (Ok a) k h = (r, k, h)
+makes_said is s c s' r (Err (fail.Err errno)) k h = subst (IsAnswered c s s') h k
+makes_said is s c s' r (Err (fail.Look event)) k h = subst (IsAnswered c s s') h k
+makes_said is s c s' r (Err (fail.Overflow seq)) k h = subst (IsAnswered c s s') h k
+makes_said is s c s' r (Err (fail.Halt halt)) k h = absurd h
+makes_said is s c s' r (Err (fail.Memory e)) k h = absurd h
+makes_said is s c s' r (Err fail.Unfinished) k h = absurd h

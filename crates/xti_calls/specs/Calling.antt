@@ -11,7 +11,7 @@ use Rattle.xti_model.specs.declared.entry.Outcome.TheVariants.{Done, Part}
 use Rattle.xti_model.specs.History.{Going, unfinished_from}
 use Rattle.xti_model.specs.Robin.{act_of}
 use Rattle.xti_model.specs.Step.{step}
-use Rattle.xti_model.specs.Wants.{taken_before}
+use Rattle.xti_model.specs.History.{taken_before}
 use Rattle.xti_hall_rule.specs.declared.view.View.{View}
 use Rattle.xti_hall_rule.specs.declared.view.Mark.TheVariants.{Free, Resting}
 use Rattle.xti_hall_rule.specs.Histories.{after}

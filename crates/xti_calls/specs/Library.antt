@@ -1,8 +1,9 @@
 -- What contracts see of the library and of its seats.
-use Rattle.std.specs.Prelude.{◌≡◌, ℕ, Bool, false, List, None}
+use Rattle.std.specs.Prelude.{◌≡◌, ◌⊎◌, ℕ, Bool, false, List, None}
 use Rattle.xti_model.specs.declared.profile.Providers.{Providers}
 use Rattle.xti_lent.specs.Lending.{Lending}
 use Rattle.xti_hall_rule.specs.declared.view.View.{View}
+use Rattle.xti_hall_rule.specs.declared.view.Mark.TheVariants.{Free}
 use Rattle.xti_hall.specs.Seats.{SeatView}
 use Rattle.xti_model.specs.History.{unfinished_from}
 use Rattle.xti_hall.specs.Words.{setting_of, IsSameSeat, IsSeatOf}
@@ -36,6 +37,10 @@ IsOf x s = IsSeatOf x.hall s
 abbrev pub IsFree : SeatView → Type 0
 IsFree s = unfinished_from None None s.view.mine ≡ None
 
+-- the seat has an unfinished call
+abbrev pub HasUnfinished : SeatView → Type 0
+HasUnfinished s = IsFree s → ⊥
+
 -- the library made the seat, which has no unfinished call
 abbrev pub MayCall : Xti → SeatView → Type 0
 MayCall x s = IsOf x s × IsFree s
@@ -43,3 +48,7 @@ MayCall x s = IsOf x s × IsFree s
 -- it is the same seat, and its history goes on
 abbrev pub GoesOn : SeatView → SeatView → Type 0
 GoesOn s s' = IsSameSeat s s' × Later s.view s'.view
+
+-- others see the seat as before, or as one that goes about its calls
+abbrev pub IsMarkedAsBefore : SeatView → SeatView → Type 0
+IsMarkedAsBefore s s' = (s'.view.mark ≡ s.view.mark) ⊎ (s'.view.mark ≡ Free)

@@ -31,6 +31,7 @@ SaysError r (fail.Look event) = r ≡ reply.Look event
 SaysError r (fail.Overflow seq) = r ≡ reply.Overflow seq
 SaysError r (fail.Halt halt) = ⊥
 SaysError r (fail.Memory e) = ⊥
+SaysError r fail.Unfinished = ⊥
 
 -- the reply is of this kind, or an error
 abbrev pub MayBe : Answer → Reply → Type 0

@@ -8,10 +8,13 @@ ghost use Rattle.xti_calls.specs.Typed.{IsDone, IsOpened, IsBound, IsConnected, 
 use crate::buffers::Buffers;
 use crate::calling::Halt;
 use std::alloc::{AllocError, Global};
+use std::fmt;
+use thiserror::Error;
+use xti_base::limits::{MOST_ADDRESS, MOST_OPTIONS, MOST_SIZE};
 use xti_base::{Errno, Event, Fd, Info, Octets, Parts, Seq, State, let_go};
 use xti_model::Reply;
 
-/// Why a call has no answer of its own. There are two ways to fail.
+/// Why a call has no answer of its own. There are two ways to fail. The text is in plain words.
 ///
 /// XTI refused the call: `Err`, `Look` and `Overflow` are what t_errno tells in C. The call is finished; the history has its
 /// entry, with the error, and the seat may make its next call. Each call lists these errors in the order in which they are
@@ -22,29 +25,37 @@ use xti_model::Reply;
 /// - `t_connect`: its TNODATA with O_NONBLOCK says that the request is made, and in blocking mode an error that comes after the
 ///   request doesn't take it back.
 ///
-/// Or the call stopped before it had an answer. With `Memory` that was before its first step, and the seat is as it was. With
-/// `Halt` it was at a step: memory ran out, or the call is blocked while each other seat that is out rests or is blocked too.
-/// The steps that it had made stand:
-/// - Where `Seat::unfinished` is `None` then, it had made none. It has changed nothing, and the seat may make any call.
+/// Or the call stopped before it had an answer. With `Unfinished` and `Memory` that was before its first step, and the seat is
+/// as it was. With `Halt` it was at a step: memory ran out, or the call is blocked while each other seat that is out rests or is
+/// blocked too. The steps that it had made stand:
+/// - Where `Caller::unfinished` is `None` then, it had made none. It has changed nothing, and the caller may make any call.
 /// - Else the request of a blocking `t_connect` was made, or some bytes of a blocking `t_snd` or `t_sndv` were taken (no other
-///   call is made in parts). The seat makes no other call until `Xti::resume` has gone on with this one.
+///   call is made in parts). Every other call answers `Unfinished` until `Caller::resume` has gone on with this one.
 ///
 /// A step takes all its memory, that for the answer too, before it changes anything: no answer of a step that was made is lost
 /// for lack of memory.
-#[derive(Clone, Copy)]
+#[derive(Clone, Copy, Debug, Error)]
 pub enum Fail {
     /// An error other than TLOOK and TBUFOVFLW.
+    #[error("refused with {}", .0.name())]
     Err(Errno),
     /// TLOOK: this event is pending, the first of those that the call looks at.
+    #[error("refused with TLOOK at {}", .0.name())]
     Look(Event),
     /// TBUFOVFLW: a returned field is longer than the caller takes. Of `t_listen` it has the sequence number of the request
     /// that was taken, by which it may be accepted or rejected; of every other call 0.
+    #[error("refused with TBUFOVFLW")]
     Overflow(Seq),
     /// The call stopped at a step that it couldn't make, for the reason that `Halt` has.
+    #[error("{0}")]
     Halt(Halt),
     /// Out of memory before the first step, and none was made: while the bytes, parts or sizes among the arguments were copied,
     /// or the buffers of a vector receive were made. A call without any of these never answers it.
+    #[error("out of memory")]
     Memory(AllocError),
+    /// The caller has another call unfinished, and this one wasn't made. It is answered exactly then, before anything else.
+    #[error("another call is unfinished")]
+    Unfinished,
 }
 
 impl From<AllocError> for Fail {
@@ -74,6 +85,15 @@ pub struct Max {
     pub udata: u32,
 }
 
+impl Max {
+    /// Takes every field: TBUFOVFLW never comes with it, and a datagram is taken at once.
+    pub const ALL: Max = Max {
+        addr: MOST_ADDRESS as u32,
+        opt: MOST_OPTIONS as u32,
+        udata: MOST_SIZE,
+    };
+}
+
 /// Address, options and data that came with a request to connect, with its answer, or as a datagram (t_call and t_unitdata in
 /// XNS).
 ///
@@ -92,6 +112,19 @@ pub struct TCall {
     /// The data: at most 64 bytes with a request or its answer, empty where none were given; else the bytes of the datagram, or
     /// of this part of it. Always empty of `t_rcvvudata`, which answers the bytes beside it.
     pub udata: Octets,
+}
+
+impl fmt::Debug for TCall {
+    fn fmt<W: fmt::Write>(&self, f: &mut fmt::Formatter<W>) -> fmt::Result {
+        write!(
+            f,
+            "TCall {{ seq: {:?}, addr: {:?}, opt: {:?}, udata: {:?} }}",
+            self.seq,
+            self.addr.as_slice(),
+            self.opt.as_slice(),
+            self.udata.as_slice()
+        )
+    }
 }
 
 /// What stands for a sequence number where there is none.

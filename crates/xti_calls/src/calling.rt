@@ -2,11 +2,11 @@
 
 ghost use Rattle.std.specs.Prelude.{◌≡◌, false, MatchResult};
 ghost use Rattle.xti_model.specs.declared.entry.Go.TheVariants.{Begin};
-ghost use Rattle.xti_model.specs.Wants.{HasLeft, taken_before};
+ghost use Rattle.xti_model.specs.Wants.{HasLeft};
 ghost use Rattle.xti_hall.specs.Seats.{IsStanding};
 ghost use Rattle.xti_hall.specs.Stalls.{waits};
-ghost use Rattle.xti_hall.specs.Words.{setting_of, IsSeatOf, IsSameSeat};
-ghost use Rattle.xti_gather.specs.Cells.{IsWhole};
+ghost use Rattle.xti_hall.specs.Words.{IsSameSeat};
+ghost use Rattle.xti_gather.specs.Cells.{InHall};
 ghost use Rattle.xti_gather.specs.Lends.{IsEmpty};
 ghost use Rattle.xti_gather.specs.Orders.{AreCells};
 ghost use Rattle.xti_step.specs.Steps.{HoldsNothing, Later};
@@ -14,7 +14,9 @@ ghost use Rattle.xti_calls.specs.Calling.{IsAt, IsUnfinished, Answered, Halted, 
 ghost use Rattle.xti_calls.specs.Library.{IsFree};
 
 use std::alloc::Global;
+use std::fmt;
 use std::sync::Wait;
+use thiserror::Error;
 use xti_gather::Cell;
 use xti_hall::{Hall, Seat, Stall, Waited};
 use xti_lent::Lent;
@@ -23,21 +25,26 @@ use xti_step::{Gate, step};
 use xti_wants::{blocked_calls_have_wants, want_of};
 
 /// Why a call stops before its reply. The steps that were made stand in the history, and so many bytes are taken.
-#[derive(Clone, Copy)]
+#[derive(Clone, Copy, Error)]
 pub enum Halt {
     /// Out of memory.
+    #[error("out of memory")]
     OutOfMemory { taken: u32 },
     /// The call is blocked, and each other seat that is out rests, or waits for what is blocked too.
+    #[error("blocked, and nobody can go on")]
     Stalled { taken: u32, stall: Stall },
 }
 
-/// How many bytes earlier steps took.
-fn taken_before(go: Go) -> u32
-    ensures { result ≡ taken_before go }
-{
-    match go {
-        Go::Begin => 0,
-        Go::More(n) => n,
+impl fmt::Debug for Halt {
+    fn fmt<W: fmt::Write>(&self, f: &mut fmt::Formatter<W>) -> fmt::Result {
+        match self {
+            Halt::OutOfMemory { taken } => write!(f, "OutOfMemory {{ taken: {taken} }}"),
+            Halt::Stalled { taken, stall } => write!(
+                f,
+                "Stalled {{ taken: {taken}, at: {}, waiting: {}, resting: {} }}",
+                stall.at, stall.waiting, stall.resting
+            ),
+        }
     }
 }
 
@@ -54,7 +61,7 @@ fn go_on<G: Gate, R: Wait + Sync>(
     call: &Call,
     from: Go,
 ) -> Result<Reply, Halt>
-    requires hall { IsSeatOf hall.now seat.old × (IsWhole (setting_of hall.now) lent.old.providers) }
+    requires hall { InHall hall.now seat.old lent.old.providers }
     requires idle { HoldsNothing seat.old.view }
     requires empty { IsEmpty lent.old }
     requires first { AreCells lent.old.providers first.old }
@@ -77,7 +84,7 @@ fn go_on<G: Gate, R: Wait + Sync>(
         match step(rt, alloc, hall, seat, lent, first, gate, call, go) {
             Err(_) => {
                 return Err(Halt::OutOfMemory {
-                    taken: taken_before(go),
+                    taken: go.taken_before(),
                 });
             }
             Ok((Applied::Step { outcome, .. }, _)) => match outcome {
@@ -92,7 +99,7 @@ fn go_on<G: Gate, R: Wait + Sync>(
                     Waited::Again => {}
                     Waited::Stalled(stall) => {
                         return Err(Halt::Stalled {
-                            taken: taken_before(go),
+                            taken: go.taken_before(),
                             stall,
                         });
                     }
@@ -116,7 +123,7 @@ pub fn call<G: Gate, R: Wait + Sync>(
     gate: &G,
     call: &Call,
 ) -> Result<Reply, Halt>
-    requires hall { IsSeatOf hall.now seat.old × (IsWhole (setting_of hall.now) lent.old.providers) }
+    requires hall { InHall hall.now seat.old lent.old.providers }
     requires idle { HoldsNothing seat.old.view }
     requires empty { IsEmpty lent.old }
     requires first { AreCells lent.old.providers first.old }
@@ -146,7 +153,7 @@ pub fn resume<G: Gate, R: Wait + Sync>(
     gate: &G,
     call: &Call,
 ) -> Result<Reply, Halt>
-    requires hall { IsSeatOf hall.now seat.old × (IsWhole (setting_of hall.now) lent.old.providers) }
+    requires hall { InHall hall.now seat.old lent.old.providers }
     requires idle { HoldsNothing seat.old.view }
     requires empty { IsEmpty lent.old }
     requires first { AreCells lent.old.providers first.old }

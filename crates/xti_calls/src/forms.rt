@@ -1,12 +1,10 @@
-//! The calls of XTI in their own types: a method of `Xti` for each, with the name that it has in XNS, and `set_mode`. Each
+//! The calls of XTI in their own types: a method of `Caller` for each, with the name that it has in XNS, and `set_mode`. Each
 //! says what it does, for what it waits and which errors it answers; `Fail` says what they have in common where they fail.
 
 ghost use Rattle.std.specs.Prelude.{◌≡◌, IfOk, MatchResult};
-ghost use Rattle.xti_model.specs.declared.entry.Go.TheVariants.{Begin};
 ghost use Rattle.xti_verbs.specs.Verbs.{answer_of, verb_of};
 ghost use Rattle.xti_laws_sound.specs.Replies.{lengths_of, IsShort};
-ghost use Rattle.xti_calls.specs.Calling.{Answered};
-ghost use Rattle.xti_calls.specs.Forms.{Fails};
+ghost use Rattle.xti_calls.specs.Forms.{Fails, IsAnswered};
 ghost use Rattle.xti_calls.specs.Typed.{MayBe};
 ghost use Rattle.xti_calls.specs.Library.{MayCall, GoesOn};
 
@@ -27,7 +25,7 @@ mod streams;
 
 impl Xti {
     /// The reply of a call, which is of the call's kind, and no longer than the call allows.
-    fn reply<R: Wait + Sync>(
+    pub(crate) fn reply<R: Wait + Sync>(
         &self,
         rt: &R,
         alloc: Global,
@@ -37,8 +35,8 @@ impl Xti {
         requires seat { MayCall self.now seat.old }
         ensures seat { GoesOn seat.old seat.new }
         ensures made { MatchResult result
-            (λ r. Answered seat.old.view call Begin seat.new.view r × MayBe (answer_of (verb_of call)) r)
-            (Fails call seat.old.view seat.new.view) }
+            (λ r. IsAnswered call seat.old seat.new r × MayBe (answer_of (verb_of call)) r)
+            (Fails call seat.old seat.new) }
         ensures short { IfOk result (IsShort (lengths_of call)) }
     {
         steps_answer_in_form();

@@ -1,6 +1,6 @@
 //! The library: a hall and its seats.
 
-ghost use Rattle.std.specs.Prelude.{◌≡◌, ◌⊎◌, length, true, IfOk, OnErr, MatchResult};
+ghost use Rattle.std.specs.Prelude.{◌≡◌, length, true, IfOk, OnErr, MatchResult};
 ghost use mathlib.Core.List.{IsPrefix};
 ghost use Rattle.xti_model.specs.declared.entry.Go.TheVariants.{Begin};
 ghost use Rattle.xti_model.specs.Profile.{valid};
@@ -12,11 +12,12 @@ ghost use Rattle.xti_gather.specs.Cells.{whole};
 ghost use Rattle.xti_glance.specs.Glances.{Finds, IsSameLater};
 ghost use Rattle.xti_step.specs.Steps.{Later, MayGo, Tells};
 ghost use Rattle.xti_calls.specs.Calling.{IsUnfinished, Answered, Halted, where_left};
-ghost use Rattle.xti_calls.specs.Library.{IsOf, MayCall, keeps_of, providers_of};
+ghost use Rattle.xti_calls.specs.Library.{IsMarkedAsBefore, IsOf, MayCall, keeps_of, providers_of};
 
 use crate::calling::{Halt, call, resume};
 use crate::shared::Xti;
 use std::alloc::{AllocError, Global};
+use std::fmt;
 use std::marker::Model;
 use std::sync::Wait;
 use xti_base::{Fd, let_go};
@@ -79,6 +80,12 @@ impl Seat {
     }
 }
 
+impl fmt::Debug for Seat {
+    fn fmt<W: fmt::Write>(&self, f: &mut fmt::Formatter<W>) -> fmt::Result {
+        write!(f, "Seat {{ number: {} }}", self.number())
+    }
+}
+
 /// A library at its end, and the seat that took its history. Contracts see the seat, which has seen the whole history.
 #[derive(Drop)]
 pub struct Ended {
@@ -91,6 +98,12 @@ impl Model for Ended {
     ghost Value = { SeatView };
 
     ghost view = { λ e. e.hall };
+}
+
+impl fmt::Debug for Ended {
+    fn fmt<W: fmt::Write>(&self, f: &mut fmt::Formatter<W>) -> fmt::Result {
+        f.write_str("Ended")
+    }
 }
 
 impl Ended {
@@ -132,7 +145,18 @@ impl Xti {
         let (hall, seat) = open_hall(alloc, p, keeps)?;
         let lent = nothing_lent(alloc, p);
         let first = Cells::new();
-        Ok((Xti { hall }, Seat { seat, lent, first }))
+        let xti = Xti {
+            hall,
+            providers: *p,
+        };
+        Ok((xti, Seat { seat, lent, first }))
+    }
+
+    /// The providers' values that the library was made with. Takes no memory.
+    pub fn providers(&self) -> &Providers
+        ensures { result.now ≡ providers_of self.now }
+    {
+        &self.providers
     }
 
     /// Whether the history is kept, so that it can be handed out. Takes no memory.
@@ -164,7 +188,7 @@ impl Xti {
         ensures ok { IfOk result (Tells seat.old.view call.now go seat.new.view) }
         ensures free { IfOk result (λ _. seat.new.view.mark ≡ Free) }
         ensures err { OnErr result (seat.new.view.mine ≡ seat.old.view.mine) }
-        ensures mark { OnErr result ((seat.new.view.mark ≡ seat.old.view.mark) ⊎ (seat.new.view.mark ≡ Free)) }
+        ensures mark { OnErr result (IsMarkedAsBefore seat.old seat.new) }
     {
         let (applied, _at) = step(
             rt,
@@ -199,8 +223,8 @@ impl Xti {
     /// All steps of a call by a seat that has none unfinished, waiting where it is blocked.
     ///
     /// The reply may be an error of XTI (`Reply::Refused`, `Look`, `Overflow`), and then has its entry in the history like any
-    /// other; `Halt` says why the call stopped before its reply. The methods from `t_open` to `set_mode` are this one, each for
-    /// its own call, with arguments and answers in types of their own, and without a gate.
+    /// other; `Halt` says why the call stopped before its reply. The methods of `Caller` from `t_open` to `set_mode` are this one,
+    /// each for its own call, with arguments and answers in types of their own, and without a gate.
     pub fn call<G: Gate, R: Wait + Sync>(
         &self,
         rt: &R,
@@ -316,7 +340,7 @@ impl Xti {
         ensures looks { Looks seat.view result.view }
         ensures standing { IsStanding result.view }
     {
-        let Xti { hall } = self;
+        let Xti { hall, .. } = self;
         let Seat { seat, lent, .. } = seat;
         let_go(lent);
         Ended {

@@ -75,6 +75,7 @@ impl Log {
             CallFail::Overflow(seq) => self.number("TBUFOVFLW ", seq.0 as u64),
             CallFail::Halt(halt) => self.halt(halt),
             CallFail::Memory(_) => self.text("out of memory"),
+            CallFail::Unfinished => self.text("unfinished"),
         }
     }
 

@@ -1,15 +1,14 @@
 //! Calls as tables tell them, and what makes them and writes down what they answer.
 
-ghost use Rattle.std.specs.Prelude.{◌≡◌, OnOk};
-ghost use Rattle.xti_calls.specs.Library.{IsFree, IsOf, MayCall};
+ghost use Rattle.xti_hall.specs.Seats.{AreOfOneHall};
 
 use crate::answers::Log;
 use crate::library::{Stop, finished};
 use std::alloc::{AllocError, Global};
 use std::sync::Wait;
 use xti_base::{Fd, Parts, Seq, Sizes};
-use xti_calls::{Fail, Max, Seat, TCall, Xti};
-use xti_data::Gather;
+use xti_calls::{Caller, Fail, Max, TCall};
+use xti_data::SendParts;
 
 /// The most bytes that the callers take.
 pub(crate) const MOST: Max = Max {
@@ -90,20 +89,20 @@ pub(crate) enum Datagram {
 }
 
 /// Adds these parts.
-fn gather(gathered: &mut Gather, parts: &[&[u8]]) -> Result<(), AllocError> {
+fn add_parts(joined: &mut SendParts, parts: &[&[u8]]) -> Result<(), AllocError> {
     for part in parts {
-        gathered.add(part)?;
+        joined.add(part)?;
     }
     Ok(())
 }
 
 /// These parts.
-fn gathered(alloc: Global, parts: &[&[u8]]) -> Result<Gather, AllocError> {
-    let mut gathered = Gather::new(alloc);
-    match gather(&mut gathered, parts) {
-        Ok(()) => Ok(gathered),
+fn joined(alloc: Global, parts: &[&[u8]]) -> Result<SendParts, AllocError> {
+    let mut joined = SendParts::new(alloc);
+    match add_parts(&mut joined, parts) {
+        Ok(()) => Ok(joined),
         Err(error) => {
-            drop(gathered);
+            drop(joined);
             Err(error)
         }
     }
@@ -130,275 +129,199 @@ fn sizes(alloc: Global, all: &[u32]) -> Result<Sizes, AllocError> {
 }
 
 /// A call that changes an endpoint alone.
-fn change_endpoint<R: Wait + Sync>(
-    rt: &R,
-    alloc: Global,
-    xti: &Xti,
-    seat: &mut Seat,
-    log: &mut Log,
-    ask: &Endpoint,
-)
-    requires seat { MayCall xti.now seat.old }
-    ensures { IsOf xti.now seat.new }
+fn change_endpoint<R: Wait + Sync>(caller: &mut Caller<R>, log: &mut Log, ask: &Endpoint)
+    ensures { AreOfOneHall caller.old caller.new }
 {
     match *ask {
-        Endpoint::Open(name, nonblock) => log.note(xti.t_open(rt, alloc, seat, name, nonblock)),
-        Endpoint::Close(fd) => log.note(xti.t_close(rt, alloc, seat, fd)),
-        Endpoint::Bind(fd, addr, qlen, amax) => log.note(xti.t_bind(
-            rt, alloc, seat, fd, addr, qlen, amax,
-        )),
-        Endpoint::Unbind(fd) => log.note(xti.t_unbind(rt, alloc, seat, fd)),
-        Endpoint::Mode(fd, nonblock) => log.note(xti.set_mode(rt, alloc, seat, fd, nonblock)),
+        Endpoint::Open(name, nonblock) => log.note(caller.t_open(name, nonblock)),
+        Endpoint::Close(fd) => log.note(caller.t_close(fd)),
+        Endpoint::Bind(fd, addr, qlen, amax) => log.note(caller.t_bind(fd, addr, qlen, amax)),
+        Endpoint::Unbind(fd) => log.note(caller.t_unbind(fd)),
+        Endpoint::Mode(fd, nonblock) => log.note(caller.set_mode(fd, nonblock)),
     }
 }
 
 /// A call that tells of an endpoint.
-fn tell_endpoint<R: Wait + Sync>(
-    rt: &R,
-    alloc: Global,
-    xti: &Xti,
-    seat: &mut Seat,
-    log: &mut Log,
-    ask: &Look,
-)
-    requires seat { MayCall xti.now seat.old }
-    ensures { IsOf xti.now seat.new }
+fn tell_endpoint<R: Wait + Sync>(caller: &mut Caller<R>, log: &mut Log, ask: &Look)
+    ensures { AreOfOneHall caller.old caller.new }
 {
     match *ask {
-        Look::Event(fd) => log.note(xti.t_look(rt, alloc, seat, fd)),
-        Look::State(fd) => log.note(xti.t_getstate(rt, alloc, seat, fd)),
-        Look::Sync(fd) => log.note(xti.t_sync(rt, alloc, seat, fd)),
-        Look::Info(fd) => log.note(xti.t_getinfo(rt, alloc, seat, fd)),
-        Look::Addresses(fd, amax, pmax) => log.note(xti.t_getprotaddr(
-            rt, alloc, seat, fd, amax, pmax,
-        )),
-        Look::Options(fd, action, opt, omax) => log.note(xti.t_optmgmt(
-            rt, alloc, seat, fd, action, opt, omax,
-        )),
+        Look::Event(fd) => log.note(caller.t_look(fd)),
+        Look::State(fd) => log.note(caller.t_getstate(fd)),
+        Look::Sync(fd) => log.note(caller.t_sync(fd)),
+        Look::Info(fd) => log.note(caller.t_getinfo(fd)),
+        Look::Addresses(fd, amax, pmax) => log.note(caller.t_getprotaddr(fd, amax, pmax)),
+        Look::Options(fd, action, opt, omax) => log.note(caller.t_optmgmt(fd, action, opt, omax)),
     }
 }
 
 /// A call that makes a connection.
-fn make_connection<R: Wait + Sync>(
-    rt: &R,
-    alloc: Global,
-    xti: &Xti,
-    seat: &mut Seat,
-    log: &mut Log,
-    ask: &Request,
-)
-    requires seat { MayCall xti.now seat.old }
-    ensures { IsOf xti.now seat.new }
+fn make_connection<R: Wait + Sync>(caller: &mut Caller<R>, log: &mut Log, ask: &Request)
+    ensures { AreOfOneHall caller.old caller.new }
 {
     match *ask {
-        Request::Connect(fd, addr, max) => log.note(xti.t_connect(
-            rt, alloc, seat, fd, addr, NOTHING, NOTHING, max,
+        Request::Connect(fd, addr, max) => log.note(caller.t_connect(
+            fd, addr, NOTHING, NOTHING, max,
         )),
-        Request::Confirm(fd, max) => log.note(xti.t_rcvconnect(rt, alloc, seat, fd, max)),
-        Request::Listen(fd, max) => log.note(xti.t_listen(rt, alloc, seat, fd, max)),
-        Request::Accept(fd, resfd, seq) => log.note(xti.t_accept(
-            rt, alloc, seat, fd, resfd, seq, NOTHING, NOTHING,
+        Request::Confirm(fd, max) => log.note(caller.t_rcvconnect(fd, max)),
+        Request::Listen(fd, max) => log.note(caller.t_listen(fd, max)),
+        Request::Accept(fd, resfd, seq) => log.note(caller.t_accept(
+            fd, resfd, seq, NOTHING, NOTHING,
         )),
     }
 }
 
 /// A call that ends a connection.
-fn end_connection<R: Wait + Sync>(
-    rt: &R,
-    alloc: Global,
-    xti: &Xti,
-    seat: &mut Seat,
-    log: &mut Log,
-    ask: &End,
-)
-    requires seat { MayCall xti.now seat.old }
-    ensures { IsOf xti.now seat.new }
+fn end_connection<R: Wait + Sync>(caller: &mut Caller<R>, log: &mut Log, ask: &End)
+    ensures { AreOfOneHall caller.old caller.new }
 {
     match *ask {
-        End::Disconnect(fd, seq) => log.note(xti.t_snddis(rt, alloc, seat, fd, seq, NOTHING)),
-        End::Disconnected(fd, umax) => log.note(xti.t_rcvdis(rt, alloc, seat, fd, umax)),
-        End::Release(fd) => log.note(xti.t_sndrel(rt, alloc, seat, fd)),
-        End::Released(fd) => log.note(xti.t_rcvrel(rt, alloc, seat, fd)),
+        End::Disconnect(fd, seq) => log.note(caller.t_snddis(fd, seq, NOTHING)),
+        End::Disconnected(fd, umax) => log.note(caller.t_rcvdis(fd, umax)),
+        End::Release(fd) => log.note(caller.t_sndrel(fd)),
+        End::Released(fd) => log.note(caller.t_rcvrel(fd)),
     }
 }
 
 /// Sends parts over a connection.
 fn send_parts<R: Wait + Sync>(
-    rt: &R,
     alloc: Global,
-    xti: &Xti,
-    seat: &mut Seat,
+    caller: &mut Caller<R>,
     fd: Fd,
     parts: &[&[u8]],
     flags: u32,
 ) -> Result<u32, Fail>
-    requires seat { MayCall xti.now seat.old }
-    ensures { IsOf xti.now seat.new }
+    ensures { AreOfOneHall caller.old caller.new }
 {
-    let parts = gathered(alloc, parts)?;
-    let sent = xti.t_sndv(rt, alloc, seat, fd, &parts, flags);
+    let parts = joined(alloc, parts)?;
+    let sent = caller.t_sndv(fd, &parts, flags);
     drop(parts);
     sent
 }
 
 /// Receives into buffers of these sizes.
 fn receive_parts<R: Wait + Sync>(
-    rt: &R,
     alloc: Global,
-    xti: &Xti,
-    seat: &mut Seat,
+    caller: &mut Caller<R>,
     fd: Fd,
     all: &[u32],
 ) -> Result<(Parts, u32), Fail>
-    requires seat { MayCall xti.now seat.old }
-    ensures { IsOf xti.now seat.new }
+    ensures { AreOfOneHall caller.old caller.new }
 {
     let sizes = sizes(alloc, all)?;
-    let received = xti.t_rcvv(rt, alloc, seat, fd, &sizes);
+    let received = caller.t_rcvv(fd, &sizes);
     drop(sizes);
     received
 }
 
 /// A call that moves data over a connection.
-fn move_data<R: Wait + Sync>(
-    rt: &R,
-    alloc: Global,
-    xti: &Xti,
-    seat: &mut Seat,
-    log: &mut Log,
-    ask: &Data,
-)
-    requires seat { MayCall xti.now seat.old }
-    ensures { IsOf xti.now seat.new }
+fn move_data<R: Wait + Sync>(alloc: Global, caller: &mut Caller<R>, log: &mut Log, ask: &Data)
+    ensures { AreOfOneHall caller.old caller.new }
 {
     match *ask {
-        Data::Send(fd, bytes, flags) => log.note(xti.t_snd(rt, alloc, seat, fd, bytes, flags)),
-        Data::Receive(fd, max) => log.note(xti.t_rcv(rt, alloc, seat, fd, max)),
-        Data::SendParts(fd, parts, flags) => log.note(send_parts(
-            rt, alloc, xti, seat, fd, parts, flags,
-        )),
-        Data::ReceiveParts(fd, all) => log.note(receive_parts(rt, alloc, xti, seat, fd, all)),
+        Data::Send(fd, bytes, flags) => log.note(caller.t_snd(fd, bytes, flags)),
+        Data::Receive(fd, max) => log.note(caller.t_rcv(fd, max)),
+        Data::SendParts(fd, parts, flags) => log.note(send_parts(alloc, caller, fd, parts, flags)),
+        Data::ReceiveParts(fd, all) => log.note(receive_parts(alloc, caller, fd, all)),
     }
 }
 
 /// Sends a datagram of parts.
 fn send_datagram<R: Wait + Sync>(
-    rt: &R,
     alloc: Global,
-    xti: &Xti,
-    seat: &mut Seat,
+    caller: &mut Caller<R>,
     fd: Fd,
     addr: &[u8],
     parts: &[&[u8]],
 ) -> Result<(), Fail>
-    requires seat { MayCall xti.now seat.old }
-    ensures { IsOf xti.now seat.new }
+    ensures { AreOfOneHall caller.old caller.new }
 {
-    let parts = gathered(alloc, parts)?;
-    let sent = xti.t_sndvudata(rt, alloc, seat, fd, addr, NOTHING, &parts);
+    let parts = joined(alloc, parts)?;
+    let sent = caller.t_sndvudata(fd, addr, NOTHING, &parts);
     drop(parts);
     sent
 }
 
 /// Receives a datagram into buffers of these sizes.
 fn receive_datagram<R: Wait + Sync>(
-    rt: &R,
     alloc: Global,
-    xti: &Xti,
-    seat: &mut Seat,
+    caller: &mut Caller<R>,
     fd: Fd,
     all: &[u32],
     amax: u32,
     omax: u32,
 ) -> Result<(TCall, Parts, u32), Fail>
-    requires seat { MayCall xti.now seat.old }
-    ensures { IsOf xti.now seat.new }
+    ensures { AreOfOneHall caller.old caller.new }
 {
     let sizes = sizes(alloc, all)?;
-    let received = xti.t_rcvvudata(rt, alloc, seat, fd, &sizes, amax, omax);
+    let received = caller.t_rcvvudata(fd, &sizes, amax, omax);
     drop(sizes);
     received
 }
 
 /// A call of datagrams.
 fn move_datagram<R: Wait + Sync>(
-    rt: &R,
     alloc: Global,
-    xti: &Xti,
-    seat: &mut Seat,
+    caller: &mut Caller<R>,
     log: &mut Log,
     ask: &Datagram,
 )
-    requires seat { MayCall xti.now seat.old }
-    ensures { IsOf xti.now seat.new }
+    ensures { AreOfOneHall caller.old caller.new }
 {
     match *ask {
-        Datagram::Send(fd, addr, bytes) => log.note(xti.t_sndudata(
-            rt, alloc, seat, fd, addr, NOTHING, bytes,
-        )),
-        Datagram::Receive(fd, max) => log.note(xti.t_rcvudata(rt, alloc, seat, fd, max)),
+        Datagram::Send(fd, addr, bytes) => log.note(caller.t_sndudata(fd, addr, NOTHING, bytes)),
+        Datagram::Receive(fd, max) => log.note(caller.t_rcvudata(fd, max)),
         Datagram::SendParts(fd, addr, parts) => log.note(send_datagram(
-            rt, alloc, xti, seat, fd, addr, parts,
+            alloc, caller, fd, addr, parts,
         )),
         Datagram::ReceiveParts(fd, all, amax, omax) => log.note(receive_datagram(
-            rt, alloc, xti, seat, fd, all, amax, omax,
+            alloc, caller, fd, all, amax, omax,
         )),
-        Datagram::Error(fd, amax, omax) => log.note(xti.t_rcvuderr(
-            rt, alloc, seat, fd, amax, omax,
-        )),
+        Datagram::Error(fd, amax, omax) => log.note(caller.t_rcvuderr(fd, amax, omax)),
     }
 }
 
 /// One call.
-fn make<R: Wait + Sync>(rt: &R, alloc: Global, xti: &Xti, seat: &mut Seat, log: &mut Log, ask: &Ask)
-    requires seat { MayCall xti.now seat.old }
-    ensures { IsOf xti.now seat.new }
+fn make<R: Wait + Sync>(alloc: Global, caller: &mut Caller<R>, log: &mut Log, ask: &Ask)
+    ensures { AreOfOneHall caller.old caller.new }
 {
     match ask {
-        Ask::Endpoint(ask) => change_endpoint(rt, alloc, xti, seat, log, ask),
-        Ask::Look(ask) => tell_endpoint(rt, alloc, xti, seat, log, ask),
-        Ask::Request(ask) => make_connection(rt, alloc, xti, seat, log, ask),
-        Ask::End(ask) => end_connection(rt, alloc, xti, seat, log, ask),
-        Ask::Data(ask) => move_data(rt, alloc, xti, seat, log, ask),
-        Ask::Datagram(ask) => move_datagram(rt, alloc, xti, seat, log, ask),
+        Ask::Endpoint(ask) => change_endpoint(caller, log, ask),
+        Ask::Look(ask) => tell_endpoint(caller, log, ask),
+        Ask::Request(ask) => make_connection(caller, log, ask),
+        Ask::End(ask) => end_connection(caller, log, ask),
+        Ask::Data(ask) => move_data(alloc, caller, log, ask),
+        Ask::Datagram(ask) => move_datagram(alloc, caller, log, ask),
     }
 }
 
 /// All calls of a table, each of which is finished.
 pub(crate) fn make_all<R: Wait + Sync>(
-    rt: &R,
     alloc: Global,
-    xti: &Xti,
-    seat: &mut Seat,
+    caller: &mut Caller<R>,
     log: &mut Log,
     asks: &[Ask],
 ) -> Result<(), Stop>
-    requires seat { MayCall xti.now seat.old }
-    ensures seat { IsOf xti.now seat.new }
-    ensures none { OnOk result (IsFree seat.new) }
+    ensures { AreOfOneHall caller.old caller.new }
 {
     for ask in asks {
-        make(rt, alloc, xti, seat, log, ask);
-        finished(seat)?;
+        make(alloc, caller, log, ask);
+        finished(caller)?;
     }
     Ok(())
 }
 
 /// All calls of these tables.
 pub(crate) fn converse<R: Wait + Sync>(
-    rt: &R,
     alloc: Global,
-    xti: &Xti,
-    seat: &mut Seat,
+    caller: &mut Caller<R>,
     log: &mut Log,
     tables: &[&[Ask]],
 ) -> Result<(), Stop>
-    requires seat { MayCall xti.now seat.old }
-    ensures seat { IsOf xti.now seat.new }
-    ensures none { OnOk result (IsFree seat.new) }
+    ensures { AreOfOneHall caller.old caller.new }
 {
     for asks in tables {
-        make_all(rt, alloc, xti, seat, log, asks)?;
+        make_all(alloc, caller, log, asks)?;
     }
     Ok(())
 }

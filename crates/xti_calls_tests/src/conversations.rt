@@ -17,9 +17,10 @@ fn talk<R: Wait + Sync>(
     log: &mut Log,
     tables: &[&[Ask]],
 ) -> Result<(), Stop> {
-    let (xti, mut seat) = library(alloc)?;
-    let made = converse(rt, alloc, &xti, &mut seat, log, tables);
-    drop(seat);
+    let (xti, seat) = library(alloc)?;
+    let mut caller = xti.caller(rt, alloc, seat);
+    let made = converse(alloc, &mut caller, log, tables);
+    drop(caller);
     drop(xti);
     made
 }

@@ -1,12 +1,9 @@
 //! A thread that is held at its gate holds up no step on other cells.
 
-ghost use Rattle.std.specs.Prelude.{◌≡◌, IfOk};
-ghost use Rattle.xti_calls.specs.Library.{MayCall};
-
 use crate::answers::Log;
 use crate::asks::{Ask, Data, Datagram, Endpoint, Look, MOST, Request, converse, make_all};
 use crate::datagrams;
-use crate::library::{Stop, another_seat, library};
+use crate::library::{Stop, another_caller, finished, library};
 use std::alloc::{AllocError, Global};
 use std::process::Abort;
 use std::sync::Wait;
@@ -14,7 +11,7 @@ use std::sync::atomic::{AtomicBool, Ordering};
 use std::test::*;
 use std::thread::{self, Threads};
 use xti_base::{Fd, Octets, Seq};
-use xti_calls::{Gate, Seat, Xti};
+use xti_calls::{Caller, Gate};
 use xti_gather::Cell;
 use xti_hall::Seat as HallSeat;
 use xti_model::Call;
@@ -195,59 +192,50 @@ fn held_call(alloc: Global, held: Held) -> Result<Call, AllocError> {
 
 /// Makes the call, held at the gate; whether it was answered.
 fn make_held<R: Wait + Sync>(
-    rt: &R,
     alloc: Global,
-    xti: &Xti,
-    seat: &mut Seat,
+    caller: &mut Caller<R>,
     gate: &Holding,
     held: Held,
-) -> bool
-    requires seat { MayCall xti.now seat.old }
-{
+) -> bool {
+    let Ok(()) = finished(caller) else {
+        return false;
+    };
     let Ok(call) = held_call(alloc, held) else {
         return false;
     };
-    let answer = xti.call(rt, alloc, seat, gate, &call);
+    let answer = caller.call(gate, &call);
     drop(call);
     let answered = answer.is_ok();
     drop(answer);
     answered
 }
 
-/// The same by a seat that nobody has afterwards.
+/// The same by a caller that nobody has afterwards.
 fn held_side<R: Wait + Sync>(
-    rt: &R,
     alloc: Global,
-    xti: &Xti,
-    mut seat: Seat,
+    mut caller: Caller<R>,
     gate: &Holding,
     held: Held,
-) -> bool
-    requires seat { MayCall xti.now seat }
-{
-    let answered = make_held(rt, alloc, xti, &mut seat, gate, held);
-    drop(seat);
+) -> bool {
+    let answered = make_held(alloc, &mut caller, gate, held);
+    drop(caller);
     answered
 }
 
 /// Makes these calls once the other thread is held, and then lets it go; what they answered. Where nobody is held it
 /// makes none.
 fn free_side<R: Wait + Sync>(
-    rt: &R,
     alloc: Global,
-    xti: &Xti,
-    mut seat: Seat,
+    mut caller: Caller<R>,
     gate: &Holding,
     asks: &[Ask],
-) -> Log
-    requires seat { MayCall xti.now seat }
-{
+) -> Log {
     let mut log = Log::new(alloc);
     if comes(&gate.held) {
-        let _ = make_all(rt, alloc, xti, &mut seat, &mut log, asks);
+        let _ = make_all(alloc, &mut caller, &mut log, asks);
     }
     gate.freed.store(true, Ordering::SeqCst);
-    drop(seat);
+    drop(caller);
     log
 }
 
@@ -255,59 +243,42 @@ fn free_side<R: Wait + Sync>(
 fn both_sides<R: Threads + Wait + Sync>(
     rt: &R,
     alloc: Global,
-    xti: &Xti,
-    holding: Seat,
-    free: Seat,
+    holding: Caller<R>,
+    free: Caller<R>,
     held: Held,
     asks: &[Ask],
-) -> (bool, Log)
-    requires holding { MayCall xti.now holding }
-    requires free { MayCall xti.now free }
-{
+) -> (bool, Log) {
     let gate = Holding::new();
     let (answered, log) = thread::join(
         rt,
-        || -> bool
-            requires { MayCall xti.now holding }
-        { held_side(rt, alloc, xti, holding, &gate, held) },
-        || -> Log
-            requires { MayCall xti.now free }
-        { free_side(rt, alloc, xti, free, &gate, asks) },
+        || held_side(alloc, holding, &gate, held),
+        || free_side(alloc, free, &gate, asks),
     );
     (answered && gate.in_time.load(Ordering::SeqCst), log)
 }
 
-/// Makes the calls before the threads start; the seat of the thread that is held.
-fn prepare<R: Wait + Sync>(
-    rt: &R,
+/// Makes the calls before the threads start; the caller of the thread that is held.
+fn prepare<'a, R: Wait + Sync>(
     alloc: Global,
-    xti: &Xti,
-    first: &mut Seat,
+    first: &mut Caller<'a, R>,
     before: &[&[Ask]],
-) -> Result<Seat, Stop>
-    requires seat { MayCall xti.now first.old }
-    ensures seat { IfOk result (λ _. MayCall xti.now first.new) }
-    ensures other { IfOk result (λ r. MayCall xti.now r) }
-{
+) -> Result<Caller<'a, R>, Stop> {
     let mut log = Log::new(alloc);
-    let made = converse(rt, alloc, xti, first, &mut log, before);
+    let made = converse(alloc, first, &mut log, before);
     drop(log);
     made?;
-    another_seat(rt, alloc, xti, first)
+    another_caller(first)
 }
 
-/// A case by the first seat and one more.
+/// A case by the first caller and one more.
 fn run_with<R: Threads + Wait + Sync>(
     rt: &R,
     alloc: Global,
-    xti: &Xti,
-    mut first: Seat,
+    mut first: Caller<R>,
     case: &Case,
-) -> Result<(bool, Log), Stop>
-    requires seat { MayCall xti.now first }
-{
-    match prepare(rt, alloc, xti, &mut first, case.before) {
-        Ok(holding) => Ok(both_sides(rt, alloc, xti, holding, first, case.held, case.asks)),
+) -> Result<(bool, Log), Stop> {
+    match prepare(alloc, &mut first, case.before) {
+        Ok(holding) => Ok(both_sides(rt, alloc, holding, first, case.held, case.asks)),
         Err(stop) => {
             drop(first);
             Err(stop)
@@ -317,8 +288,8 @@ fn run_with<R: Threads + Wait + Sync>(
 
 /// The same in a library of its own.
 fn run<R: Threads + Wait + Sync>(rt: &R, alloc: Global, case: &Case) -> Result<(bool, Log), Stop> {
-    let (xti, first) = library(alloc)?;
-    let ran = run_with(rt, alloc, &xti, first, case);
+    let (xti, seat) = library(alloc)?;
+    let ran = run_with(rt, alloc, xti.caller(rt, alloc, seat), case);
     drop(xti);
     ran
 }

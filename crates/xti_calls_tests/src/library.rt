@@ -2,11 +2,12 @@
 
 ghost use Rattle.std.specs.Prelude.{◌≡◌, true, OnOk, IfOk};
 ghost use Rattle.xti_model.specs.Profile.{valid};
+ghost use Rattle.xti_hall.specs.Seats.{AreOfOneHall};
 ghost use Rattle.xti_calls.specs.Library.{IsFree, IsOf, MayCall, keeps_of};
 
 use std::alloc::{AllocError, Global};
 use std::sync::Wait;
-use xti_calls::{Seat, Xti};
+use xti_calls::{Caller, Seat, Xti};
 use xti_model::{Providers, usual_is_valid};
 
 /// Why a test wasn't made to its end.
@@ -69,11 +70,24 @@ pub(crate) fn another_seat<R: Wait>(
     }
 }
 
-/// The seat has no call unfinished.
-pub(crate) fn finished(seat: &Seat) -> Result<(), Stop>
-    ensures { OnOk result (IsFree seat.now) }
+/// One more caller, with a number that the first has to spare.
+pub(crate) fn another_caller<'a, R: Wait>(first: &mut Caller<'a, R>) -> Result<Caller<'a, R>, Stop>
+    ensures seat { AreOfOneHall first.old first.new }
+    ensures none { IsFree first.old → IsFree first.new }
+    ensures other { IfOk result (λ r. AreOfOneHall first.old r) }
+    ensures none_there { IfOk result (λ r. IsFree r) }
 {
-    match seat.unfinished() {
+    match first.split() {
+        Ok(caller) => Ok(caller),
+        Err(_) => Err(Stop::NoSeat),
+    }
+}
+
+/// The caller has no call unfinished.
+pub(crate) fn finished<R>(caller: &Caller<R>) -> Result<(), Stop>
+    ensures { OnOk result (IsFree caller.now) }
+{
+    match caller.unfinished() {
         None => Ok(()),
         Some(_) => Err(Stop::Unfinished),
     }

@@ -4,18 +4,17 @@ ghost use Rattle.std.specs.Prelude.{◌≡◌, true, OnOk, IfOk, IfSome};
 ghost use Rattle.xti_model.specs.declared.entry.Applied.TheVariants.{Blocked};
 ghost use Rattle.xti_model.specs.declared.entry.Go.TheVariants.{More};
 ghost use Rattle.xti_calls.specs.Calling.{IsAt, IsUnfinished};
-ghost use Rattle.xti_calls.specs.Library.{IsFree, IsOf, MayCall};
 ghost use Rattle.xti_calls_tests.specs.Parts.{IsPart};
 
 use crate::answers::Log;
 use crate::asks::{Ask, converse};
 use crate::connections::{self, ANSWERER, CALLER};
-use crate::library::{Stop, another_seat, finished, library, library_with};
+use crate::library::{Stop, another_caller, finished, library, library_with};
 use std::alloc::{AllocError, Global};
 use std::sync::Wait;
 use std::test::*;
 use xti_base::Octets;
-use xti_calls::{Fail as CallFail, Halt, NoGate, Seat, Xti};
+use xti_calls::{Caller, Fail as CallFail, Halt, NoGate};
 use xti_model::{Applied, Call, Go, Outcome, Providers, Reply};
 
 /// More bytes than both buffers have room for.
@@ -42,6 +41,23 @@ blocked
 32768
 40000
 7232
+";
+
+/// What the calls answer where one is made while another is unfinished.
+const BESIDE: &str = "0
+x:6c 1
+1
+x:2330 0
+2
+TNODATA
+1 x:2330 x: x:
+ok
+0 x:6c x: x:
+ok
+ok
+stalled at 12 waiting 1 resting 1 taken 32768
+unfinished
+steps 1
 ";
 
 /// What the calls answer where the buffers have two and three bytes.
@@ -94,23 +110,13 @@ fn put_length(log: &mut Log, answer: &Result<(Octets, u32), CallFail>) {
     log.text("\n");
 }
 
-/// Receives what waits, and writes down how many bytes they are. The seat rests afterwards.
-fn receive<R: Wait + Sync>(
-    rt: &R,
-    alloc: Global,
-    xti: &Xti,
-    seat: &mut Seat,
-    log: &mut Log,
-) -> Result<(), Stop>
-    requires seat { MayCall xti.now seat.old }
-    ensures seat { IsOf xti.now seat.new }
-    ensures none { OnOk result (IsFree seat.new) }
-{
-    let answer = xti.t_rcv(rt, alloc, seat, ANSWERER, 65_536);
+/// Receives what waits, and writes down how many bytes they are. The caller rests afterwards.
+fn receive<R: Wait + Sync>(caller: &mut Caller<R>, log: &mut Log) -> Result<(), Stop> {
+    let answer = caller.t_rcv(ANSWERER, 65_536);
     put_length(log, &answer);
     drop(answer);
-    xti.rest(rt, seat);
-    finished(seat)
+    caller.rest();
+    finished(caller)
 }
 
 /// Writes down why a call stopped.
@@ -123,28 +129,20 @@ fn put_stopped(log: &mut Log, answer: &Result<Reply, Halt>) {
 }
 
 /// Begins the send, which stalls with a part of it made.
-fn begin<R: Wait + Sync>(
-    rt: &R,
-    alloc: Global,
-    xti: &Xti,
-    seat: &mut Seat,
-    log: &mut Log,
-    call: &Call,
-) -> Result<(), Stop>
-    requires seat { MayCall xti.now seat.old }
-    ensures seat { IsOf xti.now seat.new }
-    ensures unfinished { OnOk result (IsUnfinished seat.new.view call.now) }
+fn begin<R: Wait + Sync>(caller: &mut Caller<R>, log: &mut Log, call: &Call) -> Result<(), Stop>
+    ensures unfinished { OnOk result (IsUnfinished caller.new.view call.now) }
 {
-    let answer = xti.call(rt, alloc, seat, &NoGate, call);
+    finished(caller)?;
+    let answer = caller.call(&NoGate, call);
     put_stopped(log, &answer);
     drop(answer);
-    match seat.unfinished() {
+    match caller.unfinished() {
         Some(_) => Ok(()),
         None => Err(Stop::Finished),
     }
 }
 
-/// How many bytes a call of the seat has sent.
+/// How many bytes a call has sent.
 fn sent(answer: &Result<Reply, Halt>) -> u32 {
     match answer {
         Ok(Reply::Sent { n }) => *n,
@@ -153,47 +151,27 @@ fn sent(answer: &Result<Reply, Halt>) -> u32 {
 }
 
 /// Goes on with the send, and writes down how many bytes it has sent.
-fn finish<R: Wait + Sync>(
-    rt: &R,
-    alloc: Global,
-    xti: &Xti,
-    seat: &mut Seat,
-    log: &mut Log,
-    call: &Call,
-) -> Result<(), Stop>
-    requires seat { IsOf xti.now seat.old }
-    requires unfinished { IsUnfinished seat.old.view call.now }
-    ensures seat { IsOf xti.now seat.new }
-    ensures none { OnOk result (IsFree seat.new) }
+fn finish<R: Wait + Sync>(caller: &mut Caller<R>, log: &mut Log, call: &Call) -> Result<(), Stop>
+    requires unfinished { IsUnfinished caller.old.view call.now }
 {
-    let answer = xti.resume(rt, alloc, seat, &NoGate, call);
+    let answer = caller.resume(&NoGate, call);
     log.note(Ok(sent(&answer)));
     drop(answer);
-    finished(seat)
+    finished(caller)
 }
 
-/// The send in two parts: the first stalls, since the other seat rests, and the second is made once bytes were
+/// The send in two parts: the first stalls, since the other caller rests, and the second is made once bytes were
 /// received.
 fn by_calls<R: Wait + Sync>(
-    rt: &R,
-    alloc: Global,
-    xti: &Xti,
-    seat: &mut Seat,
-    second: &mut Seat,
+    first: &mut Caller<R>,
+    second: &mut Caller<R>,
     log: &mut Log,
     call: &Call,
-) -> Result<(), Stop>
-    requires seat { MayCall xti.now seat.old }
-    requires second { MayCall xti.now second.old }
-    ensures seat { IsOf xti.now seat.new }
-    ensures none { OnOk result (IsFree seat.new) }
-    ensures second { IsOf xti.now second.new }
-    ensures none_there { OnOk result (IsFree second.new) }
-{
-    begin(rt, alloc, xti, second, log, call)?;
-    receive(rt, alloc, xti, seat, log)?;
-    finish(rt, alloc, xti, second, log, call)?;
-    receive(rt, alloc, xti, seat, log)
+) -> Result<(), Stop> {
+    begin(second, log, call)?;
+    receive(first, log)?;
+    finish(second, log, call)?;
+    receive(first, log)
 }
 
 /// How many bytes are taken of a call that goes on after a step.
@@ -218,18 +196,11 @@ fn is_blocked(applied: &Applied) -> bool
 
 /// How many bytes the first step of a call takes, which is a part.
 #[tactic(auto, using(crate::proofs::Sends::may_begin, crate::proofs::Sends::part_is_at))]
-fn first_part<R: Wait + Sync>(
-    rt: &R,
-    alloc: Global,
-    xti: &Xti,
-    seat: &mut Seat,
-    call: &Call,
-) -> Result<u32, Stop>
-    requires seat { MayCall xti.now seat.old }
-    ensures seat { IsOf xti.now seat.new }
-    ensures part { IfOk result (λ taken. IsAt seat.new.view call.now (More taken)) }
+fn first_part<R: Wait + Sync>(caller: &mut Caller<R>, call: &Call) -> Result<u32, Stop>
+    ensures part { IfOk result (λ taken. IsAt caller.new.view call.now (More taken)) }
 {
-    let applied = xti.step(rt, alloc, seat, &NoGate, call, Go::Begin)?;
+    finished(caller)?;
+    let applied = caller.step(&NoGate, call, Go::Begin)?;
     let part = part_of(&applied);
     drop(applied);
     match part {
@@ -240,20 +211,11 @@ fn first_part<R: Wait + Sync>(
 
 /// The next step of a call is blocked.
 #[tactic(auto, using(crate::proofs::Sends::may_go_on, crate::proofs::Sends::blocked_is_at))]
-fn blocked<R: Wait + Sync>(
-    rt: &R,
-    alloc: Global,
-    xti: &Xti,
-    seat: &mut Seat,
-    call: &Call,
-    taken: u32,
-) -> Result<(), Stop>
-    requires seat { IsOf xti.now seat.old }
-    requires part { IsAt seat.old.view call.now (More taken) }
-    ensures seat { IsOf xti.now seat.new }
-    ensures part { OnOk result (IsAt seat.new.view call.now (More taken)) }
+fn blocked<R: Wait + Sync>(caller: &mut Caller<R>, call: &Call, taken: u32) -> Result<(), Stop>
+    requires part { IsAt caller.old.view call.now (More taken) }
+    ensures part { OnOk result (IsAt caller.new.view call.now (More taken)) }
 {
-    let applied = xti.step(rt, alloc, seat, &NoGate, call, Go::More(taken))?;
+    let applied = caller.step(&NoGate, call, Go::More(taken))?;
     let blocked = is_blocked(&applied);
     drop(applied);
     if blocked { Ok(()) } else { Err(Stop::Finished) }
@@ -272,19 +234,10 @@ fn last_of(applied: &Applied) -> u32 {
 
 /// How many bytes a send has taken by its last step, which this is to be.
 #[tactic(auto, using(crate::proofs::Sends::may_go_on))]
-fn last_part<R: Wait + Sync>(
-    rt: &R,
-    alloc: Global,
-    xti: &Xti,
-    seat: &mut Seat,
-    call: &Call,
-    taken: u32,
-) -> Result<u32, Stop>
-    requires seat { IsOf xti.now seat.old }
-    requires part { IsAt seat.old.view call.now (More taken) }
-    ensures { IsOf xti.now seat.new }
+fn last_part<R: Wait + Sync>(caller: &mut Caller<R>, call: &Call, taken: u32) -> Result<u32, Stop>
+    requires part { IsAt caller.old.view call.now (More taken) }
 {
-    let applied = xti.step(rt, alloc, seat, &NoGate, call, Go::More(taken))?;
+    let applied = caller.step(&NoGate, call, Go::More(taken))?;
     let taken = last_of(&applied);
     drop(applied);
     Ok(taken)
@@ -292,85 +245,119 @@ fn last_part<R: Wait + Sync>(
 
 /// A part of the send, and a step that is blocked; how many bytes are taken.
 fn two_steps<R: Wait + Sync>(
-    rt: &R,
-    alloc: Global,
-    xti: &Xti,
-    seat: &mut Seat,
+    caller: &mut Caller<R>,
     log: &mut Log,
     call: &Call,
 ) -> Result<u32, Stop>
-    requires seat { MayCall xti.now seat.old }
-    ensures seat { IsOf xti.now seat.new }
-    ensures part { IfOk result (λ taken. IsAt seat.new.view call.now (More taken)) }
+    ensures part { IfOk result (λ taken. IsAt caller.new.view call.now (More taken)) }
 {
-    let taken = first_part(rt, alloc, xti, seat, call)?;
+    let taken = first_part(caller, call)?;
     log.number("part ", taken as u64);
-    blocked(rt, alloc, xti, seat, call, taken)?;
+    blocked(caller, call, taken)?;
     log.text("\nblocked\n");
     Ok(taken)
 }
 
 /// The send by steps: a part, a step that is blocked, and the rest of it once bytes were received.
 fn by_steps<R: Wait + Sync>(
-    rt: &R,
-    alloc: Global,
-    xti: &Xti,
-    seat: &mut Seat,
-    second: &mut Seat,
+    first: &mut Caller<R>,
+    second: &mut Caller<R>,
     log: &mut Log,
     call: &Call,
-) -> Result<(), Stop>
-    requires seat { MayCall xti.now seat.old }
-    requires second { MayCall xti.now second.old }
-{
-    let taken = two_steps(rt, alloc, xti, second, log, call)?;
-    receive(rt, alloc, xti, seat, log)?;
-    log.note(Ok(last_part(rt, alloc, xti, second, call, taken)?));
-    receive(rt, alloc, xti, seat, log)
+) -> Result<(), Stop> {
+    let taken = two_steps(second, log, call)?;
+    receive(first, log)?;
+    log.note(Ok(last_part(second, call, taken)?));
+    receive(first, log)
 }
 
-/// Both sends, over a connection whose sender is the second seat.
+/// Both sends, over a connection whose sender is the second caller.
 fn two_sends<R: Wait + Sync>(
-    rt: &R,
     alloc: Global,
-    xti: &Xti,
-    seat: &mut Seat,
-    second: &mut Seat,
+    first: &mut Caller<R>,
+    second: &mut Caller<R>,
     log: &mut Log,
     call: &Call,
-) -> Result<(), Stop>
-    requires seat { MayCall xti.now seat.old }
-    requires second { MayCall xti.now second.old }
-{
-    converse(rt, alloc, xti, seat, log, CONNECTED)?;
-    xti.rest(rt, seat);
-    by_calls(rt, alloc, xti, seat, second, log, call)?;
-    by_steps(rt, alloc, xti, seat, second, log, call)
+) -> Result<(), Stop> {
+    converse(alloc, first, log, CONNECTED)?;
+    first.rest();
+    by_calls(first, second, log, call)?;
+    by_steps(first, second, log, call)
 }
 
-/// Both sends, by the first seat of a library and one more.
+/// Both sends, by the first caller of a library and one more.
 fn sends_with<R: Wait + Sync>(
-    rt: &R,
     alloc: Global,
-    xti: &Xti,
-    seat: &mut Seat,
+    first: &mut Caller<R>,
     log: &mut Log,
     call: &Call,
-) -> Result<(), Stop>
-    requires seat { MayCall xti.now seat.old }
-{
-    let mut second = another_seat(rt, alloc, xti, seat)?;
-    let made = two_sends(rt, alloc, xti, seat, &mut second, log, call);
+) -> Result<(), Stop> {
+    let mut second = another_caller(first)?;
+    let made = two_sends(alloc, first, &mut second, log, call);
     drop(second);
     made
 }
 
 /// The same in a library of its own.
 fn sends_of<R: Wait + Sync>(rt: &R, alloc: Global, log: &mut Log, call: &Call) -> Result<(), Stop> {
-    let (xti, mut seat) = library(alloc)?;
-    let made = sends_with(rt, alloc, &xti, &mut seat, log, call);
-    drop(seat);
+    let (xti, seat) = library(alloc)?;
+    let mut first = xti.caller(rt, alloc, seat);
+    let made = sends_with(alloc, &mut first, log, call);
+    drop(first);
     drop(xti);
+    made
+}
+
+/// Begins the send by the second caller, which then makes another call, and writes down how many steps it made.
+fn begin_beside<R: Wait + Sync>(
+    alloc: Global,
+    first: &mut Caller<R>,
+    second: &mut Caller<R>,
+    log: &mut Log,
+    call: &Call,
+) -> Result<(), Stop> {
+    converse(alloc, first, log, CONNECTED)?;
+    first.rest();
+    begin(second, log, call)?;
+    log.note(second.t_look(CALLER));
+    log.number("steps ", second.steps());
+    log.text("\n");
+    Ok(())
+}
+
+/// The same by the first caller of a library and one more.
+fn beside_with<R: Wait + Sync>(
+    alloc: Global,
+    first: &mut Caller<R>,
+    log: &mut Log,
+    call: &Call,
+) -> Result<(), Stop> {
+    let mut second = another_caller(first)?;
+    let made = begin_beside(alloc, first, &mut second, log, call);
+    drop(second);
+    made
+}
+
+/// The same in a library of its own.
+fn beside_of<R: Wait + Sync>(
+    rt: &R,
+    alloc: Global,
+    log: &mut Log,
+    call: &Call,
+) -> Result<(), Stop> {
+    let (xti, seat) = library(alloc)?;
+    let mut first = xti.caller(rt, alloc, seat);
+    let made = beside_with(alloc, &mut first, log, call);
+    drop(first);
+    drop(xti);
+    made
+}
+
+/// Writes down what a call answers that is made while the send is unfinished.
+fn beside<R: Wait + Sync>(rt: &R, alloc: Global, log: &mut Log) -> Result<(), Stop> {
+    let call = send(alloc)?;
+    let made = beside_of(rt, alloc, log, &call);
+    drop(call);
     made
 }
 
@@ -390,9 +377,10 @@ fn small<R: Wait + Sync>(rt: &R, alloc: Global, log: &mut Log) -> Result<(), Sto
     if !providers.valid() {
         return Err(Stop::NotValid);
     }
-    let (xti, mut seat) = library_with(alloc, &providers)?;
-    let made = converse(rt, alloc, &xti, &mut seat, log, SMALL_BUFFERS);
-    drop(seat);
+    let (xti, seat) = library_with(alloc, &providers)?;
+    let mut caller = xti.caller(rt, alloc, seat);
+    let made = converse(alloc, &mut caller, log, SMALL_BUFFERS);
+    drop(caller);
     drop(xti);
     made
 }
@@ -402,6 +390,15 @@ fn parts(rt: HostRuntime) -> Result<(), Fail> {
     let mut log = Log::new(rt.alloc());
     let made = sends(&rt, rt.alloc(), &mut log);
     log.expect(&rt, "a send in parts", ANSWERS);
+    drop(log);
+    Ok(made?)
+}
+
+#[test]
+fn a_call_beside_an_unfinished_one(rt: HostRuntime) -> Result<(), Fail> {
+    let mut log = Log::new(rt.alloc());
+    let made = beside(&rt, rt.alloc(), &mut log);
+    log.expect(&rt, "a call beside an unfinished one", BESIDE);
     drop(log);
     Ok(made?)
 }

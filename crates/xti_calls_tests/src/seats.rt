@@ -1,16 +1,17 @@
 //! Seats: their numbers, what they have seen, and the one history.
 
 ghost use Rattle.std.specs.Prelude.{◌≡◌, true};
+ghost use Rattle.xti_hall.specs.Seats.{AreOfOneHall};
 ghost use Rattle.xti_calls.specs.Library.{IsOf, MayCall, keeps_of};
 
 use crate::answers::Log;
 use crate::asks::make_all;
 use crate::datagrams;
-use crate::library::{Stop, another_seat, library};
+use crate::library::{Stop, another_caller, another_seat, library};
 use std::alloc::{AllocError, Global};
 use std::sync::Wait;
 use std::test::*;
-use xti_calls::{Seat, Xti};
+use xti_calls::{Caller, Seat, Xti};
 use xti_journal_text::write_entry;
 use xti_model::{Entry, Providers, usual_is_valid};
 
@@ -141,22 +142,18 @@ fn crowded<R: Wait>(rt: &R, alloc: Global) -> Result<(u32, bool, u32, usize), St
     found
 }
 
-/// A datagram between two endpoints of the first seat, sent and received by the second.
+/// A datagram between two endpoints of the first caller, sent and received by the second.
 fn datagram<R: Wait + Sync>(
-    rt: &R,
     alloc: Global,
-    xti: &Xti,
-    first: &mut Seat,
-    second: &mut Seat,
+    first: &mut Caller<R>,
+    second: &mut Caller<R>,
     log: &mut Log,
 ) -> Result<(), Stop>
-    requires first { MayCall xti.now first.old }
-    requires second { MayCall xti.now second.old }
-    ensures first { IsOf xti.now first.new }
-    ensures second { IsOf xti.now second.new }
+    ensures first { AreOfOneHall first.old first.new }
+    ensures second { AreOfOneHall second.old second.new }
 {
-    make_all(rt, alloc, xti, first, log, datagrams::TWO_ENDPOINTS)?;
-    make_all(rt, alloc, xti, second, log, datagrams::TWO_PARTS)
+    make_all(alloc, first, log, datagrams::TWO_ENDPOINTS)?;
+    make_all(alloc, second, log, datagrams::TWO_PARTS)
 }
 
 /// Writes down what two seats are answered that have a datagram between them, and the history that the first seat takes
@@ -165,16 +162,20 @@ fn talk<R: Wait + Sync>(
     rt: &R,
     alloc: Global,
     xti: Xti,
-    mut first: Seat,
-    mut second: Seat,
+    first: Seat,
+    second: Seat,
     log: &mut Log,
 ) -> Result<(), Stop>
     requires keeps { keeps_of xti ≡ true }
-    requires first { MayCall xti first }
-    requires second { MayCall xti second }
+    requires first { IsOf xti first }
+    requires second { IsOf xti second }
 {
-    let talked = datagram(rt, alloc, &xti, &mut first, &mut second, log);
-    xti.rest(rt, &mut second);
+    let mut first = xti.caller(rt, alloc, first);
+    let mut second = xti.caller(rt, alloc, second);
+    let talked = datagram(alloc, &mut first, &mut second, log);
+    second.rest();
+    let first = first.into_seat();
+    let second = second.into_seat();
     let mut ended = xti.end(rt, first);
     drop(ended.meet(second));
     let history = ended.into_history();
@@ -214,10 +215,11 @@ fn talked<R: Wait + Sync>(rt: &R, alloc: Global, log: &mut Log) -> Result<(), St
 /// The same without the history, in a library that keeps none.
 fn talked_unkept<R: Wait + Sync>(rt: &R, alloc: Global, log: &mut Log) -> Result<(), Stop> {
     usual_is_valid();
-    let (xti, mut first) = Xti::new(alloc, &Providers::usual(), false)?;
-    let made = match another_seat(rt, alloc, &xti, &mut first) {
+    let (xti, seat) = Xti::new(alloc, &Providers::usual(), false)?;
+    let mut first = xti.caller(rt, alloc, seat);
+    let made = match another_caller(&mut first) {
         Ok(mut second) => {
-            let made = datagram(rt, alloc, &xti, &mut first, &mut second, log);
+            let made = datagram(alloc, &mut first, &mut second, log);
             drop(second);
             made
         }

@@ -1,18 +1,15 @@
-//! Three seats, of which one rests and two wait for data that nobody sends: what each of these is told.
-
-ghost use Rattle.std.specs.Prelude.{◌≡◌, IfOk};
-ghost use Rattle.xti_calls.specs.Library.{MayCall};
+//! Three callers, of which one rests and two wait for data that nobody sends: what each of these is told.
 
 use crate::answers::Log;
 use crate::asks::{Ask, converse};
 use crate::connections::{self, ANSWERER};
-use crate::library::{Stop, another_seat, library};
+use crate::library::{Stop, another_caller, library};
 use std::alloc::Global;
 use std::sync::Wait;
 use std::test::*;
 use std::thread::{self, Threads};
 use xti_base::Octets;
-use xti_calls::{Fail as CallFail, Halt, Seat, Xti};
+use xti_calls::{Caller, Fail as CallFail, Halt};
 
 /// How many seats waited, and how many rested.
 type Told = (u32, u32);
@@ -39,67 +36,46 @@ fn told(answer: &Result<(Octets, u32), CallFail>) -> Option<Told> {
     }
 }
 
-/// Receives where nothing is sent, by a seat that makes no call afterwards.
-fn receive<R: Wait + Sync>(rt: &R, alloc: Global, xti: &Xti, mut seat: Seat) -> Option<Told>
-    requires seat { MayCall xti.now seat }
-{
-    let answer = xti.t_rcv(rt, alloc, &mut seat, ANSWERER, 9);
+/// Receives where nothing is sent, by a caller that makes no call afterwards.
+fn receive<R: Wait + Sync>(mut caller: Caller<R>) -> Option<Told> {
+    let answer = caller.t_rcv(ANSWERER, 9);
     let counts = told(&answer);
     drop(answer);
-    drop(seat);
+    drop(caller);
     counts
 }
 
 /// Both receives, each on a thread.
 fn receive_twice<R: Threads + Wait + Sync>(
     rt: &R,
-    alloc: Global,
-    xti: &Xti,
-    one: Seat,
-    other: Seat,
-) -> (Option<Told>, Option<Told>)
-    requires one { MayCall xti.now one }
-    requires other { MayCall xti.now other }
-{
-    thread::join(
-        rt,
-        || -> Option<Told>
-            requires { MayCall xti.now one }
-        { receive(rt, alloc, xti, one) },
-        || -> Option<Told>
-            requires { MayCall xti.now other }
-        { receive(rt, alloc, xti, other) },
-    )
+    one: Caller<R>,
+    other: Caller<R>,
+) -> (Option<Told>, Option<Told>) {
+    thread::join(rt, || receive(one), || receive(other))
 }
 
-/// Connects the endpoints; one more seat.
-fn prepare<R: Wait + Sync>(rt: &R, alloc: Global, xti: &Xti, first: &mut Seat) -> Result<Seat, Stop>
-    requires seat { MayCall xti.now first.old }
-    ensures seat { IfOk result (λ _. MayCall xti.now first.new) }
-    ensures other { IfOk result (λ r. MayCall xti.now r) }
-{
+/// Connects the endpoints; one more caller.
+fn prepare<'a, R: Wait + Sync>(
+    alloc: Global,
+    first: &mut Caller<'a, R>,
+) -> Result<Caller<'a, R>, Stop> {
     let mut log = Log::new(alloc);
-    let made = converse(rt, alloc, xti, first, &mut log, CONNECTED);
+    let made = converse(alloc, first, &mut log, CONNECTED);
     drop(log);
     made?;
-    another_seat(rt, alloc, xti, first)
+    another_caller(first)
 }
 
-/// A third seat, and the first rests while the two others receive.
+/// A third caller, and the first rests while the two others receive.
 fn rest_beside<R: Threads + Wait + Sync>(
     rt: &R,
-    alloc: Global,
-    xti: &Xti,
-    first: &mut Seat,
-    one: Seat,
-) -> Result<(Option<Told>, Option<Told>), Stop>
-    requires first { MayCall xti.now first.old }
-    requires one { MayCall xti.now one }
-{
-    match another_seat(rt, alloc, xti, first) {
+    first: &mut Caller<R>,
+    one: Caller<R>,
+) -> Result<(Option<Told>, Option<Told>), Stop> {
+    match another_caller(first) {
         Ok(other) => {
-            xti.rest(rt, first);
-            Ok(receive_twice(rt, alloc, xti, one, other))
+            first.rest();
+            Ok(receive_twice(rt, one, other))
         }
         Err(stop) => {
             drop(one);
@@ -108,17 +84,14 @@ fn rest_beside<R: Threads + Wait + Sync>(
     }
 }
 
-/// The same of the first seat of a library.
+/// The same of the first caller of a library.
 fn stall_with<R: Threads + Wait + Sync>(
     rt: &R,
     alloc: Global,
-    xti: &Xti,
-    first: &mut Seat,
-) -> Result<(Option<Told>, Option<Told>), Stop>
-    requires seat { MayCall xti.now first.old }
-{
-    let one = prepare(rt, alloc, xti, first)?;
-    rest_beside(rt, alloc, xti, first, one)
+    first: &mut Caller<R>,
+) -> Result<(Option<Told>, Option<Told>), Stop> {
+    let one = prepare(alloc, first)?;
+    rest_beside(rt, first, one)
 }
 
 /// The same in a library of its own.
@@ -126,8 +99,9 @@ fn stall<R: Threads + Wait + Sync>(
     rt: &R,
     alloc: Global,
 ) -> Result<(Option<Told>, Option<Told>), Stop> {
-    let (xti, mut first) = library(alloc)?;
-    let told = stall_with(rt, alloc, &xti, &mut first);
+    let (xti, seat) = library(alloc)?;
+    let mut first = xti.caller(rt, alloc, seat);
+    let told = stall_with(rt, alloc, &mut first);
     drop(first);
     drop(xti);
     told

@@ -4,6 +4,7 @@ use Rattle.xti_base.specs.Kinds.{state_name, event_name}
 use Rattle.xti_base.specs.declared.kinds.Event.{Event}
 use Rattle.xti_base.specs.declared.kinds.Fd.{Fd}
 use Rattle.xti_hall_rule.specs.declared.view.View.{View}
+use Rattle.xti_hall.specs.Seats.{SeatView}
 use Rattle.xti_glance.specs.Glances.{IsSameLater, Finds}
 use Rattle.xti_glance.specs.declared.found.Glance.{Glance}
 use Rattle.xti_glance.specs.declared.found.Glance.TheVariants.{Seen, Gone, Busy}
@@ -36,3 +37,7 @@ AreFound v [] [] v' = v' ≡ v
 AreFound v [] (g ∷ found) v' = ⊥
 AreFound v (fd ∷ fds) [] v' = ⊥
 AreFound v (fd ∷ fds) (g ∷ found) v' = (u : View) × IsSameLater v u × Finds v u fd g × AreFound u fds found v'
+
+-- the text tells what a seat found at these descriptors, which knew the first before and the second after the glances
+abbrev pub TellsGlances : SeatView → List Fd → SeatView → List ℕ → Type 0
+TellsGlances s fds s' text = (found : List Glance) × AreFound s.view fds found s'.view × (text ≡ table_text fds found)

@@ -1,37 +1,18 @@
 //! The table of a world with a connection.
 
-ghost use Rattle.std.specs.Prelude.{IfOk};
-ghost use Rattle.xti_calls.specs.Library.{IsOf, MayCall};
-
 use std::alloc::Global;
 use std::sync::Wait;
-use xti_calls::{Errno, Fail, Fd, Max, Providers, Seat, Seq, Xti, usual_is_valid};
+use xti_calls::{Caller, Errno, Fail, Fd, Max, Providers, Seq, Xti, usual_is_valid};
 use xti_glance_table::table;
-
-const MOST: Max = Max {
-    addr: 64,
-    opt: 256,
-    udata: 64,
-};
 
 const PROVIDER: &[u8] = b"ticots";
 
 const LISTENER: &[u8] = b"srv";
 
 /// An endpoint that is bound to the address.
-fn bound<R: Wait + Sync>(
-    rt: &R,
-    alloc: Global,
-    xti: &Xti,
-    seat: &mut Seat,
-    addr: &[u8],
-    qlen: u32,
-) -> Result<Fd, Fail>
-    requires seat { MayCall xti.now seat.old }
-    ensures seat { IfOk result (λ _. MayCall xti.now seat.new) }
-{
-    let fd = xti.t_open(rt, alloc, seat, PROVIDER, true)?;
-    let bound = xti.t_bind(rt, alloc, seat, fd, addr, qlen, MOST.addr);
+fn bound<R: Wait + Sync>(caller: &mut Caller<R>, addr: &[u8], qlen: u32) -> Result<Fd, Fail> {
+    let fd = caller.t_open(PROVIDER, true)?;
+    let bound = caller.t_bind(fd, addr, qlen, Max::ALL.addr);
     match bound {
         Ok(name) => {
             drop(name);
@@ -42,17 +23,8 @@ fn bound<R: Wait + Sync>(
 }
 
 /// Asks for a connection, which O_NONBLOCK leaves to be confirmed.
-fn ask<R: Wait + Sync>(
-    rt: &R,
-    alloc: Global,
-    xti: &Xti,
-    seat: &mut Seat,
-    fd: Fd,
-) -> Result<(), Fail>
-    requires seat { MayCall xti.now seat.old }
-    ensures seat { IfOk result (λ _. MayCall xti.now seat.new) }
-{
-    let asked = xti.t_connect(rt, alloc, seat, fd, LISTENER, b"", b"", MOST);
+fn ask<R: Wait + Sync>(caller: &mut Caller<R>, fd: Fd) -> Result<(), Fail> {
+    let asked = caller.t_connect(fd, LISTENER, b"", b"", Max::ALL);
     match asked {
         Ok(answer) => {
             drop(answer);
@@ -64,17 +36,8 @@ fn ask<R: Wait + Sync>(
 }
 
 /// The number of the request that waits.
-fn listened<R: Wait + Sync>(
-    rt: &R,
-    alloc: Global,
-    xti: &Xti,
-    seat: &mut Seat,
-    fd: Fd,
-) -> Result<Seq, Fail>
-    requires seat { MayCall xti.now seat.old }
-    ensures seat { IfOk result (λ _. MayCall xti.now seat.new) }
-{
-    let listened = xti.t_listen(rt, alloc, seat, fd, MOST);
+fn listened<R: Wait + Sync>(caller: &mut Caller<R>, fd: Fd) -> Result<Seq, Fail> {
+    let listened = caller.t_listen(fd, Max::ALL);
     match listened {
         Ok(request) => {
             let seq = request.seq;
@@ -86,17 +49,14 @@ fn listened<R: Wait + Sync>(
 }
 
 /// A listener, a caller and an answerer that are connected: nine calls.
-fn connect<R: Wait + Sync>(rt: &R, alloc: Global, xti: &Xti, seat: &mut Seat) -> Result<(), Fail>
-    requires seat { MayCall xti.now seat.old }
-    ensures { IfOk result (λ _. IsOf xti.now seat.new) }
-{
-    let listener = bound(rt, alloc, xti, seat, LISTENER, 1)?;
-    let caller = bound(rt, alloc, xti, seat, b"", 0)?;
-    ask(rt, alloc, xti, seat, caller)?;
-    let seq = listened(rt, alloc, xti, seat, listener)?;
-    let answerer = xti.t_open(rt, alloc, seat, PROVIDER, true)?;
-    xti.t_accept(rt, alloc, seat, listener, answerer, seq, b"", b"")?;
-    let confirmed = xti.t_rcvconnect(rt, alloc, seat, caller, MOST);
+fn connect<R: Wait + Sync>(caller: &mut Caller<R>) -> Result<(), Fail> {
+    let listener = bound(caller, LISTENER, 1)?;
+    let asker = bound(caller, b"", 0)?;
+    ask(caller, asker)?;
+    let seq = listened(caller, listener)?;
+    let answerer = caller.t_open(PROVIDER, true)?;
+    caller.t_accept(listener, answerer, seq, b"", b"")?;
+    let confirmed = caller.t_rcvconnect(asker, Max::ALL);
     match confirmed {
         Ok(answer) => {
             drop(answer);
@@ -106,22 +66,21 @@ fn connect<R: Wait + Sync>(rt: &R, alloc: Global, xti: &Xti, seat: &mut Seat) ->
     }
 }
 
-/// The table of the listener and of a descriptor that was never opened, by a library in which that was done.
+/// The table of the listener and of a descriptor that was never opened, by a caller that has done that.
+fn table_by<R: Wait + Sync>(caller: &mut Caller<R>) -> Result<Vec<u8>, Fail> {
+    connect(caller)?;
+    Ok(table(caller, &[Fd(0), Fd(70)])?)
+}
+
+/// The same in a library of its own.
 fn table_of_two<R: Wait + Sync>(rt: &R, alloc: Global) -> Result<Vec<u8>, Fail> {
     usual_is_valid();
-    let (xti, mut seat) = Xti::new(alloc, &Providers::usual(), true)?;
-    let connected = connect(rt, alloc, &xti, &mut seat);
-    let made = match connected {
-        Ok(()) => table(&xti, alloc, &mut seat, &[Fd(0), Fd(70)]),
-        Err(fail) => {
-            drop(seat);
-            drop(xti);
-            return Err(fail);
-        }
-    };
-    drop(seat);
+    let (xti, seat) = Xti::new(alloc, &Providers::usual(), true)?;
+    let mut caller = xti.caller(rt, alloc, seat);
+    let made = table_by(&mut caller);
+    drop(caller);
     drop(xti);
-    Ok(made?)
+    made
 }
 
 /// Whether the table is this text.

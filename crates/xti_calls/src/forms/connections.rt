@@ -2,19 +2,17 @@
 
 ghost use Rattle.std.specs.Prelude.{◌≡◌};
 ghost use Rattle.xti_model.specs.declared.call.Call.TheVariants as call;
-ghost use Rattle.xti_calls.specs.Forms.{Makes};
-ghost use Rattle.xti_calls.specs.Typed.{IsConnected, IsDisconnect, IsDone, IsListened};
-ghost use Rattle.xti_calls.specs.Library.{MayCall, GoesOn};
+ghost use Rattle.xti_calls.specs.Forms.{Accepts, Confirms, Connects, Listens, Makes};
+ghost use Rattle.xti_calls.specs.Typed.{IsDisconnect, IsDone};
+ghost use Rattle.xti_calls.specs.Library.{GoesOn};
 
 use crate::answers::{Fail, Max, TCall, connected, disconnected, done, listened};
-use crate::library::Seat;
-use crate::shared::Xti;
-use std::alloc::Global;
+use crate::caller::Caller;
 use std::sync::Wait;
 use xti_base::{Fd, Octets, Seq};
 use xti_model::Call;
 
-impl Xti {
+impl<'a, R: Wait + Sync> Caller<'a, R> {
     /// Asks the listener at an address for a connection, and in blocking mode waits for the answer (XNS, t_connect).
     ///
     /// `addr` is the listener's address at the endpoint's provider, of 1 to 64 bytes. `opt`, a list of options of at most 256
@@ -44,24 +42,21 @@ impl Xti {
     /// - TNODATA: the endpoint was set to O_NONBLOCK meanwhile, and there is no answer yet.
     /// - TBUFOVFLW: a field of the answer is longer than `max` says. The endpoint is in T_DATAXFER all the same.
     #[tactic(auto, using(crate::proofs::Replied::makes_said), unfolding(xti_verbs::specs::Verbs::row_of))]
-    pub fn t_connect<R: Wait + Sync>(
-        &self,
-        rt: &R,
-        alloc: Global,
-        seat: &mut Seat,
+    pub fn t_connect(
+        &mut self,
         fd: Fd,
         addr: &[u8],
         opt: &[u8],
         udata: &[u8],
         max: Max,
     ) -> Result<TCall, Fail>
-        requires seat { MayCall self.now seat.old }
-        ensures seat { GoesOn seat.old seat.new }
-        ensures made { Makes (call.TConnect fd addr.now opt.now udata.now max.addr max.opt max.udata) IsConnected seat.old.view seat.new.view result }
+        ensures seat { GoesOn self.old self.new }
+        ensures made { Connects fd addr.now opt.now udata.now max self.old self.new result }
     {
-        let addr = Octets::copy_of(alloc, addr)?;
-        let opt = or_drop!(Octets::copy_of(alloc, opt), addr);
-        let udata = or_drop!(Octets::copy_of(alloc, udata), addr, opt);
+        self.ready()?;
+        let addr = Octets::copy_of(self.alloc, addr)?;
+        let opt = or_drop!(Octets::copy_of(self.alloc, opt), addr);
+        let udata = or_drop!(Octets::copy_of(self.alloc, udata), addr, opt);
         let call = Call::TConnect {
             fd,
             addr,
@@ -71,7 +66,7 @@ impl Xti {
             omax: max.opt,
             umax: max.udata,
         };
-        connected(self.reply(rt, alloc, seat, call)?)
+        connected(self.reply(call)?)
     }
 
     /// Takes the answer to a request that `t_connect` made with O_NONBLOCK (XNS, t_rcvconnect).
@@ -90,25 +85,18 @@ impl Xti {
     /// - TNODATA, with O_NONBLOCK: there is no answer yet.
     /// - TBUFOVFLW: a field is longer than `max` says. The endpoint is in T_DATAXFER all the same.
     #[tactic(auto, using(crate::proofs::Replied::makes_said), unfolding(xti_verbs::specs::Verbs::row_of))]
-    pub fn t_rcvconnect<R: Wait + Sync>(
-        &self,
-        rt: &R,
-        alloc: Global,
-        seat: &mut Seat,
-        fd: Fd,
-        max: Max,
-    ) -> Result<TCall, Fail>
-        requires seat { MayCall self.now seat.old }
-        ensures seat { GoesOn seat.old seat.new }
-        ensures made { Makes (call.TRcvConnect fd max.addr max.opt max.udata) IsConnected seat.old.view seat.new.view result }
+    pub fn t_rcvconnect(&mut self, fd: Fd, max: Max) -> Result<TCall, Fail>
+        ensures seat { GoesOn self.old self.new }
+        ensures made { Confirms fd max self.old self.new result }
     {
+        self.ready()?;
         let call = Call::TRcvConnect {
             fd,
             amax: max.addr,
             omax: max.opt,
             umax: max.udata,
         };
-        connected(self.reply(rt, alloc, seat, call)?)
+        connected(self.reply(call)?)
     }
 
     /// Takes the oldest request to connect (connect indication) that waits at a listener (XNS, t_listen).
@@ -129,25 +117,18 @@ impl Xti {
     /// - TNODATA, with O_NONBLOCK: no request waits.
     /// - TBUFOVFLW: a field is longer than `max` says. The request is taken all the same; `Fail::Overflow` has its number.
     #[tactic(auto, using(crate::proofs::Replied::makes_said), unfolding(xti_verbs::specs::Verbs::row_of))]
-    pub fn t_listen<R: Wait + Sync>(
-        &self,
-        rt: &R,
-        alloc: Global,
-        seat: &mut Seat,
-        fd: Fd,
-        max: Max,
-    ) -> Result<TCall, Fail>
-        requires seat { MayCall self.now seat.old }
-        ensures seat { GoesOn seat.old seat.new }
-        ensures made { Makes (call.TListen fd max.addr max.opt max.udata) IsListened seat.old.view seat.new.view result }
+    pub fn t_listen(&mut self, fd: Fd, max: Max) -> Result<TCall, Fail>
+        ensures seat { GoesOn self.old self.new }
+        ensures made { Listens fd max self.old self.new result }
     {
+        self.ready()?;
         let call = Call::TListen {
             fd,
             amax: max.addr,
             omax: max.opt,
             umax: max.udata,
         };
-        listened(self.reply(rt, alloc, seat, call)?)
+        listened(self.reply(call)?)
     }
 
     /// Accepts a request that `t_listen` took, so that an endpoint is connected with its caller (XNS, t_accept).
@@ -175,23 +156,20 @@ impl Xti {
     /// - TLOOK with T_DISCONNECT: a caller has given up a request that `fd` has taken and not answered (`t_rcvdis`).
     /// - TLOOK with T_LISTEN: a further request waits at `fd` (`t_listen`).
     #[tactic(auto, using(crate::proofs::Replied::makes_said), unfolding(xti_verbs::specs::Verbs::row_of))]
-    pub fn t_accept<R: Wait + Sync>(
-        &self,
-        rt: &R,
-        alloc: Global,
-        seat: &mut Seat,
+    pub fn t_accept(
+        &mut self,
         fd: Fd,
         resfd: Fd,
         seq: Seq,
         opt: &[u8],
         udata: &[u8],
     ) -> Result<(), Fail>
-        requires seat { MayCall self.now seat.old }
-        ensures seat { GoesOn seat.old seat.new }
-        ensures made { Makes (call.TAccept fd resfd seq opt.now udata.now) IsDone seat.old.view seat.new.view result }
+        ensures seat { GoesOn self.old self.new }
+        ensures made { Accepts fd resfd seq opt.now udata.now self.old self.new result }
     {
-        let opt = Octets::copy_of(alloc, opt)?;
-        let udata = or_drop!(Octets::copy_of(alloc, udata), opt);
+        self.ready()?;
+        let opt = Octets::copy_of(self.alloc, opt)?;
+        let udata = or_drop!(Octets::copy_of(self.alloc, udata), opt);
         let call = Call::TAccept {
             fd,
             resfd,
@@ -199,7 +177,7 @@ impl Xti {
             opt,
             udata,
         };
-        done(self.reply(rt, alloc, seat, call)?)
+        done(self.reply(call)?)
     }
 
     /// Rejects a request, gives up one of its own, or ends a connection at once (XNS, t_snddis).
@@ -221,25 +199,17 @@ impl Xti {
     /// - TBADDATA: `udata` has more than 64 bytes.
     /// - TLOOK with T_DISCONNECT: a disconnect waits (`t_rcvdis`).
     #[tactic(auto, using(crate::proofs::Replied::makes_said), unfolding(xti_verbs::specs::Verbs::row_of))]
-    pub fn t_snddis<R: Wait + Sync>(
-        &self,
-        rt: &R,
-        alloc: Global,
-        seat: &mut Seat,
-        fd: Fd,
-        seq: Seq,
-        udata: &[u8],
-    ) -> Result<(), Fail>
-        requires seat { MayCall self.now seat.old }
-        ensures seat { GoesOn seat.old seat.new }
-        ensures made { Makes (call.TSndDis fd seq udata.now) IsDone seat.old.view seat.new.view result }
+    pub fn t_snddis(&mut self, fd: Fd, seq: Seq, udata: &[u8]) -> Result<(), Fail>
+        ensures seat { GoesOn self.old self.new }
+        ensures made { Makes (call.TSndDis fd seq udata.now) IsDone self.old self.new result }
     {
+        self.ready()?;
         let call = Call::TSndDis {
             fd,
             seq,
-            udata: Octets::copy_of(alloc, udata)?,
+            udata: Octets::copy_of(self.alloc, udata)?,
         };
-        done(self.reply(rt, alloc, seat, call)?)
+        done(self.reply(call)?)
     }
 
     /// Takes the oldest disconnect that waits, and answers its reason, sequence number and data (XNS, t_rcvdis).
@@ -261,20 +231,13 @@ impl Xti {
     /// - TNODIS: no disconnect waits.
     /// - TBUFOVFLW: the data are longer than `umax`, which isn't 0. The disconnect is taken all the same, and isn't told.
     #[tactic(auto, using(crate::proofs::Replied::makes_said), unfolding(xti_verbs::specs::Verbs::row_of))]
-    pub fn t_rcvdis<R: Wait + Sync>(
-        &self,
-        rt: &R,
-        alloc: Global,
-        seat: &mut Seat,
-        fd: Fd,
-        umax: u32,
-    ) -> Result<(u32, Seq, Octets), Fail>
-        requires seat { MayCall self.now seat.old }
-        ensures seat { GoesOn seat.old seat.new }
-        ensures made { Makes (call.TRcvDis fd umax) IsDisconnect seat.old.view seat.new.view result }
+    pub fn t_rcvdis(&mut self, fd: Fd, umax: u32) -> Result<(u32, Seq, Octets), Fail>
+        ensures seat { GoesOn self.old self.new }
+        ensures made { Makes (call.TRcvDis fd umax) IsDisconnect self.old self.new result }
     {
+        self.ready()?;
         let call = Call::TRcvDis { fd, umax };
-        disconnected(self.reply(rt, alloc, seat, call)?)
+        disconnected(self.reply(call)?)
     }
 
     /// Releases a connection in one direction: no more data will be sent (XNS, t_sndrel).
@@ -291,19 +254,13 @@ impl Xti {
     /// - TOUTSTATE: the state is neither T_DATAXFER nor T_INREL.
     /// - TLOOK with T_DISCONNECT: a disconnect waits (`t_rcvdis`).
     #[tactic(auto, using(crate::proofs::Replied::makes_said), unfolding(xti_verbs::specs::Verbs::row_of))]
-    pub fn t_sndrel<R: Wait + Sync>(
-        &self,
-        rt: &R,
-        alloc: Global,
-        seat: &mut Seat,
-        fd: Fd,
-    ) -> Result<(), Fail>
-        requires seat { MayCall self.now seat.old }
-        ensures seat { GoesOn seat.old seat.new }
-        ensures made { Makes (call.TSndRel fd) IsDone seat.old.view seat.new.view result }
+    pub fn t_sndrel(&mut self, fd: Fd) -> Result<(), Fail>
+        ensures seat { GoesOn self.old self.new }
+        ensures made { Makes (call.TSndRel fd) IsDone self.old self.new result }
     {
+        self.ready()?;
         let call = Call::TSndRel { fd };
-        done(self.reply(rt, alloc, seat, call)?)
+        done(self.reply(call)?)
     }
 
     /// Takes the other end's release of a connection, after which no more data come (XNS, t_rcvrel).
@@ -321,18 +278,12 @@ impl Xti {
     /// - TLOOK with T_DISCONNECT: a disconnect waits (`t_rcvdis`).
     /// - TNOREL: the other end hasn't released, or not all its data were received.
     #[tactic(auto, using(crate::proofs::Replied::makes_said), unfolding(xti_verbs::specs::Verbs::row_of))]
-    pub fn t_rcvrel<R: Wait + Sync>(
-        &self,
-        rt: &R,
-        alloc: Global,
-        seat: &mut Seat,
-        fd: Fd,
-    ) -> Result<(), Fail>
-        requires seat { MayCall self.now seat.old }
-        ensures seat { GoesOn seat.old seat.new }
-        ensures made { Makes (call.TRcvRel fd) IsDone seat.old.view seat.new.view result }
+    pub fn t_rcvrel(&mut self, fd: Fd) -> Result<(), Fail>
+        ensures seat { GoesOn self.old self.new }
+        ensures made { Makes (call.TRcvRel fd) IsDone self.old self.new result }
     {
+        self.ready()?;
         let call = Call::TRcvRel { fd };
-        done(self.reply(rt, alloc, seat, call)?)
+        done(self.reply(call)?)
     }
 }

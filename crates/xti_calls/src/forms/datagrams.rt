@@ -1,22 +1,18 @@
 //! Datagrams.
 
 ghost use Rattle.std.specs.Prelude.{◌≡◌};
-ghost use Rattle.xti_model.specs.declared.call.Call.TheVariants as call;
-ghost use Rattle.xti_calls.specs.Forms.{Makes};
-ghost use Rattle.xti_calls.specs.Typed.{IsDatagram, IsDatagramError, IsDatagramInParts, IsDone};
-ghost use Rattle.xti_calls.specs.Library.{MayCall, GoesOn};
+ghost use Rattle.xti_calls.specs.Forms.{ReceivesDatagram, ReceivesDatagramInParts, SendsDatagram, SendsDatagramInParts, TakesDatagramError};
+ghost use Rattle.xti_calls.specs.Library.{GoesOn};
 
 use crate::answers::{Fail, Max, TCall, datagram, datagram_error, datagram_parts, done};
 use crate::buffers::{Buffers, MOST_OF_DATAGRAM};
-use crate::library::Seat;
-use crate::shared::Xti;
-use std::alloc::Global;
+use crate::caller::Caller;
 use std::sync::Wait;
 use xti_base::{Fd, Octets, Parts, Sizes};
-use xti_data::Gather;
+use xti_data::SendParts;
 use xti_model::Call;
 
-impl Xti {
+impl<'a, R: Wait + Sync> Caller<'a, R> {
     /// Sends a datagram to an address (XNS, t_sndudata).
     ///
     /// `addr` is the destination, of 1 to 64 bytes; it may be the endpoint's own. `opt` is a list of options of at most 256
@@ -37,30 +33,21 @@ impl Xti {
     /// - TLOOK with T_UDERR: the error of a datagram waits (`t_rcvuderr`).
     /// - TFLOW, with O_NONBLOCK: 16 datagrams wait at the destination. T_GODATA then tells when one more may be sent there.
     #[tactic(auto, using(crate::proofs::Replied::makes_said), unfolding(xti_verbs::specs::Verbs::row_of))]
-    pub fn t_sndudata<R: Wait + Sync>(
-        &self,
-        rt: &R,
-        alloc: Global,
-        seat: &mut Seat,
-        fd: Fd,
-        addr: &[u8],
-        opt: &[u8],
-        bytes: &[u8],
-    ) -> Result<(), Fail>
-        requires seat { MayCall self.now seat.old }
-        ensures seat { GoesOn seat.old seat.new }
-        ensures made { Makes (call.TSndUData fd addr.now opt.now bytes.now) IsDone seat.old.view seat.new.view result }
+    pub fn t_sndudata(&mut self, fd: Fd, addr: &[u8], opt: &[u8], bytes: &[u8]) -> Result<(), Fail>
+        ensures seat { GoesOn self.old self.new }
+        ensures made { SendsDatagram fd addr.now opt.now bytes.now self.old self.new result }
     {
-        let addr = Octets::copy_of(alloc, addr)?;
-        let opt = or_drop!(Octets::copy_of(alloc, opt), addr);
-        let bytes = or_drop!(Octets::copy_of(alloc, bytes), addr, opt);
+        self.ready()?;
+        let addr = Octets::copy_of(self.alloc, addr)?;
+        let opt = or_drop!(Octets::copy_of(self.alloc, opt), addr);
+        let bytes = or_drop!(Octets::copy_of(self.alloc, bytes), addr, opt);
         let call = Call::TSndUData {
             fd,
             addr,
             opt,
             bytes,
         };
-        done(self.reply(rt, alloc, seat, call)?)
+        done(self.reply(call)?)
     }
 
     /// Sends parts, joined, as one datagram to an address (XNS, t_sndvudata).
@@ -72,22 +59,19 @@ impl Xti {
     ///
     /// XTI ([`Fail`]) answers those of `t_sndudata`, in their order. TBADDATA comes for more than 16 parts too.
     #[tactic(auto, using(crate::proofs::Replied::makes_said), unfolding(xti_verbs::specs::Verbs::row_of))]
-    pub fn t_sndvudata<R: Wait + Sync>(
-        &self,
-        rt: &R,
-        alloc: Global,
-        seat: &mut Seat,
+    pub fn t_sndvudata(
+        &mut self,
         fd: Fd,
         addr: &[u8],
         opt: &[u8],
-        parts: &Gather,
+        parts: &SendParts,
     ) -> Result<(), Fail>
-        requires seat { MayCall self.now seat.old }
-        ensures seat { GoesOn seat.old seat.new }
-        ensures made { Makes (call.TSndVUData fd addr.now opt.now parts.now) IsDone seat.old.view seat.new.view result }
+        ensures seat { GoesOn self.old self.new }
+        ensures made { SendsDatagramInParts fd addr.now opt.now parts.now self.old self.new result }
     {
-        let addr = Octets::copy_of(alloc, addr)?;
-        let opt = or_drop!(Octets::copy_of(alloc, opt), addr);
+        self.ready()?;
+        let addr = Octets::copy_of(self.alloc, addr)?;
+        let opt = or_drop!(Octets::copy_of(self.alloc, opt), addr);
         let parts = or_drop!(parts.parts().copy(), addr, opt);
         let call = Call::TSndVUData {
             fd,
@@ -95,7 +79,7 @@ impl Xti {
             opt,
             parts,
         };
-        done(self.reply(rt, alloc, seat, call)?)
+        done(self.reply(call)?)
     }
 
     /// Receives the first datagram that waits, or a part of it, and answers it with flags (XNS, t_rcvudata).
@@ -117,25 +101,18 @@ impl Xti {
     /// - TBUFOVFLW: the address or the options are longer than `max` says. The whole datagram is gone. A later part never has
     ///   this error, and more bytes than `max.udata` are none.
     #[tactic(auto, using(crate::proofs::Replied::makes_said), unfolding(xti_verbs::specs::Verbs::row_of))]
-    pub fn t_rcvudata<R: Wait + Sync>(
-        &self,
-        rt: &R,
-        alloc: Global,
-        seat: &mut Seat,
-        fd: Fd,
-        max: Max,
-    ) -> Result<(TCall, u32), Fail>
-        requires seat { MayCall self.now seat.old }
-        ensures seat { GoesOn seat.old seat.new }
-        ensures made { Makes (call.TRcvUData fd max.udata max.addr max.opt) IsDatagram seat.old.view seat.new.view result }
+    pub fn t_rcvudata(&mut self, fd: Fd, max: Max) -> Result<(TCall, u32), Fail>
+        ensures seat { GoesOn self.old self.new }
+        ensures made { ReceivesDatagram fd max self.old self.new result }
     {
+        self.ready()?;
         let call = Call::TRcvUData {
             fd,
             max: max.udata,
             amax: max.addr,
             omax: max.opt,
         };
-        datagram(self.reply(rt, alloc, seat, call)?)
+        datagram(self.reply(call)?)
     }
 
     /// Receives a datagram or a part of it in parts of at most these sizes, and answers it with flags (XNS, t_rcvvudata).
@@ -150,21 +127,18 @@ impl Xti {
     /// XTI ([`Fail`]) answers those of `t_rcvudata`, in their order, and between TOUTSTATE and TLOOK:
     /// - TBADDATA: there are more than 16 sizes.
     #[tactic(auto, using(crate::proofs::Replied::makes_said, crate::proofs::Replied::datagram_fits), unfolding(xti_verbs::specs::Verbs::row_of))]
-    pub fn t_rcvvudata<R: Wait + Sync>(
-        &self,
-        rt: &R,
-        alloc: Global,
-        seat: &mut Seat,
+    pub fn t_rcvvudata(
+        &mut self,
         fd: Fd,
         sizes: &Sizes,
         amax: u32,
         omax: u32,
     ) -> Result<(TCall, Parts, u32), Fail>
-        requires seat { MayCall self.now seat.old }
-        ensures seat { GoesOn seat.old seat.new }
-        ensures made { Makes (call.TRcvVUData fd sizes.now amax omax) (IsDatagramInParts sizes.now) seat.old.view seat.new.view result }
+        ensures seat { GoesOn self.old self.new }
+        ensures made { ReceivesDatagramInParts fd sizes.now amax omax self.old self.new result }
     {
-        let buffers = Buffers::new(alloc, sizes.as_slice(), MOST_OF_DATAGRAM)?;
+        self.ready()?;
+        let buffers = Buffers::new(self.alloc, sizes.as_slice(), MOST_OF_DATAGRAM)?;
         let sizes = or_drop!(sizes.copy(), buffers);
         let call = Call::TRcvVUData {
             fd,
@@ -172,8 +146,8 @@ impl Xti {
             amax,
             omax,
         };
-        let reply = or_drop!(self.reply(rt, alloc, seat, call), buffers);
-        datagram_parts(alloc, reply, buffers)
+        let reply = or_drop!(self.reply(call), buffers);
+        datagram_parts(self.alloc, reply, buffers)
     }
 
     /// Takes the first error of a datagram that waits, and answers destination, options and code (XNS, t_rcvuderr).
@@ -192,20 +166,17 @@ impl Xti {
     /// - TBUFOVFLW: the destination is longer than `amax`, which isn't 0, or the options than `omax`, which isn't 0. The error
     ///   is taken all the same, and isn't told.
     #[tactic(auto, using(crate::proofs::Replied::makes_said), unfolding(xti_verbs::specs::Verbs::row_of))]
-    pub fn t_rcvuderr<R: Wait + Sync>(
-        &self,
-        rt: &R,
-        alloc: Global,
-        seat: &mut Seat,
+    pub fn t_rcvuderr(
+        &mut self,
         fd: Fd,
         amax: u32,
         omax: u32,
     ) -> Result<(Octets, Octets, u32), Fail>
-        requires seat { MayCall self.now seat.old }
-        ensures seat { GoesOn seat.old seat.new }
-        ensures made { Makes (call.TRcvUDErr fd amax omax) IsDatagramError seat.old.view seat.new.view result }
+        ensures seat { GoesOn self.old self.new }
+        ensures made { TakesDatagramError fd amax omax self.old self.new result }
     {
+        self.ready()?;
         let call = Call::TRcvUDErr { fd, amax, omax };
-        datagram_error(self.reply(rt, alloc, seat, call)?)
+        datagram_error(self.reply(call)?)
     }
 }

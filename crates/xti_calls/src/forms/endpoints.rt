@@ -1,21 +1,18 @@
 //! Endpoints: to open them, to bind them, and what they tell.
 
 ghost use Rattle.std.specs.Prelude.{◌≡◌};
-ghost use Rattle.xti_base.specs.Kinds.{prov_of_name};
 ghost use Rattle.xti_model.specs.declared.call.Call.TheVariants as call;
-ghost use Rattle.xti_calls.specs.Forms.{Makes};
-ghost use Rattle.xti_calls.specs.Typed.{AreAddresses, IsBound, IsDone, IsInfo, IsNegotiated, IsOpened, IsSeen, IsState};
-ghost use Rattle.xti_calls.specs.Library.{MayCall, GoesOn};
+ghost use Rattle.xti_calls.specs.Forms.{Makes, Negotiates, Opens, TellsAddresses};
+ghost use Rattle.xti_calls.specs.Typed.{IsBound, IsDone, IsInfo, IsSeen, IsState};
+ghost use Rattle.xti_calls.specs.Library.{GoesOn};
 
 use crate::answers::{Fail, addresses, bound, done, info, negotiated, opened, seen, state};
-use crate::library::Seat;
-use crate::shared::Xti;
-use std::alloc::Global;
+use crate::caller::Caller;
 use std::sync::Wait;
 use xti_base::{Event, Fd, Info, Octets, Prov, State};
 use xti_model::Call;
 
-impl Xti {
+impl<'a, R: Wait + Sync> Caller<'a, R> {
     /// Opens an endpoint of a loopback provider and answers its descriptor (XNS, t_open).
     ///
     /// `name` is exactly `ticots` (connections), `ticotsord` (connections with orderly release) or `ticlts` (datagrams), and no
@@ -30,23 +27,16 @@ impl Xti {
     /// - TBADNAME: `name` is none of the three.
     /// - TSYSERR: each of the 64 places is open, or was closed 67,108,863 times.
     #[tactic(auto, using(crate::proofs::Replied::makes_said), unfolding(xti_verbs::specs::Verbs::row_of))]
-    pub fn t_open<R: Wait + Sync>(
-        &self,
-        rt: &R,
-        alloc: Global,
-        seat: &mut Seat,
-        name: &[u8],
-        nonblock: bool,
-    ) -> Result<Fd, Fail>
-        requires seat { MayCall self.now seat.old }
-        ensures seat { GoesOn seat.old seat.new }
-        ensures made { Makes (call.TOpen (prov_of_name name.now) nonblock) IsOpened seat.old.view seat.new.view result }
+    pub fn t_open(&mut self, name: &[u8], nonblock: bool) -> Result<Fd, Fail>
+        ensures seat { GoesOn self.old self.new }
+        ensures made { Opens name.now nonblock self.old self.new result }
     {
+        self.ready()?;
         let call = Call::TOpen {
             prov: Prov::of_name(name),
             nonblock,
         };
-        opened(self.reply(rt, alloc, seat, call)?)
+        opened(self.reply(call)?)
     }
 
     /// Closes an endpoint, in whatever state it is (XNS, t_close).
@@ -62,19 +52,13 @@ impl Xti {
     ///
     /// XTI ([`Fail`]) answers TBADF alone: no endpoint is open with `fd`.
     #[tactic(auto, using(crate::proofs::Replied::makes_said), unfolding(xti_verbs::specs::Verbs::row_of))]
-    pub fn t_close<R: Wait + Sync>(
-        &self,
-        rt: &R,
-        alloc: Global,
-        seat: &mut Seat,
-        fd: Fd,
-    ) -> Result<(), Fail>
-        requires seat { MayCall self.now seat.old }
-        ensures seat { GoesOn seat.old seat.new }
-        ensures made { Makes (call.TClose fd) IsDone seat.old.view seat.new.view result }
+    pub fn t_close(&mut self, fd: Fd) -> Result<(), Fail>
+        ensures seat { GoesOn self.old self.new }
+        ensures made { Makes (call.TClose fd) IsDone self.old self.new result }
     {
+        self.ready()?;
         let call = Call::TClose { fd };
-        done(self.reply(rt, alloc, seat, call)?)
+        done(self.reply(call)?)
     }
 
     /// Binds an endpoint to an address, and answers the address and the queue length that it has then (XNS, t_bind).
@@ -95,27 +79,24 @@ impl Xti {
     ///   length over 0 is bound to it; any number of endpoints without a queue may have one address.
     /// - TBUFOVFLW: the address that is given is longer than `amax`, and `amax` isn't 0. The endpoint is bound all the same.
     #[tactic(auto, using(crate::proofs::Replied::makes_said), unfolding(xti_verbs::specs::Verbs::row_of))]
-    pub fn t_bind<R: Wait + Sync>(
-        &self,
-        rt: &R,
-        alloc: Global,
-        seat: &mut Seat,
+    pub fn t_bind(
+        &mut self,
         fd: Fd,
         addr: &[u8],
         qlen: u32,
         amax: u32,
     ) -> Result<(Octets, u32), Fail>
-        requires seat { MayCall self.now seat.old }
-        ensures seat { GoesOn seat.old seat.new }
-        ensures made { Makes (call.TBind fd addr.now qlen amax) IsBound seat.old.view seat.new.view result }
+        ensures seat { GoesOn self.old self.new }
+        ensures made { Makes (call.TBind fd addr.now qlen amax) IsBound self.old self.new result }
     {
+        self.ready()?;
         let call = Call::TBind {
             fd,
-            addr: Octets::copy_of(alloc, addr)?,
+            addr: Octets::copy_of(self.alloc, addr)?,
             qlen,
             amax,
         };
-        bound(self.reply(rt, alloc, seat, call)?)
+        bound(self.reply(call)?)
     }
 
     /// Takes its address from an endpoint, which goes from T_IDLE to T_UNBND (XNS, t_unbind).
@@ -131,19 +112,13 @@ impl Xti {
     /// - TLOOK with T_LISTEN: a request to connect waits that no `t_listen` has taken.
     /// - TLOOK with T_DATA: a datagram waits.
     #[tactic(auto, using(crate::proofs::Replied::makes_said), unfolding(xti_verbs::specs::Verbs::row_of))]
-    pub fn t_unbind<R: Wait + Sync>(
-        &self,
-        rt: &R,
-        alloc: Global,
-        seat: &mut Seat,
-        fd: Fd,
-    ) -> Result<(), Fail>
-        requires seat { MayCall self.now seat.old }
-        ensures seat { GoesOn seat.old seat.new }
-        ensures made { Makes (call.TUnbind fd) IsDone seat.old.view seat.new.view result }
+    pub fn t_unbind(&mut self, fd: Fd) -> Result<(), Fail>
+        ensures seat { GoesOn self.old self.new }
+        ensures made { Makes (call.TUnbind fd) IsDone self.old self.new result }
     {
+        self.ready()?;
         let call = Call::TUnbind { fd };
-        done(self.reply(rt, alloc, seat, call)?)
+        done(self.reply(call)?)
     }
 
     /// Answers the first event that is pending at an endpoint; `None` where there is none (XNS, t_look).
@@ -164,19 +139,13 @@ impl Xti {
     ///
     /// XTI ([`Fail`]) answers TBADF alone: no endpoint is open with `fd`.
     #[tactic(auto, using(crate::proofs::Replied::makes_said), unfolding(xti_verbs::specs::Verbs::row_of))]
-    pub fn t_look<R: Wait + Sync>(
-        &self,
-        rt: &R,
-        alloc: Global,
-        seat: &mut Seat,
-        fd: Fd,
-    ) -> Result<Option<Event>, Fail>
-        requires seat { MayCall self.now seat.old }
-        ensures seat { GoesOn seat.old seat.new }
-        ensures made { Makes (call.TLookAt fd) IsSeen seat.old.view seat.new.view result }
+    pub fn t_look(&mut self, fd: Fd) -> Result<Option<Event>, Fail>
+        ensures seat { GoesOn self.old self.new }
+        ensures made { Makes (call.TLookAt fd) IsSeen self.old self.new result }
     {
+        self.ready()?;
         let call = Call::TLookAt { fd };
-        seen(self.reply(rt, alloc, seat, call)?)
+        seen(self.reply(call)?)
     }
 
     /// Answers the state of an endpoint (XNS, t_getstate).
@@ -189,19 +158,13 @@ impl Xti {
     ///
     /// XTI ([`Fail`]) answers TBADF alone: no endpoint is open with `fd`. TSTATECHNG never comes.
     #[tactic(auto, using(crate::proofs::Replied::makes_said), unfolding(xti_verbs::specs::Verbs::row_of))]
-    pub fn t_getstate<R: Wait + Sync>(
-        &self,
-        rt: &R,
-        alloc: Global,
-        seat: &mut Seat,
-        fd: Fd,
-    ) -> Result<State, Fail>
-        requires seat { MayCall self.now seat.old }
-        ensures seat { GoesOn seat.old seat.new }
-        ensures made { Makes (call.TGetState fd) IsState seat.old.view seat.new.view result }
+    pub fn t_getstate(&mut self, fd: Fd) -> Result<State, Fail>
+        ensures seat { GoesOn self.old self.new }
+        ensures made { Makes (call.TGetState fd) IsState self.old self.new result }
     {
+        self.ready()?;
         let call = Call::TGetState { fd };
-        state(self.reply(rt, alloc, seat, call)?)
+        state(self.reply(call)?)
     }
 
     /// Answers the state of an endpoint, as `t_getstate` does (XNS, t_sync).
@@ -213,19 +176,13 @@ impl Xti {
     ///
     /// XTI ([`Fail`]) answers TBADF alone: no endpoint is open with `fd`.
     #[tactic(auto, using(crate::proofs::Replied::makes_said), unfolding(xti_verbs::specs::Verbs::row_of))]
-    pub fn t_sync<R: Wait + Sync>(
-        &self,
-        rt: &R,
-        alloc: Global,
-        seat: &mut Seat,
-        fd: Fd,
-    ) -> Result<State, Fail>
-        requires seat { MayCall self.now seat.old }
-        ensures seat { GoesOn seat.old seat.new }
-        ensures made { Makes (call.TSync fd) IsState seat.old.view seat.new.view result }
+    pub fn t_sync(&mut self, fd: Fd) -> Result<State, Fail>
+        ensures seat { GoesOn self.old self.new }
+        ensures made { Makes (call.TSync fd) IsState self.old self.new result }
     {
+        self.ready()?;
         let call = Call::TSync { fd };
-        state(self.reply(rt, alloc, seat, call)?)
+        state(self.reply(call)?)
     }
 
     /// Answers what the endpoint's provider offers: its limits, its service type and its flags (XNS, t_getinfo).
@@ -241,19 +198,13 @@ impl Xti {
     ///
     /// XTI ([`Fail`]) answers TBADF alone: no endpoint is open with `fd`.
     #[tactic(auto, using(crate::proofs::Replied::makes_said), unfolding(xti_verbs::specs::Verbs::row_of))]
-    pub fn t_getinfo<R: Wait + Sync>(
-        &self,
-        rt: &R,
-        alloc: Global,
-        seat: &mut Seat,
-        fd: Fd,
-    ) -> Result<Info, Fail>
-        requires seat { MayCall self.now seat.old }
-        ensures seat { GoesOn seat.old seat.new }
-        ensures made { Makes (call.TGetInfo fd) IsInfo seat.old.view seat.new.view result }
+    pub fn t_getinfo(&mut self, fd: Fd) -> Result<Info, Fail>
+        ensures seat { GoesOn self.old self.new }
+        ensures made { Makes (call.TGetInfo fd) IsInfo self.old self.new result }
     {
+        self.ready()?;
         let call = Call::TGetInfo { fd };
-        info(self.reply(rt, alloc, seat, call)?)
+        info(self.reply(call)?)
     }
 
     /// Answers the address that an endpoint is bound to, and that of the other end of its connection (XNS, t_getprotaddr).
@@ -269,21 +220,13 @@ impl Xti {
     /// - TBADF: no endpoint is open with `fd`.
     /// - TBUFOVFLW: the first is longer than `amax`, which isn't 0, or the second than `pmax`, which isn't 0. Neither is told.
     #[tactic(auto, using(crate::proofs::Replied::makes_said), unfolding(xti_verbs::specs::Verbs::row_of))]
-    pub fn t_getprotaddr<R: Wait + Sync>(
-        &self,
-        rt: &R,
-        alloc: Global,
-        seat: &mut Seat,
-        fd: Fd,
-        amax: u32,
-        pmax: u32,
-    ) -> Result<(Octets, Octets), Fail>
-        requires seat { MayCall self.now seat.old }
-        ensures seat { GoesOn seat.old seat.new }
-        ensures made { Makes (call.TGetProtAddr fd amax pmax) AreAddresses seat.old.view seat.new.view result }
+    pub fn t_getprotaddr(&mut self, fd: Fd, amax: u32, pmax: u32) -> Result<(Octets, Octets), Fail>
+        ensures seat { GoesOn self.old self.new }
+        ensures made { TellsAddresses fd amax pmax self.old self.new result }
     {
+        self.ready()?;
         let call = Call::TGetProtAddr { fd, amax, pmax };
-        addresses(self.reply(rt, alloc, seat, call)?)
+        addresses(self.reply(call)?)
     }
 
     /// Negotiates or tells options, and answers the overall result and the options with their values (XNS, t_optmgmt).
@@ -308,27 +251,24 @@ impl Xti {
     /// - TBADOPT: `opt` has more than 256 bytes, or is no list of options, or has two levels.
     /// - TBUFOVFLW: the options that are answered are longer than `omax`, which isn't 0. The sizes are set all the same.
     #[tactic(auto, using(crate::proofs::Replied::makes_said), unfolding(xti_verbs::specs::Verbs::row_of))]
-    pub fn t_optmgmt<R: Wait + Sync>(
-        &self,
-        rt: &R,
-        alloc: Global,
-        seat: &mut Seat,
+    pub fn t_optmgmt(
+        &mut self,
         fd: Fd,
         action: u32,
         opt: &[u8],
         omax: u32,
     ) -> Result<(u32, Octets), Fail>
-        requires seat { MayCall self.now seat.old }
-        ensures seat { GoesOn seat.old seat.new }
-        ensures made { Makes (call.TOptMgmt fd action opt.now omax) IsNegotiated seat.old.view seat.new.view result }
+        ensures seat { GoesOn self.old self.new }
+        ensures made { Negotiates fd action opt.now omax self.old self.new result }
     {
+        self.ready()?;
         let call = Call::TOptMgmt {
             fd,
             action,
-            opt: Octets::copy_of(alloc, opt)?,
+            opt: Octets::copy_of(self.alloc, opt)?,
             omax,
         };
-        negotiated(self.reply(rt, alloc, seat, call)?)
+        negotiated(self.reply(call)?)
     }
 
     /// Sets an endpoint to O_NONBLOCK, or to blocking mode (fcntl in XNS).
@@ -342,19 +282,12 @@ impl Xti {
     ///
     /// XTI ([`Fail`]) answers TBADF alone: no endpoint is open with `fd`.
     #[tactic(auto, using(crate::proofs::Replied::makes_said), unfolding(xti_verbs::specs::Verbs::row_of))]
-    pub fn set_mode<R: Wait + Sync>(
-        &self,
-        rt: &R,
-        alloc: Global,
-        seat: &mut Seat,
-        fd: Fd,
-        nonblock: bool,
-    ) -> Result<(), Fail>
-        requires seat { MayCall self.now seat.old }
-        ensures seat { GoesOn seat.old seat.new }
-        ensures made { Makes (call.SetMode fd nonblock) IsDone seat.old.view seat.new.view result }
+    pub fn set_mode(&mut self, fd: Fd, nonblock: bool) -> Result<(), Fail>
+        ensures seat { GoesOn self.old self.new }
+        ensures made { Makes (call.SetMode fd nonblock) IsDone self.old self.new result }
     {
+        self.ready()?;
         let call = Call::SetMode { fd, nonblock };
-        done(self.reply(rt, alloc, seat, call)?)
+        done(self.reply(call)?)
     }
 }

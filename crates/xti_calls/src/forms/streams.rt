@@ -4,19 +4,17 @@ ghost use Rattle.std.specs.Prelude.{◌≡◌};
 ghost use Rattle.xti_model.specs.declared.call.Call.TheVariants as call;
 ghost use Rattle.xti_calls.specs.Forms.{Makes};
 ghost use Rattle.xti_calls.specs.Typed.{AreGot, IsGot, IsSent};
-ghost use Rattle.xti_calls.specs.Library.{MayCall, GoesOn};
+ghost use Rattle.xti_calls.specs.Library.{GoesOn};
 
 use crate::answers::{Fail, got, got_parts, sent};
 use crate::buffers::{Buffers, MOST_OF_STREAM};
-use crate::library::Seat;
-use crate::shared::Xti;
-use std::alloc::Global;
+use crate::caller::Caller;
 use std::sync::Wait;
 use xti_base::{Fd, Octets, Parts, Sizes};
-use xti_data::Gather;
+use xti_data::SendParts;
 use xti_model::Call;
 
-impl Xti {
+impl<'a, R: Wait + Sync> Caller<'a, R> {
     /// Sends bytes on a connection, and answers how many were taken (XNS, t_snd).
     ///
     /// One call takes at most 65,536 bytes. `flags` is the sum of T_MORE (1) and T_EXPEDITED (2), or 0. With T_MORE the message
@@ -43,25 +41,17 @@ impl Xti {
     /// - TLOOK with T_ORDREL: the other end has released, and all its data were received (`t_rcvrel`).
     /// - TFLOW, with O_NONBLOCK: there is no room. T_GODATA, or T_GOEXDATA for expedited data, then tells when there is.
     #[tactic(auto, using(crate::proofs::Replied::makes_said), unfolding(xti_verbs::specs::Verbs::row_of))]
-    pub fn t_snd<R: Wait + Sync>(
-        &self,
-        rt: &R,
-        alloc: Global,
-        seat: &mut Seat,
-        fd: Fd,
-        bytes: &[u8],
-        flags: u32,
-    ) -> Result<u32, Fail>
-        requires seat { MayCall self.now seat.old }
-        ensures seat { GoesOn seat.old seat.new }
-        ensures made { Makes (call.TSnd fd bytes.now flags) IsSent seat.old.view seat.new.view result }
+    pub fn t_snd(&mut self, fd: Fd, bytes: &[u8], flags: u32) -> Result<u32, Fail>
+        ensures seat { GoesOn self.old self.new }
+        ensures made { Makes (call.TSnd fd bytes.now flags) IsSent self.old self.new result }
     {
+        self.ready()?;
         let call = Call::TSnd {
             fd,
-            bytes: Octets::copy_of(alloc, bytes)?,
+            bytes: Octets::copy_of(self.alloc, bytes)?,
             flags,
         };
-        sent(self.reply(rt, alloc, seat, call)?)
+        sent(self.reply(call)?)
     }
 
     /// Sends parts, joined, on a connection, and answers how many bytes were taken (XNS, t_sndv).
@@ -73,25 +63,17 @@ impl Xti {
     ///
     /// XTI ([`Fail`]) answers those of `t_snd`, in their order. TBADDATA comes for more than 16 parts too.
     #[tactic(auto, using(crate::proofs::Replied::makes_said), unfolding(xti_verbs::specs::Verbs::row_of))]
-    pub fn t_sndv<R: Wait + Sync>(
-        &self,
-        rt: &R,
-        alloc: Global,
-        seat: &mut Seat,
-        fd: Fd,
-        parts: &Gather,
-        flags: u32,
-    ) -> Result<u32, Fail>
-        requires seat { MayCall self.now seat.old }
-        ensures seat { GoesOn seat.old seat.new }
-        ensures made { Makes (call.TSndV fd parts.now flags) IsSent seat.old.view seat.new.view result }
+    pub fn t_sndv(&mut self, fd: Fd, parts: &SendParts, flags: u32) -> Result<u32, Fail>
+        ensures seat { GoesOn self.old self.new }
+        ensures made { Makes (call.TSndV fd parts.now flags) IsSent self.old self.new result }
     {
+        self.ready()?;
         let call = Call::TSndV {
             fd,
             parts: parts.parts().copy()?,
             flags,
         };
-        sent(self.reply(rt, alloc, seat, call)?)
+        sent(self.reply(call)?)
     }
 
     /// Receives at most `max` bytes of a connection, and answers them with flags (XNS, t_rcv).
@@ -112,20 +94,13 @@ impl Xti {
     /// - TLOOK with T_ORDREL: the other end has released, and all its data were received (`t_rcvrel`).
     /// - TNODATA, with O_NONBLOCK: no data wait that may be received.
     #[tactic(auto, using(crate::proofs::Replied::makes_said), unfolding(xti_verbs::specs::Verbs::row_of))]
-    pub fn t_rcv<R: Wait + Sync>(
-        &self,
-        rt: &R,
-        alloc: Global,
-        seat: &mut Seat,
-        fd: Fd,
-        max: u32,
-    ) -> Result<(Octets, u32), Fail>
-        requires seat { MayCall self.now seat.old }
-        ensures seat { GoesOn seat.old seat.new }
-        ensures made { Makes (call.TRcv fd max) IsGot seat.old.view seat.new.view result }
+    pub fn t_rcv(&mut self, fd: Fd, max: u32) -> Result<(Octets, u32), Fail>
+        ensures seat { GoesOn self.old self.new }
+        ensures made { Makes (call.TRcv fd max) IsGot self.old self.new result }
     {
+        self.ready()?;
         let call = Call::TRcv { fd, max };
-        got(self.reply(rt, alloc, seat, call)?)
+        got(self.reply(call)?)
     }
 
     /// Receives bytes of a connection in parts of at most these sizes, and answers them with flags (XNS, t_rcvv).
@@ -139,22 +114,15 @@ impl Xti {
     /// XTI ([`Fail`]) answers those of `t_rcv`, in their order, and between TOUTSTATE and TLOOK:
     /// - TBADDATA: there are more than 16 sizes.
     #[tactic(auto, using(crate::proofs::Replied::makes_said, crate::proofs::Replied::got_fits), unfolding(xti_verbs::specs::Verbs::row_of))]
-    pub fn t_rcvv<R: Wait + Sync>(
-        &self,
-        rt: &R,
-        alloc: Global,
-        seat: &mut Seat,
-        fd: Fd,
-        sizes: &Sizes,
-    ) -> Result<(Parts, u32), Fail>
-        requires seat { MayCall self.now seat.old }
-        ensures seat { GoesOn seat.old seat.new }
-        ensures made { Makes (call.TRcvV fd sizes.now) (AreGot sizes.now) seat.old.view seat.new.view result }
+    pub fn t_rcvv(&mut self, fd: Fd, sizes: &Sizes) -> Result<(Parts, u32), Fail>
+        ensures seat { GoesOn self.old self.new }
+        ensures made { Makes (call.TRcvV fd sizes.now) (AreGot sizes.now) self.old self.new result }
     {
-        let buffers = Buffers::new(alloc, sizes.as_slice(), MOST_OF_STREAM)?;
+        self.ready()?;
+        let buffers = Buffers::new(self.alloc, sizes.as_slice(), MOST_OF_STREAM)?;
         let sizes = or_drop!(sizes.copy(), buffers);
         let call = Call::TRcvV { fd, sizes };
-        let reply = or_drop!(self.reply(rt, alloc, seat, call), buffers);
+        let reply = or_drop!(self.reply(call), buffers);
         got_parts(reply, buffers)
     }
 }

@@ -3,7 +3,8 @@ use Rattle.std.specs.Prelude.{option_map, None}
 use Rattle.xti_model.specs.declared.entry.Entry.{Entry}
 use Rattle.xti_model.specs.declared.entry.Go.TheVariants.{More}
 use Rattle.xti_model.specs.History.{Going, unfinished_from}
-use Rattle.xti_model.specs.Wants.{HasLeft, taken_before}
+use Rattle.xti_model.specs.Wants.{HasLeft}
+use Rattle.xti_model.specs.History.{taken_before}
 use Rattle.xti_calls.proofs.Unfinished.{GoingHasLeft, left-of_legal}
 use Rattle.xti_calls.proofs.calling.resume.Goals as goal
 

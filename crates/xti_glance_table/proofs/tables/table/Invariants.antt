@@ -5,9 +5,9 @@ use Rattle.xti_glance_table.specs.Tables.{AreFound, table_text}
 use Rattle.xti_glance_table.proofs.tables.table.Given as goal
 
 abbrev pub invariant-loop-fd : goal.invariant-loop-fd
-invariant-loop-fd l = record {
-  hall : l.seat.hall ≡ l.initial.seat.hall;
-  id : l.seat.id ≡ l.initial.seat.id;
-  same : IsSameLater l.initial.seat.view l.seat.view;
-  found : (gs : List Glance) × AreFound l.initial.seat.view (take l.fd-index l.fds) gs l.seat.view × (l.out.items ≡ table_text (take l.fd-index l.fds) gs);
+invariant-loop-fd g l = record {
+  hall : l.caller.hall ≡ l.initial.caller.hall;
+  id : l.caller.id ≡ l.initial.caller.id;
+  same : IsSameLater l.initial.caller.view l.caller.view;
+  found : (gs : List Glance) × AreFound l.initial.caller.view (take l.fd-index l.fds) gs l.caller.view × (l.out.items ≡ table_text (take l.fd-index l.fds) gs);
 }

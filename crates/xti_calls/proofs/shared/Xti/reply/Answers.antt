@@ -6,7 +6,7 @@ use Rattle.xti_calls.proofs.shared.Xti.reply.Goals as goal
 
 pub returns-in-Ok-clause-made : goal.returns-in-Ok-clause-made
 returns-in-Ok-clause-made g c =
-    (c.in-Ok.ensures.made, answered_may_be c.steps_answer_in_form.ensures.form c.args.seat.now.view c.args.call c.call-reply.new.seat.view c.in-Ok.reply c.call-reply.ensures.standing c.in-Ok.ensures.made)
+    ((c.requires.seat.1, c.in-Ok.ensures.made), answered_may_be c.steps_answer_in_form.ensures.form c.args.seat.now.view c.args.call c.call-reply.new.seat.view c.in-Ok.reply c.call-reply.ensures.standing c.in-Ok.ensures.made)
 
 pub returns-in-Ok-clause-short : goal.returns-in-Ok-clause-short
 returns-in-Ok-clause-short g c =
