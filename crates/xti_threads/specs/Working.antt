@@ -19,6 +19,8 @@ use Rattle.xti_calls.specs.Calling.{Answered, AreSteps}
 use Rattle.xti_calls.specs.Library.{IsOf}
 use Rattle.xti_replay.specs.declared.workers.Worker.{Worker}
 use Rattle.xti_replay.specs.Progress.{Told, LearnsNextLine}
+use Rattle.xti_threads.specs.declared.stage.Shared.{Shared}
+use Rattle.xti_threads.specs.declared.stage.Stage.{Stage}
 use Rattle.xti_threads.specs.declared.working.Job.{Job}
 
 -- worker 0 alone has made calls, and is finished; and what it knows
@@ -46,6 +48,10 @@ pub record HasAnswer (lines : List Line) (v : View) (c : Call) (v' : View) (old 
   pub answered : Answered v c go.Begin v' reply
   pub begun : HasBegun lines reply old new
 
+-- the call that the seat has made was answered, and its worker, which has begun its next line, knows what
+abbrev pub Hears : {G R : Type 0} → Stage G R → SeatView → Call → SeatView → Worker → Worker → Type 0
+Hears stage s c s' old new = HasAnswer stage.lines.now s.view c s'.view old new
+
 module _ (x : Xti) (lines : List Line) (setup : List Entry) where
   -- the seat of the worker with this number, after the entries of the setup: its own entries are calls of its lines, in order, each once
   pub record CameBack (number : ℕ) (s : SeatView) : Type 0 where
@@ -72,3 +78,24 @@ module _ (x : Xti) (lines : List Line) (setup : List Entry) where
     pub seen : j.seat.view.seen ≡ setup
     pub mine : j.seat.view.mine ≡ []
     pub told : Told lines setup number j.worker
+
+-- the job of the worker with this number, whose seat has seen the setup alone
+abbrev pub IsNewJob : Xti → List Line → ℕ → Job → Type 0
+IsNewJob x lines number j = IsJob x lines j.seat.view.seen number j
+
+-- the seat of this job, which has made calls of its worker's lines alone
+abbrev pub JobBack : Xti → List Line → Job → ℕ → SeatView → Type 0
+JobBack x lines j number s = CameBack x lines j.seat.view.seen number s
+
+module _ {G R : Type 0} (shared : Shared G R) (number : ℕ) where
+  -- worker 0 is finished after some setup, and this worker is between two of its lines
+  abbrev pub MayWork : SeatView → Worker → Type 0
+  MayWork s w = (past : List Entry) × AfterSetup shared.stage.lines.now past shared.setup.now × Works shared.xti.now shared.stage.lines.now past number s w
+
+  -- whatever the setup was, the worker stays between two of its lines
+  abbrev pub Stays : SeatView → Worker → SeatView → Worker → Type 0
+  Stays s w s' w' = (past : List Entry) → AfterSetup shared.stage.lines.now past shared.setup.now → Works shared.xti.now shared.stage.lines.now past number s w → Works shared.xti.now shared.stage.lines.now past number s' w'
+
+  -- whatever the setup was, the seat of a worker that was between two of its lines can come back
+  abbrev pub MayComeBack : SeatView → Worker → SeatView → Type 0
+  MayComeBack s w s' = (past : List Entry) → AfterSetup shared.stage.lines.now past shared.setup.now → Works shared.xti.now shared.stage.lines.now past number s w → CameBack shared.xti.now shared.stage.lines.now past number s'

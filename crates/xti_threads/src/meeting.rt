@@ -4,7 +4,7 @@ ghost use Rattle.std.specs.Prelude.{◌≡◌, true};
 ghost use Rattle.xti_model.specs.Complete.{IsHistoryOf};
 ghost use Rattle.xti_calls.specs.declared.shared.Xti.{Xti as TheXti};
 ghost use Rattle.xti_calls.specs.Library.{keeps_of, providers_of};
-ghost use Rattle.xti_threads.specs.Meeting.{AllPlayed};
+ghost use Rattle.xti_threads.specs.Meeting.{AllPlayed, TellsHistory};
 
 use std::sync::Wait;
 use xti_calls::{Ended, Seat, Xti};
@@ -14,7 +14,7 @@ use xti_model::{Entries, Line};
 fn meet_main(ended: &mut Ended, _lines: &[Line], seats: Vec<Seat>)
     requires { (xti : TheXti) × AllPlayed xti _lines.now ended.old seats }
     ensures same { ended.new ≡ ended.old }
-    ensures history { (xti : TheXti) → AllPlayed xti _lines.now ended.old seats → IsHistoryOf (providers_of xti) _lines.now ended.old.view.seen }
+    ensures history { TellsHistory _lines.now ended.old seats }
 {
     for seat in seats {
         let seat = ended.meet(seat);

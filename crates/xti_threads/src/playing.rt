@@ -1,18 +1,14 @@
 //! A script's workers, each on a thread.
 
-ghost use Rattle.std.specs.Prelude.{◌≡◌, ◌+◌, ◌<◌, List, [], None, true, IfOk, MatchOption, vec_len};
+ghost use Rattle.std.specs.Prelude.{◌≡◌, ◌<◌, [], None, true, IfOk, vec_len};
 ghost use Rattle.xti_base.specs.declared.limits.TheConstants.{WORKERS};
-ghost use Rattle.xti_model.specs.declared.entry.Entry.{Entry};
 ghost use Rattle.xti_model.specs.Complete.{IsHistoryOf};
-ghost use Rattle.xti_hall_rule.specs.Rule.{newcomer};
-ghost use Rattle.xti_gather.specs.Cells.{whole};
-ghost use Rattle.xti_calls.specs.Library.{IsOf, keeps_of, providers_of};
+ghost use Rattle.xti_calls.specs.Library.{keeps_of, providers_of};
 ghost use Rattle.xti_replay.specs.Playable.{IsPlayable, are_playable};
 ghost use Rattle.xti_replay.specs.Progress.{Told};
-ghost use Rattle.xti_threads.specs.Working.{AfterSetup};
-ghost use Rattle.xti_threads.specs.Setting.{HasSetUp, SetsUp};
-ghost use Rattle.xti_threads.specs.Starting.{AllJobs, AllTold, EachFrom};
-ghost use Rattle.xti_threads.specs.Meeting.{AllPlayed, Before, IsSetUp};
+ghost use Rattle.xti_threads.specs.Setting.{HasSetUp, IsNewMain, SetsUp};
+ghost use Rattle.xti_threads.specs.Starting.{EachFrom};
+ghost use Rattle.xti_threads.specs.Meeting.{AllPlayed, HasPlayed, HasSeated, MayPlayOthers, MaySeat};
 
 use crate::meeting::meet_all;
 use crate::setting::set_up;
@@ -34,9 +30,9 @@ fn seat_all<G, R: Wait>(
     workers: Vec<Worker>,
 ) -> Result<Vec<Job>, AllocError>
     requires many { vec_len workers < WORKERS }
-    requires before { (past : List Entry) × Before xti.now past 1 main.old × AllTold stage.now.lines.now past workers.items }
+    requires before { MaySeat xti.now stage.now.lines.now main.old workers.items }
     ensures many { IfOk result (λ v. vec_len v ≡ vec_len workers) }
-    ensures jobs { IfOk result (λ v. (past : List Entry) → Before xti.now past 1 main.old → AllTold stage.now.lines.now past workers.items → AllJobs xti.now stage.now.lines.now past v.items × Before xti.now past (vec_len workers + 1) main.new) }
+    ensures jobs { IfOk result (HasSeated xti.now stage.now.lines.now main.old workers main.new) }
 {
     let mut jobs = Vec::with_capacity(stage.alloc, workers.len())?;
     for worker in workers {
@@ -57,7 +53,7 @@ fn play_others<G: Gate, R: Threads + Wait + Sync>(
     workers: Vec<Worker>,
 ) -> Result<Vec<Seat>, AllocError>
     requires many { vec_len workers < WORKERS }
-    requires setup { (past : List Entry) × AfterSetup stage.now.lines.now past setup.now × IsSetUp stage.now.lines.now past × Before xti.now past 1 main.old × AllTold stage.now.lines.now past workers.items }
+    requires setup { MayPlayOthers xti.now stage.now.lines.now setup.now main.old workers.items }
     ensures { IfOk result (AllPlayed xti.now stage.now.lines.now main.new) }
 {
     let jobs = seat_all(stage, xti, main, workers)?;
@@ -78,7 +74,7 @@ fn play_from<G: Gate, R: Threads + Wait + Sync>(
     requires sets { SetsUp xti.now stage.now.lines.now main.old setup.old }
     requires whole { setup.old.part ≡ None }
     requires workers { EachFrom (Told stage.now.lines.now []) 1 workers.items }
-    ensures { IfOk result (λ seats. MatchOption seats (HasSetUp xti.now stage.now.lines.now main.new) (AllPlayed xti.now stage.now.lines.now main.new)) }
+    ensures { IfOk result (HasPlayed xti.now stage.now.lines.now main.new) }
 {
     if set_up(stage, xti, main, setup) {
         let seats = play_others(stage, xti, setup, main, workers)?;
@@ -95,8 +91,8 @@ fn play_workers<G: Gate, R: Threads + Wait + Sync>(
     main: &mut Seat,
 ) -> Result<Option<Vec<Seat>>, AllocError>
     requires lines { are_playable stage.now.lines.now ≡ true }
-    requires main { IsOf xti.now main.old × (main.old.view ≡ newcomer (whole (providers_of xti.now) true)) }
-    ensures { IfOk result (λ seats. MatchOption seats (HasSetUp xti.now stage.now.lines.now main.new) (AllPlayed xti.now stage.now.lines.now main.new)) }
+    requires main { IsNewMain xti.now main.old }
+    ensures { IfOk result (HasPlayed xti.now stage.now.lines.now main.new) }
 {
     let mut workers = fresh_workers(stage.alloc, stage.lines)?;
     let mut setup = workers.remove(0);
@@ -123,7 +119,7 @@ fn history_of<R: Wait>(
     seats: Option<Vec<Seat>>,
 ) -> Entries
     requires keeps { keeps_of xti ≡ true }
-    requires played { MatchOption seats (HasSetUp xti lines.now main) (AllPlayed xti lines.now main) }
+    requires played { HasPlayed xti lines.now main seats }
     ensures { IsHistoryOf (providers_of xti) lines.now result }
 {
     match seats {
@@ -140,7 +136,7 @@ fn play_lines<G: Gate, R: Threads + Wait + Sync>(
 ) -> Result<Entries, AllocError>
     requires keeps { keeps_of xti ≡ true }
     requires lines { are_playable stage.now.lines.now ≡ true }
-    requires main { IsOf xti main × (main.view ≡ newcomer (whole (providers_of xti) true)) }
+    requires main { IsNewMain xti main }
     ensures { IfOk result (IsHistoryOf (providers_of xti) stage.now.lines.now) }
 {
     let seats = play_workers(stage, &xti, &mut main)?;

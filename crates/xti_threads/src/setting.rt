@@ -2,8 +2,7 @@
 
 ghost use Rattle.std.specs.Prelude.{◌≡◌, None, true};
 ghost use Rattle.xti_threads.specs.declared.setting.Setting.TheVariants.{Finished, Made};
-ghost use Rattle.xti_model.specs.Robin.{is_through};
-ghost use Rattle.xti_threads.specs.Setting.{HasSetUp, SetsUp};
+ghost use Rattle.xti_threads.specs.Setting.{AllMade, HasSetUp, LineMade, SetsUp};
 
 use crate::stage::Stage;
 use crate::working::make_call;
@@ -31,8 +30,8 @@ fn make_line<G: Gate, R: Wait + Sync>(
     requires sets { SetsUp xti.now stage.now.lines.now main.old worker.old }
     requires whole { worker.old.part ≡ None }
     ensures sets { HasSetUp xti.now stage.now.lines.now main.new }
-    ensures made { result ≡ Made → SetsUp xti.now stage.now.lines.now main.new worker.new × (worker.new.part ≡ None) }
-    ensures finished { result ≡ Finished → SetsUp xti.now stage.now.lines.now main.new worker.new × (is_through stage.now.lines.now main.new.view.mine 0 ≡ true) }
+    ensures made { result ≡ Made → LineMade xti.now stage.now.lines.now main.new worker.new }
+    ensures finished { result ≡ Finished → AllMade xti.now stage.now.lines.now main.new worker.new }
 {
     let Ok(next) = worker.next_call(stage.lines, worker) else {
         return Setting::Stopped;
@@ -57,7 +56,7 @@ pub(crate) fn set_up<G: Gate, R: Wait + Sync>(
     requires sets { SetsUp xti.now stage.now.lines.now main.old worker.old }
     requires whole { worker.old.part ≡ None }
     ensures sets { HasSetUp xti.now stage.now.lines.now main.new }
-    ensures finished { result ≡ true → SetsUp xti.now stage.now.lines.now main.new worker.new × (is_through stage.now.lines.now main.new.view.mine 0 ≡ true) }
+    ensures finished { result ≡ true → AllMade xti.now stage.now.lines.now main.new worker.new }
 {
     for _ in stage.rt.forever() {
         match make_line(stage, xti, main, worker) {

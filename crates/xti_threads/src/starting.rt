@@ -1,12 +1,9 @@
 //! A thread for each worker that has lines, and their seats back.
 
-ghost use Rattle.std.specs.Prelude.{◌≡◌, ◌<◌, ◌≤◌, ℕ, List, [], true, IfOk, vec_len, vec_capacity};
+ghost use Rattle.std.specs.Prelude.{◌≡◌, ◌<◌, ◌≤◌, [], IfOk, vec_len, vec_capacity};
 ghost use Rattle.xti_base.specs.declared.limits.TheConstants.{WORKERS};
-ghost use Rattle.xti_calls.specs.declared.shared.Xti.{Xti as TheXti};
-ghost use Rattle.xti_model.specs.declared.entry.Entry.{Entry};
-ghost use Rattle.xti_model.specs.declared.script.Line.{Line as TheLine};
-ghost use Rattle.xti_threads.specs.Working.{AfterSetup, CameBack, IsJob};
-ghost use Rattle.xti_threads.specs.Starting.{AllBack, AllJobs, AllStarted, HasStarted};
+ghost use Rattle.xti_threads.specs.Working.{AfterSetup, CameBack, IsNewJob, JobBack};
+ghost use Rattle.xti_threads.specs.Starting.{AreStarted, EachBack, EachStarted, HandBackAll, HandsBack, HasStartedJob, IsStarted, MayRun};
 
 use crate::stage::{Shared, Stage};
 use crate::working::{Job, work};
@@ -49,8 +46,8 @@ fn spawn<'s, E, G: Gate, R: Threads + Wait + Sync>(
     job: Job,
 ) -> Started<'s>
     requires setup { AfterSetup shared.now.stage.lines.now job.seat.view.seen shared.now.setup.now }
-    requires job { IsJob shared.now.xti.now shared.now.stage.lines.now job.seat.view.seen number job }
-    ensures { HasStarted shared.now.xti.now shared.now.stage.lines.now job.seat.view.seen number result }
+    requires job { IsNewJob shared.now.xti.now shared.now.stage.lines.now number job }
+    ensures { HasStartedJob shared.now.xti.now shared.now.stage.lines.now job number result }
 {
     let Shared {
         stage: Stage {
@@ -72,8 +69,8 @@ fn spawn<'s, E, G: Gate, R: Threads + Wait + Sync>(
     };
     let body = move || -> Seat
         requires setup { AfterSetup lines.now job.seat.view.seen setup.now }
-        requires job { IsJob xti.now lines.now job.seat.view.seen number job }
-        ensures { CameBack xti.entry.now lines.entry.now job.seat.view.seen number result }
+        requires job { IsNewJob xti.now lines.now number job }
+        ensures { JobBack xti.entry.now lines.entry.now job number result }
     {
         let stage = Stage {
             rt,
@@ -106,8 +103,8 @@ fn start<'s, E, G: Gate, R: Threads + Wait + Sync>(
     job: Job,
 ) -> Started<'s>
     requires setup { AfterSetup shared.now.stage.lines.now job.seat.view.seen shared.now.setup.now }
-    requires job { IsJob shared.now.xti.now shared.now.stage.lines.now job.seat.view.seen number job }
-    ensures { HasStarted shared.now.xti.now shared.now.stage.lines.now job.seat.view.seen number result }
+    requires job { IsNewJob shared.now.xti.now shared.now.stage.lines.now number job }
+    ensures { HasStartedJob shared.now.xti.now shared.now.stage.lines.now job number result }
 {
     if job.worker.is_finished() {
         return Started::Ended(work(shared, number, job));
@@ -122,9 +119,9 @@ fn start_all<'s, E, G: Gate, R: Threads + Wait + Sync>(
     jobs: Vec<Job>,
 ) -> Result<Vec<Started<'s>>, AllocError>
     requires many { vec_len jobs < WORKERS }
-    requires jobs { (past : List Entry) × AfterSetup shared.now.stage.lines.now past shared.now.setup.now × AllJobs shared.now.xti.now shared.now.stage.lines.now past jobs.items }
+    requires jobs { MayRun shared.now.xti.now shared.now.stage.lines.now shared.now.setup.now jobs }
     ensures many { IfOk result (λ v. vec_len v ≡ vec_len jobs) }
-    ensures started { IfOk result (λ v. (past : List Entry) → AllJobs shared.now.xti.now shared.now.stage.lines.now past jobs.items → AllStarted shared.now.xti.now shared.now.stage.lines.now past 1 v.items) }
+    ensures started { IfOk result (EachStarted shared.now.xti.now shared.now.stage.lines.now jobs) }
 {
     let mut started = Vec::with_capacity(shared.stage.alloc, jobs.len())?;
     let mut number = 0;
@@ -137,8 +134,8 @@ fn start_all<'s, E, G: Gate, R: Threads + Wait + Sync>(
 
 /// Joins the thread, where there is one.
 fn join<R: Threads>(rt: &R, started: Started<'_>) -> Seat
-    requires { (xti : TheXti) × (lines : List TheLine) × (setup : List Entry) × (number : ℕ) × HasStarted xti lines setup number started }
-    ensures { (xti : TheXti) (lines : List TheLine) (setup : List Entry) (number : ℕ) → HasStarted xti lines setup number started.entry → CameBack xti lines setup number result }
+    requires { IsStarted started }
+    ensures { HandsBack started.entry result }
 {
     match started {
         Started::Runs(handle) => handle.join(rt),
@@ -150,9 +147,9 @@ fn join<R: Threads>(rt: &R, started: Started<'_>) -> Seat
 fn join_all<R: Threads>(rt: &R, started: Vec<Started<'_>>, seats: &mut Vec<Seat>)
     requires room { vec_len started ≤ vec_capacity seats.old }
     requires empty { (vec_len seats.old ≡ 0) × (seats.old.items ≡ []) }
-    requires started { (xti : TheXti) × (lines : List TheLine) × (setup : List Entry) × AllStarted xti lines setup 1 started.items }
+    requires started { AreStarted started.items }
     ensures many { vec_len seats.new ≡ vec_len started.entry }
-    ensures back { (xti : TheXti) (lines : List TheLine) (setup : List Entry) → AllStarted xti lines setup 1 started.entry.items → AllBack xti lines setup seats.new.items }
+    ensures back { HandBackAll started.entry.items seats.new.items }
 {
     for one in started {
         seats.push_reserved(join(rt, one));
@@ -166,9 +163,9 @@ fn run_scope<'s, E, G: Gate, R: Threads + Wait + Sync>(
     jobs: Vec<Job>,
 ) -> Result<Vec<Seat>, AllocError>
     requires many { vec_len jobs < WORKERS }
-    requires jobs { (past : List Entry) × AfterSetup shared.now.stage.lines.now past shared.now.setup.now × AllJobs shared.now.xti.now shared.now.stage.lines.now past jobs.items }
+    requires jobs { MayRun shared.now.xti.now shared.now.stage.lines.now shared.now.setup.now jobs }
     ensures many { IfOk result (λ v. vec_len v ≡ vec_len jobs) }
-    ensures back { IfOk result (λ v. (past : List Entry) → AllJobs shared.now.xti.now shared.now.stage.lines.now past jobs.items → AllBack shared.now.xti.now shared.now.stage.lines.now past v.items) }
+    ensures back { IfOk result (EachBack shared.now.xti.now shared.now.stage.lines.now jobs) }
 {
     let mut seats = Vec::with_capacity(shared.stage.alloc, jobs.len())?;
     let started = start_all(scope, shared, jobs)?;
@@ -184,9 +181,9 @@ pub(crate) fn run_all<G: Gate, R: Threads + Wait + Sync>(
     jobs: Vec<Job>,
 ) -> Result<Vec<Seat>, AllocError>
     requires many { vec_len jobs < WORKERS }
-    requires jobs { (past : List Entry) × AfterSetup stage.now.lines.now past setup.now × AllJobs xti.now stage.now.lines.now past jobs.items }
+    requires jobs { MayRun xti.now stage.now.lines.now setup.now jobs }
     ensures many { IfOk result (λ v. vec_len v ≡ vec_len jobs) }
-    ensures back { IfOk result (λ v. (past : List Entry) → AllJobs xti.now stage.now.lines.now past jobs.items → AllBack xti.now stage.now.lines.now past v.items) }
+    ensures back { IfOk result (EachBack xti.now stage.now.lines.now jobs) }
 {
     let Stage {
         rt,
@@ -201,9 +198,9 @@ pub(crate) fn run_all<G: Gate, R: Threads + Wait + Sync>(
         rt,
         |scope| -> Result<Vec<Seat>, AllocError>
             requires many { vec_len jobs < WORKERS }
-            requires jobs { (past : List Entry) × AfterSetup lines.now past setup.now × AllJobs xti.now lines.now past jobs.items }
+            requires jobs { MayRun xti.now lines.now setup.now jobs }
             ensures many { IfOk result (λ v. vec_len v ≡ vec_len jobs) }
-            ensures back { IfOk result (λ v. (past : List Entry) → AllJobs xti.entry.now lines.entry.now past jobs.items → AllBack xti.entry.now lines.entry.now past v.items) }
+            ensures back { IfOk result (EachBack xti.entry.now lines.entry.now jobs) }
         {
             let stage = Stage {
                 rt,

@@ -1,12 +1,11 @@
 //! A worker's lines, made on its thread.
 
-ghost use Rattle.std.specs.Prelude.{◌≡◌, List, None, true};
+ghost use Rattle.std.specs.Prelude.{◌≡◌, None, true};
 ghost use Rattle.xti_model.specs.declared.entry.Act.TheVariants.{Begin};
-ghost use Rattle.xti_model.specs.declared.entry.Entry.{Entry};
 ghost use Rattle.xti_hall.specs.Seats.{IsStanding};
 ghost use Rattle.xti_calls.specs.Library.{GoesOn, MayCall};
 ghost use Rattle.xti_replay.specs.Progress.{MayTake};
-ghost use Rattle.xti_threads.specs.Working.{AfterSetup, CameBack, HasAnswer, HasBegun, HasSteps, IsJob, Works};
+ghost use Rattle.xti_threads.specs.Working.{AfterSetup, HasBegun, HasSteps, Hears, IsNewJob, JobBack, MayComeBack, MayWork, Stays};
 
 use crate::stage::{Shared, Stage};
 use std::alloc::Global;
@@ -50,7 +49,7 @@ pub(crate) fn make_call<G: Gate, R: Wait + Sync>(
     ensures seat { GoesOn seat.old seat.new }
     ensures standing { IsStanding seat.new.view }
     ensures made { HasSteps seat.old.view call seat.new.view }
-    ensures begun { result ≡ true → HasAnswer stage.now.lines.now seat.old.view call seat.new.view worker.old worker.new }
+    ensures begun { result ≡ true → Hears stage.now seat.old call seat.new worker.old worker.new }
 {
     match xti.call(stage.rt, stage.alloc, seat, stage.gate, &call) {
         Ok(reply) => begin_line(stage.alloc, stage.lines, worker, call, reply),
@@ -68,11 +67,11 @@ fn make_line<G: Gate, R: Wait + Sync>(
     seat: &mut Seat,
     worker: &mut Worker,
 ) -> bool
-    requires works { (past : List Entry) × AfterSetup shared.now.stage.lines.now past shared.now.setup.now × Works shared.now.xti.now shared.now.stage.lines.now past _number seat.old worker.old }
+    requires works { MayWork shared.now _number seat.old worker.old }
     requires whole { worker.old.part ≡ None }
-    ensures on { result ≡ true → (past : List Entry) → AfterSetup shared.now.stage.lines.now past shared.now.setup.now → Works shared.now.xti.now shared.now.stage.lines.now past _number seat.old worker.old → Works shared.now.xti.now shared.now.stage.lines.now past _number seat.new worker.new }
+    ensures on { result ≡ true → Stays shared.now _number seat.old worker.old seat.new worker.new }
     ensures whole { result ≡ true → worker.new.part ≡ None }
-    ensures back { (past : List Entry) → AfterSetup shared.now.stage.lines.now past shared.now.setup.now → Works shared.now.xti.now shared.now.stage.lines.now past _number seat.old worker.old → CameBack shared.now.xti.now shared.now.stage.lines.now past _number seat.new }
+    ensures back { MayComeBack shared.now _number seat.old worker.old seat.new }
 {
     let Ok(next) = worker.next_call(shared.stage.lines, shared.setup) else {
         return false;
@@ -90,9 +89,9 @@ fn make_lines<G: Gate, R: Wait + Sync>(
     seat: &mut Seat,
     worker: &mut Worker,
 )
-    requires works { (past : List Entry) × AfterSetup shared.now.stage.lines.now past shared.now.setup.now × Works shared.now.xti.now shared.now.stage.lines.now past number seat.old worker.old }
+    requires works { MayWork shared.now number seat.old worker.old }
     requires whole { worker.old.part ≡ None }
-    ensures { (past : List Entry) → AfterSetup shared.now.stage.lines.now past shared.now.setup.now → Works shared.now.xti.now shared.now.stage.lines.now past number seat.old worker.old → CameBack shared.now.xti.now shared.now.stage.lines.now past number seat.new }
+    ensures { MayComeBack shared.now number seat.old worker.old seat.new }
 {
     for _ in shared.stage.rt.forever() {
         if shared.lacking.load(Ordering::SeqCst) {
@@ -112,8 +111,8 @@ pub(crate) fn work<G: Gate, R: Wait + Sync>(
     job: Job,
 ) -> Seat
     requires setup { AfterSetup shared.now.stage.lines.now job.seat.view.seen shared.now.setup.now }
-    requires job { IsJob shared.now.xti.now shared.now.stage.lines.now job.seat.view.seen number job }
-    ensures { CameBack shared.now.xti.now shared.now.stage.lines.now job.seat.view.seen number result }
+    requires job { IsNewJob shared.now.xti.now shared.now.stage.lines.now number job }
+    ensures { JobBack shared.now.xti.now shared.now.stage.lines.now job number result }
 {
     let Job {
         mut seat,
