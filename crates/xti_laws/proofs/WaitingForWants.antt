@@ -20,7 +20,8 @@ use Rattle.xti_model.specs.Switch.{bound, opening_place}
 use Rattle.xti_model.specs.Links.{linked}
 use Rattle.xti_model.specs.Plan.{Row, Field, first, refuses, not_ready, overflows, outside, looks, without_connections, without_datagrams, later_plan}
 use Rattle.xti_model.specs.Step.{plan, step, step_of, send}
-use Rattle.xti_model.specs.Wants.{Want, want_of, want_rows, want_to_send, taken_before, is_bad_left, is_bad_length, is_waiting, send_arguments, datagram_arguments}
+use Rattle.xti_model.specs.Wants.{Want, want_of, want_rows, want_to_send, is_bad_left, is_bad_length, is_waiting, send_arguments, datagram_arguments}
+use Rattle.xti_model.specs.History.{taken_before}
 use Rattle.xti_model.specs.Wants as Wants
 use Rattle.xti_model.specs.Calls.Connect as Connect
 use Rattle.xti_model.specs.Calls.Listen as Listen

@@ -37,6 +37,10 @@ abbrev pub TakesOutstanding : Providers → World → Call → Type 0
 TakesOutstanding p w (call.TRcvDis fd umax) = (e : Endpoint) → endpoint p w fd.0 ≡ Some e → OldestIsOutstanding e
 TakesOutstanding p w other = Unit
 
+-- so it is wherever a rcvdis takes one
+abbrev pub AlwaysTakesOutstanding : Providers → World → Type 0
+AlwaysTakesOutstanding p w = (c : Call) → TakesOutstanding p w c
+
 -- a step with an effect changes the count of the call's endpoint by its row
 abbrev pub CountsByTheTable : Providers → World → Call → Go → Type 0
 CountsByTheTable p w c g =

@@ -10,8 +10,20 @@ use Rattle.xti_model.specs.Switch.{opening_place}
 use Rattle.xti_model.specs.Calls.Open.{no_fd}
 use Rattle.xti_model.specs.Step.{Step, plan, step}
 use Rattle.xti_model.specs.Touched.{named, touched}
-use Rattle.xti_model.specs.History.{after_from, left_by}
+use Rattle.xti_model.specs.History.{after, after_from, left_by, Legal}
 use Rattle.xti_laws.specs.Updates.{Kind}
+
+-- this holds of any call in any world, whatever was told of its progress
+abbrev pub OfAnyStep : (Providers → World → Call → Go → Type 0) → Type 0
+OfAnyStep holds = (p : Providers) (w : World) (c : Call) (g : Go) → holds p w c g
+
+-- this holds of the world after any entries, legal or not
+abbrev pub AfterAnyEntries : (Providers → World → Type 0) → Type 0
+AfterAnyEntries holds = (p : Providers) (entries : List Entry) → holds p (after p entries)
+
+-- this holds of every legal history
+abbrev pub OfLegalHistories : (Providers → List Entry → Type 0) → Type 0
+OfLegalHistories holds = (p : Providers) (entries : List Entry) → Legal p entries → holds p entries
 
 -- every number of the second list is among those of the first
 abbrev pub Within : List ℕ → List ℕ → Type 0
@@ -26,9 +38,17 @@ restrict t s = record s { world = only t s.world }
 abbrev pub HasNamed : Providers → List ℕ → World → Call → Type 0
 HasNamed p t w c = Within t (named p w c)
 
+-- this holds of any cells of a world that have all that a call names
+abbrev pub OnNamedCells : (Providers → List ℕ → World → Call → Type 0) → Type 0
+OnNamedCells holds = (p : Providers) (t : List ℕ) (w : World) (c : Call) → HasNamed p t w c → holds p t w c
+
 -- these cells of a world are enough for a call: they have all that it touches on them alone
 abbrev pub Enough : Providers → List ℕ → World → Call → Type 0
 Enough p t w c = Within t (touched p (only t w) c)
+
+-- this holds of any cells of a world that are enough for a call
+abbrev pub OnEnoughCells : (Providers → List ℕ → World → Call → Type 0) → Type 0
+OnEnoughCells holds = (p : Providers) (t : List ℕ) (w : World) (c : Call) → Enough p t w c → holds p t w c
 
 -- a call names the same on these cells alone as in the world
 abbrev pub NamesSame : Providers → List ℕ → World → Call → Type 0
@@ -65,6 +85,10 @@ Passes test cell = test cell ≡ true
 -- where every cell passes a test, every cell does after any entries
 abbrev pub PassesAfterAny : Providers → (Cell → Bool) → Type 0
 PassesAfterAny p test = (w : World) (past entries : List Entry) → AllCells (Passes test) w → AllCells (Passes test) (after_from p w past entries)
+
+-- where each named kind of change keeps a cell passing the test, it is so
+abbrev pub KeptAfterAny : Providers → (Cell → Bool) → Type 0
+KeptAfterAny p test = Keeps p (Passes test) → PassesAfterAny p test
 
 -- the switch knows no more places than there are
 abbrev pub KnowsNoMore : Providers → World → Type 0

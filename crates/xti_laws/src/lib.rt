@@ -1,20 +1,18 @@
 //! Laws of the definitions of a step: what a step reads, what it changes, and how.
 #![tactic(auto)]
 
-ghost use Rattle.std.specs.Prelude.{ℕ, Bool, List};
+ghost use Rattle.std.specs.Prelude.{Bool};
 ghost use Rattle.xti_model.specs.declared.call.Call.{Call};
 ghost use Rattle.xti_model.specs.declared.entry.Go.{Go};
-ghost use Rattle.xti_model.specs.declared.entry.Entry.{Entry};
 ghost use Rattle.xti_model.specs.declared.profile.Providers.{Providers};
 ghost use Rattle.xti_model.specs.World.{World, Cell};
 ghost use Rattle.xti_model.specs.Step.{plan};
 ghost use Rattle.xti_model.specs.Touched.{touched};
-ghost use Rattle.xti_model.specs.History.{after};
 ghost use Rattle.xti_laws.specs.Updates.{PlanKinds};
 ghost use Rattle.xti_laws.specs.States.{TakesByTheTable, PassesByTheTable, KeepsEveryState, KeepsOtherStates, AllInitialised};
 ghost use Rattle.xti_laws.specs.Counts.{CountsByTheTable, KeepsEveryCount, KeepsOtherCounts};
 ghost use Rattle.xti_laws.specs.Waiting.{BlockedAsWanted, BlockedHasGoodArguments};
-ghost use Rattle.xti_laws.specs.Laws.{HasNamed, Enough, NamesSame, TouchesSame, SameIfTold, SameSteps, LeavesOthers, Keeps, Passes, PassesAfterAny, KnowsNoMore};
+ghost use Rattle.xti_laws.specs.Laws.{OfAnyStep, AfterAnyEntries, OnNamedCells, OnEnoughCells, NamesSame, TouchesSame, SameIfTold, SameSteps, LeavesOthers, KeptAfterAny, KnowsNoMore};
 
 /// A step is settled by the cells that its call names, and leaves all others as they are.
 ///
@@ -22,8 +20,8 @@ ghost use Rattle.xti_laws.specs.Laws.{HasNamed, Enough, NamesSame, TouchesSame, 
 /// it leaves them there, if the cells that the call names are among them, and that of the endpoint whose state
 /// is told. `changes`: cells that the call doesn't name stay. Both hold of any list of cells.
 pub fn steps_are_local()
-    ensures reads { (p : Providers) (t : List ℕ) (w : World) (c : Call) → HasNamed p t w c → SameIfTold p t w c }
-    ensures changes { (p : Providers) (t : List ℕ) (w : World) (c : Call) → HasNamed p t w c → LeavesOthers p t w c }
+    ensures reads { OnNamedCells SameIfTold }
+    ensures changes { OnNamedCells LeavesOthers }
 {}
 
 /// A step is settled by the touched cells of its call, and changes no others.
@@ -35,7 +33,7 @@ pub fn steps_are_local()
 pub fn touched_cells_settle_a_step()
     ensures reads { (p : Providers) (w : World) (c : Call) → SameSteps p (touched p w c) w c }
     ensures changes { (p : Providers) (w : World) (c : Call) → LeavesOthers p (touched p w c) w c }
-    ensures known { (p : Providers) (entries : List Entry) → KnowsNoMore p (after p entries) }
+    ensures known { AfterAnyEntries KnowsNoMore }
     ensures again { (p : Providers) (w : World) (c : Call) → TouchesSame p (touched p w c) w c }
 {}
 
@@ -44,10 +42,10 @@ pub fn touched_cells_settle_a_step()
 /// `names`, `touches`: the call then names and touches just what it does in the whole world. `reads`: a step on them is
 /// the step of that world, as on the touched cells. `changes`: all other cells stay. Of every call, and of any cells.
 pub fn some_cells_are_enough()
-    ensures names { (p : Providers) (t : List ℕ) (w : World) (c : Call) → Enough p t w c → NamesSame p t w c }
-    ensures touches { (p : Providers) (t : List ℕ) (w : World) (c : Call) → Enough p t w c → TouchesSame p t w c }
-    ensures reads { (p : Providers) (t : List ℕ) (w : World) (c : Call) → Enough p t w c → SameSteps p t w c }
-    ensures changes { (p : Providers) (t : List ℕ) (w : World) (c : Call) → Enough p t w c → LeavesOthers p t w c }
+    ensures names { OnEnoughCells NamesSame }
+    ensures touches { OnEnoughCells TouchesSame }
+    ensures reads { OnEnoughCells SameSteps }
+    ensures changes { OnEnoughCells LeavesOthers }
 {}
 
 /// Each change that a call may make is one of the named kinds.
@@ -56,7 +54,7 @@ pub fn some_cells_are_enough()
 /// cell after any entries, legal or not.
 pub fn changes_are_named()
     ensures kinds { (p : Providers) (w : World) (c : Call) (g : Go) → PlanKinds (plan p w c g) }
-    ensures kept { (p : Providers) (test : Cell → Bool) → Keeps p (Passes test) → PassesAfterAny p test }
+    ensures kept { (p : Providers) (test : Cell → Bool) → KeptAfterAny p test }
 {}
 
 /// What a wait depends on settles whether a step is blocked.
@@ -65,8 +63,8 @@ pub fn changes_are_named()
 /// step is blocked exactly where its want is; a step that has no want never is. `good`: a blocked step's call
 /// passes those rows, which no later world changes.
 pub fn steps_wait_for_their_wants()
-    ensures as_wanted { (p : Providers) (w : World) (c : Call) (g : Go) → BlockedAsWanted p w c g }
-    ensures good { (p : Providers) (w : World) (c : Call) (g : Go) → BlockedHasGoodArguments p w c g }
+    ensures as_wanted { OfAnyStep BlockedAsWanted }
+    ensures good { OfAnyStep BlockedHasGoodArguments }
 {}
 
 /// The states before and after a step are a row of the state table.
@@ -77,11 +75,11 @@ pub fn steps_wait_for_their_wants()
 /// endpoint of an accept, where it isn't the listener itself. `refused`: a step without an effect leaves every
 /// state. `others`: every step leaves the states of all other endpoints.
 pub fn states_follow_the_table()
-    ensures taken { (p : Providers) (w : World) (c : Call) (g : Go) → TakesByTheTable p w c g }
-    ensures passed { (p : Providers) (w : World) (c : Call) (g : Go) → PassesByTheTable p w c g }
-    ensures refused { (p : Providers) (w : World) (c : Call) (g : Go) → KeepsEveryState p w c g }
-    ensures others { (p : Providers) (w : World) (c : Call) (g : Go) → KeepsOtherStates p w c g }
-    ensures begun { (p : Providers) (entries : List Entry) → AllInitialised p (after p entries) }
+    ensures taken { OfAnyStep TakesByTheTable }
+    ensures passed { OfAnyStep PassesByTheTable }
+    ensures refused { OfAnyStep KeepsEveryState }
+    ensures others { OfAnyStep KeepsOtherStates }
+    ensures begun { AfterAnyEntries AllInitialised }
 {}
 
 /// How many indications are outstanding after a step is settled by the state table too.
@@ -91,7 +89,7 @@ pub fn states_follow_the_table()
 /// to be of an outstanding indication, as it is after any entries. `refused`: a step without an effect leaves every
 /// count. `others`: every step leaves the counts of all other endpoints.
 pub fn counts_follow_the_table()
-    ensures counted { (p : Providers) (w : World) (c : Call) (g : Go) → CountsByTheTable p w c g }
-    ensures refused { (p : Providers) (w : World) (c : Call) (g : Go) → KeepsEveryCount p w c g }
-    ensures others { (p : Providers) (w : World) (c : Call) (g : Go) → KeepsOtherCounts p w c g }
+    ensures counted { OfAnyStep CountsByTheTable }
+    ensures refused { OfAnyStep KeepsEveryCount }
+    ensures others { OfAnyStep KeepsOtherCounts }
 {}

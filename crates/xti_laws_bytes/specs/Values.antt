@@ -1,5 +1,5 @@
 -- Values that are as wide as their types: lists of bytes, and numbers of 32 bits.
-use Rattle.std.specs.Prelude.{ℕ, ◌<◌, ◌^◌, List, [], ◌∷◌}
+use Rattle.std.specs.Prelude.{◌≡◌, ℕ, true, ◌<◌, ◌^◌, List, [], ◌∷◌, All}
 use Rattle.std.specs.List.{concat}
 use Rattle.xti_base.specs.declared.limit.Limit.{Limit}
 use Rattle.xti_base.specs.declared.limit.Limit.TheVariants.{At}
@@ -12,6 +12,9 @@ use Rattle.xti_model.specs.declared.entry.Entry.{Entry}
 use Rattle.xti_model.specs.declared.entry.Outcome.{Outcome}
 use Rattle.xti_model.specs.declared.entry.Outcome.TheVariants.{Done, Part}
 use Rattle.xti_model.specs.declared.entry.Reply.TheVariants as reply
+use Rattle.xti_model.specs.declared.profile.Providers.{Providers}
+use Rattle.xti_model.specs.History.{Legal}
+use Rattle.xti_model.specs.Profile.{valid}
 use Rattle.xti_model.specs.SentBytes.{AreBytes}
 
 -- ---- arguments
@@ -80,3 +83,7 @@ HasValues (Done other) = Unit {0}
 -- the answer of an entry has such values
 abbrev pub AnswersValues : Entry → Type 0
 AnswersValues e = HasValues e.outcome
+
+-- so have all answers of a legal history of valid providers whose calls are of bytes
+abbrev pub KeepsValues : Providers → List Entry → Type 0
+KeepsValues p entries = valid p ≡ true → Legal p entries → AreOfBytes entries → All AnswersValues entries

@@ -1,12 +1,10 @@
 //! Bytes in, bytes out: what holds of the values of a legal history whose arguments are of bytes.
 #![tactic(auto)]
 
-ghost use Rattle.std.specs.Prelude.{◌≡◌, true, List, All};
+ghost use Rattle.std.specs.Prelude.{List};
 ghost use Rattle.xti_model.specs.declared.entry.Entry.{Entry};
 ghost use Rattle.xti_model.specs.declared.profile.Providers.{Providers};
-ghost use Rattle.xti_model.specs.History.{Legal};
-ghost use Rattle.xti_model.specs.Profile.{valid};
-ghost use Rattle.xti_laws_bytes.specs.Values.{AreOfBytes, AnswersValues};
+ghost use Rattle.xti_laws_bytes.specs.Values.{KeepsValues};
 
 use xti_laws_sound::worlds_stay_sound;
 
@@ -16,7 +14,7 @@ use xti_laws_sound::worlds_stay_sound;
 /// list and piece of data that a call begins with is of numbers below 256, each such list in an answer is too, and its
 /// descriptors, sequence numbers, counts, flags, limits, reasons and codes are below 2 ^ 32.
 pub fn answers_have_values()
-    ensures values { (p : Providers) (entries : List Entry) → valid p ≡ true → Legal p entries → AreOfBytes entries → All AnswersValues entries }
+    ensures values { (p : Providers) (entries : List Entry) → KeepsValues p entries }
 {
     worlds_stay_sound();
 }

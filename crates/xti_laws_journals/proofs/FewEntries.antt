@@ -1,5 +1,5 @@
 -- A history that follows a script has no more entries than the script has lines and bytes of arguments.
-use Rattle.std.specs.Prelude.{ℕ, ◌+◌, ◌<◌, ◌≤◌, nat_lt, Bool, true, false, List, [], ◌∷◌, ◌++◌, length, take, map, Option, Some, None, IfSome, option_map, option_and_then, ◌≡◌}
+use Rattle.std.specs.Prelude.{ℕ, ◌+◌, ◌<◌, ◌≤◌, nat_lt, Bool, true, false, List, [], ◌∷◌, ◌++◌, length, take, map, Option, Some, None, IfSome, option_and_then, ◌≡◌}
 use Rattle.std.specs.List.{sum_by, list_all}
 use Rattle.std.proofs.Common.{refl, sym, ap, subst, ◌∙◌, cond, arith}
 use Rattle.std.proofs.lemmas.Bool.{and_parts, eq-eqb, eqb-true, ltb-true}
@@ -21,10 +21,11 @@ use Rattle.xti_model.specs.Complete.{begun_calls, resolved_in, Follows, Each, wo
 use Rattle.xti_model.specs.Robin.{numbers}
 use Rattle.xti_model.specs.Work.{script_bytes}
 use Rattle.xti_model.proofs.Outcomes.{left, Falls, step-falls, IsPossible}
-use Rattle.xti_model.proofs.Working.{call_from, unfinished_from-snoc, IsCallOf, call_of-from, possible-begin, IsPossibleGoing, going_after-falls, own-more, going_work, line_work, placed_work, left-named}
+use Rattle.xti_model.proofs.Working.{call_from, unfinished_from-snoc, call_of-from, possible-begin, IsPossibleGoing, going_after-falls, own-more, going_work, line_work, placed_work, left-named}
 use Rattle.xti_model.proofs.Sums.{sum-at_most, sum-falls, placed-work, lines-all, lines-bytes}
 use Rattle.xti_model.proofs.GoingOn.{at-each, own-none}
 use Rattle.xti_model.proofs.Unfinished.{possible-one}
+use Rattle.xti_laws_texts.proofs.Entries.{made-call}
 
 -- the most steps of a call from its beginning
 call_work : Call → ℕ
@@ -46,11 +47,6 @@ begun-first e es = by e.act refl
     by : (a : Act) → e.act ≡ a → sum_by (λ c. left c go.Begin) (begun_calls (e ∷ es)) ≡ act_work a + sum_by (λ c. left c go.Begin) (begun_calls es)
     by (act.Begin c) i = simp i (sum_by-cons (λ c. left c go.Begin) c (begun_calls es))
     by act.More i = simp i (omega arith)
-
-made-call : (u : Option Going) (c : Option Call) (a : Act) (g : Going) → IsCallOf c u → made_by u a ≡ Some g → call_after c a ≡ Some g.call
-made-call None c (act.Begin x) g h e = ap (option_map (λ (y : Going). y.call)) e
-made-call (Some u) c (act.Begin x) g h e = absurd (none-some g e)
-made-call u c act.More g h e = subst (IsCallOf c) e h
 
 made-possible : (u : Option Going) (a : Act) (g : Going) → IsPossibleGoing u → made_by u a ≡ Some g → IsPossible g.call g.so_far
 made-possible None (act.Begin x) g k e = subst IsPossibleGoing e (possible-begin x)

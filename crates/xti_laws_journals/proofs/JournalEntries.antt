@@ -1,5 +1,5 @@
 -- The entries of a legal history are those of a journal, where its calls are written in journals and its answers have such values.
-use Rattle.std.proofs.Common.{◌≡◌, ℕ, ◌≤◌, Bool, true, false, cond, eqb, List, [], ◌∷◌, ◌++◌, Option, Some, None, refl, sym, ap, subst, ◌∙◌, arith}
+use Rattle.std.proofs.Common.{◌≡◌, ℕ, ◌≤◌, true, List, [], ◌∷◌, ◌++◌, Option, Some, None, refl, sym, ap, subst, ◌∙◌, arith}
 use Rattle.std.specs.Prelude.{option_map, option_and_then, All}
 use Rattle.std.specs.List.{list_all}
 use Rattle.std.proofs.lemmas.Bool.{and_parts, ltb-true}
@@ -14,52 +14,24 @@ use Rattle.xti_model.specs.declared.profile.Providers.{Providers}
 use Rattle.xti_model.specs.Complete.{is_worker}
 use Rattle.xti_model.specs.World.{World}
 use Rattle.xti_model.specs.Step.{Step, step}
-use Rattle.xti_model.specs.History.{Going, own, call_after, unfinished, made_by, doing, step_going, step_at, left_by, Fits, LegalFrom}
+use Rattle.xti_model.specs.History.{Going, own, unfinished, made_by, doing, step_going, step_at, left_by, Fits, LegalFrom}
 use Rattle.xti_model.proofs.Working.{call_from, IsCallOf, call_of-from}
 use Rattle.xti_verbs.specs.declared.verb.Verb.{Verb}
 use Rattle.xti_verbs.specs.Verbs.{verb_of}
-use Rattle.xti_journal.specs.Grammar.{verb_after, verb_from, last_verb, IsAct, IsAnswer, IsEntry, AreEntries}
+use Rattle.xti_journal.specs.Grammar.{last_verb, IsAct, IsAnswer, IsEntry, AreEntries}
 use Rattle.xti_laws_sound.specs.Given.{OfStep}
 use Rattle.xti_laws_answers.specs.Answers.{AnswersInForm}
 use Rattle.xti_laws_bytes.specs.Values.{AnswersValues}
+use Rattle.xti_laws_texts.proofs.Entries.{last-is, verb-is}
 use Rattle.xti_laws_journals.proofs.FollowedCalls.{Begins, AllBegin}
 use Rattle.xti_laws_journals.proofs.ValuedScripts.{IsWritable}
 use Rattle.xti_laws_journals.proofs.AnswerFields.{is-answer}
 
 -- ---- the worker's last call
 
-verb-more : (c : Option Call) (a : Act) → verb_after (option_map verb_of c) a ≡ option_map verb_of (call_after c a)
-verb-more c (Begin call) = refl
-verb-more c More = refl
-
-verbs-are : (c : Option Call) (worker : ℕ) (es : List Entry) → verb_from (option_map verb_of c) worker es ≡ option_map verb_of (call_from c (own es worker))
-verbs-are c worker [] = refl
-verbs-are c worker (e ∷ es) = go (eqb e.worker worker) (verbs-are (call_after c e.act) worker es) (verbs-are c worker es)
-  where
-    go : (b : Bool) → verb_from (option_map verb_of (call_after c e.act)) worker es ≡ option_map verb_of (call_from (call_after c e.act) (own es worker)) → verb_from (option_map verb_of c) worker es ≡ option_map verb_of (call_from c (own es worker))
-        → verb_from (cond b (verb_after (option_map verb_of c) e.act) (option_map verb_of c)) worker es ≡ option_map verb_of (call_from c (cond b (e ∷ own es worker) (own es worker)))
-    go true here later = ap (λ (v : Option Verb). verb_from v worker es) (verb-more c e.act) ∙ here
-    go false here later = later
-
-pub last-is : (past : List Entry) (worker : ℕ) → last_verb past worker ≡ option_map verb_of (call_from None (own past worker))
-unfolding last_verb
-last-is past worker = verbs-are None worker past
-
 -- a call that goes on is the last that was begun
 pub going-verb : (past : List Entry) (worker : ℕ) (g : Going) → unfinished past worker ≡ Some g → last_verb past worker ≡ Some (verb_of g.call)
 going-verb past worker g u = last-is past worker ∙ ap (option_map verb_of) (subst (IsCallOf (call_from None (own past worker))) u (call_of-from None None (own past worker) tt))
-
-made-call : (u : Option Going) (c : Option Call) (a : Act) (g : Going) → IsCallOf c u → made_by u a ≡ Some g → call_after c a ≡ Some g.call
-made-call None c (Begin x) g h e = ap (option_map (λ (y : Going). y.call)) e
-made-call (Some u) c (Begin x) g h e = absurd (none-some g e)
-made-call u c More g h e = subst (IsCallOf c) e h
-
-verb-is : (past : List Entry) (e : Entry) (g : Going) → doing past e ≡ Some g → verb_after (last_verb past e.worker) e.act ≡ Some (verb_of g.call)
-verb-is past e g d =
-    let last : Option Call = call_from None (own past e.worker) in
-    ap (λ (v : Option Verb). verb_after v e.act) (last-is past e.worker)
-    ∙ verb-more last e.act
-    ∙ ap (option_map verb_of) (made-call (unfinished past e.worker) last e.act g (call_of-from None None (own past e.worker) tt) d)
 
 -- ---- entries
 

@@ -6,14 +6,13 @@ ghost use Rattle.std.specs.Prelude.{List};
 ghost use Rattle.xti_model.specs.declared.entry.Entry.{Entry};
 ghost use Rattle.xti_model.specs.declared.script.Journal.{Journal};
 ghost use Rattle.xti_model.specs.declared.script.Script.{Script};
-ghost use Rattle.xti_model.specs.Complete.{Complete};
 ghost use Rattle.xti_model.specs.SentBytes.{AllSendBytes};
 ghost use Rattle.xti_journal_text.specs.JournalText.{journal_text};
 ghost use Rattle.xti_journal.specs.Grammar.{HasText, IsJournal};
 ghost use Rattle.xti_check.specs.Verdicts.{IsLegal};
-ghost use Rattle.xti_script_reader.specs.Grammar.{HasText as HasScriptText};
+ghost use Rattle.xti_replay.specs.Few.{AreFew};
 ghost use Rattle.xti_laws_streams.specs.Laws.{IsLegalRun, PrefixLaw, WaitingLaw, ReleaseLaw};
-ghost use Rattle.xti_laws_journals.specs.Runs.{journal_of, AreFew, IsOnlyJournal};
+ghost use Rattle.xti_laws_journals.specs.Runs.{IsOnlyJournal, OfRunJournals, OfWholeRuns};
 
 use xti_laws_answers::steps_answer_in_form;
 use xti_laws_bytes::answers_have_values;
@@ -34,11 +33,9 @@ pub fn runs_have_few_entries()
 /// journals, each number has 32 bits and each list of them is of bytes. `written`: so what is written of it is a journal.
 /// `only`: no other journal has that text.
 pub fn runs_make_journals()
-    ensures has_text { (s : Script) (entries : List Entry) → HasScriptText s → IsLegalRun s entries → HasText (journal_of s entries) }
-    ensures written { (s : Script) (entries : List Entry) → HasScriptText s → IsLegalRun s entries
-        → IsJournal (journal_of s entries) (journal_text (journal_of s entries)) }
-    ensures only { (s : Script) (entries : List Entry) → HasScriptText s → IsLegalRun s entries
-        → IsOnlyJournal (journal_of s entries) (journal_text (journal_of s entries)) }
+    ensures has_text { OfRunJournals HasText }
+    ensures written { OfRunJournals (λ j. IsJournal j (journal_text j)) }
+    ensures only { OfRunJournals (λ j. IsOnlyJournal j (journal_text j)) }
 {
     scripts_have_valid_providers();
     scripts_send_bytes();
@@ -51,7 +48,7 @@ pub fn runs_make_journals()
 ///
 /// Its entries are the steps of their calls, and the step of each stall line is blocked at the end.
 pub fn whole_runs_make_legal_journals()
-    ensures { (s : Script) (entries : List Entry) → IsLegalRun s entries → Complete s.providers entries s.lines → IsLegal (journal_of s entries) }
+    ensures { OfWholeRuns IsLegal }
 {}
 
 /// What the calls of a journal that has a text send on connections is bytes.

@@ -1,14 +1,10 @@
 //! Requests to connect: who asks and who is asked name each other, after any calls.
 #![tactic(auto)]
 
-ghost use Rattle.std.specs.Prelude.{List};
-ghost use Rattle.xti_model.specs.declared.call.Call.{Call};
-ghost use Rattle.xti_model.specs.declared.entry.Go.{Go};
-ghost use Rattle.xti_model.specs.declared.entry.Entry.{Entry};
 ghost use Rattle.xti_model.specs.declared.profile.Providers.{Providers};
-ghost use Rattle.xti_model.specs.World.{World, opening};
-ghost use Rattle.xti_model.specs.History.{after};
-ghost use Rattle.xti_laws.specs.Counts.{TakesOutstanding};
+ghost use Rattle.xti_model.specs.World.{opening};
+ghost use Rattle.xti_laws.specs.Counts.{AlwaysTakesOutstanding};
+ghost use Rattle.xti_laws.specs.Laws.{OfAnyStep, AfterAnyEntries};
 ghost use Rattle.xti_laws_requests.specs.Requests.{LinkedAndBound, StaysLinked};
 
 /// Who asks for a connection and who is asked name each other, and each address is bound by an open endpoint.
@@ -18,7 +14,7 @@ ghost use Rattle.xti_laws_requests.specs.Requests.{LinkedAndBound, StaysLinked};
 /// or not. `taken`: after any entries the disconnect that a listener would take is of an outstanding indication.
 pub fn requests_stay_linked()
     ensures start { (p : Providers) → LinkedAndBound p (opening p) }
-    ensures step { (p : Providers) (w : World) (c : Call) (g : Go) → StaysLinked p w c g }
-    ensures history { (p : Providers) (entries : List Entry) → LinkedAndBound p (after p entries) }
-    ensures taken { (p : Providers) (entries : List Entry) (c : Call) → TakesOutstanding p (after p entries) c }
+    ensures step { OfAnyStep StaysLinked }
+    ensures history { AfterAnyEntries LinkedAndBound }
+    ensures taken { AfterAnyEntries AlwaysTakesOutstanding }
 {}

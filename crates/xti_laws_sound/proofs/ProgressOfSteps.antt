@@ -28,7 +28,7 @@ use Rattle.xti_model.specs.Calls.Listen as Listen
 use Rattle.xti_model.specs.Calls.Send as Send
 use Rattle.xti_laws_requests.proofs.StepWays.{is_denial, all_deny}
 use Rattle.xti_laws_sound.specs.Progress.{GoesOn, IsRequest, IsWhole, Progress}
-use Rattle.xti_model.specs.Streams.{taken_before}
+use Rattle.xti_model.specs.History.{taken_before}
 use Rattle.xti_laws_sound.proofs.ToldOutcomes.{StepTells, Tells, step-tells, denied, later-told, later-none, Clear, clear, open-tells, told}
 
 whole-denial : (r : Reply) → is_denial r ≡ true → IsWhole (Done r)

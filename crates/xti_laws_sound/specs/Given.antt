@@ -1,7 +1,7 @@
 -- What a sound world gives of its open endpoints, its places and its switch, and what a step of it keeps.
 use Rattle.std.specs.Prelude.{ℕ, Bool, true, List, [], ◌∷◌, length, Some, None, is_some, All, ◌≡◌, ◌≤◌, ◌<◌}
 use Rattle.xti_base.specs.declared.kinds.Prov.{Prov}
-use Rattle.xti_base.specs.declared.limits.TheConstants.{MOST_QUEUE}
+use Rattle.xti_base.specs.declared.limits.TheConstants.{MOST_QUEUE, MOST_TOUCHED, NO_NUMBER}
 use Rattle.xti_base.specs.declared.kinds.State.TheVariants.{T_OUTCON}
 use Rattle.xti_model.specs.declared.call.Call.{Call}
 use Rattle.xti_model.specs.declared.entry.Entry.{Entry}
@@ -15,16 +15,36 @@ use Rattle.xti_model.specs.Switch.{bound, listener, chosen}
 use Rattle.xti_model.specs.Events.{is_state, sending}
 use Rattle.xti_model.specs.Step.{Step, step}
 use Rattle.xti_model.specs.History.{Legal, after}
+use Rattle.xti_model.specs.SentBytes.{SendsBytes, AllSendBytes}
+use Rattle.xti_model.specs.Touched.{named}
 use Rattle.xti_laws_requests.specs.Requests.{Stands}
 use Rattle.xti_laws_sound.specs.Invariant.{SoundWorld, Paired}
 use Rattle.xti_laws_sound.specs.Connections.{Linked}
 use Rattle.xti_laws_sound.specs.Laws.{SoundWhenLent, OpenAndBound, OpenAndListening, DatagramsAlone, NumberFits, OpenProvidersPass, OpensPassing}
+use Rattle.xti_laws_sound.specs.NeverAnswered.{IsAnswer}
+use Rattle.xti_laws_sound.specs.Progress.{Progress}
 use Rattle.xti_laws_sound.specs.Replies.{lengths_of, longest_choice, IsShortOutcome}
 use Rattle.xti_laws_sound.specs.Symbols.{SoundSymbols}
 
 -- a fact of each open endpoint, with its descriptor
 abbrev pub OfOpen : Providers → World → (ℕ → Endpoint → Type 0) → Type 0
 OfOpen p w fact = (fd : ℕ) (e : Endpoint) → endpoint p w fd ≡ Some e → fact fd e
+
+-- a fact of every sound world
+abbrev pub InSoundWorlds : (Providers → World → Type 0) → Type 0
+InSoundWorlds fact = (p : Providers) (w : World) → SoundWorld p w → fact p w
+
+-- a fact of each open endpoint of a sound world, with its descriptor
+abbrev pub OfOpenInSoundWorlds : (Providers → World → ℕ → Endpoint → Type 0) → Type 0
+OfOpenInSoundWorlds fact = (p : Providers) (w : World) → SoundWorld p w → OfOpen p w (fact p w)
+
+-- a fact of each open endpoint of a sound world, by itself
+abbrev pub OfEndpointsInSoundWorlds : (Endpoint → Type 0) → Type 0
+OfEndpointsInSoundWorlds fact = (p : Providers) (w : World) → SoundWorld p w → OfOpen p w (λ fd e. fact e)
+
+-- a fact of the switch of a sound world, for each provider
+abbrev pub OfSoundSwitches : (Switch → Prov → Type 0) → Type 0
+OfSoundSwitches fact = (p : Providers) (w : World) (prov : Prov) → SoundWorld p w → fact (the_switch p w) prov
 
 -- a fact of the step, where it is not blocked
 abbrev pub OfStep : Providers → World → Call → Go → (Step → Type 0) → Type 0
@@ -34,21 +54,40 @@ OfStep p w c g fact = (s : Step) → step p w c g ≡ Some s → fact s
 abbrev pub StaysSound : Providers → World → Call → Go → Type 0
 StaysSound p w c g = SoundWorld p w → OfStep p w c g (λ s. SoundWorld p s.world)
 
--- few ends wait after a step too
+-- so it does where the values of the providers are valid
+abbrev pub StaysSoundIfValid : Providers → World → Call → Go → Type 0
+StaysSoundIfValid p w c g = valid p ≡ true → StaysSound p w c g
+
+abbrev pub SoundIfValid : Providers → World → Type 0
+SoundIfValid p w = valid p ≡ true → SoundWorld p w
+
+-- few ends wait after a step too, where its call sends bytes
 abbrev pub FewEndsStay : Providers → World → Call → Go → Type 0
-FewEndsStay p w c g = Paired p w → SoundSymbols p w → OfStep p w c g (λ s. SoundSymbols p s.world)
+FewEndsStay p w c g = SendsBytes c → Paired p w → SoundSymbols p w → OfStep p w c g (λ s. SoundSymbols p s.world)
+
+-- few ends wait after entries whose calls send bytes
+abbrev pub FewEndsAfter : Providers → List Entry → Type 0
+FewEndsAfter p entries = AllSendBytes entries → SoundSymbols p (after p entries)
 
 -- few ends wait after every legal history, of valid providers
 abbrev pub AlwaysFewEnds : Type 0
 AlwaysFewEnds = (p : Providers) (entries : List Entry) → valid p ≡ true → Legal p entries → SoundSymbols p (after p entries)
 
 -- the providers of open endpoints pass a test after a step too
-abbrev pub ProvidersStayPassing : (Prov → Bool) → Providers → World → Type 0
-ProvidersStayPassing test p w = (c : Call) (g : Go) → OpensPassing test c → OpenProvidersPass test p w → OfStep p w c g (λ s. OpenProvidersPass test p s.world)
+abbrev pub ProvidersStayPassing : (Prov → Bool) → Providers → World → Call → Go → Type 0
+ProvidersStayPassing test p w c g = OpensPassing test c → OpenProvidersPass test p w → OfStep p w c g (λ s. OpenProvidersPass test p s.world)
 
--- each field of a step's reply is short
+-- the step tells how far its call has come
+abbrev pub TellsProgress : Providers → World → Call → Go → Type 0
+TellsProgress p w c g = OfStep p w c g (λ s. Progress c g s.outcome)
+
+-- the step's outcome is an answer
+abbrev pub TellsAnswer : Providers → World → Call → Go → Type 0
+TellsAnswer p w c g = OfStep p w c g (λ s. IsAnswer s.outcome)
+
+-- each field of a step's reply is short, in a sound world
 abbrev pub RepliesShortly : Providers → World → Call → Go → Type 0
-RepliesShortly p w c g = OfStep p w c g (λ s. IsShortOutcome (lengths_of c) s.outcome)
+RepliesShortly p w c g = SoundWorld p w → OfStep p w c g (λ s. IsShortOutcome (lengths_of c) s.outcome)
 
 -- the cell of each place is sound by itself
 abbrev pub PlacesSoundWhenLent : Providers → World → Type 0
@@ -57,6 +96,10 @@ PlacesSoundWhenLent p w = (place : ℕ) (c : Numbered) → place < places p → 
 -- so is the cell of an endpoint that is open with the descriptor
 abbrev pub CellSoundWhenLent : Providers → World → ℕ → Endpoint → Type 0
 CellSoundWhenLent p w fd e = SoundWhenLent p (the_switch p w) (place_of p fd) (endpoint_cell (generation_of p fd) (Some e))
+
+-- an open descriptor has 32 bits, and is not that of a failed open
+abbrev pub DescriptorFits : Providers → World → ℕ → Endpoint → Type 0
+DescriptorFits p w fd e = fd < NO_NUMBER
 
 abbrev pub AloneIfDatagrams : Endpoint → Type 0
 AloneIfDatagrams e = has_datagrams e.prov ≡ true → DatagramsAlone e
@@ -71,6 +114,10 @@ NumbersFit e = All NumberFits e.pending × All NumberFits e.outstanding
 -- an endpoint that has a peer asks for no connection, and no disconnect waits at it
 abbrev pub UnbrokenWithPeer : Endpoint → Type 0
 UnbrokenWithPeer e = (peer : ℕ) → e.peer ≡ Some peer → (e.target ≡ None) × (e.disconnects ≡ [])
+
+-- a call names few cells
+abbrev pub NamesFew : Providers → World → Call → Type 0
+NamesFew p w c = SoundWorld p w → length (named p w c) < MOST_TOUCHED
 
 -- two open descriptors of one place are the same
 abbrev pub OneOpenEach : Providers → World → Type 0
@@ -106,6 +153,10 @@ LinkedWhereConfirmed p w fd e = is_state (T_OUTCON ∷ []) e ≡ true → is_som
 -- the switch has the cell after those of the places
 abbrev pub HasSwitch : Providers → World → Type 0
 HasSwitch p w = cell_at w (switch_number p) ≡ Some (record { number = switch_number p; cell = switch_cell (the_switch p w) })
+
+-- the switch binds no more addresses than there are places
+abbrev pub BindsFew : Providers → World → Type 0
+BindsFew p w = length (the_switch p w).bindings ≤ places p
 
 -- who is bound to an address is open and has it
 abbrev pub BoundAreOpen : Providers → World → Type 0

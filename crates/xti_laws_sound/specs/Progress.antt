@@ -8,7 +8,7 @@ use Rattle.xti_model.specs.declared.entry.Go.TheVariants as go
 use Rattle.xti_model.specs.declared.entry.Outcome.{Outcome}
 use Rattle.xti_model.specs.declared.entry.Outcome.TheVariants.{Done, Part}
 use Rattle.xti_model.specs.declared.entry.Reply.TheVariants.{Sent}
-use Rattle.xti_model.specs.Streams.{taken_before}
+use Rattle.xti_model.specs.History.{taken_before}
 
 -- a part goes on and leaves bytes; a send that is done tells at least what was taken before, and at most all its bytes
 abbrev pub GoesOn : ℕ → ℕ → Outcome → Type 0

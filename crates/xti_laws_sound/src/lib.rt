@@ -1,32 +1,28 @@
 //! Sound worlds: what holds of every world, whatever was called.
 #![tactic(auto)]
 
-ghost use Rattle.std.specs.Prelude.{◌≡◌, ◌<◌, ◌≤◌, Bool, List, length, true, All};
+ghost use Rattle.std.specs.Prelude.{◌≤◌, Bool, List, All};
 ghost use Rattle.xti_base.specs.declared.kinds.Prov.{Prov};
-ghost use Rattle.xti_base.specs.declared.limits.TheConstants.{NO_NUMBER, MOST_TOUCHED};
 ghost use Rattle.xti_model.specs.declared.call.Call.{Call};
-ghost use Rattle.xti_model.specs.declared.entry.Go.{Go};
 ghost use Rattle.xti_model.specs.declared.entry.Entry.{Entry};
 ghost use Rattle.xti_model.specs.declared.profile.Providers.{Providers};
-ghost use Rattle.xti_model.specs.Profile.{valid};
 ghost use Rattle.xti_model.specs.Provider.{is_provider};
-ghost use Rattle.xti_model.specs.Touched.{named};
-ghost use Rattle.xti_model.specs.World.{World, opening, the_switch, places};
-ghost use Rattle.xti_model.specs.History.{Legal, after};
+ghost use Rattle.xti_model.specs.World.{World, opening};
 ghost use Rattle.xti_model.specs.Symbols.{bytes_waiting};
-ghost use Rattle.xti_model.specs.SentBytes.{SendsBytes, AllSendBytes};
+ghost use Rattle.xti_laws.specs.Laws.{OfAnyStep, AfterAnyEntries, OfLegalHistories};
 ghost use Rattle.xti_laws_sound.specs.Invariant.{SoundWorld};
 ghost use Rattle.xti_laws_sound.specs.Connections.{Matched, PeersThere};
 ghost use Rattle.xti_laws_sound.specs.Endpoints.{Buffers, ShortDatagram, two_buffers};
-ghost use Rattle.xti_laws_sound.specs.NeverAnswered.{IsAnswer, HasAnswer};
-ghost use Rattle.xti_laws_sound.specs.Progress.{Progress};
+ghost use Rattle.xti_laws_sound.specs.NeverAnswered.{HasAnswer};
 ghost use Rattle.xti_laws_sound.specs.Symbols.{SoundSymbols};
 ghost use Rattle.xti_laws_sound.specs.Laws.{OfAllProviders, OpenProvidersPass};
-ghost use Rattle.xti_laws_sound.specs.Given.{OfOpen, OfStep, StaysSound, PlacesSoundWhenLent, CellSoundWhenLent};
-ghost use Rattle.xti_laws_sound.specs.Given.{AloneIfDatagrams, FewDisconnects, NumbersFit, UnbrokenWithPeer, OneOpenEach};
+ghost use Rattle.xti_laws_sound.specs.Given.{InSoundWorlds, OfOpenInSoundWorlds, OfEndpointsInSoundWorlds, OfSoundSwitches};
+ghost use Rattle.xti_laws_sound.specs.Given.{StaysSoundIfValid, SoundIfValid, PlacesSoundWhenLent, CellSoundWhenLent, DescriptorFits};
+ghost use Rattle.xti_laws_sound.specs.Given.{AloneIfDatagrams, FewDisconnects, NumbersFit, UnbrokenWithPeer, OneOpenEach, NamesFew};
 ghost use Rattle.xti_laws_sound.specs.Given.{PeersApart, CallersApart, TargetsApart, ListenersApart};
-ghost use Rattle.xti_laws_sound.specs.Given.{LinkedWhereItSends, LinkedWhereConfirmed, HasSwitch, BoundAreOpen, ListenersAreOpen};
-ghost use Rattle.xti_laws_sound.specs.Given.{ChoiceIsFree, ChoiceIsShort, FewEndsStay, AlwaysFewEnds, ProvidersStayPassing, RepliesShortly};
+ghost use Rattle.xti_laws_sound.specs.Given.{LinkedWhereItSends, LinkedWhereConfirmed, HasSwitch, BindsFew, BoundAreOpen, ListenersAreOpen};
+ghost use Rattle.xti_laws_sound.specs.Given.{ChoiceIsFree, ChoiceIsShort, FewEndsStay, FewEndsAfter, AlwaysFewEnds, ProvidersStayPassing};
+ghost use Rattle.xti_laws_sound.specs.Given.{TellsProgress, TellsAnswer, RepliesShortly};
 
 /// Every world that calls lead to is sound.
 ///
@@ -35,8 +31,8 @@ ghost use Rattle.xti_laws_sound.specs.Given.{ChoiceIsFree, ChoiceIsShort, FewEnd
 /// `history`: so does every list of entries, legal or not.
 pub fn worlds_stay_sound()
     ensures start { (p : Providers) → SoundWorld p (opening p) }
-    ensures step { (p : Providers) (w : World) (c : Call) (g : Go) → valid p ≡ true → StaysSound p w c g }
-    ensures history { (p : Providers) (entries : List Entry) → valid p ≡ true → SoundWorld p (after p entries) }
+    ensures step { OfAnyStep StaysSoundIfValid }
+    ensures history { AfterAnyEntries SoundIfValid }
 {}
 
 /// A cell of a sound world is sound by itself, and the switch agrees with it.
@@ -44,10 +40,10 @@ pub fn worlds_stay_sound()
 /// `cell`: that of any place. `opened`: that of an open endpoint, by its descriptor. `fits`: an open
 /// descriptor has 32 bits, and is never that of a failed open. `disconnects`: at most 8 disconnects wait.
 pub fn sound_when_lent()
-    ensures cell { (p : Providers) (w : World) → SoundWorld p w → PlacesSoundWhenLent p w }
-    ensures opened { (p : Providers) (w : World) → SoundWorld p w → OfOpen p w (CellSoundWhenLent p w) }
-    ensures fits { (p : Providers) (w : World) → SoundWorld p w → OfOpen p w (λ fd e. fd < NO_NUMBER) }
-    ensures disconnects { (p : Providers) (w : World) → SoundWorld p w → OfOpen p w (λ fd e. FewDisconnects e) }
+    ensures cell { InSoundWorlds PlacesSoundWhenLent }
+    ensures opened { OfOpenInSoundWorlds CellSoundWhenLent }
+    ensures fits { OfOpenInSoundWorlds DescriptorFits }
+    ensures disconnects { OfEndpointsInSoundWorlds FewDisconnects }
 {}
 
 /// A sound world gives of its endpoints what a step takes for granted.
@@ -58,15 +54,15 @@ pub fn sound_when_lent()
 /// `listeners`: so are an endpoint and the listener that a request of its own would find. `named`: a call names at most
 /// ten cells. `unbroken`: an endpoint that has a peer asks for no connection, and no disconnect waits at it.
 pub fn sound_endpoints_fit()
-    ensures datagrams { (p : Providers) (w : World) → SoundWorld p w → OfOpen p w (λ fd e. AloneIfDatagrams e) }
-    ensures numbers { (p : Providers) (w : World) → SoundWorld p w → OfOpen p w (λ fd e. NumbersFit e) }
-    ensures places { (p : Providers) (w : World) → SoundWorld p w → OneOpenEach p w }
-    ensures peers { (p : Providers) (w : World) → SoundWorld p w → PeersApart p w }
-    ensures callers { (p : Providers) (w : World) → SoundWorld p w → CallersApart p w }
-    ensures targets { (p : Providers) (w : World) → SoundWorld p w → TargetsApart p w }
-    ensures listeners { (p : Providers) (w : World) → SoundWorld p w → ListenersApart p w }
-    ensures named { (p : Providers) (w : World) (c : Call) → SoundWorld p w → length (named p w c) < MOST_TOUCHED }
-    ensures unbroken { (p : Providers) (w : World) → SoundWorld p w → OfOpen p w (λ fd e. UnbrokenWithPeer e) }
+    ensures datagrams { OfEndpointsInSoundWorlds AloneIfDatagrams }
+    ensures numbers { OfEndpointsInSoundWorlds NumbersFit }
+    ensures places { InSoundWorlds OneOpenEach }
+    ensures peers { InSoundWorlds PeersApart }
+    ensures callers { InSoundWorlds CallersApart }
+    ensures targets { InSoundWorlds TargetsApart }
+    ensures listeners { InSoundWorlds ListenersApart }
+    ensures named { (p : Providers) (w : World) (c : Call) → NamesFew p w c }
+    ensures unbroken { OfEndpointsInSoundWorlds UnbrokenWithPeer }
 {}
 
 /// A connection in a sound world has two ends, and their states go together.
@@ -75,10 +71,10 @@ pub fn sound_endpoints_fit()
 /// `there`: an endpoint's peer names it back, but where both releases were sent. `connected`: so an endpoint that can send
 /// and has no disconnect is linked. `confirmed`: so is one whose confirmation waits.
 pub fn connections_have_two_ends()
-    ensures linked { (p : Providers) (w : World) → SoundWorld p w → Matched p w }
-    ensures there { (p : Providers) (w : World) → SoundWorld p w → PeersThere p w }
-    ensures connected { (p : Providers) (w : World) → SoundWorld p w → OfOpen p w (LinkedWhereItSends p w) }
-    ensures confirmed { (p : Providers) (w : World) → SoundWorld p w → OfOpen p w (LinkedWhereConfirmed p w) }
+    ensures linked { InSoundWorlds Matched }
+    ensures there { InSoundWorlds PeersThere }
+    ensures connected { OfOpenInSoundWorlds LinkedWhereItSends }
+    ensures confirmed { OfOpenInSoundWorlds LinkedWhereConfirmed }
 {}
 
 /// The switch of a sound world binds few addresses, each to an open endpoint, and finds a free one.
@@ -88,12 +84,12 @@ pub fn connections_have_two_ends()
 /// `listens`: one that listens at it has a queue too. `free`: the provider's choice is bound to nobody. `short`: it
 /// has at most three bytes.
 pub fn sound_switch_has_addresses()
-    ensures there { (p : Providers) (w : World) → SoundWorld p w → HasSwitch p w }
-    ensures few { (p : Providers) (w : World) → SoundWorld p w → length (the_switch p w).bindings ≤ places p }
-    ensures bound { (p : Providers) (w : World) → SoundWorld p w → BoundAreOpen p w }
-    ensures listens { (p : Providers) (w : World) → SoundWorld p w → ListenersAreOpen p w }
-    ensures free { (p : Providers) (w : World) (prov : Prov) → SoundWorld p w → ChoiceIsFree (the_switch p w) prov }
-    ensures short { (p : Providers) (w : World) (prov : Prov) → SoundWorld p w → ChoiceIsShort (the_switch p w) prov }
+    ensures there { InSoundWorlds HasSwitch }
+    ensures few { InSoundWorlds BindsFew }
+    ensures bound { InSoundWorlds BoundAreOpen }
+    ensures listens { InSoundWorlds ListenersAreOpen }
+    ensures free { OfSoundSwitches ChoiceIsFree }
+    ensures short { OfSoundSwitches ChoiceIsShort }
 {}
 
 /// Where sends are of bytes, few ends of messages wait.
@@ -104,8 +100,8 @@ pub fn sound_switch_has_addresses()
 /// after any entries whose calls send bytes, legal or not.
 pub fn few_ends_wait()
     ensures start { (p : Providers) → SoundSymbols p (opening p) }
-    ensures step { (p : Providers) (w : World) (c : Call) (g : Go) → SendsBytes c → FewEndsStay p w c g }
-    ensures history { (p : Providers) (entries : List Entry) → AllSendBytes entries → SoundSymbols p (after p entries) }
+    ensures step { OfAnyStep FewEndsStay }
+    ensures history { (p : Providers) (entries : List Entry) → FewEndsAfter p entries }
 {}
 
 /// The providers of open endpoints are those that opens named.
@@ -114,8 +110,8 @@ pub fn few_ends_wait()
 /// test, and what the call opens does, it is so after the step. `known`: none but the three providers is ever open.
 pub fn providers_stay()
     ensures start { (test : Prov → Bool) (p : Providers) → OpenProvidersPass test p (opening p) }
-    ensures step { (test : Prov → Bool) (p : Providers) (w : World) → ProvidersStayPassing test p w }
-    ensures known { (p : Providers) (entries : List Entry) → OpenProvidersPass is_provider p (after p entries) }
+    ensures step { (test : Prov → Bool) → OfAnyStep (ProvidersStayPassing test) }
+    ensures known { AfterAnyEntries (OpenProvidersPass is_provider) }
 {}
 
 /// A step tells how far its call has come.
@@ -124,7 +120,7 @@ pub fn providers_stay()
 /// end tells at least those and at most all. A request to connect that waits is a part of no bytes. No other step is a
 /// part, and no other call tells a number of bytes.
 pub fn steps_tell_progress()
-    ensures progress { (p : Providers) (w : World) (c : Call) (g : Go) → OfStep p w c g (λ s. Progress c g s.outcome) }
+    ensures progress { OfAnyStep TellsProgress }
 {}
 
 /// The fields of a reply are short.
@@ -132,15 +128,15 @@ pub fn steps_tell_progress()
 /// `short`: each field of bytes in the reply of a step has at most as many as `lengths_of` gives for the call, by its
 /// arguments and the limits of the profile.
 pub fn replies_are_short()
-    ensures short { (p : Providers) (w : World) (c : Call) (g : Go) → SoundWorld p w → RepliesShortly p w c g }
+    ensures short { OfAnyStep RepliesShortly }
 {}
 
 /// No call answers TACCES, TNOADDR, TSTATECHNG or TPROTO.
 ///
 /// `step`: the outcome of a step, in any world, is no such refusal. `history`: nor is that of any entry of a legal history.
 pub fn some_errors_are_never_answered()
-    ensures step { (p : Providers) (w : World) (c : Call) (g : Go) → OfStep p w c g (λ s. IsAnswer s.outcome) }
-    ensures history { (p : Providers) (entries : List Entry) → Legal p entries → All HasAnswer entries }
+    ensures step { OfAnyStep TellsAnswer }
+    ensures history { OfLegalHistories (λ p entries. All HasAnswer entries) }
 {}
 
 /// The premises of these laws are needed: without them a legal history breaks what they say.

@@ -22,7 +22,8 @@ use Rattle.xti_model.specs.Plan.{Row, Refusal, answers, waits, loses, first, lat
 use Rattle.xti_model.specs.SentBytes.{AreBytes}
 use Rattle.xti_model.specs.Step.{Step, step_of, send}
 use Rattle.xti_model.specs.History.{Going}
-use Rattle.xti_model.specs.Streams.{Connection, Sending, sent_by, got_by, sending_of, taken_after, taken_before, same_kind, kind_has_ends, adds}
+use Rattle.xti_model.specs.Streams.{Connection, Sending, sent_by, got_by, sending_of, taken_after, same_kind, kind_has_ends, adds}
+use Rattle.xti_model.specs.History.{taken_before}
 use Rattle.xti_model.specs.Calls.Send as Send
 use Rattle.xti_laws.proofs.ChangedEndpoints.{changed-append}
 use Rattle.xti_laws_streams.specs.Laws.{is_release_receipt}

@@ -17,16 +17,25 @@ use Rattle.xti_model.specs.Sending.{waiting_of}
 use Rattle.xti_model.specs.History.{Legal, after}
 use Rattle.xti_model.specs.SentBytes.{AllSendBytes}
 use Rattle.xti_model.specs.Streams.{Made, Connection, connection, life, is_over, sent, got}
+use Rattle.xti_script_reader.specs.Grammar.{HasText}
 
 -- a legal history whose sends are of bytes
 abbrev pub IsLegalOfBytes : Providers → List Entry → Type 0
 IsLegalOfBytes p entries = Legal p entries × AllSendBytes entries
+
+-- this holds of each of those
+abbrev pub OfHistoriesOfBytes : (Providers → List Entry → Type 0) → Type 0
+OfHistoriesOfBytes law = (p : Providers) (entries : List Entry) → IsLegalOfBytes p entries → law p entries
 
 -- a legal history of the script's workers, each of which follows its lines
 pub record IsLegalRun (s : Script) (entries : List Entry) : Type 0 where
   pub legal : Legal s.providers entries
   pub workers_only : list_all is_worker entries ≡ true
   pub follows : Each (Follows entries s.lines) workers
+
+-- this holds of each of those, where the script has a text
+abbrev pub OfRunsOfTexts : (Providers → List Entry → Type 0) → Type 0
+OfRunsOfTexts law = (s : Script) (entries : List Entry) → HasText s → IsLegalRun s entries → law s.providers entries
 
 -- one list is a prefix of another; it may be the whole
 pub record Prefix (prefix whole : List ℕ) : Type 0 where

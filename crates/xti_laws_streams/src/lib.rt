@@ -1,15 +1,11 @@
 //! Laws of connections: what was received is a prefix of what was sent, and all of it after an orderly release.
 #![tactic(auto)]
 
-ghost use Rattle.std.specs.Prelude.{List};
-ghost use Rattle.xti_model.specs.declared.entry.Entry.{Entry};
-ghost use Rattle.xti_model.specs.declared.profile.Providers.{Providers};
 ghost use Rattle.xti_model.specs.declared.script.Script.{Script};
-ghost use Rattle.xti_model.specs.History.{Legal};
 ghost use Rattle.xti_model.specs.Robin.{robin};
 ghost use Rattle.xti_model.specs.SentBytes.{LinesSendBytes};
-ghost use Rattle.xti_script_reader.specs.Grammar.{HasText};
-ghost use Rattle.xti_laws_streams.specs.Laws.{IsLegalOfBytes, IsLegalRun, PrefixLaw, WaitingLaw, ReleaseLaw};
+ghost use Rattle.xti_laws.specs.Laws.{OfLegalHistories};
+ghost use Rattle.xti_laws_streams.specs.Laws.{OfHistoriesOfBytes, OfRunsOfTexts, PrefixLaw, WaitingLaw, ReleaseLaw};
 
 /// On each connection what was received is a prefix of what was sent.
 ///
@@ -18,9 +14,9 @@ ghost use Rattle.xti_laws_streams.specs.Laws.{IsLegalOfBytes, IsLegalRun, Prefix
 /// is linked or the release waits there, what waits, put after what it received, is what was sent. `release`: if it
 /// received the release, it received all.
 pub fn connections_keep_order()
-    ensures prefix { (p : Providers) (entries : List Entry) → IsLegalOfBytes p entries → PrefixLaw p entries }
-    ensures waiting { (p : Providers) (entries : List Entry) → IsLegalOfBytes p entries → WaitingLaw p entries }
-    ensures release { (p : Providers) (entries : List Entry) → IsLegalOfBytes p entries → ReleaseLaw p entries }
+    ensures prefix { OfHistoriesOfBytes PrefixLaw }
+    ensures waiting { OfHistoriesOfBytes WaitingLaw }
+    ensures release { OfHistoriesOfBytes ReleaseLaw }
 {}
 
 /// The same of the run of any script in which the workers take turns, where the sends of its lines are of bytes.
@@ -32,9 +28,9 @@ pub fn replays_keep_order()
 
 /// The same of every legal history of a script that has a text, whose sends are always of bytes.
 pub fn scripts_keep_order()
-    ensures prefix { (s : Script) (entries : List Entry) → HasText s → IsLegalRun s entries → PrefixLaw s.providers entries }
-    ensures waiting { (s : Script) (entries : List Entry) → HasText s → IsLegalRun s entries → WaitingLaw s.providers entries }
-    ensures release { (s : Script) (entries : List Entry) → HasText s → IsLegalRun s entries → ReleaseLaw s.providers entries }
+    ensures prefix { OfRunsOfTexts PrefixLaw }
+    ensures waiting { OfRunsOfTexts WaitingLaw }
+    ensures release { OfRunsOfTexts ReleaseLaw }
 {}
 
 /// Without the premise on bytes each law is wrong of some legal history.
@@ -42,7 +38,7 @@ pub fn scripts_keep_order()
 /// The definitions' lists hold any numbers, and 256 stands for the end of a message: on a byte stream a 256 that was
 /// sent is lost.
 pub fn bytes_are_needed()
-    ensures prefix { ((p : Providers) (entries : List Entry) → Legal p entries → PrefixLaw p entries) → ⊥ }
-    ensures waiting { ((p : Providers) (entries : List Entry) → Legal p entries → WaitingLaw p entries) → ⊥ }
-    ensures release { ((p : Providers) (entries : List Entry) → Legal p entries → ReleaseLaw p entries) → ⊥ }
+    ensures prefix { OfLegalHistories PrefixLaw → ⊥ }
+    ensures waiting { OfLegalHistories WaitingLaw → ⊥ }
+    ensures release { OfLegalHistories ReleaseLaw → ⊥ }
 {}

@@ -68,16 +68,19 @@ verbs-are c worker (e ∷ es) = go (eqb e.worker worker) (verbs-are (call_after 
     go true here later = ap (λ (v : Option Verb). verb_from v worker es) (verb-more c e.act) ∙ here
     go false here later = later
 
-made-call : (u : Option Going) (c : Option Call) (a : Act) (g : Going) → IsCallOf c u → made_by u a ≡ Some g → call_after c a ≡ Some g.call
+pub last-is : (past : List Entry) (worker : ℕ) → last_verb past worker ≡ option_map verb_of (call_from None (own past worker))
+unfolding last_verb
+last-is past worker = verbs-are None worker past
+
+pub made-call : (u : Option Going) (c : Option Call) (a : Act) (g : Going) → IsCallOf c u → made_by u a ≡ Some g → call_after c a ≡ Some g.call
 made-call None c (Begin x) g h e = ap (option_map (λ (y : Going). y.call)) e
 made-call (Some u) c (Begin x) g h e = absurd (none-some g e)
 made-call u c More g h e = subst (IsCallOf c) e h
 
-verb-is : (past : List Entry) (e : Entry) (g : Going) → doing past e ≡ Some g → verb_after (last_verb past e.worker) e.act ≡ Some (verb_of g.call)
-unfolding last_verb
+pub verb-is : (past : List Entry) (e : Entry) (g : Going) → doing past e ≡ Some g → verb_after (last_verb past e.worker) e.act ≡ Some (verb_of g.call)
 verb-is past e g d =
     let last : Option Call = call_from None (own past e.worker) in
-    ap (λ (v : Option Verb). verb_after v e.act) (verbs-are None e.worker past)
+    ap (λ (v : Option Verb). verb_after v e.act) (last-is past e.worker)
     ∙ verb-more last e.act
     ∙ ap (option_map verb_of) (made-call (unfinished past e.worker) last e.act g (call_of-from None None (own past e.worker) tt) d)
 

@@ -1,32 +1,16 @@
 -- What the text of an answer tells.
 use Rattle.std.specs.Prelude.{◌≡◌, Bool, true, false, Some}
 use Rattle.xti_base.specs.declared.kinds.State.{State}
-use Rattle.xti_base.specs.declared.limit.Limit.{Limit}
-use Rattle.xti_base.specs.declared.limit.Limit.TheVariants.{At}
-use Rattle.xti_base.specs.declared.limit.Info.{Info}
 use Rattle.xti_model.specs.declared.entry.Outcome.{Outcome}
 use Rattle.xti_model.specs.declared.entry.Outcome.TheVariants.{Done, Part}
 use Rattle.xti_model.specs.declared.entry.Reply.TheVariants as reply
 use Rattle.xti_journal_text.specs.JournalText.{answer_text}
 use Rattle.xti_verbs.specs.declared.verb.Verb.{Verb}
-use Rattle.xti_journal.specs.Fields.{IsNumber}
+use Rattle.xti_laws_answers.specs.Answers.{AnswersInForm}
+use Rattle.xti_laws_bytes.specs.Values.{IsNumber, AreLimits}
 use Rattle.xti_journal.specs.Grammar.{IsAnswer}
 
 -- ---- the numbers of an answer
-
-abbrev pub IsLimit : Limit → Type 0
-IsLimit (At n) = IsNumber n
-IsLimit other = Unit {0}
-
--- the limits of a provider and its flags
-pub record AreLimits (info : Info) : Type 0 where
-  pub addr : IsLimit info.addr
-  pub options : IsLimit info.options
-  pub tsdu : IsLimit info.tsdu
-  pub etsdu : IsLimit info.etsdu
-  pub connect : IsLimit info.connect
-  pub discon : IsLimit info.discon
-  pub flags : IsNumber info.flags
 
 -- each number of the outcome has 32 bits
 abbrev pub AreNumbers : Outcome → Type 0
@@ -50,3 +34,7 @@ AreNumbers other = Unit {0}
 abbrev pub IsToldByText : Verb → Outcome → State → Type 0
 IsToldByText verb outcome after =
     (other : Outcome) (state : State) → IsAnswer (Some verb) other → answer_text outcome after ≡ answer_text other state → (outcome ≡ other) × (after ≡ state)
+
+-- this holds of each answer in the form of its call whose numbers have 32 bits, and of each state
+abbrev pub OfAnswersInForm : (Verb → Outcome → State → Type 0) → Type 0
+OfAnswersInForm holds = (v : Verb) (o : Outcome) (a : State) → AnswersInForm v o → AreNumbers o → holds v o a
