@@ -36,6 +36,10 @@ abbrev pub JudgesStall : List Entry → StallLine → Judge → Judge → Option
 JudgesStall entries s old new None = IsRightStall old.world.providers entries s × StandsAfter entries new
 JudgesStall entries s old new (Some text) = (IsRightStall old.world.providers entries s → ⊥) × (text ≡ wanted old.world.providers (after old.world.providers entries) s.act (stalling entries s))
 
+-- what the stall line is after all entries, whatever these are
+abbrev pub JudgesLine : StallLine → Judge → Judge → Option (List ℕ) → Type 0
+JudgesLine s old new wanted = (entries : List Entry) → StandsAfter entries old → JudgesStall entries s old new wanted
+
 -- nothing, where the entry has this outcome and this state; else their text, of numbers that have 32 bits
 abbrev pub Compares : Outcome → State → Entry → Option (List ℕ) → Type 0
 Compares outcome after e None = (e.outcome ≡ outcome) × (e.after ≡ after)

@@ -1,10 +1,10 @@
 //! Judging a journal, line by line.
 
-ghost use Rattle.std.specs.Prelude.{◌≡◌, ◌≤◌, ◌<◌, true, [], List, length, IfOk};
+ghost use Rattle.std.specs.Prelude.{◌≡◌, ◌≤◌, ◌<◌, true, [], length, IfOk};
 ghost use Rattle.xti_base.specs.declared.limits.TheConstants.{LAST_WORKER};
 ghost use Rattle.xti_model.specs.declared.entry.Entry.{Entry};
 ghost use Rattle.xti_model.specs.Profile.{valid};
-ghost use Rattle.xti_check.specs.Judging.{StandsAfter, HaveWorkers, JudgesPlace, JudgesStall, Compares};
+ghost use Rattle.xti_check.specs.Judging.{StandsAfter, HaveWorkers, JudgesPlace, JudgesLine, Compares};
 ghost use Rattle.xti_check.specs.Verdicts.{wanted_act};
 
 use crate::going::{Part, begun_at, going_of, left_after, made_by};
@@ -112,7 +112,7 @@ impl<'a> Judge<'a> {
     /// `None` where the step of the stall line is blocked; else what should stand there, and the judge has done its work.
     pub(crate) fn stall(&mut self, stall: &StallLine) -> Result<Option<Octets>, AllocError>
         requires { stall.now.worker ≤ LAST_WORKER }
-        ensures judged { IfOk result (λ wanted. (past : List Entry) → StandsAfter past self.old → JudgesStall past stall.now self.old self.new wanted) }
+        ensures judged { IfOk result (λ wanted. JudgesLine stall.now self.old self.new wanted) }
         ensures providers { self.new.world.providers ≡ self.old.world.providers }
         ensures entries { self.new.entries.now ≡ self.old.entries.now }
     {

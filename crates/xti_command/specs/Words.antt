@@ -1,5 +1,5 @@
 -- The words of the command line, over clap's own reading of them.
-use Rattle.std.specs.Prelude.{◌<◌, ◌^◌, ℕ, Bool, true, false, ◌&&◌, nat_lt, length, List, [], ◌∷◌, Option, Some, None, if◌then◌else◌, codes, decimal, map, String, string_bytes, option_map, option_and_then}
+use Rattle.std.specs.Prelude.{◌≡◌, ◌<◌, ◌^◌, ℕ, Bool, true, false, ◌&&◌, nat_lt, length, List, [], ◌∷◌, Option, Some, None, if◌then◌else◌, codes, decimal, map, String, string_bytes, option_map, option_and_then}
 use Rattle.std.specs.declared.alloc.Global.{Global}
 use Rattle.std.specs.Char.{digit_value}
 use Rattle.std.specs.List.{list_all}
@@ -48,6 +48,10 @@ found_in words = matches_of command_form words
 unfoldable pub is_taken : List Text → Bool
 is_taken words = takes command_form words
 
+-- these words are taken
+abbrev pub AreTaken : List Text → Type 0
+AreTaken words = is_taken words ≡ true
+
 -- the flag stands, by the text that clap keeps of it
 abbrev pub is_true : Option Text → Bool
 is_true None = false
@@ -95,6 +99,10 @@ abbrev pub command_in : List Row → Option Command
 command_in rows =
     option_and_then (λ word. named word (is_true (first_of (codes "summary") rows)) (first_of (codes "seed") rows)) (first_of (codes "command") rows)
 
+-- no command stands in what clap finds in these words
+abbrev pub NamesNone : List Text → Type 0
+NamesNone words = command_in (found_in words) ≡ None
+
 abbrev pub unless_wrong : Kinds → Option Command → Option Command
 unless_wrong [] command = command
 unless_wrong (fault ∷ faults) command = None
@@ -116,3 +124,7 @@ pub data IsPlain : List Text → Command → Type 0 where
   frames : IsPlain (codes "frames" ∷ []) (Read Frames)
   link : IsPlain (codes "link" ∷ []) (Read Link)
   gen : (seed : ℕ) (summary : Bool) → seed < 2 ^ 64 → IsPlain (codes "gen" ∷ codes "--seed" ∷ decimal seed ∷ summary_words summary) (Gen seed summary)
+
+-- this holds of the plain words of each command
+abbrev pub OfPlainWords : (List Text → Command → Type 0) → Type 0
+OfPlainWords holds = (words : List Text) (command : Command) → IsPlain words command → holds words command

@@ -2,7 +2,8 @@
 
 ghost use Rattle.std.specs.Prelude.{◌≡◌, ◌≢◌, [], IfOk, IfErr, IsErrOf, true, option_map};
 ghost use Rattle.clap.specs.Words.{app_of, found_of, rows_of};
-ghost use Rattle.xti_command.specs.Words.{alone, command_form, command_in, faults_in, found_in, generating, is_taken, is_true, named, seed_of, texts, without_seed};
+ghost use Rattle.xti_command.specs.declared.command.WordsFail.TheVariants.{OutOfMemory};
+ghost use Rattle.xti_command.specs.Words.{AreTaken, alone, command_form, command_in, faults_in, found_in, generating, is_true, named, seed_of, texts, without_seed};
 
 use clap::error::ErrorKind;
 use clap::{Arg, ArgAction, ArgMatches};
@@ -144,7 +145,7 @@ fn cause(kind: ErrorKind) -> WordsFail
 pub(crate) fn matches<'a>(alloc: Global, words: &'a [String]) -> Result<ArgMatches<'a>, WordsFail>
     ensures found { IfOk result (λ m. rows_of (found_of m) ≡ found_in (texts words.entry.now)) }
     ensures no_fault { IfOk result (λ _. faults_in (texts words.entry.now) ≡ []) }
-    ensures taken { is_taken (texts words.entry.now) ≡ true → IfErr result (λ e. e ≡ WordsFail.OutOfMemory) }
+    ensures taken { AreTaken (texts words.entry.now) → IfErr result (λ e. e ≡ OutOfMemory) }
     ensures refused { IsErrOf result WordsFail.Refused → faults_in (texts words.entry.now) ≢ [] }
 {
     let Ok(command_line) = command_line(alloc) else {

@@ -1,7 +1,7 @@
 //! The words of a command line.
 
-ghost use Rattle.std.specs.Prelude.{◌≡◌, ◌++◌, ◌∷◌, [], true, IfOk, IsErrOf, None, OnOk, OnErr, Some};
-ghost use Rattle.xti_command.specs.Words.{command_in, command_of, found_in, is_taken};
+ghost use Rattle.std.specs.Prelude.{◌≡◌, ◌++◌, ◌∷◌, [], IfOk, IsErrOf, None, OnOk, OnErr, Some};
+ghost use Rattle.xti_command.specs.Words.{AreTaken, NamesNone, command_of};
 
 use crate::command::{Command, WordsFail, matched, matches};
 use std::alloc::{AllocError, Global};
@@ -50,7 +50,7 @@ impl Words {
     pub fn command(&self) -> Result<Command, WordsFail>
         ensures found { IfOk result (λ command. command_of self.now ≡ Some command) }
         ensures refused { IsErrOf result WordsFail.Refused → command_of self.now ≡ None }
-        ensures taken { is_taken self.now ≡ true → IsErrOf result WordsFail.Refused → command_in (found_in self.now) ≡ None }
+        ensures taken { AreTaken self.now → IsErrOf result WordsFail.Refused → NamesNone self.now }
     {
         let matches = matches(self.alloc, self.words.as_slice())?;
         matched(&matches).ok_or(WordsFail::Refused)

@@ -1,12 +1,17 @@
 -- The lines in which frames are shown: the name of the primitive, its words in order, and the user data where it may
 -- have any. A variable part is its bytes; its length and offset aren't shown. docs/PROFILE.md has the frames in words.
-use Rattle.std.specs.Prelude.{◌≡◌, ℕ, Bool, true, false, List, ◌++◌, codes, map, if◌then◌else◌}
+use Rattle.std.specs.Prelude.{◌≡◌, ℕ, Bool, true, false, List, ◌++◌, codes, map, Vec, if◌then◌else◌}
+use Rattle.std.specs.declared.alloc.Global.{Global}
 use Rattle.std.specs.List.{flat_map}
 use Rattle.xti_text.specs.Words.{number_word, octets_word}
 use Rattle.tpi_grammar.specs.Frames.{AreFilled, spellings}
 use Rattle.tpi_prim.specs.Primitive.{filled}
 use Rattle.tpi_prim.specs.declared.primitive.Prim.{Prim}
 use Rattle.tpi_prim.specs.declared.primitive.Prim.TheVariants.{T_CONN_REQ, T_CONN_RES, T_DISCON_REQ, T_DATA_REQ, T_EXDATA_REQ, T_BIND_REQ, T_UNBIND_REQ, T_UNITDATA_REQ, T_ORDREL_REQ, T_CONN_IND, T_CONN_CON, T_DISCON_IND, T_DATA_IND, T_EXDATA_IND, T_BIND_ACK, T_ERROR_ACK, T_OK_ACK, T_UNITDATA_IND, T_UDERROR_IND, T_ORDREL_IND}
+
+-- this text was written after what was there
+abbrev pub Adds : List ℕ → Vec ℕ Global → Vec ℕ Global → Type 0
+Adds text before now = now.items ≡ before.items ++ text
 
 -- the words of a line, each after the text that separates it from the word before
 

@@ -1,7 +1,7 @@
 //! The line of one primitive.
 
-ghost use Rattle.std.specs.Prelude.{◌≡◌, ◌++◌, OnOk, IsTrue};
-ghost use Rattle.xti_frames.specs.FrameText.{name_word, number_field, flag_field, part_field, user_field, flagged_text, parts_text, frame_text, frame_line, is_of_connection, is_of_data, is_of_binding};
+ghost use Rattle.std.specs.Prelude.{OnOk, IsTrue};
+ghost use Rattle.xti_frames.specs.FrameText.{Adds, name_word, number_field, flag_field, part_field, user_field, flagged_text, parts_text, frame_text, frame_line, is_of_connection, is_of_data, is_of_binding};
 
 use bytes::Bytes;
 use std::alloc::AllocError;
@@ -10,21 +10,21 @@ use xti_text::{put_number, put_octets, put_text};
 
 #[tactic(auto, unfolding(crate::specs::FrameText::name_word))]
 fn put_name(out: &mut Vec<u8>, name: &str) -> Result<(), AllocError>
-    ensures { OnOk result (out.new.items ≡ out.old.items ++ name_word name.now) }
+    ensures { OnOk result (Adds (name_word name.now) out.old out.new) }
 {
     put_text(out, name)
 }
 
 #[tactic(auto, unfolding(crate::specs::FrameText::number_field))]
 fn put_field(out: &mut Vec<u8>, key: &str, n: u32) -> Result<(), AllocError>
-    ensures { OnOk result (out.new.items ≡ out.old.items ++ number_field key.now n) }
+    ensures { OnOk result (Adds (number_field key.now n) out.old out.new) }
 {
     put_number(out, key, n as u64)
 }
 
 #[tactic(auto, unfolding(crate::specs::FrameText::flag_field))]
 fn put_flag(out: &mut Vec<u8>, key: &str, more: bool) -> Result<(), AllocError>
-    ensures { OnOk result (out.new.items ≡ out.old.items ++ flag_field key.now more) }
+    ensures { OnOk result (Adds (flag_field key.now more) out.old out.new) }
 {
     put_text(out, key)?;
     put_text(out, if more { "1" } else { "0" })
@@ -32,20 +32,20 @@ fn put_flag(out: &mut Vec<u8>, key: &str, more: bool) -> Result<(), AllocError>
 
 #[tactic(auto, unfolding(crate::specs::FrameText::part_field))]
 fn put_part(out: &mut Vec<u8>, key: &str, part: &Bytes) -> Result<(), AllocError>
-    ensures { OnOk result (out.new.items ≡ out.old.items ++ part_field key.now part.now) }
+    ensures { OnOk result (Adds (part_field key.now part.now) out.old out.new) }
 {
     put_octets(out, key, part)
 }
 
 fn put_user(out: &mut Vec<u8>, user: &Bytes) -> Result<(), AllocError>
-    ensures { OnOk result (out.new.items ≡ out.old.items ++ user_field user.now) }
+    ensures { OnOk result (Adds (user_field user.now) out.old out.new) }
 {
     put_part(out, " data=", user)
 }
 
 // The name, MORE_flag and the user data.
 fn put_flagged(out: &mut Vec<u8>, name: &str, more: bool, user: &Bytes) -> Result<(), AllocError>
-    ensures { OnOk result (out.new.items ≡ out.old.items ++ flagged_text name.now more user.now) }
+    ensures { OnOk result (Adds (flagged_text name.now more user.now) out.old out.new) }
 {
     put_name(out, name)?;
     put_flag(out, " MORE_flag=", more)?;
@@ -60,7 +60,7 @@ fn put_parts(
     address: &Bytes,
     opt: &Bytes,
 ) -> Result<(), AllocError>
-    ensures { OnOk result (out.new.items ≡ out.old.items ++ parts_text name.now key.now address.now opt.now) }
+    ensures { OnOk result (Adds (parts_text name.now key.now address.now opt.now) out.old out.new) }
 {
     put_name(out, name)?;
     put_part(out, key, address)?;
@@ -70,7 +70,7 @@ fn put_parts(
 // A primitive of a connection, from its request to its end.
 fn put_connection(out: &mut Vec<u8>, prim: &Prim) -> Result<(), AllocError>
     requires { IsTrue (is_of_connection prim.now) }
-    ensures { OnOk result (out.new.items ≡ out.old.items ++ frame_text prim.now) }
+    ensures { OnOk result (Adds (frame_text prim.now) out.old out.new) }
 {
     match prim {
         Prim::T_CONN_REQ { dest, opt, user } => {
@@ -127,7 +127,7 @@ fn put_connection(out: &mut Vec<u8>, prim: &Prim) -> Result<(), AllocError>
 // A primitive that carries data, or tells that a datagram wasn't delivered.
 fn put_data(out: &mut Vec<u8>, prim: &Prim) -> Result<(), AllocError>
     requires { IsTrue (is_of_data prim.now) }
-    ensures { OnOk result (out.new.items ≡ out.old.items ++ frame_text prim.now) }
+    ensures { OnOk result (Adds (frame_text prim.now) out.old out.new) }
 {
     match prim {
         Prim::T_DATA_REQ { more, user } => put_flagged(out, "T_DATA_REQ", *more, user),
@@ -157,7 +157,7 @@ fn put_data(out: &mut Vec<u8>, prim: &Prim) -> Result<(), AllocError>
 // A request of a binding, or an acknowledgement.
 fn put_binding(out: &mut Vec<u8>, prim: &Prim) -> Result<(), AllocError>
     requires { IsTrue (is_of_binding prim.now) }
-    ensures { OnOk result (out.new.items ≡ out.old.items ++ frame_text prim.now) }
+    ensures { OnOk result (Adds (frame_text prim.now) out.old out.new) }
 {
     match prim {
         Prim::T_BIND_REQ {
@@ -196,7 +196,7 @@ fn put_binding(out: &mut Vec<u8>, prim: &Prim) -> Result<(), AllocError>
 }
 
 fn put_prim(out: &mut Vec<u8>, prim: &Prim) -> Result<(), AllocError>
-    ensures { OnOk result (out.new.items ≡ out.old.items ++ frame_text prim.now) }
+    ensures { OnOk result (Adds (frame_text prim.now) out.old out.new) }
 {
     match prim {
         Prim::T_BIND_REQ { .. }
@@ -224,7 +224,7 @@ fn put_prim(out: &mut Vec<u8>, prim: &Prim) -> Result<(), AllocError>
 
 /// Appends the line of a primitive.
 pub(crate) fn put_line(out: &mut Vec<u8>, prim: &Prim) -> Result<(), AllocError>
-    ensures { OnOk result (out.new.items ≡ out.old.items ++ frame_line prim.now) }
+    ensures { OnOk result (Adds (frame_line prim.now) out.old out.new) }
 {
     put_prim(out, prim)?;
     put_text(out, "\n")

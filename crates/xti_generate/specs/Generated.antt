@@ -90,6 +90,10 @@ setups workers = flat_map ring_setup (range_with_len 1 workers)
 unfoldable pub datagram_rounds : ℕ → ℕ → ℕ → List Line
 datagram_rounds shift worker rounds = flat_map (datagram_round shift worker) (range_with_len 0 rounds)
 
+-- all rounds of a worker
+abbrev pub worker_rounds : ℕ → ℕ → List Line
+worker_rounds shift worker = datagram_rounds shift worker ROUNDS
+
 -- the rounds of so many workers, one worker after the other
 unfoldable pub ring : ℕ → ℕ → List Line
 ring shift workers = flat_map (λ worker. datagram_rounds shift worker ROUNDS) (range_with_len 1 workers)

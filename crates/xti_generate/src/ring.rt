@@ -1,7 +1,7 @@
 //! Workers that send datagrams around a ring.
 
 ghost use Rattle.std.specs.Prelude.{◌≡◌, ◌+◌, ◌<◌, ◌≤◌, ◌∷◌, [], ◌++◌, OnOk, IfOk};
-ghost use Rattle.xti_generate.specs.Generated.{ring_name, next, round_bytes, setups, ring_setup, datagram_round, datagram_rounds, ring};
+ghost use Rattle.xti_generate.specs.Generated.{ring_name, next, round_bytes, setups, ring_setup, datagram_round, worker_rounds, ring};
 
 use crate::calls::{bind, open, put, receive_datagram, send_to};
 use crate::sizes::{MOST_SENT, RING, ROUNDS};
@@ -78,7 +78,7 @@ fn put_datagram_round(
 
 fn put_datagram_rounds(lines: &mut Vec<Line>, shift: u32, worker: u32) -> Result<(), AllocError>
     requires { worker ≤ RING }
-    ensures { OnOk result (lines.new.items ≡ lines.old.items ++ datagram_rounds shift worker ROUNDS) }
+    ensures { OnOk result (lines.new.items ≡ lines.old.items ++ worker_rounds shift worker) }
 {
     for round in 0..ROUNDS {
         put_datagram_round(lines, shift, worker, round)?;

@@ -1,5 +1,5 @@
 -- What a source that tells its bytes gives.
-use Rattle.std.specs.Prelude.{◌≡◌, ℕ, ◌<◌, ◌≤◌, List, [], ◌++◌, length, take, Option, Some, None, Result, Ok, Err}
+use Rattle.std.specs.Prelude.{◌≡◌, ℕ, ◌+◌, ◌<◌, ◌≤◌, List, [], ◌++◌, length, take, Option, Some, None, Result, Ok, Err}
 
 -- these bytes went from the start of what was left
 abbrev pub Gives : Option (List ℕ) → Option (List ℕ) → List ℕ → Type 0
@@ -14,9 +14,17 @@ GivesUpTo most before now = (front : List ℕ) × (length front ≤ most) × Giv
 abbrev pub GivesCount : ℕ → Option (List ℕ) → Option (List ℕ) → Type 0
 GivesCount count before now = (front : List ℕ) × (length front ≡ count) × Gives before now front
 
+-- more bytes than the limit, by one, went from what a source had left
+abbrev pub GivesOver : {S : Type 0} → (S → Option (List ℕ)) → ℕ → S → S → Type 0
+GivesOver left limit before now = GivesCount (limit + 1) (left before) (left now)
+
 -- at least one byte went from it
 abbrev pub GivesSome : Option (List ℕ) → Option (List ℕ) → Type 0
 GivesSome before now = (front : List ℕ) × (0 < length front) × Gives before now front
+
+-- the same of what a source had left
+abbrev pub GivesAny : {S : Type 0} → (S → Option (List ℕ)) → S → S → Type 0
+GivesAny left before now = GivesSome (left before) (left now)
 
 -- nothing is left
 abbrev pub IsAtEnd : Option (List ℕ) → Type 0

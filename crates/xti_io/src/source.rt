@@ -2,7 +2,7 @@
 
 ghost use Rattle.std.specs.Prelude.{◌≡◌, ◌<◌, ◌≤◌, ℕ, List, Option, ◌+◌, length, IfOk, OnErr, IsErrOf};
 ghost use Rattle.xti_io.specs.Faults.{HasCause, Rose};
-ghost use Rattle.xti_io.specs.Source.{Reads, GivesAll, GivesCount, GivesSome, GivesUpTo};
+ghost use Rattle.xti_io.specs.Source.{Reads, GivesAll, GivesAny, GivesOver, GivesUpTo};
 
 use std::alloc::Global;
 use thiserror::Error;
@@ -51,8 +51,8 @@ const PIECE: usize = 16384;
 pub fn read_all<R: Source>(alloc: Global, src: &mut R, limit: usize) -> Result<Octets, ReadEnd>
     ensures all { IfOk result (λ all. GivesAll (R.left src.old) (R.left src.new) all) }
     ensures bound { IfOk result (λ all. length all ≤ limit) }
-    ensures too_long { IsErrOf result ReadEnd.TooLong → GivesCount (limit + 1) (R.left src.old) (R.left src.new) }
-    ensures memory { IsErrOf result ReadEnd.OutOfMemory → GivesSome (R.left src.old) (R.left src.new) }
+    ensures too_long { IsErrOf result ReadEnd.TooLong → GivesOver R.left limit src.old src.new }
+    ensures memory { IsErrOf result ReadEnd.OutOfMemory → GivesAny R.left src.old src.new }
     ensures fault { IsErrOf result ReadEnd.Fault → Rose (R.faults src.old) (R.faults src.new) }
     ensures front { OnErr result (GivesUpTo (limit + 1) (R.left src.old) (R.left src.new)) }
     ensures later { R.faults src.old ≤ R.faults src.new }

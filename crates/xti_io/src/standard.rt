@@ -1,10 +1,10 @@
 //! Sources and sinks over readers and writers, as standard input and output.
 
 ghost use Rattle.std.specs.Prelude.{◌≡◌, ◌<◌, None, is_err, length};
-ghost use Rattle.std.specs.Io.KnownBytes.{ReadConsumes, WriteAppends};
 ghost use Rattle.xti_io.specs.Faults.{HasCause, counted};
 ghost use Rattle.xti_io.specs.Source.{Reads};
 ghost use Rattle.xti_io.specs.Sink.{Writes};
+ghost use Rattle.xti_io.specs.Standard.{ReadsOf, WritesOf};
 
 use crate::sink::Sink;
 use crate::source::{Failed, Source};
@@ -38,7 +38,7 @@ impl<R: Read> Source for StdSource<R> {
         ensures bytes { Reads None None result buf.new }
         ensures cause { HasCause self.old.faults self.new.faults result }
         ensures count { self.new.faults ≡ counted self.old.faults (is_err result) }
-        ensures reader { ReadConsumes (R.remaining self.old.reader) (R.remaining self.new.reader) result buf.new }
+        ensures reader { ReadsOf R.remaining self.old.reader self.new.reader result buf.new }
     {
         match self.reader.read(buf) {
             Ok(count) => Ok(count),
@@ -78,7 +78,7 @@ impl<W: Write> Sink for StdSink<W> {
         ensures bytes { Writes None None result piece.now }
         ensures cause { HasCause self.old.faults self.new.faults result }
         ensures count { self.new.faults ≡ counted self.old.faults (is_err result) }
-        ensures writer { WriteAppends (W.contents self.old.writer) (W.contents self.new.writer) result piece.now }
+        ensures writer { WritesOf W.contents self.old.writer self.new.writer result piece.now }
     {
         match self.writer.write(piece) {
             Ok(0) | Err(_) => {

@@ -1,7 +1,8 @@
 -- The fields of calls and of answers: their keys and their values.
-use Rattle.std.specs.Prelude.{List, [], ◌∷◌}
+use Rattle.std.specs.Prelude.{List, [], ◌∷◌, map, option_to_list}
 use Rattle.xti_model.specs.declared.call.Call.{Call}
 use Rattle.xti_model.specs.declared.call.Call.TheVariants as call
+use Rattle.xti_model.specs.Touched.{fd_of}
 use Rattle.xti_model.specs.declared.entry.Outcome.{Outcome}
 use Rattle.xti_model.specs.declared.entry.Outcome.TheVariants.{Done, Part}
 use Rattle.xti_model.specs.declared.entry.Reply.TheVariants as reply
@@ -10,16 +11,14 @@ use Rattle.xti_journal.specs.FieldValue.Value.{Number, Bytes, Parts, Sizes, Prov
 use Rattle.xti_journal.specs.declared.fields.Key.{Key}
 use Rattle.xti_journal.specs.declared.fields.Key.TheVariants as key
 use Rattle.xti_verbs.specs.declared.verb.Verb.{Verb}
-use Rattle.xti_verbs.specs.declared.verb.Verb.TheVariants.{Open, Close, Bind, Unbind, Connect, RcvConnect, Listen, Accept, Snd, SndV, Rcv, RcvV, SndDis, RcvDis, SndRel, RcvRel, SndUData, SndVUData, RcvUData, RcvVUData, RcvUDErr, Look, GetState, Sync, GetInfo, GetProtAddr, OptMgmt, SetMode}
+use Rattle.xti_verbs.specs.declared.verb.Verb.TheVariants.{Open, Bind, Connect, RcvConnect, Listen, Accept, Snd, SndV, Rcv, RcvV, SndDis, RcvDis, SndUData, SndVUData, RcvUData, RcvVUData, RcvUDErr, GetProtAddr, OptMgmt, SetMode}
 use Rattle.xti_verbs.specs.declared.answer.Answer.{Answer}
 use Rattle.xti_verbs.specs.declared.answer.Answer.TheVariants as answer
 
--- the keys of the fields of a call, in their order
+-- the keys of the fields of a call, in their order; those calls that are not named here say no more than which endpoint
 unfoldable pub form : Verb → List Key
 form Open = key.Provider ∷ key.Mode ∷ []
-form Close = key.Number ∷ []
 form Bind = key.Number ∷ key.Addr ∷ key.Qlen ∷ key.Amax ∷ []
-form Unbind = key.Number ∷ []
 form Connect = key.Number ∷ key.Addr ∷ key.Opt ∷ key.UData ∷ key.Amax ∷ key.Omax ∷ key.Umax ∷ []
 form RcvConnect = key.Number ∷ key.Amax ∷ key.Omax ∷ key.Umax ∷ []
 form Listen = key.Number ∷ key.Amax ∷ key.Omax ∷ key.Umax ∷ []
@@ -30,27 +29,20 @@ form Rcv = key.Number ∷ key.Max ∷ []
 form RcvV = key.Number ∷ key.Sizes ∷ []
 form SndDis = key.Number ∷ key.Number ∷ key.UData ∷ []
 form RcvDis = key.Number ∷ key.Umax ∷ []
-form SndRel = key.Number ∷ []
-form RcvRel = key.Number ∷ []
 form SndUData = key.Number ∷ key.Addr ∷ key.Opt ∷ key.Data ∷ []
 form SndVUData = key.Number ∷ key.Addr ∷ key.Opt ∷ key.Parts ∷ []
 form RcvUData = key.Number ∷ key.Max ∷ key.Amax ∷ key.Omax ∷ []
 form RcvVUData = key.Number ∷ key.Sizes ∷ key.Amax ∷ key.Omax ∷ []
 form RcvUDErr = key.Number ∷ key.Amax ∷ key.Omax ∷ []
-form Look = key.Number ∷ []
-form GetState = key.Number ∷ []
-form Sync = key.Number ∷ []
-form GetInfo = key.Number ∷ []
 form GetProtAddr = key.Number ∷ key.Amax ∷ key.Pmax ∷ []
 form OptMgmt = key.Number ∷ key.Number ∷ key.Opt ∷ key.Omax ∷ []
 form SetMode = key.Number ∷ key.Mode ∷ []
+form plain = key.Number ∷ []
 
 -- the values of a call's fields
 abbrev pub call_values : Call → List Value
 call_values (call.TOpen prov nonblock) = Provider prov ∷ Mode nonblock ∷ []
-call_values (call.TClose fd) = Number fd.0 ∷ []
 call_values (call.TBind fd addr qlen amax) = Number fd.0 ∷ Bytes addr ∷ Number qlen ∷ Number amax ∷ []
-call_values (call.TUnbind fd) = Number fd.0 ∷ []
 call_values (call.TConnect fd addr opt udata amax omax umax) = Number fd.0 ∷ Bytes addr ∷ Bytes opt ∷ Bytes udata ∷ Number amax ∷ Number omax ∷ Number umax ∷ []
 call_values (call.TRcvConnect fd amax omax umax) = Number fd.0 ∷ Number amax ∷ Number omax ∷ Number umax ∷ []
 call_values (call.TListen fd amax omax umax) = Number fd.0 ∷ Number amax ∷ Number omax ∷ Number umax ∷ []
@@ -61,20 +53,15 @@ call_values (call.TRcv fd max) = Number fd.0 ∷ Number max ∷ []
 call_values (call.TRcvV fd sizes) = Number fd.0 ∷ Sizes sizes ∷ []
 call_values (call.TSndDis fd seq udata) = Number fd.0 ∷ Number seq.0 ∷ Bytes udata ∷ []
 call_values (call.TRcvDis fd umax) = Number fd.0 ∷ Number umax ∷ []
-call_values (call.TSndRel fd) = Number fd.0 ∷ []
-call_values (call.TRcvRel fd) = Number fd.0 ∷ []
 call_values (call.TSndUData fd addr opt bytes) = Number fd.0 ∷ Bytes addr ∷ Bytes opt ∷ Bytes bytes ∷ []
 call_values (call.TSndVUData fd addr opt parts) = Number fd.0 ∷ Bytes addr ∷ Bytes opt ∷ Parts parts ∷ []
 call_values (call.TRcvUData fd max amax omax) = Number fd.0 ∷ Number max ∷ Number amax ∷ Number omax ∷ []
 call_values (call.TRcvVUData fd sizes amax omax) = Number fd.0 ∷ Sizes sizes ∷ Number amax ∷ Number omax ∷ []
 call_values (call.TRcvUDErr fd amax omax) = Number fd.0 ∷ Number amax ∷ Number omax ∷ []
-call_values (call.TLookAt fd) = Number fd.0 ∷ []
-call_values (call.TGetState fd) = Number fd.0 ∷ []
-call_values (call.TSync fd) = Number fd.0 ∷ []
-call_values (call.TGetInfo fd) = Number fd.0 ∷ []
 call_values (call.TGetProtAddr fd amax pmax) = Number fd.0 ∷ Number amax ∷ Number pmax ∷ []
 call_values (call.TOptMgmt fd action opt omax) = Number fd.0 ∷ Number action ∷ Bytes opt ∷ Number omax ∷ []
 call_values (call.SetMode fd nonblock) = Number fd.0 ∷ Mode nonblock ∷ []
+call_values plain = map Number (option_to_list (fd_of plain))
 
 -- the keys of the fields of an answer
 unfoldable pub answer_form : Answer → List Key

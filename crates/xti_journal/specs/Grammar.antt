@@ -77,3 +77,7 @@ pub record HasText (j : Journal) : Type 0 where
 pub record IsJournal (j : Journal) (text : List ℕ) : Type 0 where
   pub has_text : HasText j
   pub written : text ≡ journal_text j
+
+-- where the text is that of both journals, they are the same
+abbrev pub AreSame : List ℕ → Journal → Journal → Type 0
+AreSame text j k = IsJournal j text → IsJournal k text → j ≡ k

@@ -6,7 +6,7 @@ use Rattle.xti_model.specs.declared.script.StallLine.{StallLine}
 use Rattle.xti_journal.specs.declared.fields.FieldFail.{FieldFail}
 use Rattle.xti_journal.specs.declared.fields.FieldFail.TheVariants as field
 use Rattle.xti_journal.specs.Known.{Entered, Stalled}
-use Rattle.xti_journal.specs.Reading.{line_in, entry_read, stall_read}
+use Rattle.xti_journal.specs.Reading.{line_after, entry_read, stall_read}
 use Rattle.xti_journal.specs.Reading.{LineRead as read}
 use Rattle.xti_journal.specs.declared.journal_text.JournalFail.{JournalFail}
 use Rattle.xti_journal.specs.declared.journal_text.JournalFail.TheVariants.{Bad, OutOfMemory}
@@ -31,7 +31,7 @@ ReadsText text (Err e) = IsBad text e
 
 -- the words are an entry or a stall line, which is added; or the last line; or no line, or memory runs out
 abbrev pub ReadsNext : Journal → List (List ℕ) → Journal → Result Bool FieldFail → Type 0
-ReadsNext old words new (Ok true) = ((e : Entry) × (line_in old.entries old.stalls words ≡ Some (read.Entered (entry_read e))) × Entered old e new) ⊎ ((s : StallLine) × (line_in old.entries old.stalls words ≡ Some (read.Stalled (stall_read s))) × Stalled old s new)
-ReadsNext old words new (Ok false) = (line_in old.entries old.stalls words ≡ Some read.Ended) × (new ≡ old)
-ReadsNext old words new (Err field.Wrong) = line_in old.entries old.stalls words ≡ None
+ReadsNext old words new (Ok true) = ((e : Entry) × (line_after old words ≡ Some (read.Entered (entry_read e))) × Entered old e new) ⊎ ((s : StallLine) × (line_after old words ≡ Some (read.Stalled (stall_read s))) × Stalled old s new)
+ReadsNext old words new (Ok false) = (line_after old words ≡ Some read.Ended) × (new ≡ old)
+ReadsNext old words new (Err field.Wrong) = line_after old words ≡ None
 ReadsNext old words new (Err field.OutOfMemory) = Unit {0}

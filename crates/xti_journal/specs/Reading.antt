@@ -8,6 +8,7 @@ use Rattle.xti_model.specs.declared.entry.Act.{Act}
 use Rattle.xti_model.specs.declared.entry.Act.TheVariants.{Begin, More}
 use Rattle.xti_model.specs.declared.entry.Outcome.{Outcome}
 use Rattle.xti_model.specs.declared.entry.Entry.{Entry}
+use Rattle.xti_model.specs.declared.script.Journal.{Journal}
 use Rattle.xti_model.specs.declared.script.StallLine.{StallLine}
 use Rattle.xti_words.specs.Values.{number_in}
 use Rattle.xti_journal.specs.Kinds.{Kind}
@@ -207,6 +208,10 @@ with_step verbs (Some (step, words)) = whole_entry step (behind_arrow (verb_afte
 unfoldable pub entry_in : ℕ → (ℕ → Option Verb) → List ℕ → List (List ℕ) → Option EntryRead
 entry_in n verbs word words = if bytes_eq word (decimal n) then with_step verbs (step_in words) else None
 
+-- the entry with this number after those that were read
+abbrev pub entry_after : Journal → ℕ → List ℕ → List (List ℕ) → Option EntryRead
+entry_after j n word words = entry_in n (last_verb j.entries) word words
+
 -- ---- stall lines
 
 abbrev pub stall_read : StallLine → StepRead
@@ -279,6 +284,17 @@ line_in entries stalls (word ∷ words) =
     if bytes_eq word (codes "end") then ended (length entries) words else
     if bytes_eq word (codes "stall") then stalled (last_worker stalls) (stall_in (last_verb entries) words) else
     only_before (last_worker stalls) (entered (entry_in (length entries + 1) (last_verb entries) word words))
+
+-- the line that the words are after what was read
+abbrev pub line_after : Journal → List (List ℕ) → Option LineRead
+line_after j words = line_in j.entries j.stalls words
+
+-- the stall line that the words are after what was read, and what is read of it
+abbrev pub stall_after : Journal → List (List ℕ) → Option LineRead
+stall_after j words = stalled (last_worker j.stalls) (stall_in (last_verb j.entries) words)
+
+abbrev pub stalled_read : StallLine → LineRead
+stalled_read s = Stalled (stall_read s)
 
 -- ---- the head
 

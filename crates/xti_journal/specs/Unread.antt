@@ -1,5 +1,15 @@
 -- Fields that are read one after the other, and what readers give.
 use Rattle.std.specs.Prelude.{◌≡◌, ℕ, List, [], ◌∷◌, Option, Some, None, Result, Ok, Err}
+use Rattle.xti_base.specs.declared.limit.Info.{Info}
+use Rattle.xti_model.specs.declared.entry.Act.{Act}
+use Rattle.xti_model.specs.declared.entry.Entry.{Entry}
+use Rattle.xti_model.specs.declared.entry.Outcome.{Outcome}
+use Rattle.xti_model.specs.declared.entry.Outcome.TheVariants.{Done}
+use Rattle.xti_model.specs.declared.entry.Reply.TheVariants.{Limits}
+use Rattle.xti_model.specs.declared.script.Journal.{Journal}
+use Rattle.xti_verbs.specs.declared.verb.Verb.{Verb}
+use Rattle.xti_verbs.specs.declared.answer.Answer.{Answer}
+use Rattle.xti_verbs.specs.declared.answer.Answer.TheVariants as answer
 use Rattle.xti_journal.specs.Kinds.{Kind}
 use Rattle.xti_journal.specs.FieldValue.{Value}
 use Rattle.xti_journal.specs.declared.fields.Key.{Key}
@@ -7,7 +17,7 @@ use Rattle.xti_journal.specs.declared.fields.Fields.{Fields}
 use Rattle.xti_journal.specs.declared.fields.FieldFail.{FieldFail}
 use Rattle.xti_journal.specs.declared.fields.FieldFail.TheVariants.{Wrong, OutOfMemory}
 use Rattle.xti_journal.specs.Fields.{kind_of}
-use Rattle.xti_journal.specs.Reading.{Found, text_value, before, fields_of}
+use Rattle.xti_journal.specs.Reading.{Found, AnswerRead, text_value, before, fields_of, act_read, begun, outcome_read, answered, outcome_in, entry_read, entry_after}
 
 -- the values that the words give the fields that are not read yet
 abbrev pub unread : Fields → Found (List Value)
@@ -34,8 +44,32 @@ Gives is_read found left (Ok read) = found ≡ Some (is_read read, left)
 Gives is_read found left (Err Wrong) = found ≡ None
 Gives is_read found left (Err OutOfMemory) = Unit {0}
 
+-- the fields give this call of the verb, and what is left of them is given
+abbrev pub GivesCall : {A : Type 0} → Verb → Fields → Act → Fields → Result A FieldFail → Type 0
+GivesCall verb old act new result = Gives (λ _. act_read act) (begun verb (unread old)) new.words result
+
+-- the fields give this outcome, which is the answer, and what is left of them is given
+abbrev pub GivesOutcome : {A : Type 0} → Answer → Fields → Outcome → Fields → Result A FieldFail → Type 0
+GivesOutcome answer old outcome new result = Gives (λ _. outcome_read outcome) (answered answer (unread old)) new.words result
+
+-- the words give this outcome of the call, and what is left of them is given
+abbrev pub TellsOutcome : {A : Type 0} → Verb → Fields → Outcome → Fields → Result A FieldFail → Type 0
+TellsOutcome verb old outcome new result = Gives (λ _. outcome_read outcome) (outcome_in verb old.words) new.words result
+
+-- what is read where a provider offers this
+abbrev pub limits_read : Info → AnswerRead
+limits_read info = outcome_read (Done (Limits info))
+
+-- the fields give what a provider offers, and what is left of them is given
+abbrev pub GivesLimits : Fields → Fields → Result Info FieldFail → Type 0
+GivesLimits old new result = Gives limits_read (answered answer.Limits (unread old)) new.words result
+
 -- what a whole line gives is this, or it gives nothing
 abbrev pub IsRead : {A B : Type 0} → (A → B) → Option B → Result A FieldFail → Type 0
 IsRead is_read found (Ok read) = found ≡ Some (is_read read)
 IsRead is_read found (Err Wrong) = found ≡ None
 IsRead is_read found (Err OutOfMemory) = Unit {0}
+
+-- the words after this one are those of this entry, with the number, after what was read
+abbrev pub ReadsEntry : {A : Type 0} → Journal → ℕ → List ℕ → List (List ℕ) → Entry → Result A FieldFail → Type 0
+ReadsEntry j n word words e result = IsRead (λ _. entry_read e) (entry_after j n word words) result

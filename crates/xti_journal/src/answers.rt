@@ -3,8 +3,7 @@
 ghost use Rattle.std.specs.Prelude.{◌≡◌, true};
 ghost use Rattle.xti_journal.specs.Calls.{answer_form};
 ghost use Rattle.xti_verbs.specs.Families.{is_report, is_news, is_error};
-ghost use Rattle.xti_journal.specs.Reading.{answered, outcome_read};
-ghost use Rattle.xti_journal.specs.Unread.{unread, Gives};
+ghost use Rattle.xti_journal.specs.Unread.{GivesLimits, GivesOutcome};
 
 use crate::fields::{FieldFail, Fields};
 use xti_base::{Info, build_or_drop, write_over};
@@ -16,7 +15,7 @@ use xti_verbs::Answer;
 #[tactic(auto, unfolding(crate::specs::Fields::field, crate::specs::Calls::answer_form))]
 fn read_info(fields: &mut Fields) -> Result<Info, FieldFail>
     requires { fields.old.keys.now ≡ answer_form Answer.Limits }
-    ensures { Gives (λ info. outcome_read (Outcome.Done (Reply.Limits info))) (answered Answer.Limits (unread fields.old)) fields.new.words result }
+    ensures { GivesLimits fields.old fields.new result }
 {
     Ok(Info {
         addr: read_or_end!(fields.limit()),
@@ -35,7 +34,7 @@ fn read_info(fields: &mut Fields) -> Result<Info, FieldFail>
 fn read_report(answer: Answer, fields: &mut Fields, outcome: &mut Outcome) -> Result<(), FieldFail>
     requires family { is_report answer ≡ true }
     requires keys { fields.old.keys.now ≡ answer_form answer }
-    ensures { Gives (λ _. outcome_read outcome.new) (answered answer (unread fields.old)) fields.new.words result }
+    ensures { GivesOutcome answer fields.old outcome.new fields.new result }
 {
     let reply = match answer {
         Answer::Opened => build_or_drop!(Reply::Opened {
@@ -73,7 +72,7 @@ fn read_report(answer: Answer, fields: &mut Fields, outcome: &mut Outcome) -> Re
 fn read_news(answer: Answer, fields: &mut Fields, outcome: &mut Outcome) -> Result<(), FieldFail>
     requires family { is_news answer ≡ true }
     requires keys { fields.old.keys.now ≡ answer_form answer }
-    ensures { Gives (λ _. outcome_read outcome.new) (answered answer (unread fields.old)) fields.new.words result }
+    ensures { GivesOutcome answer fields.old outcome.new fields.new result }
 {
     let reply = match answer {
         Answer::Connected => build_or_drop!(Reply::Connected {
@@ -121,7 +120,7 @@ fn read_news(answer: Answer, fields: &mut Fields, outcome: &mut Outcome) -> Resu
 fn read_error(answer: Answer, fields: &mut Fields, outcome: &mut Outcome) -> Result<(), FieldFail>
     requires family { is_error answer ≡ true }
     requires keys { fields.old.keys.now ≡ answer_form answer }
-    ensures { Gives (λ _. outcome_read outcome.new) (answered answer (unread fields.old)) fields.new.words result }
+    ensures { GivesOutcome answer fields.old outcome.new fields.new result }
 {
     let reply = match answer {
         Answer::Refused => build_or_drop!(Reply::Refused {
@@ -147,7 +146,7 @@ pub(crate) fn read_answer(
     outcome: &mut Outcome,
 ) -> Result<(), FieldFail>
     requires { fields.old.keys.now ≡ answer_form answer }
-    ensures { Gives (λ _. outcome_read outcome.new) (answered answer (unread fields.old)) fields.new.words result }
+    ensures { GivesOutcome answer fields.old outcome.new fields.new result }
 {
     match answer {
         Answer::Plain => {

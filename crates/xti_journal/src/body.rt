@@ -2,8 +2,7 @@
 
 ghost use Rattle.std.specs.Prelude.{◌≡◌};
 ghost use Rattle.xti_words.specs.Texts.{words_of};
-ghost use Rattle.xti_journal.specs.Grammar.{last_verb};
-ghost use Rattle.xti_journal.specs.Reading.{last_worker, stall_in, stall_read, stalled, Stalled, ended, Ended, may_follow, line_read, line_in, profile_values, profile_in};
+ghost use Rattle.xti_journal.specs.Reading.{stall_after, stalled_read, ended, Ended, may_follow, line_read, line_after, profile_values, profile_in};
 ghost use Rattle.xti_journal.specs.Unread.{IsRead};
 
 use crate::draft::Draft;
@@ -40,7 +39,7 @@ fn read_next_stall(
     fields: &mut Fields,
     act: &mut Act,
 ) -> Result<StallLine, FieldFail>
-    ensures { IsRead (λ s. Stalled (stall_read s)) (stalled (last_worker draft.now.stalls) (stall_in (last_verb draft.now.entries) fields.old.words)) result }
+    ensures { IsRead stalled_read (stall_after draft.now fields.old.words) result }
 {
     let stall = read_or_end!(read_stall(draft, fields, act));
     if may_follow(draft.last_worker(), stall.worker) {
@@ -54,7 +53,7 @@ fn read_next_stall(
 /// The line that the words are after those that were read; an entry is written.
 #[tactic(auto, unfolding(crate::specs::Reading::line_in))]
 fn read_words(draft: &Draft, fields: &mut Fields, entry: &mut Entry) -> Result<Line, FieldFail>
-    ensures { IsRead (line_read entry.new) (line_in draft.now.entries draft.now.stalls fields.old.words) result }
+    ensures { IsRead (line_read entry.new) (line_after draft.now fields.old.words) result }
 {
     match fields.word() {
         Some(b"end") => match read_end(draft.count(), fields) {
@@ -92,7 +91,7 @@ pub(crate) fn read_line(
     text: &[u8],
     entry: &mut Entry,
 ) -> Result<Line, FieldFail>
-    ensures { IsRead (line_read entry.new) (line_in draft.now.entries draft.now.stalls (words_of text.now)) result }
+    ensures { IsRead (line_read entry.new) (line_after draft.now (words_of text.now)) result }
 {
     read_words(draft, &mut Fields::of(alloc, text), entry)
 }

@@ -2,9 +2,9 @@
 
 ghost use Rattle.std.specs.Prelude.{◌≡◌, true};
 ghost use Rattle.xti_journal.specs.Calls.{form};
-ghost use Rattle.xti_verbs.specs.Families.{is_plain, is_local, is_connecting, is_data, is_datagram};
-ghost use Rattle.xti_journal.specs.Reading.{act_read, begun};
-ghost use Rattle.xti_journal.specs.Unread.{unread, Gives};
+ghost use Rattle.xti_verbs.specs.Families.{is_local, is_connecting, is_data, is_datagram};
+ghost use Rattle.xti_verbs.specs.Verbs.{is_plain};
+ghost use Rattle.xti_journal.specs.Unread.{GivesCall};
 
 use crate::fields::{FieldFail, Fields};
 use xti_base::{build_or_drop, write_over};
@@ -16,21 +16,10 @@ use xti_verbs::Verb;
 fn read_plain(verb: Verb, fields: &mut Fields, act: &mut Act) -> Result<(), FieldFail>
     requires family { is_plain verb ≡ true }
     requires keys { fields.old.keys.now ≡ form verb }
-    ensures { Gives (λ _. act_read act.new) (begun verb (unread fields.old)) fields.new.words result }
+    ensures { GivesCall verb fields.old act.new fields.new result }
 {
     let fd = read_or_end!(fields.fd());
-    let call = match verb {
-        Verb::Close => Call::TClose { fd },
-        Verb::Unbind => Call::TUnbind { fd },
-        Verb::SndRel => Call::TSndRel { fd },
-        Verb::RcvRel => Call::TRcvRel { fd },
-        Verb::Look => Call::TLookAt { fd },
-        Verb::GetState => Call::TGetState { fd },
-        Verb::Sync => Call::TSync { fd },
-        Verb::GetInfo => Call::TGetInfo { fd },
-        _ => unreachable!(),
-    };
-    write_over(act, Act::Begin(call));
+    write_over(act, Act::Begin(verb.plain_call(fd)));
     Ok(())
 }
 
@@ -39,7 +28,7 @@ fn read_plain(verb: Verb, fields: &mut Fields, act: &mut Act) -> Result<(), Fiel
 fn read_local(verb: Verb, fields: &mut Fields, act: &mut Act) -> Result<(), FieldFail>
     requires family { is_local verb ≡ true }
     requires keys { fields.old.keys.now ≡ form verb }
-    ensures { Gives (λ _. act_read act.new) (begun verb (unread fields.old)) fields.new.words result }
+    ensures { GivesCall verb fields.old act.new fields.new result }
 {
     let call = match verb {
         Verb::Open => build_or_drop!(Call::TOpen {
@@ -78,7 +67,7 @@ fn read_local(verb: Verb, fields: &mut Fields, act: &mut Act) -> Result<(), Fiel
 fn read_connecting(verb: Verb, fields: &mut Fields, act: &mut Act) -> Result<(), FieldFail>
     requires family { is_connecting verb ≡ true }
     requires keys { fields.old.keys.now ≡ form verb }
-    ensures { Gives (λ _. act_read act.new) (begun verb (unread fields.old)) fields.new.words result }
+    ensures { GivesCall verb fields.old act.new fields.new result }
 {
     let fd = read_or_end!(fields.fd());
     let call = match verb {
@@ -130,7 +119,7 @@ fn read_connecting(verb: Verb, fields: &mut Fields, act: &mut Act) -> Result<(),
 fn read_data(verb: Verb, fields: &mut Fields, act: &mut Act) -> Result<(), FieldFail>
     requires family { is_data verb ≡ true }
     requires keys { fields.old.keys.now ≡ form verb }
-    ensures { Gives (λ _. act_read act.new) (begun verb (unread fields.old)) fields.new.words result }
+    ensures { GivesCall verb fields.old act.new fields.new result }
 {
     let fd = read_or_end!(fields.fd());
     let call = match verb {
@@ -163,7 +152,7 @@ fn read_data(verb: Verb, fields: &mut Fields, act: &mut Act) -> Result<(), Field
 fn read_datagram(verb: Verb, fields: &mut Fields, act: &mut Act) -> Result<(), FieldFail>
     requires family { is_datagram verb ≡ true }
     requires keys { fields.old.keys.now ≡ form verb }
-    ensures { Gives (λ _. act_read act.new) (begun verb (unread fields.old)) fields.new.words result }
+    ensures { GivesCall verb fields.old act.new fields.new result }
 {
     let fd = read_or_end!(fields.fd());
     let call = match verb {
@@ -205,17 +194,9 @@ fn read_datagram(verb: Verb, fields: &mut Fields, act: &mut Act) -> Result<(), F
 /// Writes the call whose fields these are.
 pub(crate) fn read_call(verb: Verb, fields: &mut Fields, act: &mut Act) -> Result<(), FieldFail>
     requires { fields.old.keys.now ≡ form verb }
-    ensures { Gives (λ _. act_read act.new) (begun verb (unread fields.old)) fields.new.words result }
+    ensures { GivesCall verb fields.old act.new fields.new result }
 {
     match verb {
-        Verb::Close
-        | Verb::Unbind
-        | Verb::SndRel
-        | Verb::RcvRel
-        | Verb::Look
-        | Verb::GetState
-        | Verb::Sync
-        | Verb::GetInfo => read_plain(verb, fields, act),
         Verb::Open | Verb::Bind | Verb::SetMode | Verb::GetProtAddr | Verb::OptMgmt => {
             read_local(verb, fields, act)
         },
@@ -228,5 +209,6 @@ pub(crate) fn read_call(verb: Verb, fields: &mut Fields, act: &mut Act) -> Resul
         Verb::Snd | Verb::SndV | Verb::Rcv | Verb::RcvV => read_data(verb, fields, act),
         Verb::SndUData | Verb::SndVUData | Verb::RcvUData | Verb::RcvVUData | Verb::RcvUDErr =>
             read_datagram(verb, fields, act),
+        _ => read_plain(verb, fields, act),
     }
 }

@@ -2,7 +2,7 @@
 
 ghost use Rattle.std.specs.Prelude.{◌≡◌, ◌<◌, ◌∷◌, [], Some, None, drop, length, ◌==◌, IfSome, IfNone};
 ghost use Rattle.std.specs.Option.{option_copied};
-ghost use Rattle.xti_journal.specs.FieldValue.{Value as value};
+ghost use Rattle.xti_journal.specs.FieldValue.{Value as value, fd_value, seq_value};
 ghost use Rattle.xti_journal.specs.Kinds.{Kind as kind};
 ghost use Rattle.xti_journal.specs.Fields.{key_word, kind_of};
 ghost use Rattle.xti_journal.specs.Reading.{behind_key, accepted, fields_of};
@@ -235,7 +235,7 @@ impl<'a> Fields<'a> {
     pub(crate) fn fd(&mut self) -> Result<Fd, FieldFail>
         requires { NextIs kind.Number self.old.keys.now }
         ensures keys { self.new.keys.now ≡ drop 1 self.old.keys.now }
-        ensures value { Reads (λ fd. value.Number fd.0) (unread self.old) (unread self.new) result }
+        ensures value { Reads fd_value (unread self.old) (unread self.new) result }
     {
         match self.number() {
             Ok(number) => Ok(Fd(number)),
@@ -248,7 +248,7 @@ impl<'a> Fields<'a> {
     pub(crate) fn seq(&mut self) -> Result<Seq, FieldFail>
         requires { NextIs kind.Number self.old.keys.now }
         ensures keys { self.new.keys.now ≡ drop 1 self.old.keys.now }
-        ensures value { Reads (λ seq. value.Number seq.0) (unread self.old) (unread self.new) result }
+        ensures value { Reads seq_value (unread self.old) (unread self.new) result }
     {
         match self.number() {
             Ok(number) => Ok(Seq(number)),

@@ -15,14 +15,6 @@ pub(crate) fn form(verb: Verb) -> &'static [Key]
 {
     match verb {
         Verb::Open => &[Key::Provider, Key::Mode],
-        Verb::Close
-        | Verb::Unbind
-        | Verb::SndRel
-        | Verb::RcvRel
-        | Verb::Look
-        | Verb::GetState
-        | Verb::Sync
-        | Verb::GetInfo => &[Key::Number],
         Verb::Bind => &[Key::Number, Key::Addr, Key::Qlen, Key::Amax],
         Verb::Connect => &[
             Key::Number,
@@ -49,6 +41,7 @@ pub(crate) fn form(verb: Verb) -> &'static [Key]
         Verb::GetProtAddr => &[Key::Number, Key::Amax, Key::Pmax],
         Verb::OptMgmt => &[Key::Number, Key::Number, Key::Opt, Key::Omax],
         Verb::SetMode => &[Key::Number, Key::Mode],
+        _ => &[Key::Number],
     }
 }
 

@@ -1,13 +1,13 @@
 //! Reading a journal.
 
-ghost use Rattle.std.specs.Prelude.{◌≡◌, All, ◌++◌, ◌∷◌, [], ◌<◌, true, codes, length, IfOk, IfErr, IfSome, IfNone};
+ghost use Rattle.std.specs.Prelude.{◌≡◌, All, ◌++◌, ◌<◌, true, codes, length, IfOk, IfErr, IfSome, IfNone};
 ghost use Rattle.xti_journal_text.specs.JournalText.{head_text};
 ghost use Rattle.xti_model.specs.Profile.{valid, valid_connections, valid_orderly, valid_datagrams};
 ghost use Rattle.xti_model.specs.declared.script.Journal.{Journal};
 ghost use Rattle.xti_journal.specs.declared.journal_text.JournalFail.TheVariants.{OutOfMemory};
 ghost use Rattle.xti_journal.specs.Grammar.{IsJournal};
 ghost use Rattle.xti_journal.specs.Head.{fail_at, ReadsFirst, ReadsProfile, ReadsProvider, ReadsHead};
-ghost use Rattle.xti_journal.specs.Line.{IsLine};
+ghost use Rattle.xti_journal.specs.Line.{IsCut, IsLine};
 ghost use Rattle.xti_words.specs.Texts.{words_of};
 ghost use Rattle.xti_journal.specs.Read.{IsReadAs, IsBad, ReadsText, ReadsNext};
 
@@ -42,7 +42,7 @@ impl From<AllocError> for JournalFail {
 
 /// The first line, which LF ends, and what is after the LF; `None` where there is no LF.
 fn take_line(text: &[u8]) -> Option<(&[u8], &[u8])>
-    ensures some { IfSome result (λ cut. IsLine cut.0.now × (text.now ≡ (cut.0.now ++ 10 ∷ []) ++ cut.1.now)) }
+    ensures some { IfSome result (λ cut. IsCut text.now cut.0.now cut.1.now) }
     ensures none { IfNone result (IsLine text.now) }
 {
     match memchr(b'\n', text) {

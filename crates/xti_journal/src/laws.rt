@@ -1,9 +1,9 @@
 //! Laws of journals and their texts.
 
-ghost use Rattle.std.specs.Prelude.{◌≡◌, ◌<◌, ◌^◌, ℕ, List, length};
+ghost use Rattle.std.specs.Prelude.{◌<◌, ◌^◌, ℕ, List, length};
 ghost use Rattle.xti_model.specs.declared.script.Journal.{Journal};
 ghost use Rattle.xti_journal_text.specs.JournalText.{journal_text};
-ghost use Rattle.xti_journal.specs.Grammar.{HasText, IsJournal};
+ghost use Rattle.xti_journal.specs.Grammar.{AreSame, HasText, IsJournal};
 ghost use Rattle.xti_journal.specs.Refused.{IsRefusedAt};
 
 /// A text is a journal, or is refused at a line, and never both.
@@ -13,7 +13,7 @@ pub fn never_both()
 
 /// A text that a slice can hold is that of one journal.
 pub fn one_journal()
-    ensures { (text : List ℕ) (j k : Journal) → length text < 2 ^ 63 → IsJournal j text → IsJournal k text → j ≡ k }
+    ensures { (text : List ℕ) (j k : Journal) → length text < 2 ^ 63 → AreSame text j k }
 {}
 
 /// What is written of a journal that has a text is the text of this journal.

@@ -4,8 +4,8 @@ ghost use Rattle.std.specs.Prelude.{◌≡◌, ◌≤◌, Some, IfSome, IfOk, de
 ghost use Rattle.std.specs.Str.{bytes_eq};
 ghost use Rattle.xti_base.specs.declared.limits.TheConstants.{LAST_WORKER};
 ghost use Rattle.xti_journal.specs.Grammar.{last_verb};
-ghost use Rattle.xti_journal.specs.Reading.{same, worker_in, act_read, act_in, error_in, answer_in, outcome_read, outcome_in, step_read, step_in, state_at_end, behind_read, behind_arrow, entry_read, entry_in, stall_read, is_whole, stall_in};
-ghost use Rattle.xti_journal.specs.Unread.{Gives, IsRead};
+ghost use Rattle.xti_journal.specs.Reading.{same, worker_in, act_read, act_in, error_in, answer_in, outcome_in, step_read, step_in, state_at_end, behind_read, behind_arrow, entry_in, stall_read, is_whole, stall_in};
+ghost use Rattle.xti_journal.specs.Unread.{Gives, IsRead, ReadsEntry, TellsOutcome};
 
 use crate::answers::read_answer;
 use crate::calls::read_call;
@@ -78,7 +78,7 @@ fn read_answer_word(verb: Verb, fields: &mut Fields) -> Result<Answer, FieldFail
 /// Writes what the call answered.
 #[tactic(auto, unfolding(crate::specs::Reading::outcome_in))]
 fn read_outcome(verb: Verb, fields: &mut Fields, outcome: &mut Outcome) -> Result<(), FieldFail>
-    ensures { Gives (λ _. outcome_read outcome.new) (outcome_in verb fields.old.words) fields.new.words result }
+    ensures { TellsOutcome verb fields.old outcome.new fields.new result }
 {
     let answer = read_or_end!(read_answer_word(verb, fields));
     fields.expect(answer_form(answer));
@@ -155,7 +155,7 @@ pub(crate) fn read_entry(
     fields: &mut Fields,
     entry: &mut Entry,
 ) -> Result<(), FieldFail>
-    ensures read { IsRead (λ _. entry_read entry.new) (entry_in n (last_verb draft.now.entries) word.now fields.old.words) result }
+    ensures read { ReadsEntry draft.now n word.now fields.old.words entry.new result }
 {
     if !is_number(word, n) {
         return Err(FieldFail::Wrong);

@@ -14,7 +14,8 @@ use Rattle.xti_base.specs.Limit.{limit_number}
 use Rattle.xti_model.specs.declared.profile.Profile.{Profile}
 use Rattle.xti_model.specs.declared.profile.Providers.{Providers}
 use Rattle.xti_model.specs.declared.call.Call.{Call}
-use Rattle.xti_model.specs.declared.call.Call.TheVariants.{TOpen, TClose, TBind, TUnbind, TConnect, TRcvConnect, TListen, TAccept, TSnd, TSndV, TRcv, TRcvV, TSndDis, TRcvDis, TSndRel, TRcvRel, TSndUData, TSndVUData, TRcvUData, TRcvVUData, TRcvUDErr, TLookAt, TGetState, TSync, TGetInfo, TGetProtAddr, TOptMgmt, SetMode}
+use Rattle.xti_model.specs.declared.call.Call.TheVariants.{TOpen, TBind, TConnect, TRcvConnect, TListen, TAccept, TSnd, TSndV, TRcv, TRcvV, TSndDis, TRcvDis, TSndUData, TSndVUData, TRcvUData, TRcvVUData, TRcvUDErr, TGetProtAddr, TOptMgmt, SetMode}
+use Rattle.xti_model.specs.Touched.{fd_of}
 use Rattle.xti_model.specs.declared.entry.Entry.{Entry}
 use Rattle.xti_model.specs.declared.entry.Act.{Act}
 use Rattle.xti_model.specs.declared.entry.Act.TheVariants.{Begin, More}
@@ -24,6 +25,7 @@ use Rattle.xti_model.specs.declared.entry.Reply.{Reply}
 use Rattle.xti_model.specs.declared.entry.Reply.TheVariants.{Plain, Opened, Bound, Connected, Listened, Sent, Got, Discon, UData, UDErr, Seen, Stands, Limits, Addresses, Options, Refused, Look, Overflow}
 use Rattle.xti_model.specs.declared.script.Journal.{Journal}
 use Rattle.xti_model.specs.declared.script.StallLine.{StallLine}
+use Rattle.xti_verbs.specs.Verbs.{verb_of, verb_word}
 
 -- words
 
@@ -47,6 +49,13 @@ abbrev pub sizes_word : List ℕ → List ℕ → List ℕ
 sizes_word key [] = key ++ codes "none"
 sizes_word key (n ∷ ns) = number_word key n ++ flat_map (number_word (codes ",")) ns
 
+-- the parts and the sizes of a call
+abbrev pub parts_field : List (List ℕ) → List ℕ
+parts_field parts = parts_word (codes " parts=") parts
+
+abbrev pub sizes_field : List ℕ → List ℕ
+sizes_field sizes = sizes_word (codes " sizes=") sizes
+
 -- the address and the options of a call
 abbrev pub address_words : List ℕ → List ℕ → List ℕ
 address_words addr opt = octets_word (codes " addr=") addr ++ octets_word (codes " opt=") opt
@@ -61,35 +70,37 @@ most_words amax omax umax = number_word (codes " amax=") amax ++ number_word (co
 
 -- calls
 
+-- the descriptor, where there is one
+abbrev pub fd_text : Option ℕ → List ℕ
+fd_text None = []
+fd_text (Some fd) = number_word (codes " ") fd
+
+-- a call that says no more than which endpoint: its word, and the descriptor
+abbrev pub plain_text : Call → List ℕ
+plain_text call = verb_word (verb_of call) ++ fd_text (fd_of call)
+
 abbrev pub call_text : Call → List ℕ
 call_text (TOpen prov nonblock) = codes "open " ++ prov_name prov ++ mode_word (codes " ") nonblock
-call_text (TClose fd) = number_word (codes "close ") fd.0
 call_text (TBind fd addr qlen amax) = number_word (codes "bind ") fd.0 ++ octets_word (codes " addr=") addr ++ number_word (codes " qlen=") qlen ++ number_word (codes " amax=") amax
-call_text (TUnbind fd) = number_word (codes "unbind ") fd.0
 call_text (TConnect fd addr opt udata amax omax umax) = number_word (codes "connect ") fd.0 ++ octets_word (codes " addr=") addr ++ octets_word (codes " opt=") opt ++ octets_word (codes " udata=") udata ++ most_words amax omax umax
 call_text (TRcvConnect fd amax omax umax) = number_word (codes "rcvconnect ") fd.0 ++ most_words amax omax umax
 call_text (TListen fd amax omax umax) = number_word (codes "listen ") fd.0 ++ most_words amax omax umax
 call_text (TAccept fd resfd seq opt udata) = number_word (codes "accept ") fd.0 ++ number_word (codes " ") resfd.0 ++ number_word (codes " ") seq.0 ++ octets_word (codes " opt=") opt ++ octets_word (codes " udata=") udata
 call_text (TSnd fd bytes flags) = number_word (codes "snd ") fd.0 ++ octets_word (codes " data=") bytes ++ number_word (codes " flags=") flags
-call_text (TSndV fd parts flags) = number_word (codes "sndv ") fd.0 ++ parts_word (codes " parts=") parts ++ number_word (codes " flags=") flags
+call_text (TSndV fd parts flags) = number_word (codes "sndv ") fd.0 ++ parts_field parts ++ number_word (codes " flags=") flags
 call_text (TRcv fd max) = number_word (codes "rcv ") fd.0 ++ number_word (codes " max=") max
-call_text (TRcvV fd sizes) = number_word (codes "rcvv ") fd.0 ++ sizes_word (codes " sizes=") sizes
+call_text (TRcvV fd sizes) = number_word (codes "rcvv ") fd.0 ++ sizes_field sizes
 call_text (TSndDis fd seq udata) = number_word (codes "snddis ") fd.0 ++ number_word (codes " ") seq.0 ++ octets_word (codes " udata=") udata
 call_text (TRcvDis fd umax) = number_word (codes "rcvdis ") fd.0 ++ number_word (codes " umax=") umax
-call_text (TSndRel fd) = number_word (codes "sndrel ") fd.0
-call_text (TRcvRel fd) = number_word (codes "rcvrel ") fd.0
 call_text (TSndUData fd addr opt bytes) = number_word (codes "sndudata ") fd.0 ++ octets_word (codes " addr=") addr ++ octets_word (codes " opt=") opt ++ octets_word (codes " data=") bytes
-call_text (TSndVUData fd addr opt parts) = number_word (codes "sndvudata ") fd.0 ++ octets_word (codes " addr=") addr ++ octets_word (codes " opt=") opt ++ parts_word (codes " parts=") parts
+call_text (TSndVUData fd addr opt parts) = number_word (codes "sndvudata ") fd.0 ++ octets_word (codes " addr=") addr ++ octets_word (codes " opt=") opt ++ parts_field parts
 call_text (TRcvUData fd max amax omax) = number_word (codes "rcvudata ") fd.0 ++ number_word (codes " max=") max ++ number_word (codes " amax=") amax ++ number_word (codes " omax=") omax
-call_text (TRcvVUData fd sizes amax omax) = number_word (codes "rcvvudata ") fd.0 ++ sizes_word (codes " sizes=") sizes ++ number_word (codes " amax=") amax ++ number_word (codes " omax=") omax
+call_text (TRcvVUData fd sizes amax omax) = number_word (codes "rcvvudata ") fd.0 ++ sizes_field sizes ++ number_word (codes " amax=") amax ++ number_word (codes " omax=") omax
 call_text (TRcvUDErr fd amax omax) = number_word (codes "rcvuderr ") fd.0 ++ number_word (codes " amax=") amax ++ number_word (codes " omax=") omax
-call_text (TLookAt fd) = number_word (codes "look ") fd.0
-call_text (TGetState fd) = number_word (codes "getstate ") fd.0
-call_text (TSync fd) = number_word (codes "sync ") fd.0
-call_text (TGetInfo fd) = number_word (codes "getinfo ") fd.0
 call_text (TGetProtAddr fd amax pmax) = number_word (codes "getprotaddr ") fd.0 ++ number_word (codes " amax=") amax ++ number_word (codes " pmax=") pmax
 call_text (TOptMgmt fd action opt omax) = number_word (codes "optmgmt ") fd.0 ++ number_word (codes " ") action ++ octets_word (codes " opt=") opt ++ number_word (codes " omax=") omax
 call_text (SetMode fd nonblock) = number_word (codes "mode ") fd.0 ++ mode_word (codes " ") nonblock
+call_text other = plain_text other
 
 -- a call that goes on is written `more`
 abbrev pub act_text : Act → List ℕ
@@ -137,6 +148,10 @@ abbrev pub outcome_text : Outcome → List ℕ
 outcome_text (Done reply) = reply_text reply
 outcome_text (Part taken) = number_word (codes "part ") taken
 
+-- what a call answered, after an arrow
+abbrev pub arrow_text : Outcome → List ℕ
+arrow_text outcome = codes " => " ++ outcome_text outcome
+
 -- lines
 
 abbrev pub profile_text : Profile → List ℕ
@@ -154,6 +169,14 @@ head_text p = first_line ++ provider_text (codes "ticots") p.ticots ++ provider_
 -- what the call answered, and the state of its endpoint
 abbrev pub answer_text : Outcome → State → List ℕ
 answer_text outcome after = outcome_text outcome ++ codes " " ++ state_name after
+
+-- the state of the endpoint, to the end of the line
+abbrev pub state_end : State → List ℕ
+state_end state = codes " " ++ state_name state ++ codes "\n"
+
+-- what the call answered and the state of its endpoint, after an arrow, to the end of the line
+abbrev pub answer_end : Outcome → State → List ℕ
+answer_end outcome after = codes " => " ++ answer_text outcome after ++ codes "\n"
 
 -- the entry with this number
 unfoldable pub entry_text : ℕ → Entry → List ℕ

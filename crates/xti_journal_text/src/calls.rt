@@ -1,7 +1,7 @@
 //! Calls with their numbers, each after a space.
 
 ghost use Rattle.std.specs.Prelude.{◌≡◌, ◌++◌, OnOk, IsTrue, codes};
-ghost use Rattle.xti_journal_text.specs.JournalText.{call_text, act_text};
+ghost use Rattle.xti_journal_text.specs.JournalText.{call_text, plain_text, act_text};
 ghost use Rattle.xti_model.specs.Families.{is_address_or_options, is_connection_request, is_connection_receipt, is_send, is_receive};
 
 use crate::words::{
@@ -11,6 +11,7 @@ use crate::words::{
 use std::alloc::AllocError;
 use xti_model::{Act, Call};
 use xti_text::{put_number, put_text};
+use xti_verbs::Verb;
 
 // A call that names an address, asks for addresses or settles options.
 fn put_address_or_options(out: &mut Vec<u8>, call: &Call) -> Result<(), AllocError>
@@ -208,6 +209,18 @@ fn put_receive(out: &mut Vec<u8>, call: &Call) -> Result<(), AllocError>
     }
 }
 
+// A call that says no more than which endpoint.
+fn put_plain(out: &mut Vec<u8>, call: &Call) -> Result<(), AllocError>
+    ensures { OnOk result (out.new.items ≡ out.old.items ++ codes " " ++ plain_text call.now) }
+{
+    put_text(out, " ")?;
+    out.extend_from_slice(Verb::of_call(call).word())?;
+    match call.fd() {
+        Some(fd) => put_number(out, " ", fd.0 as u64),
+        None => Ok(()),
+    }
+}
+
 pub(crate) fn put_call(out: &mut Vec<u8>, call: &Call) -> Result<(), AllocError>
     ensures { OnOk result (out.new.items ≡ out.old.items ++ codes " " ++ call_text call.now) }
 {
@@ -221,14 +234,6 @@ pub(crate) fn put_call(out: &mut Vec<u8>, call: &Call) -> Result<(), AllocError>
             put_number(out, " mode ", fd.0 as u64)?;
             put_mode(out, " ", *nonblock)
         }
-        Call::TClose { fd } => put_number(out, " close ", fd.0 as u64),
-        Call::TUnbind { fd } => put_number(out, " unbind ", fd.0 as u64),
-        Call::TSndRel { fd } => put_number(out, " sndrel ", fd.0 as u64),
-        Call::TRcvRel { fd } => put_number(out, " rcvrel ", fd.0 as u64),
-        Call::TLookAt { fd } => put_number(out, " look ", fd.0 as u64),
-        Call::TGetState { fd } => put_number(out, " getstate ", fd.0 as u64),
-        Call::TSync { fd } => put_number(out, " sync ", fd.0 as u64),
-        Call::TGetInfo { fd } => put_number(out, " getinfo ", fd.0 as u64),
         Call::TBind { .. } | Call::TGetProtAddr { .. } | Call::TOptMgmt { .. } => {
             put_address_or_options(out, call)
         }
@@ -245,6 +250,7 @@ pub(crate) fn put_call(out: &mut Vec<u8>, call: &Call) -> Result<(), AllocError>
         | Call::TRcvUData { .. }
         | Call::TRcvVUData { .. }
         | Call::TRcvUDErr { .. } => put_receive(out, call),
+        _ => put_plain(out, call),
     }
 }
 

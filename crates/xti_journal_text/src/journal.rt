@@ -1,8 +1,8 @@
 //! The lines of a journal.
 
-ghost use Rattle.std.specs.Prelude.{◌≡◌, ◌++◌, OnOk, IfOk, codes};
+ghost use Rattle.std.specs.Prelude.{◌≡◌, ◌++◌, OnOk, IfOk};
 ghost use Rattle.std.specs.List.{flat_map};
-ghost use Rattle.xti_journal_text.specs.JournalText.{profile_text, provider_text, first_line, head_text, answer_text, entry_text, entries_text, stall_text, end_text, journal_text};
+ghost use Rattle.xti_journal_text.specs.JournalText.{profile_text, provider_text, first_line, head_text, answer_text, answer_end, entry_text, entries_text, stall_text, end_text, journal_text};
 
 use crate::calls::put_act;
 use crate::replies::put_outcome;
@@ -51,7 +51,7 @@ pub(crate) fn put_head(out: &mut Vec<u8>, p: &Providers) -> Result<(), AllocErro
 
 // What a call answered and the state of its endpoint, after an arrow, to the end of the line.
 fn put_answer(out: &mut Vec<u8>, outcome: &Outcome, after: State) -> Result<(), AllocError>
-    ensures { OnOk result (out.new.items ≡ out.old.items ++ codes " => " ++ answer_text outcome.now after ++ codes "\n") }
+    ensures { OnOk result (out.new.items ≡ out.old.items ++ answer_end outcome.now after) }
 {
     put_outcome(out, outcome)?;
     put_state(out, after)

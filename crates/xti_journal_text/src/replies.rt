@@ -1,7 +1,7 @@
 //! What calls answered, each after an arrow.
 
 ghost use Rattle.std.specs.Prelude.{◌≡◌, ◌++◌, OnOk, IsTrue, codes};
-ghost use Rattle.xti_journal_text.specs.JournalText.{event_text, sizes_text, info_text, data_text, reply_text, outcome_text};
+ghost use Rattle.xti_journal_text.specs.JournalText.{event_text, sizes_text, info_text, data_text, reply_text, arrow_text};
 ghost use Rattle.xti_model.specs.Families.{is_connection_news, is_received, is_error};
 
 use crate::words::{put_limit, put_pairs};
@@ -169,7 +169,7 @@ fn put_reply(out: &mut Vec<u8>, reply: &Reply) -> Result<(), AllocError>
 }
 
 pub(crate) fn put_outcome(out: &mut Vec<u8>, outcome: &Outcome) -> Result<(), AllocError>
-    ensures { OnOk result (out.new.items ≡ out.old.items ++ codes " => " ++ outcome_text outcome.now) }
+    ensures { OnOk result (out.new.items ≡ out.old.items ++ arrow_text outcome.now) }
 {
     match outcome {
         Outcome::Done(reply) => put_reply(out, reply),

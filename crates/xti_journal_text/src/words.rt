@@ -1,10 +1,9 @@
 //! The words of a journal's lines, each written after the text that separates it from the word before.
 
-ghost use Rattle.std.specs.Prelude.{◌≡◌, ◌++◌, OnOk, codes};
+ghost use Rattle.std.specs.Prelude.{◌≡◌, ◌++◌, OnOk};
 ghost use Rattle.std.specs.List.{flat_map};
-ghost use Rattle.xti_base.specs.Kinds.{state_name};
 ghost use Rattle.xti_text.specs.Words.{hex_pair};
-ghost use Rattle.xti_journal_text.specs.JournalText.{bit_word, mode_word, limit_word, parts_word, sizes_word, address_words, address_limits, most_words};
+ghost use Rattle.xti_journal_text.specs.JournalText.{bit_word, mode_word, limit_word, parts_field, sizes_field, address_words, address_limits, most_words, state_end};
 
 use std::alloc::AllocError;
 use xti_base::{Limit, Octets, State};
@@ -39,7 +38,7 @@ pub(crate) fn put_mode(out: &mut Vec<u8>, key: &str, nonblock: bool) -> Result<(
 }
 
 pub(crate) fn put_parts(out: &mut Vec<u8>, parts: &[Octets]) -> Result<(), AllocError>
-    ensures { OnOk result (out.new.items ≡ out.old.items ++ parts_word (codes " parts=") parts.now) }
+    ensures { OnOk result (out.new.items ≡ out.old.items ++ parts_field parts.now) }
 {
     match parts.split_first() {
         None => put_text(out, " parts=none"),
@@ -54,7 +53,7 @@ pub(crate) fn put_parts(out: &mut Vec<u8>, parts: &[Octets]) -> Result<(), Alloc
 }
 
 pub(crate) fn put_sizes(out: &mut Vec<u8>, sizes: &[u32]) -> Result<(), AllocError>
-    ensures { OnOk result (out.new.items ≡ out.old.items ++ sizes_word (codes " sizes=") sizes.now) }
+    ensures { OnOk result (out.new.items ≡ out.old.items ++ sizes_field sizes.now) }
 {
     match sizes.split_first() {
         None => put_text(out, " sizes=none"),
@@ -99,7 +98,7 @@ pub(crate) fn put_most(out: &mut Vec<u8>, amax: u32, omax: u32, umax: u32) -> Re
 
 // The state after a call's answer, which ends the line. Each text's length is known here.
 pub(crate) fn put_state(out: &mut Vec<u8>, state: State) -> Result<(), AllocError>
-    ensures { OnOk result (out.new.items ≡ out.old.items ++ codes " " ++ state_name state ++ codes "\n") }
+    ensures { OnOk result (out.new.items ≡ out.old.items ++ state_end state) }
 {
     match state {
         State::T_UNINIT => put_text(out, " T_UNINIT\n"),

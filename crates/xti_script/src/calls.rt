@@ -1,7 +1,8 @@
 //! Calls by their word and all their fields.
 
-ghost use Rattle.std.specs.Prelude.{◌≡◌, ◌++◌, OnOk, IsTrue, codes, decimal};
-ghost use Rattle.xti_script.specs.Canonical.{bytes_text, call_text};
+ghost use Rattle.std.specs.Prelude.{◌≡◌, ◌++◌, OnOk, IsTrue, true, codes, decimal};
+ghost use Rattle.xti_script.specs.Canonical.{acceptance_text, address_limits_text, address_text, call_text, request_text};
+ghost use Rattle.xti_verbs.specs.Verbs.{is_plain, verb_of_named};
 ghost use Rattle.xti_script.specs.Families.{is_address_or_options, is_connection_request, is_connection_receipt, is_send, is_receive};
 
 use crate::values::{
@@ -11,10 +12,11 @@ use std::alloc::AllocError;
 use xti_base::Octets;
 use xti_model::{Name, NamedCall};
 use xti_text::put_number;
+use xti_verbs::Verb;
 
 // The most bytes that the caller takes of an address and of options.
 fn put_address_limits(out: &mut Vec<u8>, amax: u32, omax: u32) -> Result<(), AllocError>
-    ensures { OnOk result (out.new.items ≡ out.old.items ++ (codes " amax=" ++ decimal amax) ++ (codes " omax=" ++ decimal omax)) }
+    ensures { OnOk result (out.new.items ≡ out.old.items ++ address_limits_text amax omax) }
 {
     put_number(out, " amax=", amax as u64)?;
     put_number(out, " omax=", omax as u64)
@@ -31,7 +33,7 @@ fn put_most(out: &mut Vec<u8>, amax: u32, omax: u32, umax: u32) -> Result<(), Al
 
 // The address and the options of a call.
 fn put_address_and_options(out: &mut Vec<u8>, addr: &Octets, opt: &Octets) -> Result<(), AllocError>
-    ensures { OnOk result (out.new.items ≡ out.old.items ++ (codes " addr=" ++ bytes_text addr.now) ++ (codes " opt=" ++ bytes_text opt.now)) }
+    ensures { OnOk result (out.new.items ≡ out.old.items ++ address_text addr.now opt.now) }
 {
     put_bytes(out, " addr=", addr)?;
     put_bytes(out, " opt=", opt)
@@ -45,7 +47,7 @@ fn put_request(
     udata: &Octets,
 ) -> Result<(), AllocError>
     ensures { OnOk result (out.new.items
-        ≡ out.old.items ++ (codes " addr=" ++ bytes_text addr.now) ++ (codes " opt=" ++ bytes_text opt.now) ++ (codes " udata=" ++ bytes_text udata.now)) }
+        ≡ out.old.items ++ request_text addr.now opt.now udata.now) }
 {
     put_address_and_options(out, addr, opt)?;
     put_bytes(out, " udata=", udata)
@@ -60,7 +62,7 @@ fn put_acceptance(
     udata: &Octets,
 ) -> Result<(), AllocError>
     ensures { OnOk result (out.new.items
-        ≡ out.old.items ++ (codes " " ++ resfd.now) ++ (codes " " ++ seq.now) ++ (codes " opt=" ++ bytes_text opt.now) ++ (codes " udata=" ++ bytes_text udata.now)) }
+        ≡ out.old.items ++ acceptance_text resfd.now seq.now opt.now udata.now) }
 {
     put_name(out, " ", resfd)?;
     put_name(out, " ", seq)?;
@@ -264,6 +266,19 @@ fn put_receive(out: &mut Vec<u8>, call: &NamedCall) -> Result<(), AllocError>
     }
 }
 
+// A call that says no more than which endpoint.
+#[tactic(auto, unfolding(crate::specs::Canonical::written_call, xti_script_reader::specs::Calls::form, xti_script_reader::specs::Fields::field))]
+fn put_plain(out: &mut Vec<u8>, call: &NamedCall) -> Result<(), AllocError>
+    requires { is_plain (verb_of_named call.now) ≡ true }
+    ensures { OnOk result (out.new.items ≡ out.old.items ++ call_text call.now) }
+{
+    out.extend_from_slice(Verb::of_named(call).word())?;
+    match Verb::plain_name(call) {
+        Some(name) => put_name(out, " ", name),
+        None => unreachable!(),
+    }
+}
+
 /// Appends a call by its word and all its fields.
 #[tactic(auto, unfolding(crate::specs::Canonical::written_call, xti_script_reader::specs::Calls::form, xti_verbs::specs::Verbs::row_of, xti_script_reader::specs::Fields::field))]
 pub(crate) fn put_call(out: &mut Vec<u8>, call: &NamedCall) -> Result<(), AllocError>
@@ -283,14 +298,6 @@ pub(crate) fn put_call(out: &mut Vec<u8>, call: &NamedCall) -> Result<(), AllocE
             put_name(out, "mode ", fd)?;
             put_mode(out, " ", *nonblock)
         }
-        NamedCall::TClose { fd } => put_name(out, "close ", fd),
-        NamedCall::TUnbind { fd } => put_name(out, "unbind ", fd),
-        NamedCall::TSndRel { fd } => put_name(out, "sndrel ", fd),
-        NamedCall::TRcvRel { fd } => put_name(out, "rcvrel ", fd),
-        NamedCall::TLookAt { fd } => put_name(out, "look ", fd),
-        NamedCall::TGetState { fd } => put_name(out, "getstate ", fd),
-        NamedCall::TSync { fd } => put_name(out, "sync ", fd),
-        NamedCall::TGetInfo { fd } => put_name(out, "getinfo ", fd),
         NamedCall::TBind { .. } | NamedCall::TGetProtAddr { .. } | NamedCall::TOptMgmt { .. } => {
             put_address_or_options(out, call)
         }
@@ -309,5 +316,6 @@ pub(crate) fn put_call(out: &mut Vec<u8>, call: &NamedCall) -> Result<(), AllocE
         | NamedCall::TRcvUData { .. }
         | NamedCall::TRcvVUData { .. }
         | NamedCall::TRcvUDErr { .. } => put_receive(out, call),
+        _ => put_plain(out, call),
     }
 }

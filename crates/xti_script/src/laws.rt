@@ -4,14 +4,14 @@ ghost use Rattle.std.specs.Prelude.{◌≡◌};
 ghost use Rattle.xti_model.specs.declared.script.Script.{Script};
 ghost use Rattle.xti_model.specs.Profile.{usual};
 ghost use Rattle.xti_script_reader.specs.Grammar.{HasText, IsScript};
-ghost use Rattle.xti_script.specs.Canonical.{script_text};
+ghost use Rattle.xti_script.specs.Canonical.{AreSameIfRead, script_text};
 
 use xti_script_reader::one_script;
 
 /// What is written is read back as the same script.
 pub fn scripts_are_read_back()
     ensures written { (s : Script) → HasText s → s.providers ≡ usual → IsScript s (script_text s) }
-    ensures same { (s other : Script) → HasText s → s.providers ≡ usual → IsScript other (script_text s) → other ≡ s }
+    ensures same { (s other : Script) → HasText s → s.providers ≡ usual → AreSameIfRead s other }
 {
     one_script();
 }

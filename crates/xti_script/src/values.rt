@@ -2,8 +2,7 @@
 
 ghost use Rattle.std.specs.Prelude.{◌≡◌, ◌++◌, OnOk, option_map};
 ghost use Rattle.xti_base.specs.Kinds.{prov_name};
-ghost use Rattle.xti_script.specs.Canonical.{listed, bytes_text, mode_text, name_or_none_text};
-ghost use Rattle.std.specs.Prelude.{decimal};
+ghost use Rattle.xti_script.specs.Canonical.{bytes_text, mode_text, name_or_none_text, parts_text, sizes_text};
 
 use std::alloc::AllocError;
 use xti_base::{Octets, Prov};
@@ -54,7 +53,7 @@ pub(crate) fn put_bytes(out: &mut Vec<u8>, key: &str, bytes: &Octets) -> Result<
 
 // Byte words, separated by commas.
 pub(crate) fn put_parts(out: &mut Vec<u8>, key: &str, parts: &[Octets]) -> Result<(), AllocError>
-    ensures { OnOk result (out.new.items ≡ out.old.items ++ key.now ++ listed bytes_text parts.now) }
+    ensures { OnOk result (out.new.items ≡ out.old.items ++ key.now ++ parts_text parts.now) }
 {
     match parts.split_first() {
         None => put_text(out, key),
@@ -70,7 +69,7 @@ pub(crate) fn put_parts(out: &mut Vec<u8>, key: &str, parts: &[Octets]) -> Resul
 
 // Numbers, separated by commas.
 pub(crate) fn put_sizes(out: &mut Vec<u8>, key: &str, sizes: &[u32]) -> Result<(), AllocError>
-    ensures { OnOk result (out.new.items ≡ out.old.items ++ key.now ++ listed decimal sizes.now) }
+    ensures { OnOk result (out.new.items ≡ out.old.items ++ key.now ++ sizes_text sizes.now) }
 {
     match sizes.split_first() {
         None => put_text(out, key),

@@ -13,7 +13,7 @@ use Rattle.xti_model.specs.Resolve.{opens, listens}
 use Rattle.xti_model.specs.Work.{argument_bytes, script_bytes}
 use Rattle.xti_base.specs.declared.limits.TheConstants.{MOST_LINES, MOST_ARGUMENT_BYTES}
 use Rattle.xti_script_reader.specs.Names.{Defining, after, defines, is_defined}
-use Rattle.xti_script_reader.specs.TextSets.{TextSet, has, has_at}
+use Rattle.xti_script_reader.specs.TextSets.{AreEmpty, TextSet, has, has_at}
 use Rattle.xti_script_reader.specs.Known.{is_own, TakesName, HaveNames, Knows}
 use Rattle.xti_script_reader.specs.declared.draft.Taken.TheVariants as taken
 use Rattle.xti_script_reader.specs.Reading.{less, room_after, extended}
@@ -50,9 +50,6 @@ more_at (x ∷ sets) (suc place) texts text e more h zero other =
 more_at (x ∷ sets) (suc place) texts text e more h (suc at) other = rw (eqb-suc_suc place at) (more_at sets place texts text e more h at other)
 
 -- ---- empty sets
-
-abbrev pub AreEmpty : List TextSet → Type 0
-AreEmpty sets = (at : ℕ) (other : List ℕ) → has_at sets at other ≡ false
 
 pub none_empty : (sets : List TextSet) → sets ≡ [] → AreEmpty sets
 none_empty sets e at other = rw e refl

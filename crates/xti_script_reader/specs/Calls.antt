@@ -7,14 +7,13 @@ use Rattle.xti_script_reader.specs.FieldValue.Value.{Bytes, Number, Parts, Sizes
 use Rattle.xti_script_reader.specs.declared.fields.Key.{Key}
 use Rattle.xti_script_reader.specs.declared.fields.Key.TheVariants as key
 use Rattle.xti_verbs.specs.declared.verb.Verb.{Verb}
-use Rattle.xti_verbs.specs.declared.verb.Verb.TheVariants.{Open, Close, Bind, Unbind, Connect, RcvConnect, Listen, Accept, Snd, SndV, Rcv, RcvV, SndDis, RcvDis, SndRel, RcvRel, SndUData, SndVUData, RcvUData, RcvVUData, RcvUDErr, Look, GetState, Sync, GetInfo, GetProtAddr, OptMgmt, SetMode}
+use Rattle.xti_verbs.specs.declared.verb.Verb.TheVariants.{Open, Bind, Connect, RcvConnect, Listen, Accept, Snd, SndV, Rcv, RcvV, SndDis, RcvDis, SndUData, SndVUData, RcvUData, RcvVUData, RcvUDErr, GetProtAddr, OptMgmt, SetMode}
+use Rattle.xti_verbs.specs.Verbs.{plain_named_call}
 
--- the keys of the fields of a call, in their order
+-- the keys of the fields of a call, in their order; those calls that are not named here say no more than which endpoint
 unfoldable pub form : Verb → List Key
 form Open = key.NewEndpoint ∷ key.Provider ∷ key.ModeOrBlock ∷ []
-form Close = key.Endpoint ∷ []
 form Bind = key.Endpoint ∷ key.Addr ∷ key.Qlen ∷ key.Amax ∷ []
-form Unbind = key.Endpoint ∷ []
 form Connect = key.Endpoint ∷ key.Addr ∷ key.Opt ∷ key.UData ∷ key.Amax ∷ key.Omax ∷ key.Umax ∷ []
 form RcvConnect = key.Endpoint ∷ key.Amax ∷ key.Omax ∷ key.Umax ∷ []
 form Listen = key.Endpoint ∷ key.NewSequence ∷ key.Amax ∷ key.Omax ∷ key.Umax ∷ []
@@ -25,27 +24,20 @@ form Rcv = key.Endpoint ∷ key.Max ∷ []
 form RcvV = key.Endpoint ∷ key.Sizes ∷ []
 form SndDis = key.Endpoint ∷ key.SequenceOrNone ∷ key.UData ∷ []
 form RcvDis = key.Endpoint ∷ key.Umax ∷ []
-form SndRel = key.Endpoint ∷ []
-form RcvRel = key.Endpoint ∷ []
 form SndUData = key.Endpoint ∷ key.Addr ∷ key.Opt ∷ key.Data ∷ []
 form SndVUData = key.Endpoint ∷ key.Addr ∷ key.Opt ∷ key.Parts ∷ []
 form RcvUData = key.Endpoint ∷ key.Max ∷ key.Amax ∷ key.Omax ∷ []
 form RcvVUData = key.Endpoint ∷ key.Sizes ∷ key.Amax ∷ key.Omax ∷ []
 form RcvUDErr = key.Endpoint ∷ key.Amax ∷ key.Omax ∷ []
-form Look = key.Endpoint ∷ []
-form GetState = key.Endpoint ∷ []
-form Sync = key.Endpoint ∷ []
-form GetInfo = key.Endpoint ∷ []
 form GetProtAddr = key.Endpoint ∷ key.Amax ∷ key.Pmax ∷ []
 form OptMgmt = key.Endpoint ∷ key.Action ∷ key.Opt ∷ key.Omax ∷ []
 form SetMode = key.Endpoint ∷ key.Mode ∷ []
+form plain = key.Endpoint ∷ []
 
 -- the call with the values of its fields
 unfoldable pub call_with : Verb → List Value → Option NamedCall
 call_with Open (Name name ∷ Provider prov ∷ Mode nonblock ∷ []) = Some (call.TOpen name prov nonblock)
-call_with Close (Name fd ∷ []) = Some (call.TClose fd)
 call_with Bind (Name fd ∷ Bytes addr ∷ Number qlen ∷ Number amax ∷ []) = Some (call.TBind fd addr qlen amax)
-call_with Unbind (Name fd ∷ []) = Some (call.TUnbind fd)
 call_with Connect (Name fd ∷ Bytes addr ∷ Bytes opt ∷ Bytes udata ∷ Number amax ∷ Number omax ∷ Number umax ∷ []) = Some (call.TConnect fd addr opt udata amax omax umax)
 call_with RcvConnect (Name fd ∷ Number amax ∷ Number omax ∷ Number umax ∷ []) = Some (call.TRcvConnect fd amax omax umax)
 call_with Listen (Name fd ∷ Name name ∷ Number amax ∷ Number omax ∷ Number umax ∷ []) = Some (call.TListen fd name amax omax umax)
@@ -56,18 +48,13 @@ call_with Rcv (Name fd ∷ Number max ∷ []) = Some (call.TRcv fd max)
 call_with RcvV (Name fd ∷ Sizes sizes ∷ []) = Some (call.TRcvV fd sizes)
 call_with SndDis (Name fd ∷ NameOrNone seq ∷ Bytes udata ∷ []) = Some (call.TSndDis fd seq udata)
 call_with RcvDis (Name fd ∷ Number umax ∷ []) = Some (call.TRcvDis fd umax)
-call_with SndRel (Name fd ∷ []) = Some (call.TSndRel fd)
-call_with RcvRel (Name fd ∷ []) = Some (call.TRcvRel fd)
 call_with SndUData (Name fd ∷ Bytes addr ∷ Bytes opt ∷ Bytes bytes ∷ []) = Some (call.TSndUData fd addr opt bytes)
 call_with SndVUData (Name fd ∷ Bytes addr ∷ Bytes opt ∷ Parts parts ∷ []) = Some (call.TSndVUData fd addr opt parts)
 call_with RcvUData (Name fd ∷ Number max ∷ Number amax ∷ Number omax ∷ []) = Some (call.TRcvUData fd max amax omax)
 call_with RcvVUData (Name fd ∷ Sizes sizes ∷ Number amax ∷ Number omax ∷ []) = Some (call.TRcvVUData fd sizes amax omax)
 call_with RcvUDErr (Name fd ∷ Number amax ∷ Number omax ∷ []) = Some (call.TRcvUDErr fd amax omax)
-call_with Look (Name fd ∷ []) = Some (call.TLookAt fd)
-call_with GetState (Name fd ∷ []) = Some (call.TGetState fd)
-call_with Sync (Name fd ∷ []) = Some (call.TSync fd)
-call_with GetInfo (Name fd ∷ []) = Some (call.TGetInfo fd)
 call_with GetProtAddr (Name fd ∷ Number amax ∷ Number pmax ∷ []) = Some (call.TGetProtAddr fd amax pmax)
 call_with OptMgmt (Name fd ∷ Number action ∷ Bytes opt ∷ Number omax ∷ []) = Some (call.TOptMgmt fd action opt omax)
 call_with SetMode (Name fd ∷ Mode nonblock ∷ []) = Some (call.SetMode fd nonblock)
+call_with plain (Name fd ∷ []) = plain_named_call plain fd
 call_with verb values = None

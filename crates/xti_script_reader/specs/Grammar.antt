@@ -1,6 +1,6 @@
 -- Scripts, as a relation between a script and its text. A line is judged after the earlier lines.
-use Rattle.std.specs.Prelude.{◌≡◌, ℕ, ◌≤◌, ◌==◌, ◌⊎◌, Bool, true, false, not, ◌&&◌, List, [], ◌∷◌, ◌++◌, length, codes, Some}
-use Rattle.std.specs.List.{filter, list_any}
+use Rattle.std.specs.Prelude.{◌≡◌, ℕ, ◌≤◌, nat_le, ◌==◌, ◌⊎◌, Bool, true, false, not, ◌&&◌, List, [], ◌∷◌, ◌++◌, length, codes, Some}
+use Rattle.std.specs.List.{filter, list_all, list_any}
 use Rattle.std.specs.Str.{bytes_eq}
 use Rattle.xti_base.specs.declared.limits.TheConstants.{LAST_WORKER, MOST_LINES, MOST_ARGUMENT_BYTES}
 use Rattle.xti_model.specs.declared.script.NamedCall.{NamedCall}
@@ -36,6 +36,10 @@ pub record IsLine (earlier : List Line) (line : Line) (text : List ℕ) : Type 0
   pub worker : number_in number ≡ Some line.worker
   pub is_worker : line.worker ≤ LAST_WORKER
   pub call : IsCall (after earlier line.worker) line.call words
+
+-- each line has a worker
+abbrev pub HaveWorkers : List Line → Type 0
+HaveWorkers lines = list_all (λ line. nat_le line.worker LAST_WORKER) lines ≡ true
 
 -- these lines, one after the other
 abbrev pub AreLines : List Line → List Line → List (List ℕ) → Type 0

@@ -1,7 +1,7 @@
 -- Reading lines from left to right, each after the earlier ones.
-use Rattle.std.specs.Prelude.{ℕ, ◌+◌, ◌-◌, ◌==◌, Bool, ◌&&◌, nat_eq, nat_lt, nat_le, List, [], ◌∷◌, ◌++◌, length, drop, codes, Option, Some, None, if◌then◌else◌, Result, Ok, Err}
+use Rattle.std.specs.Prelude.{◌≡◌, ℕ, ◌+◌, ◌-◌, ◌==◌, Bool, ◌&&◌, nat_eq, nat_lt, nat_le, List, [], ◌∷◌, ◌++◌, length, drop, codes, Option, Some, None, if◌then◌else◌, Result, Ok, Err}
 use Rattle.std.specs.Str.{bytes_eq}
-use Rattle.std.specs.List.{starts_with}
+use Rattle.std.specs.List.{concat, starts_with}
 use Rattle.xti_model.specs.declared.script.NamedCall.{NamedCall}
 use Rattle.xti_model.specs.declared.profile.Providers.{Providers}
 use Rattle.xti_model.specs.declared.script.Line.{Line}
@@ -39,6 +39,10 @@ written_value s key (Some text) = value_in s (kind_of key) text
 abbrev pub field_value : Spot → Key → List (List ℕ) → Option Value
 field_value s key [] = usual_value key
 field_value s key (word ∷ words) = written_value s key (behind_key (key_word key) word)
+
+-- the text gives the value of the field, wherever the line stands
+abbrev pub IsFieldText : Key → List (List ℕ) → Option (List ℕ) → Type 0
+IsFieldText key words text = (s : Spot) → written_value s key text ≡ field_value s key words
 
 -- the words after the field
 abbrev pub field_rest : Key → List (List ℕ) → List (List ℕ)
@@ -90,6 +94,10 @@ unfoldable pub any_line_of : List Line → List (List ℕ) → Option Line
 any_line_of earlier [] = None
 any_line_of earlier (word ∷ words) = call_by earlier (worker_of word) words
 
+-- how many bytes two byte strings and these parts have
+abbrev pub bytes_with_parts : List ℕ → List ℕ → List (List ℕ) → ℕ
+bytes_with_parts first second parts = length first + length second + length (concat parts)
+
 -- what is left of these, where there are so many
 abbrev pub less : ℕ → ℕ → Option ℕ
 less left n = if nat_le n left then Some (left - n) else None
@@ -110,9 +118,21 @@ abbrev pub longer : List Line → Option Line → Taken × List Line
 longer earlier None = (taken.Wrong, earlier)
 longer earlier (Some line) = extended earlier line
 
+-- what becomes of the line of this worker with this call, and the lines after it
+abbrev pub with_call : List Line → ℕ → NamedCall → Taken × List Line
+with_call earlier worker call = extended earlier (line_with worker call)
+
+-- what becomes of the line of this worker with these words, and the lines after it
+abbrev pub after_call_words : List Line → ℕ → List (List ℕ) → Taken × List Line
+after_call_words earlier worker words = longer earlier (call_by earlier (Some worker) words)
+
+-- what becomes of the line with these words, and the lines after it
+abbrev pub after_words : List Line → List (List ℕ) → Taken × List Line
+after_words earlier words = longer earlier (any_line_of earlier words)
+
 -- what becomes of the line with this text
 unfoldable pub after_text : List Line → List ℕ → Taken × List Line
-after_text earlier text = if is_passed text then (taken.Read, earlier) else longer earlier (any_line_of earlier (words_of text))
+after_text earlier text = if is_passed text then (taken.Read, earlier) else after_words earlier (words_of text)
 
 -- the lines after one that was read; else why there are none
 abbrev pub behind : ℕ → Taken × List Line → (List Line → Result (List Line) ScriptFail) → Result (List Line) ScriptFail

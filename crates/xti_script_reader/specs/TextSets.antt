@@ -22,6 +22,10 @@ has_in (Some texts) bytes = has texts bytes
 abbrev pub has_at : List TextSet → ℕ → List ℕ → Bool
 has_at sets place bytes = has_in (slice_get sets place) bytes
 
+-- none of the sets has a text
+abbrev pub AreEmpty : List TextSet → Type 0
+AreEmpty sets = (at : ℕ) (other : List ℕ) → has_at sets at other ≡ false
+
 -- the new set has the texts of the old one and this text
 abbrev pub HasMore : List ℕ → TextSet → TextSet → Type 0
 HasMore text old new = (other : List ℕ) → has new other ≡ (has old other || bytes_eq text other)

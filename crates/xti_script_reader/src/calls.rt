@@ -5,8 +5,7 @@ ghost use Rattle.xti_script_reader.specs.declared.draft.Taken.TheVariants as tak
 ghost use Rattle.xti_words.specs.Texts.{words_of};
 ghost use Rattle.xti_script_reader.specs.Gives.{Takes};
 ghost use Rattle.xti_script_reader.specs.Grammar.{is_passed};
-ghost use Rattle.xti_script_reader.specs.Names.{after};
-ghost use Rattle.xti_script_reader.specs.Reading.{call_of, by_worker, worker_of, any_line_of, longer, after_text};
+ghost use Rattle.xti_script_reader.specs.Reading.{worker_of, after_call_words, after_words, after_text};
 
 use crate::draft::{Draft, Taken};
 use crate::field_calls::read_fields;
@@ -51,7 +50,7 @@ fn refused(call: NamedCall) -> Result<Taken, AllocError>
 #[tactic(auto, unfolding(crate::specs::Reading::call_of))]
 fn read_call(draft: &mut Draft, worker: u32, words: Words) -> Result<Taken, AllocError>
     requires { worker ≤ LAST_WORKER }
-    ensures { Takes result draft.new (longer draft.old (by_worker worker (call_of (after draft.old worker) words.entry))) }
+    ensures { Takes result draft.new (after_call_words draft.old worker words.entry) }
 {
     let mut words = words;
     let Some(word) = words.next() else {
@@ -72,7 +71,7 @@ fn read_call(draft: &mut Draft, worker: u32, words: Words) -> Result<Taken, Allo
 /// Adds the call that the line gives after the others.
 #[tactic(auto, unfolding(crate::specs::Reading::any_line_of))]
 fn read_call_line(draft: &mut Draft, line: &[u8]) -> Result<Taken, AllocError>
-    ensures { Takes result draft.new (longer draft.old (any_line_of draft.old (words_of line.now))) }
+    ensures { Takes result draft.new (after_words draft.old (words_of line.now)) }
 {
     let mut words = Words::of(line);
     let Some(word) = words.next() else {

@@ -1,13 +1,13 @@
 //! The lines that are read so far, and what they say together.
 
-ghost use Rattle.std.specs.Prelude.{◌≡◌, ◌≤◌, ◌<◌, ◌+◌, ◌++◌, ◌∷◌, [], take, length, IfOk, IfSome, IfNone, OnErr};
+ghost use Rattle.std.specs.Prelude.{◌≡◌, ◌≤◌, ◌<◌, ◌+◌, [], take, length, IfOk, IfNone, OnErr};
 ghost use Rattle.std.specs.List.{concat};
 ghost use Rattle.xti_model.specs.Work.{argument_bytes};
 ghost use Rattle.xti_model.specs.Resolve.{opens, listens};
 ghost use Rattle.xti_script_reader.specs.Names.{after, is_defined};
-ghost use Rattle.xti_script_reader.specs.Known.{TakesName};
+ghost use Rattle.xti_script_reader.specs.Known.{HasCall, IfAdded, TakesCall, TakesName};
 ghost use Rattle.xti_script_reader.specs.TextSets.{HaveSame};
-ghost use Rattle.xti_script_reader.specs.Reading.{less, room_after, line_with, extended};
+ghost use Rattle.xti_script_reader.specs.Reading.{less, bytes_with_parts, room_after, with_call};
 
 use crate::names::{TextSet, add_name, empty_sets, is_defined};
 use std::alloc::{AllocError, Global};
@@ -55,7 +55,7 @@ fn less_two_and_parts(
     second: &Octets,
     parts: &[Octets],
 ) -> Option<usize>
-    ensures { result ≡ less left (length first.now + length second.now + length (concat parts.now)) }
+    ensures { result ≡ less left (bytes_with_parts first.now second.now parts.now) }
 {
     less_parts(less_two(left, first, second)?, parts)
 }
@@ -125,8 +125,8 @@ fn admit(
     requires endpoints { line.now.worker < length opened.old }
     requires sequences { line.now.worker < length listened.old }
     ensures room { IfOk result (λ room. room ≡ room_after count left line.now.call) }
-    ensures opened { IfOk result (λ room. IfSome room (λ _. TakesName opens line.now opened.old opened.new)) }
-    ensures listened { IfOk result (λ room. IfSome room (λ _. TakesName listens line.now listened.old listened.new)) }
+    ensures opened { IfAdded result (TakesName opens line.now opened.old opened.new) }
+    ensures listened { IfAdded result (TakesName listens line.now listened.old listened.new) }
     ensures opened_same { IfOk result (λ room. IfNone room (opened.new ≡ opened.old)) }
     ensures listened_same { IfOk result (λ room. IfNone room (listened.new ≡ listened.old)) }
     ensures opened_kept { OnErr result (HaveSame opened.old opened.new) }
@@ -160,9 +160,9 @@ fn add_line(
     requires endpoints { worker < length opened.old }
     requires sequences { worker < length listened.old }
     ensures room { IfOk result (λ room. room ≡ room_after (length lines.old.items) left call) }
-    ensures opened { IfOk result (λ room. IfSome room (λ _. TakesName opens (line_with worker call) opened.old opened.new)) }
-    ensures listened { IfOk result (λ room. IfSome room (λ _. TakesName listens (line_with worker call) listened.old listened.new)) }
-    ensures more { IfOk result (λ room. IfSome room (λ _. lines.new.items ≡ lines.old.items ++ line_with worker call ∷ [])) }
+    ensures opened { IfAdded result (TakesCall opens worker call opened.old opened.new) }
+    ensures listened { IfAdded result (TakesCall listens worker call listened.old listened.new) }
+    ensures more { IfAdded result (HasCall worker call lines.old.items lines.new.items) }
     ensures opened_same { IfOk result (λ room. IfNone room (opened.new ≡ opened.old)) }
     ensures listened_same { IfOk result (λ room. IfNone room (listened.new ≡ listened.old)) }
     ensures same { IfOk result (λ room. IfNone room (lines.new.items ≡ lines.old.items)) }
@@ -227,7 +227,7 @@ impl Draft {
     /// are as before.
     pub(crate) fn add(&mut self, worker: u32, call: NamedCall) -> Result<Taken, AllocError>
         requires { worker ≤ LAST_WORKER }
-        ensures ok { IfOk result (λ taken. (taken, self.new) ≡ extended self.old (line_with worker call)) }
+        ensures ok { IfOk result (λ taken. (taken, self.new) ≡ with_call self.old worker call) }
         ensures err { OnErr result (self.new ≡ self.old) }
     {
         let opened = self.opened.as_mut_slice();

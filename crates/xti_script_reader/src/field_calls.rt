@@ -2,7 +2,8 @@
 
 ghost use Rattle.std.specs.Prelude.{◌≡◌, true, [], IfOk};
 ghost use Rattle.xti_script_reader.specs.Calls.{form};
-ghost use Rattle.xti_verbs.specs.Families.{is_plain, is_local, is_connecting, is_data, is_datagram};
+ghost use Rattle.xti_verbs.specs.Families.{is_local, is_connecting, is_data, is_datagram};
+ghost use Rattle.xti_verbs.specs.Verbs.{is_plain};
 ghost use Rattle.xti_script_reader.specs.Reading.{with_values};
 ghost use Rattle.xti_script_reader.specs.Unread.{unread, Makes};
 
@@ -31,17 +32,7 @@ fn read_plain(verb: Verb, fields: &mut Fields) -> ReadCall
     ensures keys { IfOk result (λ _. fields.new.keys.now ≡ []) }
 {
     let fd = fields.name(Key::Endpoint)?;
-    match verb {
-        Verb::Close => Ok(NamedCall::TClose { fd }),
-        Verb::Unbind => Ok(NamedCall::TUnbind { fd }),
-        Verb::SndRel => Ok(NamedCall::TSndRel { fd }),
-        Verb::RcvRel => Ok(NamedCall::TRcvRel { fd }),
-        Verb::Look => Ok(NamedCall::TLookAt { fd }),
-        Verb::GetState => Ok(NamedCall::TGetState { fd }),
-        Verb::Sync => Ok(NamedCall::TSync { fd }),
-        Verb::GetInfo => Ok(NamedCall::TGetInfo { fd }),
-        _ => unreachable!(),
-    }
+    Ok(verb.plain_named_call(fd))
 }
 
 /// A call that opens an endpoint, or sets or asks what belongs to it.
@@ -217,14 +208,6 @@ pub(crate) fn read_fields(verb: Verb, fields: &mut Fields) -> ReadCall
     ensures keys { IfOk result (λ _. fields.new.keys.now ≡ []) }
 {
     match verb {
-        Verb::Close
-        | Verb::Unbind
-        | Verb::SndRel
-        | Verb::RcvRel
-        | Verb::Look
-        | Verb::GetState
-        | Verb::Sync
-        | Verb::GetInfo => read_plain(verb, fields),
         Verb::Open | Verb::Bind | Verb::SetMode | Verb::GetProtAddr | Verb::OptMgmt => read_local(
             verb, fields,
         ),
@@ -237,5 +220,6 @@ pub(crate) fn read_fields(verb: Verb, fields: &mut Fields) -> ReadCall
         Verb::Snd | Verb::SndV | Verb::Rcv | Verb::RcvV => read_data(verb, fields),
         Verb::SndUData | Verb::SndVUData | Verb::RcvUData | Verb::RcvVUData | Verb::RcvUDErr =>
             read_datagram(verb, fields),
+        _ => read_plain(verb, fields),
     }
 }

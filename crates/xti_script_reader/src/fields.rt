@@ -4,8 +4,8 @@ ghost use Rattle.std.specs.Prelude.{◌≡◌, ◌∷◌, [], true, Some, None, 
 ghost use Rattle.std.specs.Option.{option_copied};
 ghost use Rattle.xti_script_reader.specs.FieldValue.{Value as value};
 ghost use Rattle.xti_script_reader.specs.Fields.{key_word, kind_of, usual_value};
-ghost use Rattle.xti_script_reader.specs.Names.{Spot, after, can_name};
-ghost use Rattle.xti_script_reader.specs.Reading.{behind_key, written_value, field_value, field_rest, fields_of};
+ghost use Rattle.xti_script_reader.specs.Names.{after, can_name};
+ghost use Rattle.xti_script_reader.specs.Reading.{behind_key, field_rest, fields_of, IsFieldText};
 ghost use Rattle.xti_script_reader.specs.Unread.{usual_is, spot_of, unread, TakesField, IsNext, is_naming, Reads};
 ghost use Rattle.xti_script_reader.specs.Kinds.{Kind as kind};
 ghost use Rattle.xti_script_reader.specs.declared.fields.FieldFail.TheVariants.{OutOfMemory};
@@ -176,7 +176,7 @@ fn behind_key<'a>(key: &[u8], word: &'a [u8]) -> Option<&'a [u8]>
 /// What is after the key of the next word, where this is a field with the key; the word is taken then.
 #[inline(always)]
 fn field_text<'a>(key: Key, words: &mut Words<'a>) -> Option<&'a [u8]>
-    ensures text { (s : Spot) → written_value s key (option_copied result) ≡ field_value s key words.old }
+    ensures text { IsFieldText key words.old (option_copied result) }
     ensures rest { words.new ≡ field_rest key words.old }
 {
     let text = behind_key(key.word(), words.first()?)?;

@@ -13,14 +13,6 @@ pub fn form(verb: Verb) -> &'static [Key]
 {
     match verb {
         Verb::Open => &[Key::NewEndpoint, Key::Provider, Key::ModeOrBlock],
-        Verb::Close
-        | Verb::Unbind
-        | Verb::SndRel
-        | Verb::RcvRel
-        | Verb::Look
-        | Verb::GetState
-        | Verb::Sync
-        | Verb::GetInfo => &[Key::Endpoint],
         Verb::Bind => &[Key::Endpoint, Key::Addr, Key::Qlen, Key::Amax],
         Verb::Connect => &[
             Key::Endpoint,
@@ -60,5 +52,6 @@ pub fn form(verb: Verb) -> &'static [Key]
         Verb::GetProtAddr => &[Key::Endpoint, Key::Amax, Key::Pmax],
         Verb::OptMgmt => &[Key::Endpoint, Key::Action, Key::Opt, Key::Omax],
         Verb::SetMode => &[Key::Endpoint, Key::Mode],
+        _ => &[Key::Endpoint],
     }
 }

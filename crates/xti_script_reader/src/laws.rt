@@ -1,14 +1,12 @@
 //! Laws of the scripts that have a text.
 
-ghost use Rattle.std.specs.Prelude.{◌≡◌, ◌≤◌, ◌+◌, ℕ, true, List, nat_le, length};
-ghost use Rattle.std.specs.List.{list_all};
-ghost use Rattle.xti_base.specs.declared.limits.TheConstants.{LAST_WORKER};
+ghost use Rattle.std.specs.Prelude.{◌≡◌, ◌≤◌, ◌+◌, ℕ, true, List, length};
 ghost use Rattle.xti_model.specs.Profile.{valid};
 ghost use Rattle.xti_model.specs.Robin.{most_steps};
 ghost use Rattle.xti_model.specs.SentBytes.{AllHaveByteArguments, LinesSendBytes};
 ghost use Rattle.xti_model.specs.Work.{script_bytes};
 ghost use Rattle.xti_model.specs.declared.script.Script.{Script};
-ghost use Rattle.xti_script_reader.specs.Grammar.{IsScript, HasText};
+ghost use Rattle.xti_script_reader.specs.Grammar.{HaveWorkers, HasText, IsScript};
 ghost use Rattle.xti_script_reader.specs.Refused.{IsRefusedAt};
 
 use xti_head::heads_are_valid;
@@ -34,7 +32,7 @@ pub fn scripts_have_valid_providers()
 
 /// Each worker of a script that has a text is one of 0 to 32.
 pub fn scripts_have_workers()
-    ensures { (s : Script) → HasText s → list_all (λ line. nat_le line.worker LAST_WORKER) s.lines ≡ true }
+    ensures { (s : Script) → HasText s → HaveWorkers s.lines }
 {}
 
 /// A script that has a text has no more lines and bytes of arguments than the bound on steps.

@@ -3,7 +3,7 @@
 ghost use Rattle.std.specs.Prelude.{◌≡◌, ◌≤◌, ◌+◌, Some, None, length, IfSome, IfNone};
 ghost use Rattle.xti_words.specs.Texts.{lines_of};
 ghost use Rattle.xti_script_reader.specs.Grammar.{is_mark};
-ghost use Rattle.xti_script_reader.specs.Marks.{IsSplit};
+ghost use Rattle.xti_script_reader.specs.Marks.{AreParts};
 ghost use Rattle.xti_script_reader.specs.Reading.{to_mark};
 
 use xti_words::first_line;
@@ -25,7 +25,7 @@ pub(crate) struct Parts<'a> {
 
 /// The text around its first line `+++`; `None` where there is none.
 pub(crate) fn split_at_mark(text: &[u8]) -> Option<Parts<'_>>
-    ensures some { IfSome result (λ parts. IsSplit text.now parts.head.now parts.lines parts.rest.now) }
+    ensures some { IfSome result (λ parts. AreParts text.now parts) }
     ensures none { IfNone result (to_mark (lines_of text.now) ≡ None) }
     ensures room { IfSome result (λ parts. parts.lines + length parts.rest.now ≤ length text.now) }
 {

@@ -1,8 +1,8 @@
 //! The names that each worker's lines define.
 
-ghost use Rattle.std.specs.Prelude.{◌≡◌, ◌<◌, ◌||◌, ℕ, false, List, length, IfOk, OnOk, OnErr};
+ghost use Rattle.std.specs.Prelude.{◌≡◌, ◌<◌, ◌||◌, length, IfOk, OnOk, OnErr};
 ghost use Rattle.xti_model.specs.Resolve.{opens, listens};
-ghost use Rattle.xti_script_reader.specs.TextSets.{has, has_at, HasMore, HasMoreAt, HasSame, HaveSame};
+ghost use Rattle.xti_script_reader.specs.TextSets.{has, has_at, AreEmpty, HasMore, HasMoreAt, HasSame, HaveSame};
 ghost use Rattle.xti_script_reader.specs.Known.{TakesName};
 
 use std::alloc::{AllocError, Global};
@@ -74,7 +74,7 @@ fn add_at(alloc: Global, sets: &mut [TextSet], place: usize, text: &[u8]) -> Res
 /// A set without names for each worker.
 pub(crate) fn empty_sets(alloc: Global) -> Result<Vec<TextSet>, AllocError>
     ensures workers { IfOk result (λ sets. length sets.items ≡ WORKERS) }
-    ensures empty { IfOk result (λ sets. (at : ℕ) (other : List ℕ) → has_at sets.items at other ≡ false) }
+    ensures empty { IfOk result (λ sets. AreEmpty sets.items) }
 {
     let mut sets = Vec::with_capacity(alloc, WORKERS)?;
     for _worker in 0..WORKERS {

@@ -12,7 +12,7 @@ use Rattle.xti_model.specs.declared.entry.Outcome.{Outcome}
 use Rattle.xti_model.specs.declared.script.Journal.{Journal}
 use Rattle.xti_model.specs.declared.script.StallLine.{StallLine}
 use Rattle.xti_model.specs.History.{Going, own, unfinished, call_after, going_after, made_by}
-use Rattle.xti_model.specs.Streams.{taken_before}
+use Rattle.xti_model.specs.History.{taken_before}
 use Rattle.xti_summary.specs.declared.payload.Payload.{Payload}
 use Rattle.xti_summary.specs.declared.payload.Payload.TheVariants.{Nothing, Stream, Datagram}
 use Rattle.xti_summary.specs.declared.totals.Totals.{Totals}

@@ -11,7 +11,8 @@ use Rattle.xti_model.specs.declared.entry.Outcome.TheVariants.{Done, Part}
 use Rattle.xti_model.specs.declared.entry.Reply.TheVariants.{Got, UData}
 use Rattle.xti_model.specs.declared.script.Journal.{Journal}
 use Rattle.xti_model.specs.Families.{is_error}
-use Rattle.xti_model.specs.Streams.{Made, made_from, taken_before, taken_after}
+use Rattle.xti_model.specs.Streams.{Made, made_from, taken_after}
+use Rattle.xti_model.specs.History.{taken_before}
 
 -- how an entry ended
 

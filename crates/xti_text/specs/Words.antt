@@ -15,6 +15,10 @@ hex_digit d = if nat_lt d 10 then 48 + d else 87 + d
 abbrev pub hex_pair : ℕ → List ℕ
 hex_pair b = hex_digit (b / 16) ∷ hex_digit (b % 16) ∷ []
 
+-- two hexadecimal digits for each byte, after a text
+abbrev pub pairs_word : List ℕ → List ℕ → List ℕ
+pairs_word key bytes = key ++ flat_map hex_pair bytes
+
 -- bytes as `x:` and two hexadecimal digits for each
 abbrev pub octets_word : List ℕ → List ℕ → List ℕ
 octets_word key bytes = key ++ codes "x:" ++ flat_map hex_pair bytes

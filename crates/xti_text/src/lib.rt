@@ -5,7 +5,7 @@ ghost use Rattle.std.specs.Prelude.{◌≡◌, ◌*◌, ◌+◌, ◌/◌, ◌%�
 ghost use Rattle.std.specs.Io.{StartsWith};
 ghost use Rattle.std.specs.List.{flat_map};
 ghost use Rattle.std.specs.Vec.{vec_len, vec_capacity};
-ghost use Rattle.xti_text.specs.Words.{number_word, signed_word, hex_digit, hex_pair, octets_word};
+ghost use Rattle.xti_text.specs.Words.{number_word, signed_word, hex_digit, hex_pair, pairs_word, octets_word};
 
 use itoa::Buffer;
 use std::alloc::AllocError;
@@ -130,7 +130,8 @@ fn push_digits(out: &mut Vec<u8>, n: u64)
 fn push_pair(out: &mut Vec<u8>, n: u64)
     requires { (n < 100) × (vec_len out.old + 2 ≤ vec_capacity out.old) }
     ensures items { out.new.items ≡ out.old.items ++ (48 + n / 10) ∷ (48 + n % 10) ∷ [] }
-    ensures room { (vec_len out.new ≡ vec_len out.old + 2) × (vec_capacity out.new ≡ vec_capacity out.old) }
+    ensures count { vec_len out.new ≡ vec_len out.old + 2 }
+    ensures room { vec_capacity out.new ≡ vec_capacity out.old }
 {
     let [ten, one] = pair(n);
     out.push_reserved(ten);
@@ -169,7 +170,7 @@ pub fn put_octets(out: &mut Vec<u8>, key: &str, bytes: &[u8]) -> Result<(), Allo
 /// begins with what it had.
 #[inline(always)]
 pub fn put_pairs(out: &mut Vec<u8>, key: &str, bytes: &[u8]) -> Result<(), AllocError>
-    ensures items { OnOk result (out.new.items ≡ out.old.items ++ key.now ++ flat_map hex_pair bytes.now) }
+    ensures items { OnOk result (out.new.items ≡ out.old.items ++ pairs_word key.now bytes.now) }
     ensures kept { OnErr result (StartsWith out.new.items out.old.items) }
 {
     put_text(out, key)?;

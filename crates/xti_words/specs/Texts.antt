@@ -1,5 +1,5 @@
 -- The lines of a text, the words of a line, and what names and plain texts are made of.
-use Rattle.std.specs.Prelude.{ℕ, ◌==◌, Bool, false, ◌&&◌, ◌||◌, List, [], ◌∷◌, ◌++◌, if◌then◌else◌, nat_le, nat_lt, length, map}
+use Rattle.std.specs.Prelude.{◌≡◌, ◌⊎◌, ℕ, ◌==◌, Bool, false, ◌&&◌, ◌||◌, List, [], ◌∷◌, ◌++◌, if◌then◌else◌, nat_le, nat_lt, length, map}
 use Rattle.std.specs.List.{slice_split, onto_first, list_all}
 use denote.Ref.{Bor}
 
@@ -11,6 +11,10 @@ views words = map (λ w. w.now) words
 abbrev pub lines_of : List ℕ → List (List ℕ)
 lines_of [] = []
 lines_of (c ∷ text) = if c == 10 then [] ∷ lines_of text else onto_first c (lines_of text)
+
+-- the line, which ends with LF or is the whole text, and the rest after it
+abbrev pub IsFirstLine : List ℕ → List ℕ → List ℕ → Type 0
+IsFirstLine text line rest = (text ≡ line ++ 10 ∷ rest) ⊎ ((text ≡ line) × (rest ≡ []))
 
 -- the text of these lines, each with its LF
 abbrev pub text_of : List (List ℕ) → List ℕ

@@ -96,9 +96,13 @@ option_at level (name ∷ []) = plain_option level (number_in name) []
 option_at level (name ∷ value ∷ []) = valued_option level (number_in name) (number_in value)
 option_at level other = None
 
+-- the option of this level, and of the name and the value that a sign of equality parts
+abbrev pub option_with : List ℕ → List ℕ → Option Opt
+option_with level others = option_at (number_in level) (pieces_of 61 others)
+
 -- the pieces around the slash
 abbrev pub option_of : List (List ℕ) → Option Opt
-option_of (level ∷ others ∷ []) = option_at (number_in level) (pieces_of 61 others)
+option_of (level ∷ others ∷ []) = option_with level others
 option_of other = None
 
 -- `LEVEL/NAME=VALUE`, or `LEVEL/NAME`

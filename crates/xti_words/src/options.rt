@@ -1,9 +1,8 @@
 //! Options as scripts write them.
 
 ghost use Rattle.std.specs.Prelude.{◌≡◌, IfOk};
-ghost use Rattle.xti_words.specs.Values.{number_in, plain_option, option_at, option_in, options_in, each_in};
+ghost use Rattle.xti_words.specs.Values.{plain_option, option_with, option_in, options_in, each_in};
 ghost use Rattle.xti_words.specs.Texts.{views};
-ghost use Rattle.xti_words.specs.Texts.{pieces_of};
 
 use crate::texts::pieces_of;
 use crate::values::{bytes_in, number_in};
@@ -24,7 +23,7 @@ fn plain_option(level: Option<u32>, name: Option<u32>, value: Octets) -> Option<
 
 /// The option of this level whose name and value are written so, with a sign of equality between them.
 fn option_at(alloc: Global, level: &[u8], others: &[u8]) -> Result<Option<Opt>, AllocError>
-    ensures { IfOk result (λ option. option ≡ option_at (number_in level.now) (pieces_of 61 others.now)) }
+    ensures { IfOk result (λ option. option ≡ option_with level.now others.now) }
 {
     let level = number_in(level);
     match pieces_of(alloc, b'=', others)?.as_slice() {

@@ -1,8 +1,8 @@
 //! Lines, pieces of words, names and short texts.
 
-ghost use Rattle.std.specs.Prelude.{◌≡◌, ◌∷◌, ◌++◌, ◌<◌, ◌⊎◌, ◌&&◌, [], if◌then◌else◌, length, nat_le, IfOk};
+ghost use Rattle.std.specs.Prelude.{◌≡◌, ◌∷◌, ◌<◌, ◌&&◌, [], if◌then◌else◌, length, nat_le, IfOk};
 ghost use Rattle.std.specs.List.{list_all};
-ghost use Rattle.xti_words.specs.Texts.{lines_of, pieces_of, is_ascii, is_lower, is_digit, is_name_byte, is_name, is_text_byte, is_plain_text};
+ghost use Rattle.xti_words.specs.Texts.{IsFirstLine, lines_of, pieces_of, is_ascii, is_lower, is_digit, is_name_byte, is_name, is_text_byte, is_plain_text};
 ghost use Rattle.xti_words.specs.Texts.{views};
 
 use memchr::memchr;
@@ -26,7 +26,7 @@ pub fn first_line(text: &[u8]) -> (&[u8], &[u8])
     requires { 0 < length text.now }
     ensures lines { lines_of text.now ≡ result.0.now ∷ lines_of result.1.now }
     // The line ends with LF, or is the whole text.
-    ensures end { (text.now ≡ result.0.now ++ 10 ∷ result.1.now) ⊎ ((text.now ≡ result.0.now) × (result.1.now ≡ [])) }
+    ensures end { IsFirstLine text.now result.0.now result.1.now }
     ensures shorter { length result.1.now < length text.now }
 {
     match memchr(b'\n', text) {

@@ -1,5 +1,5 @@
 use Rattle.std.proofs.Common.{◌≡◌, length}
-use Rattle.xti_script_reader.proofs.Workers.{AreEmpty}
+use Rattle.xti_script_reader.specs.TextSets.{AreEmpty}
 use Rattle.xti_script_reader.proofs.names.empty_sets.Given as goal
 
 abbrev pub invariant-loop-worker : goal.invariant-loop-worker
