@@ -12,7 +12,7 @@ use Rattle.xti_model.specs.declared.entry.Reply.{Reply}
 use Rattle.xti_model.specs.declared.entry.Reply.TheVariants.{Opened, UData}
 use Rattle.xti_model.specs.Step.{step}
 use Rattle.xti_core.specs.Standing.{Standing}
-use Rattle.xti_carrier.specs.Calls.{opening_call, receiving_call}
+use Rattle.xti_carrier.specs.Calls.{opening_call, receiving_call, sending_call}
 
 abbrev pub reply_in : Outcome → Option Reply
 reply_in (Done reply) = Some reply
@@ -46,6 +46,10 @@ IsAnswered old call = (reply : Reply) × (new : Standing) × Answers old call re
 -- with some answer
 abbrev pub IsMade : Standing → Call → Standing → Type 0
 IsMade old call new = (reply : Reply) × Answers old call reply new
+
+-- one step sends these bytes to the address, and leaves this world
+abbrev pub Sends : Standing → Fd → List ℕ → List ℕ → Standing → Type 0
+Sends old fd address bytes new = IsMade old (sending_call fd address bytes) new
 
 -- one step opens an endpoint with this descriptor, and leaves this world
 pub record Opens (old : Standing) (fd : Fd) (new : Standing) : Type 0 where

@@ -2,7 +2,7 @@
 
 ghost use Rattle.std.specs.Prelude.{◌≡◌, IsSome, Some, IfOk, OnOk, OnErr};
 ghost use Rattle.xti_carrier.specs.Calls.{opening_call, binding_call, sending_call, receiving_call};
-ghost use Rattle.xti_carrier.specs.Answers.{reply_of, opened_of, datagram_of, IsAnswered, IsMade, Answers, Opens, IsOpened, Gives, IsGiven};
+ghost use Rattle.xti_carrier.specs.Answers.{Sends, reply_of, opened_of, datagram_of, IsAnswered, IsMade, Answers, Opens, IsOpened, Gives, IsGiven};
 
 use crate::calls::{bind, open, receive, send};
 use std::alloc::{AllocError, Global};
@@ -112,7 +112,7 @@ pub(crate) fn send_one(
     bytes: &[u8],
 ) -> Result<(), AllocError>
     requires { IsAnswered world.old (sending_call fd address.now bytes.now) }
-    ensures made { OnOk result (IsMade world.old (sending_call fd address.now bytes.now) world.new) }
+    ensures made { OnOk result (Sends world.old fd address.now bytes.now world.new) }
     ensures err { OnErr result (world.new ≡ world.old) }
 {
     let call = send(alloc, fd, address, bytes)?;

@@ -1,9 +1,10 @@
 -- What is kept of a link while it runs: both ends, and what was put, by its place.
-use Rattle.std.specs.Prelude.{◌≡◌, ℕ, ◌+◌, ◌^◌, ◌<◌, ◌≤◌, List, [], length, drop, map, All, MatchOption, Some, slice_get, ◌-◌}
+use Rattle.std.specs.Prelude.{◌≡◌, ℕ, ◌+◌, ◌*◌, ◌^◌, ◌<◌, ◌≤◌, List, [], ◌++◌, length, drop, map, All, MatchOption, Some, slice_get, ◌-◌}
 use Rattle.xti_gbn.specs.declared.wire.Packet.{Packet}
 use Rattle.xti_gbn.specs.declared.events.LinkEvent.{LinkEvent}
 use Rattle.xti_gbn.specs.declared.events.TheConstants.{MOST_EVENTS}
 use Rattle.xti_gbn.specs.declared.ends.Ends.{Ends}
+use Rattle.xti_gbn.specs.declared.report.Report.{Report}
 use Rattle.xti_gbn.specs.Wire.{packet_text, most_body}
 use Rattle.xti_gbn.specs.Sending.{window, next_of}
 use Rattle.xti_gbn.specs.Link.{Link, after_event}
@@ -13,6 +14,20 @@ use Rattle.xti_gbn.specs.Laws.{IsPrefix}
 -- a body has at most so many bytes
 abbrev pub IsSmallBody : List ℕ → Type 0
 IsSmallBody body = length body ≤ most_body
+
+-- the ends, with the bytes of these packets put too
+abbrev pub with_packets : List Packet → Ends → Ends
+with_packets packets e = record e { packets = e.packets ++ map packet_text packets }
+
+-- the report of these lines and of what the ends have come to
+abbrev pub report_at : Ends → List (List ℕ) → Report
+report_at e lines = record {
+  lines = lines;
+  offered = next_of e.sender;
+  delivered = e.receiver;
+  acknowledged = e.sender.base;
+  entries = 4 + 2 * e.carried;
+}
 
 -- the packet has the body of its number
 abbrev pub IsOffered : List (List ℕ) → Packet → Type 0

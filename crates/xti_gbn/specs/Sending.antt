@@ -1,6 +1,8 @@
 -- What contracts see of a sender.
-use Rattle.std.specs.Prelude.{◌≡◌, ℕ, ◌+◌, ◌-◌, ◌^◌, ◌<◌, ◌≤◌, List, length}
+use Rattle.std.specs.Prelude.{◌≡◌, ℕ, ◌+◌, ◌-◌, ◌^◌, ◌<◌, ◌≤◌, List, [], ◌∷◌, ◌++◌, length}
 use Rattle.std.specs.List.{AllByRecursion}
+use Rattle.xti_gbn.specs.declared.wire.Packet.{Packet}
+use Rattle.xti_gbn.specs.Numbered.{packets_from}
 use Rattle.xti_gbn.specs.Wire.{most_body}
 
 -- the least number that isn't acknowledged, and the bodies from it on
@@ -15,6 +17,14 @@ window = 8
 -- the number of the next body
 abbrev pub next_of : Sending → ℕ
 next_of s = s.base + length s.kept
+
+-- the packets of the bodies that it keeps
+abbrev pub packets_of : Sending → List Packet
+packets_of s = packets_from s.base s.kept
+
+-- it keeps this body too, as the last
+abbrev pub keeping : List ℕ → Sending → Sending
+keeping body s = record s { kept = s.kept ++ body ∷ [] }
 
 -- no number is left that could be expected after the next one
 abbrev pub IsSpent : Sending → Type 0

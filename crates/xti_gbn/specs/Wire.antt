@@ -13,6 +13,10 @@ most_body = 512
 unfoldable pub numbered : ℕ → ℕ → List ℕ → List ℕ
 numbered kind number rest = kind ∷ (to_be_bytes w32 number ++ rest)
 
+-- the bytes are a byte, a number of 32 bits and the bytes after it
+abbrev pub IsNumbered : List ℕ → ℕ → ℕ → List ℕ → Type 0
+IsNumbered bytes kind number rest = (number < 2 ^ 32) × (bytes ≡ numbered kind number rest)
+
 abbrev pub packet_text : Packet → List ℕ
 packet_text p = numbered 0x44 p.seq p.body
 
@@ -35,6 +39,14 @@ HasSmallBody (Ack n) = Unit {0}
 abbrev pub IsWire : Wire → Type 0
 IsWire (Data p) = (p.seq < 2 ^ 32) × (length p.body ≤ most_body)
 IsWire (Ack n) = n < 2 ^ 32
+
+-- this holds of each packet or acknowledgement whose bytes these are
+abbrev pub OfItsWires : List ℕ → (Wire → Type 0) → Type 0
+OfItsWires bytes holds = (w : Wire) → IsWire w → bytes ≡ wire_text w → holds w
+
+-- the bytes are those of none
+abbrev pub IsNoWire : List ℕ → Type 0
+IsNoWire bytes = OfItsWires bytes (λ w. ⊥)
 
 -- the bytes are those of a packet
 abbrev pub IsPacketText : List ℕ → Type 0

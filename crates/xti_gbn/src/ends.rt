@@ -1,16 +1,16 @@
 //! Both ends of a link, and what was put between them.
 
-ghost use Rattle.std.specs.Prelude.{◌≡◌, ◌++◌, ◌∷◌, [], ◌+◌, ◌-◌, ◌*◌, ◌^◌, ◌<◌, ◌≤◌, length, map, All, IfOk, OnOk, OnErr};
+ghost use Rattle.std.specs.Prelude.{◌≡◌, ◌++◌, ◌∷◌, [], ◌-◌, ◌^◌, ◌<◌, ◌≤◌, length, All, IfOk, OnOk, OnErr};
 ghost use Rattle.xti_gbn.specs.declared.events.LinkEvent.TheVariants.{Offer, Timeout, Data, Ack};
 ghost use Rattle.xti_gbn.specs.declared.events.TheConstants.{MOST_EVENTS};
 ghost use Rattle.xti_gbn.specs.Carrying.{IsLeft};
-ghost use Rattle.xti_gbn.specs.Wire.{most_body, packet_text, HasSmall};
+ghost use Rattle.xti_gbn.specs.Wire.{most_body, HasSmall};
 ghost use Rattle.xti_gbn.specs.Events.{IsSmallEvent};
 ghost use Rattle.xti_gbn.specs.Receiving.{taken_body, expected_after};
 ghost use Rattle.xti_gbn.specs.Sending.{next_of};
 ghost use Rattle.xti_gbn.specs.Link.{opening};
 ghost use Rattle.xti_gbn.specs.Reports.{arrival_line};
-ghost use Rattle.xti_gbn.specs.Ends.{Stands, StandsAt, HasRoom, Steps};
+ghost use Rattle.xti_gbn.specs.Ends.{Stands, StandsAt, HasRoom, Steps, report_at, with_packets};
 
 use crate::carrier::{Carrier, carry_acknowledgement, carry_packet};
 use crate::events::LinkEvent;
@@ -52,7 +52,7 @@ impl Ends {
     // Puts a packet: its bytes are kept.
     fn put(&mut self, alloc: Global, packet: &Packet) -> Result<(), AllocError>
         requires { length packet.now.body ≤ most_body }
-        ensures { OnOk result (self.new ≡ record self.old { packets = self.old.packets ++ packet_text packet.now ∷ [] }) }
+        ensures { OnOk result (self.new ≡ with_packets (packet.now ∷ []) self.old) }
     {
         let text = write_packet(alloc, packet)?;
         self.packets.push(text)
@@ -78,7 +78,7 @@ impl Ends {
     // Puts packets in order.
     fn put_all(&mut self, alloc: Global, packets: &[Packet]) -> Result<(), AllocError>
         requires { All HasSmall packets.now }
-        ensures { OnOk result (self.new ≡ record self.old { packets = self.old.packets ++ map packet_text packets.now }) }
+        ensures { OnOk result (self.new ≡ with_packets packets.now self.old) }
     {
         for packet in packets {
             self.put(alloc, packet)?;
@@ -180,7 +180,7 @@ impl Ends {
     /// The report of a run that has these lines.
     pub(crate) fn report(&self, lines: Parts) -> Report
         requires { self.now.carried ≤ MOST_EVENTS }
-        ensures { result ≡ record { lines = lines; offered = next_of self.now.sender; delivered = self.now.receiver; acknowledged = self.now.sender.base; entries = 4 + 2 * self.now.carried } }
+        ensures { result ≡ report_at self.now lines }
     {
         Report {
             lines,

@@ -1,14 +1,13 @@
 //! The run of both ends.
 
-ghost use Rattle.std.specs.Prelude.{◌≡◌, ◌≤◌, ◌+◌, ◌++◌, ℕ, List, length, All, IfOk, OnOk, OnErr};
+ghost use Rattle.std.specs.Prelude.{◌≡◌, ◌≤◌, ◌+◌, ℕ, List, length, All, IfOk, OnOk, OnErr};
 ghost use Rattle.xti_gbn.specs.declared.events.LinkEvent.{LinkEvent};
 ghost use Rattle.xti_gbn.specs.declared.events.TheConstants.{MOST_EVENTS};
 ghost use Rattle.xti_gbn.specs.Carrying.{IsLeft};
 ghost use Rattle.xti_gbn.specs.Events.{IsSmallEvent};
 ghost use Rattle.xti_gbn.specs.Sending.{window};
-ghost use Rattle.xti_gbn.specs.Link.{after, unacknowledged};
 ghost use Rattle.xti_gbn.specs.Reports.{report_of};
-ghost use Rattle.xti_gbn.specs.Laws.{IsPrefix, IsDone, round, with_rounds};
+ghost use Rattle.xti_gbn.specs.Laws.{AfterAnyEvents, IsPrefix, RoundDelivers, RoundsDeliver};
 
 use crate::carrier::Carrier;
 use crate::ends::Ends;
@@ -44,17 +43,16 @@ pub fn run_link<C: Carrier>(
 ///
 /// `acknowledged`, `window`: the sender knows no more to be delivered than is, and at most 8 bodies less than it took.
 pub fn links_keep_order()
-    ensures prefix { (events : List LinkEvent) → IsPrefix (after events).delivered (after events).offered }
-    ensures delivered { (events : List LinkEvent) → length (after events).delivered ≤ length (after events).offered }
-    ensures acknowledged { (events : List LinkEvent) → (after events).acknowledged ≤ length (after events).delivered }
-    ensures window { (events : List LinkEvent) → length (after events).offered ≤ (after events).acknowledged + window }
+    ensures prefix { AfterAnyEvents (λ w. IsPrefix w.delivered w.offered) }
+    ensures delivered { AfterAnyEvents (λ w. length w.delivered ≤ length w.offered) }
+    ensures acknowledged { AfterAnyEvents (λ w. w.acknowledged ≤ length w.delivered) }
+    ensures window { AfterAnyEvents (λ w. length w.offered ≤ w.acknowledged + window) }
 {}
 
 /// After whatever befell the link, a round without loss delivers and acknowledges all that was offered.
 ///
 /// `rounds`: so do as many rounds as there are bodies that aren't acknowledged, and any more.
 pub fn rounds_deliver_all()
-    ensures one { (events : List LinkEvent) → IsDone (after events) (after (events ++ round (after events))) }
-    ensures rounds { (events : List LinkEvent) (count : ℕ) → length (unacknowledged (after events)) ≤ count
-        → IsDone (after events) (after (with_rounds count events)) }
+    ensures one { (events : List LinkEvent) → RoundDelivers events }
+    ensures rounds { (events : List LinkEvent) (count : ℕ) → RoundsDeliver events count }
 {}

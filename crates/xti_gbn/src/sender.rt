@@ -1,10 +1,10 @@
 //! The end that offers packets.
 
-ghost use Rattle.std.specs.Prelude.{◌≡◌, ◌≢◌, ℕ, ◌+◌, ◌-◌, ◌^◌, ◌<◌, ◌≤◌, ◌++◌, ◌∷◌, [], ◌↔◌, ◌⊎◌, drop, length, IfOk, OnOk, OnErr};
+ghost use Rattle.std.specs.Prelude.{◌≡◌, ◌≢◌, ℕ, ◌-◌, ◌^◌, ◌<◌, ◌≤◌, [], ◌↔◌, ◌⊎◌, drop, length, IfOk, OnOk, OnErr};
 ghost use Rattle.std.specs.List.{AllByRecursion};
 ghost use Rattle.xti_gbn.specs.Wire.{most_body};
-ghost use Rattle.xti_gbn.specs.Numbered.{packet, packets_from};
-ghost use Rattle.xti_gbn.specs.Sending.{window, next_of, IsSpent};
+ghost use Rattle.xti_gbn.specs.Numbered.{packet};
+ghost use Rattle.xti_gbn.specs.Sending.{window, keeping, next_of, packets_of, IsSpent};
 
 use crate::wire::{MOST_BODY, Packet};
 use std::alloc::{AllocError, Global};
@@ -101,7 +101,7 @@ impl Sender {
         requires room { length self.old.kept < window }
         requires numbers { next_of self.old < 2 ^ 32 - 1 }
         ensures copy { IfOk result (λ copy. copy ≡ body.now) }
-        ensures kept { OnOk result (self.new ≡ record self.old { kept = self.old.kept ++ body.now ∷ [] }) }
+        ensures kept { OnOk result (self.new ≡ keeping body.now self.old) }
         ensures err { OnErr result (self.new ≡ self.old) }
     {
         let copy = Octets::copy_of(alloc, body)?;
@@ -112,7 +112,7 @@ impl Sender {
     /// Takes a body as the packet of the next number, which is kept until it is acknowledged. After an error the sender is as before.
     pub fn offer(&mut self, alloc: Global, body: &[u8]) -> Result<Packet, OfferFail>
         ensures packet { IfOk result (λ p. p ≡ packet (next_of self.old) body.now) }
-        ensures kept { OnOk result (self.new ≡ record self.old { kept = self.old.kept ++ body.now ∷ [] }) }
+        ensures kept { OnOk result (self.new ≡ keeping body.now self.old) }
         ensures room { OnOk result (length self.old.kept < window) }
         ensures err { OnErr result (self.new ≡ self.old) }
 
@@ -144,7 +144,7 @@ impl Sender {
 
     /// The packets that are kept once more, in order. They stay unacknowledged.
     pub fn timeout(&self, alloc: Global) -> Result<Packets, AllocError>
-        ensures packets { IfOk result (λ packets. packets ≡ packets_from self.now.base self.now.kept) }
+        ensures packets { IfOk result (λ packets. packets ≡ packets_of self.now) }
         ensures few { length self.now.kept ≤ window }
         ensures small { AllByRecursion (λ body. length body ≤ most_body) self.now.kept }
     {

@@ -1,10 +1,10 @@
 //! Packets and acknowledgements as bytes.
 
-ghost use Rattle.std.specs.Prelude.{◌≡◌, ◌≤◌, ◌++◌, ◌∷◌, [], ℕ, List, ◌^◌, ◌<◌, ◌↔◌, IfOk, IfSome, IfNone, length};
+ghost use Rattle.std.specs.Prelude.{◌≡◌, ◌≤◌, ◌++◌, ◌∷◌, [], ℕ, List, ◌<◌, ◌↔◌, IfOk, IfSome, IfNone, length};
 ghost use Rattle.std.specs.Int.{w32, to_be_bytes, from_be_bytes};
 ghost use Rattle.xti_gbn.specs.declared.wire.Packet.{Packet};
 ghost use Rattle.xti_gbn.specs.declared.wire.Wire.{Wire};
-ghost use Rattle.xti_gbn.specs.Wire.{wire_text, packet_text, acknowledgement_text, numbered, most_body, IsWire, HasSmallBody};
+ghost use Rattle.xti_gbn.specs.Wire.{wire_text, packet_text, acknowledgement_text, numbered, most_body, IsWire, IsNumbered, IsNoWire, OfItsWires, HasSmallBody};
 
 use std::alloc::{AllocError, Global};
 use thiserror::Error;
@@ -92,7 +92,7 @@ pub(crate) fn write_packet(alloc: Global, packet: &Packet) -> Result<Octets, All
 
 // The first byte, the number after it, and the bytes after that; `None` where there are fewer than five.
 fn split_number(bytes: &[u8]) -> Option<(u8, u32, &[u8])>
-    ensures found { IfSome result (λ parts. (parts.1 < 2 ^ 32) × (bytes.now ≡ numbered parts.0 parts.1 parts.2.now)) }
+    ensures found { IfSome result (λ parts. IsNumbered bytes.now parts.0 parts.1 parts.2.now) }
     ensures short { IfNone result (length bytes.now < 5) }
 {
     let [kind, a, b, c, d, rest @ ..] = bytes else {
@@ -104,8 +104,8 @@ fn split_number(bytes: &[u8]) -> Option<(u8, u32, &[u8])>
 /// The packet or the acknowledgement whose bytes these are; `Bad` exactly where they are those of none.
 pub fn read_wire(alloc: Global, bytes: &[u8]) -> Result<Wire, WireFail>
     ensures found { IfOk result (λ w. IsWire w × (bytes.now ≡ wire_text w)) }
-    ensures only { (w : Wire) → IsWire w → bytes.now ≡ wire_text w → IfOk result (λ read. read ≡ w) }
-    ensures bad { (result ≡ Err WireFail.Bad) ↔ ((w : Wire) → IsWire w → bytes.now ≡ wire_text w → ⊥) }
+    ensures only { OfItsWires bytes.now (λ w. IfOk result (λ read. read ≡ w)) }
+    ensures bad { (result ≡ Err WireFail.Bad) ↔ IsNoWire bytes.now }
 {
     let Some((kind, number, rest)) = split_number(bytes) else {
         return Err(WireFail::Bad);

@@ -43,3 +43,7 @@ pub record IsLinkScript (events : List LinkEvent) (text : List ℕ) : Type 0 whe
   pub ended : text ≡ text_of (header ∷ lines)
   pub are_events : AreEvents lines events
   pub few : length events ≤ MOST_EVENTS
+
+-- lists of events that both have the text are the same
+abbrev pub AreSameOf : List LinkEvent → List LinkEvent → List ℕ → Type 0
+AreSameOf events others text = IsLinkScript events text → IsLinkScript others text → events ≡ others

@@ -5,7 +5,8 @@ use Rattle.xti_words.specs.Texts.{lines_of, text_of}
 use Rattle.xti_gbn.specs.declared.events.TheConstants.{MOST_EVENTS}
 use Rattle.xti_link.specs.declared.reading.LinkFail.{LinkFail}
 use Rattle.xti_link.specs.declared.reading.LinkFail.TheVariants.{Bad, OutOfMemory}
-use Rattle.xti_link.specs.Grammar.{header, event_in}
+use Rattle.xti_gbn.specs.declared.events.LinkEvent.{LinkEvent}
+use Rattle.xti_link.specs.Grammar.{header, event_in, IsLinkScript}
 
 -- whether a line with so many before it is in its form: the first line, or that of an event, where there may be one more
 abbrev pub is_line : ℕ → List ℕ → Bool
@@ -27,6 +28,10 @@ is_ended text = bytes_eq text (text_of (lines_of text))
 -- the line of this number is the first by which the text is no link script
 abbrev pub IsRefusedAt : List ℕ → ℕ → Type 0
 IsRefusedAt text number = first_wrong 0 (lines_of text) (is_ended text) ≡ Some number
+
+-- a text that is a link script is refused at no line
+abbrev pub IsNotRefused : List LinkEvent → List ℕ → ℕ → Type 0
+IsNotRefused events text line = IsLinkScript events text → IsRefusedAt text line → ⊥
 
 -- the line that is named is the first by which the text is no link script
 abbrev pub IsBad : List ℕ → LinkFail → Type 0

@@ -1,16 +1,16 @@
 //! Laws of link scripts.
 
-ghost use Rattle.std.specs.Prelude.{◌≡◌, ℕ, List};
+ghost use Rattle.std.specs.Prelude.{ℕ, List};
 ghost use Rattle.xti_gbn.specs.declared.events.LinkEvent.{LinkEvent};
-ghost use Rattle.xti_link.specs.Grammar.{IsLinkScript};
-ghost use Rattle.xti_link.specs.Refused.{IsRefusedAt};
+ghost use Rattle.xti_link.specs.Grammar.{AreSameOf};
+ghost use Rattle.xti_link.specs.Refused.{IsNotRefused};
 
 /// No text is both a link script and refused at a line.
 pub fn never_both()
-    ensures { (events : List LinkEvent) (text : List ℕ) (line : ℕ) → IsLinkScript events text → IsRefusedAt text line → ⊥ }
+    ensures { (events : List LinkEvent) (text : List ℕ) (line : ℕ) → IsNotRefused events text line }
 {}
 
 /// A text is that of one list of events.
 pub fn one_reading()
-    ensures { (events others : List LinkEvent) (text : List ℕ) → IsLinkScript events text → IsLinkScript others text → events ≡ others }
+    ensures { (events others : List LinkEvent) (text : List ℕ) → AreSameOf events others text }
 {}

@@ -16,8 +16,8 @@ use Rattle.xti_model.specs.Robin.{is_through, last_worker, order_after, whose_tu
 use Rattle.xti_model.specs.Complete.{is_setup, setup_first, IsHistoryOf}
 use Rattle.xti_model.proofs.Completing.{last-within}
 use Rattle.xti_replay.specs.declared.run.Run.{Run}
-use Rattle.xti_replay.specs.Runs.{StandsAfter, GoesOn, Leads, IsWhole, gone_on}
-use Rattle.xti_replay.specs.Stalls.{stalls_after, are_through}
+use Rattle.xti_replay.specs.Runs.{StandsAfter, GoesOn, Leads, IsWhole}
+use Rattle.xti_replay.specs.Stalls.{gone_on, stalls_after, are_through}
 use Rattle.xti_replay.specs.Turns.{AreTurns}
 use Rattle.xti_replay.proofs.OthersAsked.{no-turn}
 use Rattle.xti_replay.proofs.StallLines.{stalls-through}

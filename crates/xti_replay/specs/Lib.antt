@@ -1,3 +1,4 @@
+pub mod Few
 pub mod Playable
 pub mod Stalls
 pub mod Spots

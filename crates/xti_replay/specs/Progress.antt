@@ -1,5 +1,5 @@
 -- What is kept of a worker, beside its script and the entries so far.
-use Rattle.std.specs.Prelude.{ℕ, ◌≡◌, ◌+◌, ◌<◌, ◌⊎◌, ◌&&◌, Bool, true, List, [], ◌∷◌, ◌++◌, length, slice_get, slice_index, slice_index_or, is_none, option_and_then, nat_le, Option, Some, None, if◌then◌else◌}
+use Rattle.std.specs.Prelude.{Result, IfOk, ℕ, ◌≡◌, ◌+◌, ◌<◌, ◌⊎◌, ◌&&◌, Bool, true, List, [], ◌∷◌, ◌++◌, length, slice_get, slice_index, slice_index_or, is_none, option_and_then, nat_le, Option, Some, None, if◌then◌else◌}
 use Rattle.xti_base.specs.declared.limits.TheConstants.{WORKERS}
 use Rattle.xti_model.specs.declared.call.Call.{Call}
 use Rattle.xti_model.specs.declared.entry.Act.{Act}
@@ -12,6 +12,8 @@ use Rattle.xti_model.specs.declared.script.Line.{Line}
 use Rattle.xti_model.specs.History.{Going, unfinished, going_after, call_after, left_by, step_going}
 use Rattle.xti_model.specs.Resolve.{begun}
 use Rattle.xti_model.specs.Robin.{next_going, is_through, Turn}
+use Rattle.xti_model.specs.Step.{step}
+use Rattle.xti_model.specs.World.{World}
 use Rattle.xti_core.specs.Standing.{Standing}
 use Rattle.xti_replay.specs.declared.workers.Part.{Part}
 use Rattle.xti_replay.specs.declared.workers.Worker.{Worker}
@@ -27,6 +29,14 @@ part_going (Some p) = Some (record { call = p.call; so_far = go.More p.taken })
 abbrev pub part_call : Option Part → Option Call
 part_call None = None
 part_call (Some p) = Some p.call
+
+-- this is what the worker has of a call that is part way
+abbrev pub HasPart : Worker → Option Going → Type 0
+HasPart w going = part_going w.part ≡ going
+
+-- a call that has taken so many bytes
+abbrev pub under_way : Call → ℕ → Going
+under_way c taken = record { call = c; so_far = go.More taken }
 
 -- a call that begins
 abbrev pub pending : Option Call → Option Going
@@ -76,9 +86,17 @@ abbrev pub begun_call : Act → Option Call
 begun_call (act.Begin c) = Some c
 begun_call act.More = None
 
+-- the worker, with the call that the act begins as its next
+abbrev pub with_begun : Worker → Act → Worker
+with_begun w a = record w { next = begun_call a }
+
 -- the entry of a step, where one was made
 abbrev pub made_by : Bool → Entry → Option Entry
 made_by made e = if made then Some e else None
+
+-- this holds of the entry of the step, if one was made
+abbrev pub OfMade : {E : Type 0} → Result Bool E → Entry → (Option Entry → Type 0) → Type 0
+OfMade result entry holds = IfOk result (λ made. holds (made_by made entry))
 
 -- the worker's lines, how many of them it has begun, what its names stand for, and its call that is part way
 pub record Told (lines : List Line) (past : List Entry) (number : ℕ) (w : Worker) : Type 0 where
@@ -122,6 +140,10 @@ pub record AreKept (lines : List Line) (past : List Entry) (ws : List Worker) : 
   pub many : length ws ≡ WORKERS
   pub each : Of (IsKept lines past) ws
 
+-- some history has the workers as they are, and lets this one be asked
+abbrev pub MayBeAsked : List Line → ℕ → List Worker → Type 0
+MayBeAsked lines number ws = (past : List Entry) × AreKept lines past ws × MayAsk lines past number
+
 -- a worker that has begun no line
 pub record IsFresh (lines : List Line) (number : ℕ) (w : Worker) : Type 0 where
   pub told : Told lines [] number w
@@ -135,6 +157,10 @@ pub record AreFresh (lines : List Line) (ws : List Worker) : Type 0 where
 pub record IsReady (lines : List Line) (past : List Entry) (number : ℕ) (w : Worker) : Type 0 where
   pub kept : IsKept lines past number w
   pub going : going_of w ≡ next_going lines past number
+
+-- it is after some history
+abbrev pub IsReadyNow : List Line → ℕ → Worker → Type 0
+IsReadyNow lines number w = (past : List Entry) × IsReady lines past number w
 
 pub record IsFound (lines : List Line) (past : List Entry) (number : ℕ) (ws : List Worker) : Type 0 where
   pub kept : AreKept lines past ws
@@ -165,6 +191,10 @@ begun_by act.More = 0
 abbrev pub left_after : Option Part → Act → Outcome → Option Going
 left_after part a outcome = going_after (call_after (part_call part) a) outcome
 
+-- after an entry of the worker this has what is left of its call
+abbrev pub KeepsLeft : Worker → Act → Outcome → Worker → Type 0
+KeepsLeft old a outcome new = HasPart new (left_after old.part a outcome)
+
 -- the names have what the entry of the line at this place tells, beside what they had
 abbrev pub LearnsLine : List Line → ℕ → Outcome → Names → Names → Type 0
 LearnsLine lines place outcome old new = (line : Line) → slice_get lines place ≡ Some line → HasLearnt place line.call outcome old new
@@ -182,9 +212,13 @@ LearnsNextLine lines outcome old new = LearnsLine lines (next_place old) outcome
 abbrev pub LearnsEntry : List Line → Act → Outcome → Worker → Worker → Type 0
 LearnsEntry lines a outcome old new = Learns lines (next_place old) a outcome old.names new.names
 
--- no line was begun, and each name stands for what it did; or the entry's line was begun, and what that tells was learnt
+-- no line was begun, and each name stands for what it did
+abbrev pub HasBegunNone : Worker → Worker → Type 0
+HasBegunNone old new = (new.begun ≡ old.begun) × TellSame old.names new.names
+
+-- the same; or the entry's line was begun, and what that tells was learnt
 abbrev pub HasBegunOrNot : List Line → Act → Outcome → Worker → Worker → Type 0
-HasBegunOrNot lines a outcome old new = ((new.begun ≡ old.begun) × TellSame old.names new.names) ⊎ ((new.begun ≡ old.begun + begun_by a) × LearnsEntry lines a outcome old new)
+HasBegunOrNot lines a outcome old new = HasBegunNone old new ⊎ ((new.begun ≡ old.begun + begun_by a) × LearnsEntry lines a outcome old new)
 
 -- what an entry of a worker makes of what is told of it
 pub record IsAdvance (lines : List Line) (w new : Worker) (a : Act) (outcome : Outcome) : Type 0 where
@@ -197,6 +231,10 @@ pub record IsAdvance (lines : List Line) (w new : Worker) (a : Act) (outcome : O
 abbrev pub going_in : Option Part → Act → Option Going
 going_in part (act.Begin c) = Some (record { call = c; so_far = go.Begin })
 going_in part act.More = part_going part
+
+-- the cells after a step of the call
+abbrev pub cells_after : Standing → Call → Go → World
+cells_after old c g = left_by old.cells (step old.providers old.cells c g)
 
 -- the step of a worker's entry was made once more
 pub record Repeats (part : Option Part) (a : Act) (old new : Standing) : Type 0 where

@@ -6,12 +6,11 @@ use Rattle.xti_model.specs.declared.entry.Entry.{Entry}
 use Rattle.xti_model.specs.declared.script.Line.{Line}
 use Rattle.xti_model.specs.declared.script.Script.{Script}
 use Rattle.xti_model.specs.declared.script.StallLine.{StallLine}
-use Rattle.xti_model.specs.History.{after}
 use Rattle.xti_model.specs.Robin.{is_through, last_worker, robin_from, most_steps, Turn, turn, next_turn}
 use Rattle.xti_replay.specs.declared.run.Run.{Run}
 use Rattle.xti_replay.specs.Asking.{HasGoneOn}
 use Rattle.xti_replay.specs.Progress.{AreKept, made_by}
-use Rattle.xti_replay.specs.Stalls.{stalls_after}
+use Rattle.xti_replay.specs.Stalls.{gone_on, stalls_after}
 use Rattle.xti_replay.specs.Turns.{AreTurns}
 
 -- the entry that is kept of the run's last step
@@ -105,9 +104,9 @@ pub record IsWhole (s : Script) (all : List Entry) (r : Run) : Type 0 where
   pub stands : StandsAfter all r
   pub lines : r.lines.now ≡ s.lines
 
--- the history with the entries that follow it by turns
-unfoldable pub gone_on : Script → List Entry → List Entry
-gone_on s past = robin_from s.providers s.lines most_steps (after s.providers past) past
+-- the stall lines after those
+abbrev pub last_stalls : Script → List Entry → List StallLine
+last_stalls s past = stalls_after s.lines (gone_on s past)
 
 -- whatever script the run was one of, after these entries: the others are added, and the run stands after them
 abbrev pub TakesAll : Run → Run → List Entry → List Entry → Type 0

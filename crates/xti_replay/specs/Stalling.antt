@@ -9,8 +9,8 @@ use Rattle.xti_replay.specs.Progress.{AreKept, MayAsk}
 use Rattle.xti_replay.specs.Stalls.{stall_at, stalls_after}
 
 -- where the worker may be asked, its stall line is added, and the workers stand as before
-abbrev pub AddsStall : List Line → ℕ → Vec Worker Global → Vec Worker Global → List StallLine → List StallLine → Type 0
-AddsStall lines number old new before after =
+abbrev pub AddsOne : List Line → ℕ → Vec Worker Global → Vec Worker Global → List StallLine → List StallLine → Type 0
+AddsOne lines number old new before after =
     (past : List Entry) → AreKept lines past old.items → MayAsk lines past number → (after ≡ before ++ stall_at lines past number) × AreKept lines past new.items
 
 -- these are the stall lines of the workers

@@ -1,8 +1,8 @@
 -- The order in which workers other than 0 are asked, with finished ones left out.
-use Rattle.std.specs.Prelude.{ℕ, ◌≡◌, ◌⊎◌, true, List, [], ◌∷◌, ◌++◌}
+use Rattle.std.specs.Prelude.{ℕ, ◌-◌, ◌≡◌, ◌⊎◌, true, List, [], ◌∷◌, ◌++◌}
 use Rattle.xti_model.specs.declared.entry.Entry.{Entry}
 use Rattle.xti_model.specs.declared.script.Line.{Line}
-use Rattle.xti_model.specs.Robin.{is_through, last_worker, order_after}
+use Rattle.xti_model.specs.Robin.{is_through, last_worker, numbers, order_after}
 use Rattle.xti_replay.specs.declared.workers.Worker.{Worker}
 use Rattle.xti_replay.specs.Progress.{AreKept}
 
@@ -20,6 +20,10 @@ AreTurns lines past turns = LeavesOutFinished lines past (order_after (last_work
 abbrev pub AddsTurns : List Worker → List ℕ → List ℕ → List ℕ → Type 0
 AddsTurns ws numbers old new =
     (lines : List Line) (past : List Entry) → AreKept lines past ws → (more : List ℕ) × (new ≡ old ++ more) × LeavesOutFinished lines past numbers more
+
+-- the same of the numbers from one on, up to another
+abbrev pub AddsTurnsFrom : ℕ → ℕ → List Worker → List ℕ → List ℕ → Type 0
+AddsTurnsFrom from to ws old new = AddsTurns ws (numbers from (to - from)) old new
 
 -- these are the turns of the workers after the history, whatever their lines
 abbrev pub AreTurnsOf : List Worker → List Entry → List ℕ → Type 0

@@ -4,8 +4,8 @@ ghost use Rattle.std.specs.Prelude.{◌≡◌, ◌<◌, List, None, false, IfOk,
 ghost use Rattle.xti_base.specs.declared.limits.TheConstants.{WORKERS};
 ghost use Rattle.xti_model.specs.declared.entry.Act.TheVariants.{More};
 ghost use Rattle.xti_model.specs.declared.entry.Entry.{Entry};
-ghost use Rattle.xti_replay.specs.Asking.{FailsAsked, FailsTurn, FindsNext, MakesTurn, TakesTurn};
-ghost use Rattle.xti_replay.specs.Progress.{AreKept, MayAsk, IsReady, begun_call, made_by};
+ghost use Rattle.xti_replay.specs.Asking.{FailsAsked, FailsBegun, FailsTurn, FindsNext, MakesBegun, MakesTurn, TakesTurn};
+ghost use Rattle.xti_replay.specs.Progress.{AreKept, IsReadyNow, MayBeAsked, OfMade, with_begun};
 
 use crate::workers::Worker;
 use std::alloc::{AllocError, Global};
@@ -16,7 +16,7 @@ use xti_model::{Act, Entry, Go, Line};
 /// The call that the entry begins is blocked: its worker keeps it until it is asked again.
 fn hold(worker: &mut Worker, act: &mut Act)
     requires idle { worker.old.next ≡ None }
-    ensures held { worker.new ≡ record worker.old { next = begun_call act.old } }
+    ensures held { worker.new ≡ with_begun worker.old act.old }
     ensures left { act.new ≡ More }
 {
     match mem::replace(act, Act::More) {
@@ -35,11 +35,13 @@ fn make(
     world: &mut World,
     entry: &mut Entry,
 ) -> Result<bool, AllocError>
-    requires ready { (past : List Entry) × IsReady lines.now past number worker.old }
+    requires ready { IsReadyNow lines.now number worker.old }
     requires none { entry.old.act ≡ More }
-    ensures makes { IfOk result (λ made. MakesTurn lines.now number world.old world.new worker.old worker.new (made_by made entry.new)) }
+    ensures makes { OfMade result entry.new
+        (MakesTurn lines.now number world.old world.new worker.old worker.new) }
     ensures left { IfOk result (λ made. made ≡ false → entry.new.act ≡ More) }
-    ensures err { OnErr result (FailsTurn lines.now number world.old world.new worker.old worker.old worker.new) }
+    ensures err { OnErr result
+        (FailsTurn lines.now number world.old world.new worker.old worker.old worker.new) }
     ensures providers { world.new.providers ≡ world.old.providers }
 {
     let Some(call) = worker.call() else {
@@ -91,12 +93,14 @@ fn begin(
     world: &mut World,
     entry: &mut Entry,
 ) -> Result<bool, AllocError>
-    requires ready { (past : List Entry) × IsReady lines.now past number (record worker.old { next = begun_call entry.old.act }) }
+    requires ready { IsReadyNow lines.now number (with_begun worker.old entry.old.act) }
     requires idle { worker.old.next ≡ None }
     requires whole { worker.old.part ≡ None }
-    ensures makes { IfOk result (λ made. MakesTurn lines.now number world.old world.new (record worker.old { next = begun_call entry.old.act }) worker.new (made_by made entry.new)) }
+    ensures makes { OfMade result entry.new
+        (MakesBegun lines.now number world.old world.new entry.old.act worker.old worker.new) }
     ensures left { IfOk result (λ made. made ≡ false → entry.new.act ≡ More) }
-    ensures err { OnErr result (FailsTurn lines.now number world.old world.new (record worker.old { next = begun_call entry.old.act }) worker.old worker.new) }
+    ensures err { OnErr result
+        (FailsBegun lines.now number world.old world.new entry.old.act worker.old worker.new) }
     ensures providers { world.new.providers ≡ world.old.providers }
 {
     let Act::Begin(call) = &entry.act else {
@@ -125,12 +129,14 @@ pub(crate) fn ask(
     number: usize,
     entry: &mut Entry,
 ) -> Result<bool, AllocError>
-    requires kept { (past : List Entry) × AreKept lines.now past workers.old.items × MayAsk lines.now past number }
+    requires kept { MayBeAsked lines.now number workers.old.items }
     requires number { number < WORKERS }
     requires none { entry.old.act ≡ More }
-    ensures asked { IfOk result (λ made. TakesTurn lines.now number world.old world.new workers.old workers.new (made_by made entry.new)) }
+    ensures asked { OfMade result entry.new
+        (TakesTurn lines.now number world.old world.new workers.old workers.new) }
     ensures left { IfOk result (λ made. made ≡ false → entry.new.act ≡ More) }
-    ensures err { OnErr result (FailsAsked lines.now number world.old world.new workers.old workers.new) }
+    ensures err { OnErr result
+        (FailsAsked lines.now number world.old world.new workers.old workers.new) }
     ensures providers { world.new.providers ≡ world.old.providers }
 {
     let worker = &workers[number];

@@ -1,19 +1,18 @@
 //! What workers and their world are after a history of their script.
 
-ghost use Rattle.std.specs.Prelude.{◌≡◌, ◌+◌, ◌-◌, ◌++◌, ◌≤◌, ◌<◌, ℕ, List, [], length, take, IfOk, OnOk, true};
+ghost use Rattle.std.specs.Prelude.{◌≡◌, ◌+◌, ◌++◌, ◌≤◌, ◌<◌, ℕ, List, [], length, take, IfOk, OnOk, true};
 ghost use Rattle.xti_base.specs.declared.limits.TheConstants.{WORKERS};
 ghost use Rattle.xti_model.specs.declared.entry.Entry.{Entry};
 ghost use Rattle.xti_model.specs.declared.profile.Providers.{Providers};
 ghost use Rattle.xti_model.specs.declared.script.Line.{Line};
 ghost use Rattle.xti_model.specs.Complete.{IsHistoryOf};
-ghost use Rattle.xti_model.specs.History.{after, left_by};
-ghost use Rattle.xti_model.specs.Robin.{is_through, last_worker, numbers, order_after};
-ghost use Rattle.xti_model.specs.Step.{step};
+ghost use Rattle.xti_model.specs.History.{after};
+ghost use Rattle.xti_model.specs.Robin.{is_through, last_worker, order_after};
 ghost use Rattle.xti_model.specs.World.{opening};
 ghost use Rattle.xti_core.specs.Standing.{Standing};
 ghost use Rattle.xti_replay.specs.Playable.{are_playable};
-ghost use Rattle.xti_replay.specs.Progress.{AreKept, AreFresh, Repeats};
-ghost use Rattle.xti_replay.specs.Turns.{AddsTurns, AreTurnsOf};
+ghost use Rattle.xti_replay.specs.Progress.{AreKept, AreFresh, Repeats, cells_after};
+ghost use Rattle.xti_replay.specs.Turns.{AddsTurnsFrom, AreTurnsOf};
 
 use crate::workers::{Worker, put_back};
 use std::alloc::{AllocError, Global};
@@ -49,7 +48,7 @@ pub fn fresh_workers(alloc: Global, lines: &[Line]) -> Result<Vec<Worker>, Alloc
 
 /// Makes a step once more.
 fn step_again(world: &mut World, call: &Call, go: Go) -> Result<(), AllocError>
-    ensures cells { OnOk result (world.new.cells ≡ left_by world.old.cells (step world.old.providers world.old.cells call.now go)) }
+    ensures cells { OnOk result (world.new.cells ≡ cells_after world.old call.now go) }
     ensures providers { world.new.providers ≡ world.old.providers }
 {
     let_go(world.step(call, go)?);
@@ -130,7 +129,7 @@ fn add_turns(
 ) -> Result<(), AllocError>
     requires from { from ≤ to }
     requires to { to ≤ length workers.now }
-    ensures { OnOk result (AddsTurns workers.now (numbers from (to - from)) turns.old.items turns.new.items) }
+    ensures { OnOk result (AddsTurnsFrom from to workers.now turns.old.items turns.new.items) }
 {
     for number in from..to {
         put_back(turns, &workers[number], number)?;

@@ -1,15 +1,15 @@
 //! Whole runs of scripts.
 
-ghost use Rattle.std.specs.Prelude.{◌≡◌, ◌++◌, ◌+◌, ◌≤◌, ◌↔◌, ℕ, List, [], length, IfOk, OnOk, true};
+ghost use Rattle.std.specs.Prelude.{◌≡◌, ◌++◌, List, IfOk, OnOk};
 ghost use Rattle.xti_model.specs.declared.entry.Entry.{Entry};
 ghost use Rattle.xti_model.specs.declared.script.Script.{Script};
 ghost use Rattle.xti_model.specs.History.{Legal};
 ghost use Rattle.xti_model.specs.Robin.{robin};
-ghost use Rattle.xti_model.specs.Work.{script_bytes};
 ghost use Rattle.xti_model.specs.Complete.{Follows, Each, workers, Complete, IsHistoryOf};
+ghost use Rattle.xti_replay.specs.Few.{AreFew};
 ghost use Rattle.xti_replay.specs.Playable.{IsPlayable};
-ghost use Rattle.xti_replay.specs.Runs.{gone_on, IsRunOf, TakesAll};
-ghost use Rattle.xti_replay.specs.Stalls.{stalls_of, stalls_after, are_through};
+ghost use Rattle.xti_replay.specs.Runs.{last_stalls, IsRunOf, TakesAll};
+ghost use Rattle.xti_replay.specs.Stalls.{gone_on, stalls_of, StallsUnlessThrough};
 
 use crate::run::Run;
 use std::alloc::{AllocError, Global};
@@ -38,8 +38,8 @@ pub fn go_on(alloc: Global, s: &Script, history: Entries) -> Result<Journal, All
     requires history { IsHistoryOf s.now.providers s.now.lines history }
     ensures entries { IfOk result (λ j. j.entries ≡ gone_on s.now history) }
     ensures providers { IfOk result (λ j. j.providers ≡ s.now.providers) }
-    ensures stalls { IfOk result (λ j. j.stalls ≡ stalls_after s.now.lines (gone_on s.now history)) }
-    ensures through { IfOk result (λ j. (j.stalls ≡ []) ↔ (are_through s.now.lines j.entries ≡ true)) }
+    ensures stalls { IfOk result (λ j. j.stalls ≡ last_stalls s.now history) }
+    ensures through { IfOk result (StallsUnlessThrough s.now.lines) }
     ensures legal { IfOk result (λ j. Legal s.now.providers j.entries) }
     ensures follows { IfOk result (λ j. Each (Follows j.entries s.now.lines) workers) }
     ensures complete { IfOk result (λ j. Complete s.now.providers j.entries s.now.lines) }
@@ -74,11 +74,11 @@ pub fn replay(alloc: Global, s: &Script) -> Result<Journal, AllocError>
     ensures entries { IfOk result (λ j. j.entries ≡ robin s.now) }
     ensures providers { IfOk result (λ j. j.providers ≡ s.now.providers) }
     ensures stalls { IfOk result (λ j. j.stalls ≡ stalls_of s.now) }
-    ensures through { IfOk result (λ j. (j.stalls ≡ []) ↔ (are_through s.now.lines j.entries ≡ true)) }
+    ensures through { IfOk result (StallsUnlessThrough s.now.lines) }
     ensures legal { IfOk result (λ j. Legal s.now.providers j.entries) }
     ensures follows { IfOk result (λ j. Each (Follows j.entries s.now.lines) workers) }
     ensures complete { IfOk result (λ j. Complete s.now.providers j.entries s.now.lines) }
-    ensures few { IfOk result (λ j. length j.entries ≤ length s.now.lines + script_bytes s.now.lines) }
+    ensures few { IfOk result (λ j. AreFew s.now j.entries) }
 {
     go_on(alloc, s, Entries::new(alloc))
 }

@@ -6,8 +6,9 @@ ghost use Rattle.xti_model.specs.declared.entry.Act.TheVariants.{More};
 ghost use Rattle.xti_model.specs.declared.entry.Entry.{Entry};
 ghost use Rattle.xti_model.specs.Complete.{IsHistoryOf};
 ghost use Rattle.xti_replay.specs.Playable.{IsPlayable};
-ghost use Rattle.xti_replay.specs.Runs.{gone_on, IsRunOf, StandsAfter, StandsPastSetup, AsksOthers, AsksFirst, FailsFirst, FailsNextTurn, FailsTurnOfOthers, TakesNextTurn, TakesTurnOfOthers, AreStallsOf, made_of};
-ghost use Rattle.xti_replay.specs.Progress.{made_by};
+ghost use Rattle.xti_replay.specs.Runs.{IsRunOf, StandsAfter, StandsPastSetup, AsksOthers, AsksFirst, FailsFirst, FailsNextTurn, FailsTurnOfOthers, TakesNextTurn, TakesTurnOfOthers, AreStallsOf, made_of};
+ghost use Rattle.xti_replay.specs.Stalls.{gone_on};
+ghost use Rattle.xti_replay.specs.Progress.{OfMade};
 
 use crate::asking::ask;
 use crate::beginning::{go_through, turns_after, workers_after};
@@ -77,7 +78,7 @@ impl<'a> Run<'a> {
     fn ask_first(&mut self) -> Result<bool, AllocError>
         requires asks { (past : List Entry) × AsksOthers past self.old }
         requires none { self.old.entry.act ≡ More }
-        ensures asked { IfOk result (λ made. AsksFirst self.old self.new (made_by made self.new.entry)) }
+        ensures asked { OfMade result self.new.entry (AsksFirst self.old self.new) }
         ensures err { OnErr result (FailsFirst self.old self.new) }
         ensures made { self.new.made ≡ self.old.made }
         ensures left { IfOk result (λ made. made ≡ false → self.new.entry.act ≡ More) }
@@ -103,7 +104,7 @@ impl<'a> Run<'a> {
     fn ask_others(&mut self) -> Result<bool, AllocError>
         requires stands { StandsPastSetup self.old }
         requires none { self.old.entry.act ≡ More }
-        ensures goes_on { IfOk result (λ made. TakesTurnOfOthers self.old self.new (made_by made self.new.entry)) }
+        ensures goes_on { OfMade result self.new.entry (TakesTurnOfOthers self.old self.new) }
         ensures err { OnErr result (FailsTurnOfOthers self.old self.new) }
         ensures made { self.new.made ≡ self.old.made }
         ensures providers { self.new.world.providers ≡ self.old.world.providers }
@@ -121,7 +122,7 @@ impl<'a> Run<'a> {
     fn make(&mut self) -> Result<bool, AllocError>
         requires stands { (past : List Entry) × StandsAfter past self.old }
         requires none { self.old.entry.act ≡ More }
-        ensures goes_on { IfOk result (λ made. TakesNextTurn self.old self.new (made_by made self.new.entry)) }
+        ensures goes_on { OfMade result self.new.entry (TakesNextTurn self.old self.new) }
         ensures err { OnErr result (FailsNextTurn self.old self.new) }
         ensures made { self.new.made ≡ self.old.made }
         ensures providers { self.new.world.providers ≡ self.old.world.providers }

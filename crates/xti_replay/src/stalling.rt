@@ -3,8 +3,8 @@
 ghost use Rattle.std.specs.Prelude.{◌≡◌, ◌++◌, ◌<◌, List, IfOk, OnOk, true, if◌then◌else◌};
 ghost use Rattle.xti_base.specs.declared.limits.TheConstants.{WORKERS};
 ghost use Rattle.xti_model.specs.declared.entry.Entry.{Entry};
-ghost use Rattle.xti_replay.specs.Progress.{AreKept, MayAsk, is_finished};
-ghost use Rattle.xti_replay.specs.Stalling.{AddsStall, AreStalls};
+ghost use Rattle.xti_replay.specs.Progress.{AreKept, MayBeAsked, is_finished};
+ghost use Rattle.xti_replay.specs.Stalling.{AddsOne, AreStalls};
 
 use crate::asking::find_next;
 use crate::workers::Worker;
@@ -19,9 +19,9 @@ fn add_stall(
     number: usize,
     stalls: &mut Stalls,
 ) -> Result<(), AllocError>
-    requires kept { (past : List Entry) × AreKept lines.now past workers.old.items × MayAsk lines.now past number }
+    requires kept { MayBeAsked lines.now number workers.old.items }
     requires number { number < WORKERS }
-    ensures { OnOk result (AddsStall lines.now number workers.old workers.new stalls.old stalls.new) }
+    ensures { OnOk result (AddsOne lines.now number workers.old workers.new stalls.old stalls.new) }
 {
     find_next(lines, workers, number)?;
     let worker = &mut workers[number];

@@ -3,10 +3,9 @@
 ghost use Rattle.std.specs.Prelude.{◌≡◌, ◌+◌, ◌<◌, ◌++◌, ◌∷◌, [], List, ℕ, None, Some, slice_get, length, IfOk, OnOk, OnErr};
 ghost use Rattle.std.specs.Option.{option_copied};
 ghost use Rattle.xti_model.specs.declared.entry.Act.TheVariants.{More};
-ghost use Rattle.xti_model.specs.declared.entry.Go.TheVariants as go;
 ghost use Rattle.xti_model.specs.History.{going_after};
-ghost use Rattle.xti_replay.specs.Known.{known_in, TellSame};
-ghost use Rattle.xti_replay.specs.Progress.{is_finished, turns_with, next_place, HaveHistory, IsNextCall, MayTake, KeepsAllButLines, KeepsLinesAndCalls, KeepsAllButPart, LearnsNextLine, LearnsEntry, HasBegunOrNot, begun_by, left_after, next_act, part_call, part_going, going_of, call_of, so_far_of, begun_call};
+ghost use Rattle.xti_replay.specs.Known.{known_in};
+ghost use Rattle.xti_replay.specs.Progress.{is_finished, turns_with, next_place, HaveHistory, IsNextCall, MayTake, KeepsAllButLines, KeepsLinesAndCalls, KeepsAllButPart, LearnsNextLine, LearnsEntry, HasBegunNone, HasBegunOrNot, HasPart, KeepsLeft, begun_by, next_act, part_call, under_way, going_of, call_of, so_far_of, begun_call};
 
 use crate::names::Names;
 use crate::resolving::Scope;
@@ -183,7 +182,7 @@ impl Worker {
         ensures others { KeepsLinesAndCalls self.old self.new }
         ensures count { OnOk result (self.new.begun ≡ self.old.begun + 1) }
         ensures names { OnOk result (LearnsNextLine lines.now outcome.now self.old self.new) }
-        ensures err { OnErr result ((self.new.begun ≡ self.old.begun) × TellSame self.old.names self.new.names) }
+        ensures err { OnErr result (HasBegunNone self.old self.new) }
     {
         let place = self.places[self.begun];
         let line = &lines[place];
@@ -205,7 +204,7 @@ impl Worker {
     /// A call of it is part way. Apart, since most are done in one step.
     #[inline(never)]
     fn keep_part(&mut self, call: &Call, taken: u32) -> Result<(), AllocError>
-        ensures part { OnOk result (part_going self.new.part ≡ Some (record { call = call.now; so_far = go.More taken })) }
+        ensures part { OnOk result (HasPart self.new (Some (under_way call.now taken))) }
         ensures err { OnErr result (self.new ≡ self.old) }
         ensures others { KeepsAllButPart self.old self.new }
     {
@@ -217,7 +216,7 @@ impl Worker {
     /// What is left of its call after its first step.
     #[inline(always)]
     fn begin_part(&mut self, call: &Call, outcome: &Outcome) -> Result<(), AllocError>
-        ensures part { OnOk result (part_going self.new.part ≡ going_after (Some call.now) outcome.now) }
+        ensures part { OnOk result (HasPart self.new (going_after (Some call.now) outcome.now)) }
         ensures err { OnErr result (self.new ≡ self.old) }
         ensures others { KeepsAllButPart self.old self.new }
     {
@@ -233,7 +232,7 @@ impl Worker {
     /// What is left of its call after a further step.
     #[inline(always)]
     fn go_on(&mut self, outcome: &Outcome)
-        ensures part { part_going self.new.part ≡ going_after (part_call self.old.part) outcome.now }
+        ensures part { HasPart self.new (going_after (part_call self.old.part) outcome.now) }
         ensures others { KeepsAllButPart self.old self.new }
     {
         match outcome {
@@ -249,7 +248,7 @@ impl Worker {
     /// Keeps what is left of its call after an entry of it.
     #[inline(always)]
     pub(crate) fn keep_left(&mut self, act: &Act, outcome: &Outcome) -> Result<(), AllocError>
-        ensures part { OnOk result (part_going self.new.part ≡ left_after self.old.part act.now outcome.now) }
+        ensures part { OnOk result (KeepsLeft self.old act.now outcome.now self.new) }
         ensures err { OnErr result (self.new ≡ self.old) }
         ensures others { KeepsAllButPart self.old self.new }
     {
@@ -277,7 +276,7 @@ impl Worker {
         ensures places { self.new.places ≡ self.old.places }
         ensures next { self.new.next ≡ self.old.next }
         ensures count { OnOk result (self.new.begun ≡ self.old.begun + begun_by act.now) }
-        ensures part { OnOk result (part_going self.new.part ≡ left_after self.old.part act.now outcome.now) }
+        ensures part { OnOk result (KeepsLeft self.old act.now outcome.now self.new) }
         ensures names { OnOk result (LearnsEntry lines.now act.now outcome.now self.old self.new) }
         ensures err_part { OnErr result (self.new.part ≡ self.old.part) }
         ensures err { OnErr result (HasBegunOrNot lines.now act.now outcome.now self.old self.new) }

@@ -17,7 +17,8 @@ use Rattle.xti_journal_text.specs.JournalText.{journal_text}
 use Rattle.xti_journal_text.specs.Writing.{Written, Took}
 use Rattle.xti_journal.specs.Grammar.{HasText}
 use Rattle.xti_check.specs.Verdicts.{IsLegal}
-use Rattle.xti_laws_journals.specs.Runs.{journal_of, AreFew, IsOnlyJournal}
+use Rattle.xti_replay.specs.Few.{AreFew}
+use Rattle.xti_laws_journals.specs.Runs.{journal_of, IsOnlyJournal}
 use Rattle.xti_run.specs.Program.{IsWholeRun, IsPrinted, printed_of, status_with}
 
 status-is : (b : Bool) (stalls : List StallLine) → ((stalls ≡ []) ↔ (b ≡ true)) → status_with (length stalls == 0) ≡ status_with b

@@ -32,6 +32,10 @@ IsReport r stalls text = (summary : Bool) (j : Journal) → Reports summary j.pr
 abbrev pub ReportsMore : Report → List Entry → Report → Type 0
 ReportsMore old entries new = (summary : Bool) (p : Providers) (past : List Entry) → Reports summary p past old → Reports summary p (past ++ entries) new
 
+-- the run is one of some script, after some of its entries
+abbrev pub IsOfSomeScript : Run → Type 0
+IsOfSomeScript r = (s : Script) × (all : List Entry) × (past : List Entry) × IsRunOf s all past r
+
 -- whatever script the run was one of, after whatever entries: where these were reported, all entries of that are, and the run stands after them
 abbrev pub ReportsAll : Run → Run → Report → Report → Type 0
 ReportsAll old new before now =

@@ -10,4 +10,5 @@ pub use Rattle.xti_laws_streams.specs.Laws
 pub use Rattle.xti_model.specs.Complete
 pub use Rattle.xti_model.specs.History
 pub use Rattle.xti_model.specs.Robin
+pub use Rattle.xti_replay.specs.Few
 pub use Rattle.xti_replay.specs.Stalls

@@ -3,22 +3,26 @@ use Rattle.std.specs.Prelude.{◌≡◌, Bool, true, false, ℕ, ◌+◌, ◌<�
 use Rattle.xti_base.specs.declared.limits.TheConstants.{MOST_INPUT}
 use Rattle.xti_io.specs.Faults.{Rose}
 use Rattle.xti_io.specs.Sink.{Takes}
+use Rattle.xti_io.specs.Source.{GivesUpTo}
 use Rattle.xti_model.specs.declared.entry.Entry.{Entry}
 use Rattle.xti_model.specs.declared.script.Script.{Script}
 use Rattle.xti_model.specs.declared.script.Journal.{Journal}
 use Rattle.xti_model.specs.History.{Legal}
 use Rattle.xti_model.specs.Robin.{robin}
 use Rattle.xti_model.specs.Complete.{Follows, Each, workers, Complete}
-use Rattle.xti_replay.specs.Stalls.{are_through}
+use Rattle.xti_replay.specs.Stalls.{gone_on, are_through}
 use Rattle.xti_laws_streams.specs.Laws.{PrefixLaw, WaitingLaw, ReleaseLaw}
 use Rattle.xti_script_reader.specs.Grammar.{IsScript}
+use Rattle.xti_script_reader.specs.declared.script_text.ScriptFail.{ScriptFail}
+use Rattle.xti_script_reader.specs.Read.{IsBad}
 use Rattle.xti_script_reader.specs.Refused.{IsRefusedAt}
 use Rattle.xti_journal_text.specs.JournalText.{journal_text}
 use Rattle.xti_journal.specs.Grammar.{HasText, IsJournal}
 use Rattle.xti_journal.specs.Refused.{IsRefusedAt as IsNoJournalAt}
 use Rattle.xti_check.specs.Verdicts.{IsLegal}
 use Rattle.xti_check.specs.Judgements.{TellsWrong, legal_text}
-use Rattle.xti_laws_journals.specs.Runs.{journal_of, AreFew, IsOnlyJournal}
+use Rattle.xti_replay.specs.Few.{AreFew}
+use Rattle.xti_laws_journals.specs.Runs.{journal_of, IsOnlyJournal}
 use Rattle.tpi_grammar.specs.Frames.{IsFrames, IsFirstWrong}
 use Rattle.xti_frames.specs.FrameText.{IsShown}
 use Rattle.xti_gbn.specs.declared.events.LinkEvent.{LinkEvent}
@@ -86,6 +90,10 @@ pub record IsWholeRun (summary : Bool) (script : Script) (entries : List Entry) 
   pub waiting : WaitingLaw script.providers entries
   pub release : ReleaseLaw script.providers entries
 
+-- the same of the entries of a history with which the workers go on by turns
+abbrev pub IsRunFrom : Bool → Script → List Entry → ℕ → List ℕ → Type 0
+IsRunFrom summary script history status text = IsWholeRun summary script (gone_on script history) status text
+
 -- the script was run by turns
 pub record IsPlayed (summary : Bool) (script : Script) (status : ℕ) (text : List ℕ) : Type 0 where
   pub whole : IsWholeRun summary script (robin script) status text
@@ -113,6 +121,10 @@ pub record IsRefusedInput (input : List ℕ) (status : ℕ) (text : List ℕ) : 
   pub refused : IsRefusedAt input line
   pub done : status ≡ 2
   pub printed : text ≡ refused_line line
+
+-- so it is of each input that is refused so
+abbrev pub IsRefusedBy : ScriptFail → ℕ → List ℕ → Type 0
+IsRefusedBy fail status text = (input : List ℕ) → IsBad input fail → IsRefusedInput input status text
 
 -- The input is a legal journal: status 0, and the number of its entries.
 -- On each of its connections, and of normal and of expedited data each by itself, what an end received is a prefix of what the other end sent; while its life lasts and the connection is not broken there, what waits
@@ -185,6 +197,12 @@ IsAnswered (Run summary) input status text = IsRunByThreads summary input status
 IsAnswered Check input status text = IsLegalJournal input status text ⊎ (IsWrongJournal input status text ⊎ IsRefusedJournal input status text)
 IsAnswered Frames input status text = IsListed input status text ⊎ IsRefusedByte input status text
 IsAnswered Link input status text = IsLinked input status text ⊎ IsRefusedLink input status text
+
+-- this holds of what `check` answers to the text of a whole run
+abbrev pub OfCheckedRuns : (List Entry → ℕ → List ℕ → Type 0) → Type 0
+OfCheckedRuns holds =
+    (script : Script) (entries : List Entry) (done : ℕ) (text : List ℕ) (status : ℕ) (said : List ℕ)
+    → IsWholeRun false script entries done text → IsAnswered Check text status said → holds entries status said
 
 -- the status and the text for an input
 abbrev pub IsAnswer : Reading → List ℕ → ℕ → List ℕ → Type 0
@@ -309,6 +327,26 @@ IsWrittenOrOutOfMemory words left status before now = IsOutOfMemory status ⊎ I
 abbrev pub IsReadFault : ℕ → ℕ → ℕ → Type 0
 IsReadFault status before now = (status ≡ 5) × Rose before now
 
+-- memory ran out, or reading failed
+abbrev pub IsUnread : ℕ → ℕ → ℕ → Type 0
+IsUnread status before now = IsOutOfMemory status ⊎ IsReadFault status before now
+
 -- no answer was made: memory ran out, or the words are a command that reads, and reading failed
 abbrev pub IsUnanswered : List (List ℕ) → ℕ → ℕ → ℕ → Type 0
 IsUnanswered words status before now = IsOutOfMemory status ⊎ ((status ≡ 5) × IsReader words × Rose before now)
+
+-- the same, by the faults that a source counts
+abbrev pub HasNoAnswer : {S : Type 0} → (S → ℕ) → List (List ℕ) → S → S → ℕ → Type 0
+HasNoAnswer faults words before now status = IsUnanswered words status (faults before) (faults now)
+
+-- the words are a command that reads, and a fault of the source was counted
+abbrev pub FailsToRead : {S : Type 0} → (S → ℕ) → List (List ℕ) → S → S → Type 0
+FailsToRead faults words before now = IsReader words × Rose (faults before) (faults now)
+
+-- at most one byte more than the limit went from what a source had left
+abbrev pub ReadsToLimit : {S : Type 0} → (S → Option (List ℕ)) → S → S → Type 0
+ReadsToLimit left before now = GivesUpTo (limit + 1) (left before) (left now)
+
+-- a write failed
+abbrev pub IsWriteFault : ℕ → Type 0
+IsWriteFault status = status ≡ 6

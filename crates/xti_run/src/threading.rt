@@ -1,13 +1,13 @@
 //! The run of a script by threads.
 
-ghost use Rattle.std.specs.Prelude.{◌≡◌, ◌↔◌, [], IfOk, true};
+ghost use Rattle.std.specs.Prelude.{◌≡◌, IfOk};
 ghost use Rattle.xti_model.specs.declared.script.Script.{Script};
 ghost use Rattle.xti_model.specs.History.{Legal};
 ghost use Rattle.xti_model.specs.Complete.{Follows, Each, workers, Complete};
 ghost use Rattle.xti_check.specs.Verdicts.{IsLegal};
 ghost use Rattle.xti_journal.specs.Grammar.{HasText as JournalHasText};
-ghost use Rattle.xti_laws_journals.specs.Runs.{AreFew};
-ghost use Rattle.xti_replay.specs.Stalls.{stalls_after, are_through};
+ghost use Rattle.xti_replay.specs.Few.{AreFew};
+ghost use Rattle.xti_replay.specs.Stalls.{stalls_after, StallsUnlessThrough};
 ghost use Rattle.xti_script_reader.specs.Grammar.{HasText};
 ghost use Rattle.xti_laws_streams.specs.Laws.{PrefixLaw, WaitingLaw, ReleaseLaw};
 
@@ -41,7 +41,7 @@ pub fn run<G: Gate, R: Threads + Wait + Sync>(
     ensures judged { IfOk result IsLegal }
     ensures providers { IfOk result (λ j. j.providers ≡ s.now.providers) }
     ensures stalls { IfOk result (λ j. j.stalls ≡ stalls_after s.now.lines j.entries) }
-    ensures through { IfOk result (λ j. (j.stalls ≡ []) ↔ (are_through s.now.lines j.entries ≡ true)) }
+    ensures through { IfOk result (StallsUnlessThrough s.now.lines) }
     ensures legal { IfOk result (λ j. Legal s.now.providers j.entries) }
     ensures follows { IfOk result (λ j. Each (Follows j.entries s.now.lines) workers) }
     ensures complete { IfOk result (λ j. Complete s.now.providers j.entries s.now.lines) }

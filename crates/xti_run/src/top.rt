@@ -1,20 +1,17 @@
 //! The top call.
 
-ghost use Rattle.std.specs.Prelude.{◌≡◌, ◌≢◌, ◌<◌, ◌≤◌, ◌+◌, ◌⊎◌, ℕ, List, Some, None, IfOk, OnOk, IfErr, OnErr, length, ◌==◌, true};
+ghost use Rattle.std.specs.Prelude.{◌≡◌, ◌≢◌, ◌<◌, ◌≤◌, ◌+◌, ◌⊎◌, Some, None, IfOk, OnOk, IfErr, OnErr, length, ◌==◌, true};
 ghost use Rattle.xti_io.specs.Faults.{Rose, HasCause};
 ghost use Rattle.xti_io.specs.Sink.{Takes, TakesUpTo};
-ghost use Rattle.xti_io.specs.Source.{GivesUpTo};
 ghost use Rattle.xti_model.specs.declared.script.Script.{Script};
 ghost use Rattle.xti_model.specs.declared.entry.Entry.{Entry};
 ghost use Rattle.std.specs.List.{list_all};
 ghost use Rattle.xti_model.specs.Complete.{IsHistoryOf, is_worker};
-ghost use Rattle.xti_replay.specs.Runs.{gone_on, IsRunOf};
 ghost use Rattle.xti_script_reader.specs.Grammar.{HasText};
-ghost use Rattle.xti_script_reader.specs.Read.{IsBad};
 ghost use Rattle.xti_command.specs.declared.command.Command.{Command};
-ghost use Rattle.xti_command.specs.Words.{IsPlain, command_in, command_of, found_in, is_taken};
-ghost use Rattle.xti_run.specs.Entries.{ReportsMore, ReportsAll};
-ghost use Rattle.xti_run.specs.Program.{IsReplayed, IsRunByThreads, IsWholeRun, IsThreaded, IsRefusedInput, IsLegalJournal, IsWrongJournal, IsRefusedJournal, IsWhole, IsListed, IsRefusedByte, IsLinked, IsRefusedLink, IsAnswered, IsRun, IsOutput, IsRefusedWords, IsReader, IsPlayed, IsGenerated, IsWritten, IsWrittenOrOutOfMemory, IsCutOff, HasInput, IsDone, IsOutOfMemory, IsReadFault, IsUnanswered, NoFault, limit, refused_line, refused_byte, refused_words, refused_size, status_with};
+ghost use Rattle.xti_command.specs.Words.{AreTaken, IsPlain, NamesNone, command_of};
+ghost use Rattle.xti_run.specs.Entries.{IsOfSomeScript, ReportsMore, ReportsAll};
+ghost use Rattle.xti_run.specs.Program.{IsRunFrom, IsThreaded, IsRefusedBy, IsWhole, IsAnswered, FailsToRead, IsUnread, IsWriteFault, HasNoAnswer, ReadsToLimit, IsRun, IsOutput, IsRefusedWords, IsReader, IsPlayed, IsGenerated, IsWritten, IsWrittenOrOutOfMemory, IsCutOff, HasInput, IsDone, IsOutOfMemory, NoFault, refused_line, refused_byte, refused_words, refused_size, status_with};
 
 use crate::report::Report;
 use crate::round_robin::texts_are_playable;
@@ -103,7 +100,7 @@ fn report_history(report: &mut Report, history: &[Entry]) -> Result<(), AllocErr
 
 /// Reports the entries of a run to its end.
 fn report_entries(run: &mut Run, report: &mut Report) -> Result<(), AllocError>
-    requires { (s : Script) × (all : List Entry) × (past : List Entry) × IsRunOf s all past run.old }
+    requires { IsOfSomeScript run.old }
     ensures { OnOk result (ReportsAll run.old run.new report.old report.new) }
 {
     for _step in 0..MOST_STEPS {
@@ -127,7 +124,7 @@ fn whole_run(
 ) -> Result<Answer, AllocError>
     requires text { HasText script.now }
     requires history { IsHistoryOf script.now.providers script.now.lines history.now }
-    ensures { IfOk result (λ a. IsWholeRun summary script.now (gone_on script.now history.now) a.status a.text) }
+    ensures { IfOk result (λ a. IsRunFrom summary script.now history.now a.status a.text) }
 {
     texts_are_playable();
     robin_is_legal();
@@ -177,7 +174,7 @@ fn threaded<T: Threads + Wait + Sync, G: Gate>(
 
 /// What is answered to an input that is no valid script.
 fn refused_script(alloc: Global, script: &[u8], fail: ScriptFail) -> Result<Answer, AllocError>
-    ensures { IfOk result (λ a. (input : List ℕ) → IsBad input fail → IsRefusedInput input a.status a.text) }
+    ensures { IfOk result (λ a. IsRefusedBy fail a.status a.text) }
 {
     match fail {
         ScriptFail::Bad { line } => {
@@ -202,7 +199,7 @@ fn refused_script(alloc: Global, script: &[u8], fail: ScriptFail) -> Result<Answ
 
 /// What `replay` answers to an input within the limit.
 fn replay_answer(alloc: Global, summary: bool, input: Octets) -> Result<Answer, AllocError>
-    ensures { IfOk result (λ a. IsReplayed summary input a.status a.text ⊎ IsRefusedInput input a.status a.text) }
+    ensures { IfOk result (λ a. IsAnswered (Reading.Replay summary) input a.status a.text) }
 {
     match read_script(alloc, input.as_slice()) {
         Ok(script) => played(alloc, summary, &script, input),
@@ -218,7 +215,7 @@ fn run_answer<T: Threads + Wait + Sync, G: Gate>(
     input: Octets,
     gate: &G,
 ) -> Result<Answer, AllocError>
-    ensures { IfOk result (λ a. IsRunByThreads summary input a.status a.text ⊎ IsRefusedInput input a.status a.text) }
+    ensures { IfOk result (λ a. IsAnswered (Reading.Run summary) input a.status a.text) }
 {
     match read_script(alloc, input.as_slice()) {
         Ok(script) => threaded(rt, alloc, summary, &script, gate, input),
@@ -245,8 +242,7 @@ fn generated_answer(alloc: Global, seed: u64, summary: bool) -> Result<Answer, A
 
 /// What `check` answers to an input within the limit.
 fn check_answer(alloc: Global, input: &[u8]) -> Result<Answer, AllocError>
-    ensures { IfOk result (λ a. IsLegalJournal input.now a.status a.text
-        ⊎ (IsWrongJournal input.now a.status a.text ⊎ IsRefusedJournal input.now a.status a.text)) }
+    ensures { IfOk result (λ a. IsAnswered Reading.Check input.now a.status a.text) }
 {
     legal_journals_keep_order();
     match judge(alloc, input)? {
@@ -273,7 +269,7 @@ fn check_answer(alloc: Global, input: &[u8]) -> Result<Answer, AllocError>
 
 /// What `frames` answers to an input within the limit.
 fn frames_answer(alloc: Global, input: &[u8]) -> Result<Answer, AllocError>
-    ensures { IfOk result (λ a. IsListed input.now a.status a.text ⊎ IsRefusedByte input.now a.status a.text) }
+    ensures { IfOk result (λ a. IsAnswered Reading.Frames input.now a.status a.text) }
 {
     match show_frames(alloc, input) {
         Ok(text) => Ok(Answer {
@@ -295,7 +291,7 @@ fn frames_answer(alloc: Global, input: &[u8]) -> Result<Answer, AllocError>
 
 /// What `link` answers to an input within the limit.
 fn link_answer(alloc: Global, input: &[u8]) -> Result<Answer, AllocError>
-    ensures { IfOk result (λ a. IsLinked input.now a.status a.text ⊎ IsRefusedLink input.now a.status a.text) }
+    ensures { IfOk result (λ a. IsAnswered Reading.Link input.now a.status a.text) }
 {
     match read_link(alloc, input) {
         Ok(events) => {
@@ -368,8 +364,8 @@ fn answer_from<T: Threads + Wait + Sync, R: Source, G: Gate>(
     gate: &G,
 ) -> Result<Answer, Status>
     ensures ok { IfOk result (λ a. IsRun reading (R.left source.old) a.status a.text) }
-    ensures err { IfErr result (λ s. IsOutOfMemory s.0 ⊎ IsReadFault s.0 (R.faults source.old) (R.faults source.new)) }
-    ensures read { GivesUpTo (limit + 1) (R.left source.old) (R.left source.new) }
+    ensures err { IfErr result (λ s. IsUnread s.0 (R.faults source.old) (R.faults source.new)) }
+    ensures read { ReadsToLimit R.left source.old source.new }
     ensures later { R.faults source.old ≤ R.faults source.new }
 {
     match read_all(alloc, source, MOST_INPUT) {
@@ -389,10 +385,10 @@ fn output<T: Threads + Wait + Sync, R: Source, G: Gate>(
     gate: &G,
 ) -> Result<Answer, Status>
     ensures ok { IfOk result (λ a. IsOutput words.now (R.left source.old) a.status a.text) }
-    ensures err { IfErr result (λ s. IsUnanswered words.now s.0 (R.faults source.old) (R.faults source.new)) }
-    ensures read { IsReader words.now → GivesUpTo (limit + 1) (R.left source.old) (R.left source.new) }
+    ensures err { IfErr result (λ s. HasNoAnswer R.faults words.now source.old source.new s.0) }
+    ensures read { IsReader words.now → ReadsToLimit R.left source.old source.new }
     ensures unread { (IsReader words.now → ⊥) → source.new ≡ source.old }
-    ensures taken { is_taken words.now ≡ true → IfOk result (λ a. a.status ≡ 1 → command_in (found_in words.now) ≡ None) }
+    ensures taken { AreTaken words.now → IfOk result (λ a. a.status ≡ 1 → NamesNone words.now) }
 {
     match words.command() {
         Ok(Command::Read(reading)) => answer_from(rt, alloc, reading, source, gate),
@@ -448,14 +444,15 @@ pub fn program<T: Threads + Wait + Sync, R: Source, W: Sink, G: Gate>(
     ensures written { IsWhole result.0
         → IsWritten words.now (R.left source.old) result.0 (W.held sink.old) (W.held sink.new) }
     ensures unwritten { (result.0 ≡ 4) ⊎ (result.0 ≡ 5) → W.held sink.new ≡ W.held sink.old }
-    ensures cut_off { result.0 ≡ 6 → IsCutOff words.now (R.left source.old) (W.held sink.old) (W.held sink.new) }
+    ensures cut_off { IsWriteFault result.0
+        → IsCutOff words.now (R.left source.old) (W.held sink.old) (W.held sink.new) }
 
     // Faults are answered only where their count rose.
-    ensures read_fault { result.0 ≡ 5 → IsReader words.now × Rose (R.faults source.old) (R.faults source.new) }
-    ensures write_fault { result.0 ≡ 6 → Rose (W.faults sink.old) (W.faults sink.new) }
+    ensures read_fault { result.0 ≡ 5 → FailsToRead R.faults words.now source.old source.new }
+    ensures write_fault { IsWriteFault result.0 → Rose (W.faults sink.old) (W.faults sink.new) }
     ensures range { result.0 < 8 }
     ensures words { result.0 ≡ 1 → command_of words.now ≡ None }
-    ensures taken { is_taken words.now ≡ true → result.0 ≡ 1 → command_in (found_in words.now) ≡ None }
+    ensures taken { AreTaken words.now → result.0 ≡ 1 → NamesNone words.now }
     ensures plain { (command : Command) → IsPlain words.now command → result.0 ≢ 1 }
 
     // With no fault the whole text is written, or memory ran out.
@@ -469,7 +466,7 @@ pub fn program<T: Threads + Wait + Sync, R: Source, W: Sink, G: Gate>(
         → IsDone command result.0 ⊎ IsOutOfMemory result.0 }
 
     // What is read.
-    ensures read { IsReader words.now → GivesUpTo (limit + 1) (R.left source.old) (R.left source.new) }
+    ensures read { IsReader words.now → ReadsToLimit R.left source.old source.new }
     ensures unread { (IsReader words.now → ⊥) → source.new ≡ source.old }
 {
     never_both();

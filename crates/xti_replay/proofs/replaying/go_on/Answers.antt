@@ -3,7 +3,8 @@ use Rattle.xti_model.specs.declared.entry.Entry.{Entry}
 use Rattle.xti_model.specs.declared.script.Script.{Script}
 use Rattle.xti_model.specs.Robin.{most_steps}
 use Rattle.xti_replay.specs.declared.run.Run.{Run}
-use Rattle.xti_replay.specs.Runs.{gone_on, IsRunOf}
+use Rattle.xti_replay.specs.Runs.{IsRunOf}
+use Rattle.xti_replay.specs.Stalls.{gone_on}
 use Rattle.xti_replay.proofs.WholeRuns.{ends}
 use Rattle.xti_replay.proofs.replaying.go_on.Goals as goal
 

@@ -7,8 +7,7 @@ use Rattle.xti_model.specs.Robin.{robin}
 use Rattle.xti_model.specs.Complete.{IsHistoryOf}
 use Rattle.xti_model.specs.Work.{script_bytes}
 use Rattle.xti_model.proofs.GoingOn.{history-begins}
-use Rattle.xti_replay.specs.Runs.{gone_on}
-use Rattle.xti_replay.specs.Stalls.{stalls_after, stalls_of}
+use Rattle.xti_replay.specs.Stalls.{gone_on, stalls_after, stalls_of}
 use Rattle.xti_replay.proofs.Few.{robin-few}
 use Rattle.xti_replay.proofs.WholeRuns.{gone-from_start}
 use Rattle.xti_replay.proofs.replaying.replay.Goals as goal

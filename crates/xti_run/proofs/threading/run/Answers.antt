@@ -2,9 +2,9 @@ use Rattle.std.proofs.Common.{rules}
 use Rattle.xti_laws_streams.specs.Laws.{PrefixLaw, WaitingLaw, ReleaseLaw}
 use Rattle.xti_check.specs.Verdicts.{IsLegal}
 use Rattle.xti_journal.specs.Grammar.{HasText}
-use Rattle.xti_laws_journals.specs.Runs.{AreFew}
+use Rattle.xti_replay.specs.Few.{AreFew}
 use Rattle.xti_run.proofs.Answered.{of-journal, of-whole, own-stalls}
-use Rattle.xti_replay.specs.Runs.{gone_on}
+use Rattle.xti_replay.specs.Stalls.{gone_on}
 use Rattle.xti_run.proofs.threading.run.Goals as goal
 
 pub play-requires : goal.play-requires

@@ -1,6 +1,6 @@
 use Rattle.std.proofs.Common.{rules}
 use Rattle.std.proofs.lemmas.Result.{IfOk-weaker}
-use Rattle.xti_replay.specs.Runs.{gone_on}
+use Rattle.xti_replay.specs.Stalls.{gone_on}
 use Rattle.xti_run.proofs.top.threaded.Goals as goal
 
 pub play-requires : goal.play-requires

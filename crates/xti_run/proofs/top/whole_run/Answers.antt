@@ -1,7 +1,7 @@
 use Rattle.std.proofs.Common.{refl, []}
 use Rattle.xti_model.specs.Robin.{most_steps}
 use Rattle.xti_script_reader.specs.Grammar.{HasText}
-use Rattle.xti_replay.specs.Runs.{gone_on}
+use Rattle.xti_replay.specs.Stalls.{gone_on}
 use Rattle.xti_replay.proofs.WholeRuns.{ends}
 use Rattle.xti_run.proofs.Answered.{legal-run, whole-run}
 use Rattle.xti_run.proofs.top.whole_run.Goals as goal

@@ -9,7 +9,8 @@ use Rattle.xti_model.specs.History.{after}
 use Rattle.xti_model.specs.Robin.{is_through, last_worker, robin_from, most_steps}
 use Rattle.xti_replay.specs.declared.run.Run.{Run}
 use Rattle.xti_replay.specs.Progress.{AreKept}
-use Rattle.xti_replay.specs.Runs.{StandsAfter, gone_on}
+use Rattle.xti_replay.specs.Runs.{StandsAfter}
+use Rattle.xti_replay.specs.Stalls.{gone_on}
 use Rattle.xti_replay.proofs.SetupAsked.{first-through}
 use Rattle.xti_replay.proofs.WholeRuns.{history-last, history-setup, same-end}
 use Rattle.xti_replay.proofs.run.Run.after.Goals as goal
