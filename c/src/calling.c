@@ -1,0 +1,203 @@
+/* The one world of the process, and the calls that are made in it. Each step is made under the lock, so the order of the steps
+   under the lock is the history. */
+#include "calling.h"
+#include "errors.h"
+#include "links.h"
+#include "waiting.h"
+#include <errno.h>
+#include <fcntl.h>
+#include <xti.h>
+
+const struct input xti_no_input;
+
+static struct xti_world world;
+
+/* A place of no bytes is still a place. */
+static const uint8_t *bytes_at(const void *at, size_t len)
+{
+    static const uint8_t nothing[1];
+
+    return len ? (const uint8_t *)at : nothing;
+}
+
+enum xti_end xti_step(const struct xti_asked *asked, const struct input *in, struct answer *a)
+{
+    static const uint32_t no_sizes[1];
+    struct xti_world kept = { NULL };
+    int has_room = in->data_room != NULL;
+    uint32_t end = xti_c_step(world, &kept, asked, bytes_at(in->addr, in->addr_len), in->addr_len, bytes_at(in->opt, in->opt_len),
+        in->opt_len, bytes_at(in->data, in->data_len), in->data_len, in->sizes_len ? in->sizes : no_sizes, in->sizes_len, &a->told,
+        a->addr, sizeof a->addr, a->opt, sizeof a->opt, has_room ? (uint8_t *)in->data_room : a->data,
+        has_room ? in->data_room_len : sizeof a->data);
+
+    world = kept;
+    return (enum xti_end)end;
+}
+
+int xti_first_event(const struct endpoint *e)
+{
+    struct xti_world kept = { NULL };
+    struct xti_seen seen = { 0, 0 };
+    int is_open = xti_c_look(world, &kept, e->number, &seen);
+
+    world = kept;
+    return is_open ? (int)seen.event : 0;
+}
+
+static int is_one_of_data(uint32_t call)
+{
+    return call == XTI_SND || call == XTI_SNDV || call == XTI_RCV || call == XTI_RCVV;
+}
+
+/* Whether a step has changed anything that others, or poll, can see. */
+static int has_changed(const struct xti_asked *asked, const struct xti_told *told)
+{
+    switch (asked->call) {
+    case XTI_OPEN:
+    case XTI_GETSTATE:
+    case XTI_SYNC:
+    case XTI_GETINFO:
+    case XTI_GETPROTADDR:
+        return 0;
+    default:
+        break;
+    }
+    if (told->reply == XTI_LOOKED)
+        return 0;
+    return told->reply != XTI_REFUSED || told->error == TFLOW || (told->error == TNODATA && asked->call == XTI_CONNECT && !asked->more);
+}
+
+/* Wakes those who wait at an endpoint that a step of `own` has touched, and has poll see its events. Data that were sent make no
+   room, and data that were received make it at the other end; but a send looks at the end of a connection. */
+static void tell(struct endpoint *e, const struct xti_asked *asked)
+{
+    int event = xti_first_event(e), is_own = e->number == asked->fd, for_room = 1;
+
+    xti_show_events(e, event != 0);
+    if (asked->call == XTI_LOOK)
+        return;
+    if (asked->call == XTI_SND || asked->call == XTI_SNDV)
+        for_room = 0;
+    else if (is_one_of_data(asked->call) && is_own)
+        for_room = event == T_ORDREL || event == T_DISCONNECT;
+    xti_wake(xti_place_of(e), 1, for_room);
+}
+
+static void stepped(const struct xti_asked *asked, const struct input *input, const struct answer *answer, places touched)
+{
+    int place;
+
+    if (!has_changed(asked, &answer->told))
+        return;
+    if (asked->call == XTI_CLOSE) {
+        xti_wake((int)(asked->fd % XTI_PLACES), 1, 1);
+        xti_of_number(asked->fd)->is_open = 0;
+    }
+    xti_note_step(asked, input, answer, &touched);
+    for (place = 0; place < XTI_PLACES; place++)
+        if (touched >> place & 1 && xti_endpoints[place].is_open)
+            tell(&xti_endpoints[place], asked);
+}
+
+static int may_wait(uint32_t call)
+{
+    return call == XTI_CONNECT || call == XTI_RCVCONNECT || call == XTI_LISTEN || is_one_of_data(call) || call == XTI_SNDUDATA ||
+        call == XTI_SNDVUDATA || call == XTI_RCVUDATA || call == XTI_RCVVUDATA;
+}
+
+/* Takes over O_NONBLOCK where fcntl has changed it. */
+static void take_mode(const struct xti_asked *asked)
+{
+    struct endpoint *e = may_wait(asked->call) ? xti_of_number(asked->fd) : NULL;
+    int flags = e ? fcntl(e->signal, F_GETFL) : -1;
+    struct xti_asked mode = { .call = XTI_MODE, .fd = asked->fd, .number = (flags & O_NONBLOCK) != 0 };
+    struct answer a;
+
+    if (flags < 0 || e->is_nonblocking == (int)mode.number)
+        return;
+    if (xti_step(&mode, &xti_no_input, &a) == XTI_DONE && a.told.reply == XTI_PLAIN) {
+        e->is_nonblocking = (int)mode.number;
+        stepped(&mode, &xti_no_input, &a, 0);
+    }
+}
+
+static int result_of(const struct xti_told *told)
+{
+    switch (told->reply) {
+    case XTI_REFUSED:
+        return told->error == TSYSERR ? xti_system_fail(EMFILE) : xti_fail((int)told->error);
+    case XTI_LOOKED:
+        return xti_fail(TLOOK);
+    case XTI_OVERFLOW:
+        return xti_fail(TBUFOVFLW);
+    default:
+        return 0;
+    }
+}
+
+/* A call that can't go on: a send that has taken bytes tells how many. */
+static int give_up(const struct xti_asked *asked, struct answer *a, int error)
+{
+    if (!asked->more || asked->taken == 0)
+        return xti_system_fail(error);
+    a->told.number = asked->taken;
+    return 0;
+}
+
+/* Waits for a step that may let the call go on; whether a signal came first. */
+static int wait_for_step(const struct xti_asked *asked, const struct input *input)
+{
+    int place = (int)(asked->fd % XTI_PLACES), other = place;
+    enum waits_for what = asked->call == XTI_SND || asked->call == XTI_SNDV ? WAITS_FOR_ROOM : WAITS_FOR_CHANGE;
+
+    if (asked->call == XTI_SNDUDATA || asked->call == XTI_SNDVUDATA)
+        other = xti_destination(input);
+    return xti_wait(place, other < 0 ? place : other, what);
+}
+
+int xti_make_call_locked(struct xti_asked *asked, const struct input *input, struct answer *a)
+{
+    if (!world.at && asked->call != XTI_OPEN)
+        return xti_fail(TBADF);
+    if (!world.at && !xti_c_make(&world))
+        return xti_system_fail(ENOMEM);
+    for (;;) {
+        places touched;
+        take_mode(asked);
+        touched = xti_linked(asked);
+        switch (xti_step(asked, input, a)) {
+        case XTI_DONE:
+            stepped(asked, input, a, touched);
+            return result_of(&a->told);
+        case XTI_PART:
+            stepped(asked, input, a, touched);
+            asked->more = 1;
+            asked->taken = a->told.number;
+            break;
+        case XTI_BLOCKED:
+            if (wait_for_step(asked, input))
+                return give_up(asked, a, EINTR);
+            break;
+        default:
+            return give_up(asked, a, ENOMEM);
+        }
+    }
+}
+
+int xti_make_call(int fd, struct xti_asked *asked, const struct input *input, struct answer *a)
+{
+    int result;
+
+    xti_enter();
+    asked->fd = xti_number_of(fd);
+    result = xti_make_call_locked(asked, input, a);
+    xti_leave();
+    return result;
+}
+
+int xti_make_plain_call(int fd, enum xti_call number, struct answer *a)
+{
+    struct xti_asked asked = { .call = number };
+
+    return xti_make_call(fd, &asked, &xti_no_input, a);
+}

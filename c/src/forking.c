@@ -1,0 +1,29 @@
+/* After a fork each process has the world to itself: the child has a copy of every endpoint, none of them linked with the parent's,
+   and waits for nothing. Its descriptors get eventfds of their own, since the parent's would be shared. */
+#include "forking.h"
+#include "endpoints.h"
+#include "waiting.h"
+#include <pthread.h>
+
+static void in_child(void)
+{
+    struct endpoint *e;
+
+    for (e = xti_endpoints; e < xti_endpoints + XTI_PLACES; e++)
+        if (e->is_open)
+            xti_renew_descriptors(e);
+    xti_forget_waiters();
+    xti_leave();
+}
+
+static void watch(void)
+{
+    pthread_atfork(xti_enter, xti_leave, in_child);
+}
+
+void xti_watch_forks(void)
+{
+    static pthread_once_t once = PTHREAD_ONCE_INIT;
+
+    pthread_once(&once, watch);
+}

@@ -1,0 +1,119 @@
+/* A blocked call queues at its endpoint, and at that which it sends a datagram to, and tries again when it is woken. It waits by a
+   semaphore, since sem_wait ends with a signal, as a condition variable doesn't. */
+#include "waiting.h"
+#include "endpoints.h"
+#include <errno.h>
+#include <pthread.h>
+#include <semaphore.h>
+#include <stddef.h>
+
+struct link {
+    struct waiter *waiter;
+    struct link *next;
+};
+
+struct waiter {
+    sem_t woken;
+    enum waits_for what;
+    int places[2];
+    struct link links[2];
+};
+
+static pthread_mutex_t lock = PTHREAD_MUTEX_INITIALIZER;
+static int cancel_state;
+static struct link *queues[XTI_PLACES];
+
+void xti_enter(void)
+{
+    int old;
+
+    pthread_setcancelstate(PTHREAD_CANCEL_DISABLE, &old);
+    pthread_mutex_lock(&lock);
+    cancel_state = old;
+}
+
+void xti_leave(void)
+{
+    int old = cancel_state;
+
+    pthread_mutex_unlock(&lock);
+    pthread_setcancelstate(old, &old);
+}
+
+static void join_queue(struct waiter *w, int i)
+{
+    struct link *l = &w->links[i];
+
+    l->waiter = w;
+    l->next = queues[w->places[i]];
+    queues[w->places[i]] = l;
+}
+
+static void leave_queue(struct waiter *w, int i)
+{
+    struct link **at = &queues[w->places[i]];
+
+    while (*at != &w->links[i])
+        at = &(*at)->next;
+    *at = w->links[i].next;
+}
+
+static int count_of(const struct waiter *w)
+{
+    return w->places[0] == w->places[1] ? 1 : 2;
+}
+
+/* With the lock held again. */
+static void end_wait(struct waiter *w)
+{
+    int i;
+
+    for (i = 0; i < count_of(w); i++)
+        leave_queue(w, i);
+    sem_destroy(&w->woken);
+}
+
+/* Where the thread is cancelled in its wait, with the lock not held. */
+static void cancelled(void *w)
+{
+    xti_enter();
+    end_wait(w);
+    xti_leave();
+}
+
+int xti_wait(int place, int other_place, enum waits_for what)
+{
+    struct waiter self;
+    int i, is_interrupted = 0;
+
+    sem_init(&self.woken, 0, 0);
+    self.what = what;
+    self.places[0] = place;
+    self.places[1] = other_place;
+    for (i = 0; i < count_of(&self); i++)
+        join_queue(&self, i);
+    pthread_cleanup_push(cancelled, &self);
+    xti_leave();
+    is_interrupted = sem_wait(&self.woken) < 0 && errno == EINTR;
+    xti_enter();
+    pthread_cleanup_pop(0);
+    end_wait(&self);
+    return is_interrupted;
+}
+
+void xti_wake(int place, int for_change, int for_room)
+{
+    struct link *l;
+
+    for (l = queues[place]; l; l = l->next)
+        if (l->waiter->what == WAITS_FOR_ROOM ? for_room : for_change)
+            sem_post(&l->waiter->woken);
+}
+
+void xti_forget_waiters(void)
+{
+    int place;
+
+    for (place = 0; place < XTI_PLACES; place++)
+        queues[place] = NULL;
+}

@@ -1,0 +1,23 @@
+/* The lock round all steps, and the waiting of calls that are blocked. */
+#ifndef XTI_WAITING_H
+#define XTI_WAITING_H
+
+#include <stdint.h>
+
+/* The places of endpoints, each a bit. */
+typedef uint64_t places;
+
+/* What ends a wait: at once any change, or, of a send on a connection, one that may have made room. */
+enum waits_for { WAITS_FOR_CHANGE, WAITS_FOR_ROOM };
+
+/* Takes the lock; the thread isn't cancelled while it has it, but in xti_wait. */
+void xti_enter(void);
+void xti_leave(void);
+/* Waits for a wake at one of two places, with the lock held; whether a signal came first. */
+int xti_wait(int place, int other_place, enum waits_for what);
+/* Wakes those that wait at a place; for room too, or only for other changes. */
+void xti_wake(int place, int for_change, int for_room);
+/* Nobody waits any more: after a fork in the child. */
+void xti_forget_waiters(void);
+
+#endif

@@ -1,0 +1,97 @@
+//! What C calls.
+
+ghost use Rattle.std.specs.Prelude.{◌≡◌, true, IfOk, IfSome, IsSome};
+ghost use Rattle.std.specs.declared.option.Option.TheVariants.{Some};
+ghost use Rattle.xti_c.specs.Answers.{bytes_of, places_of, Answers, RunsOutRightly, TellsNoCall};
+ghost use Rattle.xti_c.specs.Opening.{usual_opening};
+ghost use Rattle.xti_c.specs.Seeing.{Sees};
+
+use crate::passing::{Given, Kept};
+use crate::seeing::{Seen, see};
+use crate::stepping::make_step;
+use std::alloc::{AllocError, Global};
+use xti_base::Fd;
+use xti_core::World;
+use xti_flat::{Asked, Bytes, Told};
+use xti_model::{Providers, usual_is_valid};
+
+fn fresh(alloc: Global) -> Result<Box<World>, AllocError>
+    ensures { IfOk result (λ b. b.value ≡ usual_opening) }
+{
+    usual_is_valid();
+    let world = World::fresh(alloc, &Providers::usual())?;
+    Ok(Box::new(alloc, world)?)
+}
+
+/// Makes the opening world of the usual providers; whether there was memory for it.
+#[unsafe(no_mangle)]
+pub extern "C" fn xti_c_make(alloc: Global, kept: &mut Kept) -> bool
+    ensures { result ≡ true → kept.new.value ≡ Some usual_opening }
+{
+    match fresh(alloc) {
+        Ok(world) => {
+            *kept = Kept::of(world);
+            true
+        }
+        Err(_) => false,
+    }
+}
+
+/// Frees a world.
+#[unsafe(no_mangle)]
+pub extern "C" fn xti_c_free(given: Given) {
+    drop(given.into_box());
+}
+
+/// One step of the call that is asked for. 0: the call is done; 1: a part of it is made; 2: it is blocked; 3: out of memory; 4: no
+/// call has the number.
+#[unsafe(no_mangle)]
+pub extern "C" fn xti_c_step(
+    alloc: Global,
+    given: Given,
+    kept: &mut Kept,
+    asked: &Asked,
+    addr: &[u8],
+    opt: &[u8],
+    udata: &[u8],
+    sizes: &[u32],
+    told: &mut Told,
+    addr_room: &mut [u8],
+    opt_room: &mut [u8],
+    udata_room: &mut [u8],
+) -> u32
+    ensures world { IsSome kept.new.value }
+    ensures step { IfSome kept.new.value (λ world.
+        Answers asked.now (bytes_of addr.entry opt.entry udata.entry sizes.entry)
+        given.value world result
+        (places_of told.old addr_room.old opt_room.old udata_room.old)
+        (places_of told.new addr_room.new opt_room.new udata_room.new)) }
+    ensures sure { RunsOutRightly given.value
+        asked.now (bytes_of addr.entry opt.entry udata.entry sizes.entry) result }
+    ensures no_call { TellsNoCall asked.now result }
+{
+    let mut world = given.into_box();
+    let bytes = Bytes {
+        addr,
+        opt,
+        udata,
+        sizes,
+    };
+    let end = make_step(
+        alloc, &mut world, asked, &bytes, told, addr_room, opt_room, udata_room,
+    );
+    *kept = Kept::of(world);
+    end
+}
+
+/// What the endpoint with the descriptor shows, which changes nothing and takes no memory; whether one is open.
+#[unsafe(no_mangle)]
+pub extern "C" fn xti_c_look(given: Given, kept: &mut Kept, fd: u32, seen: &mut Seen) -> bool
+    ensures world { kept.new.value ≡ Some given.value }
+    ensures sight { Sees given.value fd result seen.old seen.new }
+{
+    let world = given.into_box();
+    let open = see(&world, Fd(fd), seen);
+    *kept = Kept::of(world);
+    open
+}

@@ -1,0 +1,8 @@
+//! The library for C: one step of a world at a time.
+#![tactic(auto)]
+
+mod exports;
+mod loose;
+mod passing;
+mod seeing;
+mod stepping;
