@@ -10,7 +10,7 @@ use std::rt::{Env, Files};
 use std::sync::Wait;
 use std::time::{Clock, Duration, Instant};
 use xti_base::{Fd, Octets, Prov};
-use xti_calls::{Max, Seat, Xti};
+use xti_calls::{Caller, Max, Xti};
 use xti_core::World;
 use xti_model::{Act, Applied, Call, Entry, Go, Outcome, Providers, Reply};
 use xti_step::NoGate;
@@ -29,17 +29,11 @@ struct Task {
 }
 
 /// A bound endpoint for datagrams.
-fn endpoint<R: Wait + Sync + Abort>(
-    rt: &R,
-    alloc: Global,
-    xti: &Xti,
-    seat: &mut Seat,
-    addr: &[u8],
-) -> Fd {
-    let Ok(fd) = xti.t_open(rt, alloc, seat, b"ticlts", true) else {
+fn endpoint<R: Wait + Sync + Abort>(rt: &R, caller: &mut Caller<R>, addr: &[u8]) -> Fd {
+    let Ok(fd) = caller.t_open(b"ticlts", true) else {
         panic!(rt; "open")
     };
-    let Ok(_) = xti.t_bind(rt, alloc, seat, fd, addr, 0, 64) else {
+    let Ok(_) = caller.t_bind(fd, addr, 0, 64) else {
         panic!(rt; "bind")
     };
     fd
@@ -48,18 +42,16 @@ fn endpoint<R: Wait + Sync + Abort>(
 /// One round by the calls in their typed forms.
 fn typed<R: Wait + Sync + Abort>(
     rt: &R,
-    alloc: Global,
-    xti: &Xti,
-    seat: &mut Seat,
+    caller: &mut Caller<R>,
     from: Fd,
     to: Fd,
     bytes: &[u8],
     max: Max,
 ) {
-    let Ok(()) = xti.t_sndudata(rt, alloc, seat, from, TO, b"", bytes) else {
+    let Ok(()) = caller.t_sndudata(from, TO, b"", bytes) else {
         panic!(rt; "sndudata")
     };
-    let Ok((datagram, _flags)) = xti.t_rcvudata(rt, alloc, seat, to, max) else {
+    let Ok((datagram, _flags)) = caller.t_rcvudata(to, max) else {
         panic!(rt; "rcvudata")
     };
     assert!(rt; datagram.udata.as_slice().len() == bytes.len());
@@ -73,17 +65,17 @@ fn time_typed<R: Wait + Sync + Abort + Clock>(
     bytes: &[u8],
     keeps: bool,
 ) -> io::Result<Duration> {
-    let (xti, mut seat) = Xti::new(alloc, &Providers::usual(), keeps)?;
-    let from = endpoint(rt, alloc, &xti, &mut seat, FROM);
-    let to = endpoint(rt, alloc, &xti, &mut seat, TO);
+    let (xti, seat) = Xti::new(alloc, &Providers::usual(), keeps)?;
+    let mut caller = xti.caller(rt, alloc, seat);
+    let from = endpoint(rt, &mut caller, FROM);
+    let to = endpoint(rt, &mut caller, TO);
     let max = Max {
-        addr: 64,
-        opt: 256,
         udata: task.max,
+        ..Max::ALL
     };
     let start = Instant::now(rt)?;
     for _ in 0..task.rounds {
-        typed(rt, alloc, &xti, &mut seat, from, to, bytes, max);
+        typed(rt, &mut caller, from, to, bytes, max);
     }
     start.elapsed(rt)
 }
@@ -111,7 +103,7 @@ fn calls(
     Ok((send, receive))
 }
 
-/// The time of the rounds by `Xti::call`, with calls that are made once, over a library that keeps its history or doesn't.
+/// The time of the rounds by `Caller::call`, with calls that are made once, over a library that keeps its history or doesn't.
 fn time_calls<R: Wait + Sync + Abort + Clock>(
     rt: &R,
     alloc: Global,
@@ -119,17 +111,17 @@ fn time_calls<R: Wait + Sync + Abort + Clock>(
     bytes: &[u8],
     keeps: bool,
 ) -> io::Result<Duration> {
-    let (xti, mut seat) = Xti::new(alloc, &Providers::usual(), keeps)?;
-    let from = endpoint(rt, alloc, &xti, &mut seat, FROM);
-    let to = endpoint(rt, alloc, &xti, &mut seat, TO);
+    let (xti, seat) = Xti::new(alloc, &Providers::usual(), keeps)?;
+    let mut caller = xti.caller(rt, alloc, seat);
+    let from = endpoint(rt, &mut caller, FROM);
+    let to = endpoint(rt, &mut caller, TO);
     let (send, receive) = calls(alloc, from, to, bytes, task.max)?;
     let start = Instant::now(rt)?;
     for _ in 0..task.rounds {
-        let Ok(Reply::Plain) = xti.call(rt, alloc, &mut seat, &NoGate, &send) else {
+        let Ok(Reply::Plain) = caller.call(&NoGate, &send) else {
             panic!(rt; "sndudata")
         };
-        let Ok(Reply::UData { bytes: came, .. }) = xti.call(rt, alloc, &mut seat, &NoGate, &receive)
-        else {
+        let Ok(Reply::UData { bytes: came, .. }) = caller.call(&NoGate, &receive) else {
             panic!(rt; "rcvudata")
         };
         assert!(rt; came.as_slice().len() == bytes.len());

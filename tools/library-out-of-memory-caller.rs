@@ -4,7 +4,7 @@ use std::alloc::{AllocError, Global};
 use std::process::Abort;
 use std::sync::Wait;
 use xti_base::{Fd, Octets};
-use xti_calls::{Fail, Halt, Max, Seat, Xti};
+use xti_calls::{Caller, Fail, Halt, Max, Seat, Xti};
 use xti_model::{Call, Reply};
 use xti_step::NoGate;
 
@@ -49,26 +49,24 @@ pub struct Refusals {
     pub resumed: usize,
 }
 
-/// One caller: a seat, how many steps the other seats made, where it is told, how many bytes it received so far, and how often
-/// it was refused memory.
+/// A caller, how many steps the other seats made, where it is told, how many bytes it received so far, and how often it was
+/// refused memory.
 #[derive(Drop)]
-pub struct Caller<'a, R> {
+pub struct Retrier<'a, R: Wait + Sync> {
     pub rt: &'a R,
     pub alloc: Global,
-    pub xti: &'a Xti,
-    pub seat: Seat,
+    pub caller: Caller<'a, R>,
     pub others: Option<u64>,
     pub received: usize,
     pub refusals: Refusals,
 }
 
-impl<'a, R: Wait + Sync + Abort> Caller<'a, R> {
-    pub fn new(rt: &'a R, alloc: Global, xti: &'a Xti, seat: Seat) -> Caller<'a, R> {
-        Caller {
+impl<'a, R: Wait + Sync + Abort> Retrier<'a, R> {
+    pub fn new(rt: &'a R, alloc: Global, xti: &'a Xti, seat: Seat) -> Retrier<'a, R> {
+        Retrier {
             rt,
             alloc,
-            xti,
-            seat,
+            caller: xti.caller(rt, alloc, seat),
             others: None,
             received: 0,
             refusals: Refusals {
@@ -82,11 +80,11 @@ impl<'a, R: Wait + Sync + Abort> Caller<'a, R> {
     /// entries as they were.
     pub fn form<T>(
         &mut self,
-        form: impl Fn(&'a Xti, &'a R, Global, &mut Seat) -> Result<T, Fail>,
+        form: impl Fn(&mut Caller<'a, R>) -> Result<T, Fail>,
     ) -> Result<Result<T, Fail>, AllocError> {
         for _ in 0..TRIES {
-            let steps = self.seat.steps();
-            match form(self.xti, self.rt, self.alloc, &mut self.seat) {
+            let steps = self.caller.steps();
+            match form(&mut self.caller) {
                 Err(Fail::Memory(_)) => {}
                 Err(Fail::Halt(Halt::OutOfMemory { taken })) => assert!(self.rt;
                     taken == 0,
@@ -94,8 +92,8 @@ impl<'a, R: Wait + Sync + Abort> Caller<'a, R> {
                 ),
                 other => return Ok(other),
             }
-            assert!(self.rt; self.seat.steps() == steps, "a step was made");
-            assert!(self.rt; self.seat.unfinished().is_none(), "a call is unfinished");
+            assert!(self.rt; self.caller.steps() == steps, "a step was made");
+            assert!(self.rt; self.caller.unfinished().is_none(), "a call is unfinished");
             self.refusals.again += 1;
         }
         Err(AllocError)
@@ -105,7 +103,7 @@ impl<'a, R: Wait + Sync + Abort> Caller<'a, R> {
     pub fn get<T>(
         &mut self,
         what: &str,
-        form: impl Fn(&'a Xti, &'a R, Global, &mut Seat) -> Result<T, Fail>,
+        form: impl Fn(&mut Caller<'a, R>) -> Result<T, Fail>,
     ) -> Result<T, AllocError> {
         match self.form(form)? {
             Ok(answer) => Ok(answer),
@@ -118,7 +116,7 @@ impl<'a, R: Wait + Sync + Abort> Caller<'a, R> {
         &mut self,
         what: &str,
         wanted: &str,
-        form: impl Fn(&'a Xti, &'a R, Global, &mut Seat) -> Result<T, Fail>,
+        form: impl Fn(&mut Caller<'a, R>) -> Result<T, Fail>,
     ) -> Result<(), AllocError> {
         match self.form(form)? {
             Ok(_) => panic!(self.rt; "{what}: no error"),
@@ -131,17 +129,13 @@ impl<'a, R: Wait + Sync + Abort> Caller<'a, R> {
     /// no seat can go on.
     pub fn call(&mut self, call: &Call) -> Result<Option<Reply>, AllocError> {
         for _ in 0..TRIES {
-            let made = match self.seat.unfinished() {
-                None => self
-                    .xti
-                    .call(self.rt, self.alloc, &mut self.seat, &NoGate, call),
-                Some(_) => self
-                    .xti
-                    .resume(self.rt, self.alloc, &mut self.seat, &NoGate, call),
+            let made = match self.caller.unfinished() {
+                None => self.caller.call(&NoGate, call),
+                Some(_) => self.caller.resume(&NoGate, call),
             };
             let taken = match made {
                 Ok(reply) => {
-                    assert!(self.rt; self.seat.unfinished().is_none(), "answered and unfinished");
+                    assert!(self.rt; self.caller.unfinished().is_none(), "answered and unfinished");
                     return Ok(Some(reply));
                 }
                 Err(Halt::OutOfMemory { taken }) => {
@@ -151,17 +145,17 @@ impl<'a, R: Wait + Sync + Abort> Caller<'a, R> {
                 Err(Halt::Stalled { taken, stall }) => {
                     assert!(self.rt; stall.waiting == 1, "another seat waits too");
                     assert!(self.rt;
-                        taken == self.seat.unfinished().unwrap_or(0),
+                        taken == self.caller.unfinished().unwrap_or(0),
                         "taken at the stall"
                     );
                     return Ok(None);
                 }
             };
             assert!(self.rt;
-                taken == self.seat.unfinished().unwrap_or(0),
+                taken == self.caller.unfinished().unwrap_or(0),
                 "taken out of memory"
             );
-            match self.seat.unfinished() {
+            match self.caller.unfinished() {
                 None => self.refusals.again += 1,
                 Some(_) => self.refusals.resumed += 1,
             }
@@ -174,17 +168,16 @@ impl<'a, R: Wait + Sync + Abort> Caller<'a, R> {
         let Some(others) = self.others else {
             return Ok(());
         };
-        let made = others + self.seat.steps();
-        let (rt, alloc, xti) = (self.rt, self.alloc, self.xti);
-        let seat = &mut self.seat;
-        let history = again(|| xti.history(rt, alloc, &mut *seat))?;
-        assert!(rt; history.as_slice().len() as u64 == made, "the history lacks a step");
+        let made = others + self.caller.steps();
+        let caller = &mut self.caller;
+        let history = again(|| caller.history())?;
+        assert!(self.rt; history.as_slice().len() as u64 == made, "the history lacks a step");
         Ok(())
     }
 
     /// Until its next call the seat counts as resting.
     pub fn rest(&mut self) {
-        self.xti.rest(self.rt, &mut self.seat);
+        self.caller.rest();
     }
 
     /// A bound endpoint of the provider with this name.
@@ -197,11 +190,11 @@ impl<'a, R: Wait + Sync + Abort> Caller<'a, R> {
     ) -> Result<Fd, AllocError> {
         let fd = self.get(
             "open",
-            |xti, rt, alloc, seat| xti.t_open(rt, alloc, seat, provider, nonblock),
+            |caller| caller.t_open(provider, nonblock),
         )?;
         self.get(
             "bind",
-            |xti, rt, alloc, seat| xti.t_bind(rt, alloc, seat, fd, addr, qlen, 64),
+            |caller| caller.t_bind(fd, addr, qlen, 64),
         )?;
         Ok(fd)
     }
@@ -210,7 +203,7 @@ impl<'a, R: Wait + Sync + Abort> Caller<'a, R> {
     pub fn receive(&mut self, fd: Fd, max: u32) -> Result<(usize, u32), AllocError> {
         let (bytes, flags) = self.get(
             "rcv",
-            |xti, rt, alloc, seat| xti.t_rcv(rt, alloc, seat, fd, max),
+            |caller| caller.t_rcv(fd, max),
         )?;
         self.take(bytes.as_slice());
         Ok((bytes.as_slice().len(), flags))
@@ -233,7 +226,7 @@ impl<'a, R: Wait + Sync + Abort> Caller<'a, R> {
         for _ in 0..1_000 {
             match self.get(
                 "look",
-                |xti, rt, alloc, seat| xti.t_look(rt, alloc, seat, fd),
+                |caller| caller.t_look(fd),
             )? {
                 Some(xti_base::Event::T_DATA) => {}
                 _ => return Ok(()),
@@ -253,5 +246,6 @@ pub fn name_of(fail: Fail) -> &'static str {
         Fail::Halt(Halt::Stalled { .. }) => "stalled",
         Fail::Halt(Halt::OutOfMemory { .. }) => "out of memory in a step",
         Fail::Memory(_) => "out of memory before a step",
+        Fail::Unfinished => "unfinished",
     }
 }

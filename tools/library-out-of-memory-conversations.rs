@@ -1,6 +1,6 @@
 //! Four conversations, each with all memory, and with some of it refused. Nothing here is proved.
 
-use crate::caller::{Caller, MOST, Refusals, again, bytes_from, name_of};
+use crate::caller::{Retrier, MOST, Refusals, again, bytes_from, name_of};
 use std::alloc::{AllocError, Global};
 use std::io::Eprint;
 use std::process::Abort;
@@ -8,7 +8,7 @@ use std::sync::Wait;
 use std::thread::{self, Threads};
 use xti_base::{Event, Fd, Info, Octets, Parts, Seq, Sizes, State};
 use xti_calls::{AllocFail, Fail, Seat, StructKind, Xti, t_alloc, t_strerror, t_sysconf};
-use xti_data::Gather;
+use xti_data::SendParts;
 use xti_model::{Call, Reply};
 
 /// An address that is too long to stand in a list of bytes itself.
@@ -43,8 +43,8 @@ const THERE: &[u8] = b"there, and some more bytes";
 const BYE: &[u8] = b"bye, and some more bytes";
 
 /// Parts of these lengths, of the bytes from this place on.
-fn parts(alloc: Global, start: usize, lengths: &[usize]) -> Result<Gather, AllocError> {
-    let mut parts = Gather::new(alloc);
+fn parts(alloc: Global, start: usize, lengths: &[usize]) -> Result<SendParts, AllocError> {
+    let mut parts = SendParts::new(alloc);
     let mut at = start;
     for length in lengths {
         parts.add(bytes_from(alloc, at, *length)?.as_slice())?;
@@ -72,18 +72,18 @@ pub fn datagrams<R: Wait + Sync + Abort + Eprint>(
     xti: &Xti,
     seat: Seat,
 ) -> Result<Seat, AllocError> {
-    let mut me = Caller::new(rt, alloc, xti, seat);
+    let mut me = Retrier::new(rt, alloc, xti, seat);
     let one = me.endpoint(b"ticlts", false, LONG, 0)?;
     let other = me.endpoint(b"ticlts", true, OTHER, 0)?;
     let whole = again(|| bytes_from(alloc, 0, 300))?;
     me.get(
         "sndudata",
-        |xti, rt, alloc, seat| xti.t_sndudata(rt, alloc, seat, one, OTHER, SIZES, whole.as_slice()),
+        |caller| caller.t_sndudata(one, OTHER, SIZES, whole.as_slice()),
     )?;
     let rest = again(|| parts(alloc, 300, &[40, 0, 17, 70]))?;
     me.get(
         "sndvudata",
-        |xti, rt, alloc, seat| xti.t_sndvudata(rt, alloc, seat, one, OTHER, b"", &rest),
+        |caller| caller.t_sndvudata(one, OTHER, b"", &rest),
     )?;
     let mut max = MOST;
     max.udata = 130;
@@ -91,7 +91,7 @@ pub fn datagrams<R: Wait + Sync + Abort + Eprint>(
     for _ in 0..4 {
         let (datagram, flags) = me.get(
             "rcvudata",
-            |xti, rt, alloc, seat| xti.t_rcvudata(rt, alloc, seat, other, max),
+            |caller| caller.t_rcvudata(other, max),
         )?;
         me.take(datagram.udata.as_slice());
         flags_of_all += flags;
@@ -103,7 +103,7 @@ pub fn datagrams<R: Wait + Sync + Abort + Eprint>(
     me.fails(
         "rcvudata",
         "TNODATA",
-        |xti, rt, alloc, seat| xti.t_rcvudata(rt, alloc, seat, other, MOST),
+        |caller| caller.t_rcvudata(other, MOST),
     )?;
     to_nobody(&mut me, one)?;
     until_full(&mut me, one, other)?;
@@ -111,29 +111,28 @@ pub fn datagrams<R: Wait + Sync + Abort + Eprint>(
     for fd in [one, other] {
         me.get(
             "close",
-            |xti, rt, alloc, seat| xti.t_close(rt, alloc, seat, fd),
+            |caller| caller.t_close(fd),
         )?;
     }
     say(rt, me.received, &[me.refusals]);
-    let Caller { seat, .. } = me;
-    Ok(seat)
+    Ok(me.caller.into_seat())
 }
 
 /// A datagram to an address that nobody has, and its error.
-fn to_nobody<R: Wait + Sync + Abort>(me: &mut Caller<'_, R>, fd: Fd) -> Result<(), AllocError> {
+fn to_nobody<R: Wait + Sync + Abort>(me: &mut Retrier<'_, R>, fd: Fd) -> Result<(), AllocError> {
     let nobody = b"an address that nobody is bound to";
     me.get(
         "sndudata",
-        |xti, rt, alloc, seat| xti.t_sndudata(rt, alloc, seat, fd, nobody, SIZES, HELLO),
+        |caller| caller.t_sndudata(fd, nobody, SIZES, HELLO),
     )?;
     me.fails(
         "sndudata",
         "T_UDERR",
-        |xti, rt, alloc, seat| xti.t_sndudata(rt, alloc, seat, fd, OTHER, b"", HELLO),
+        |caller| caller.t_sndudata(fd, OTHER, b"", HELLO),
     )?;
     let (addr, opt, code) = me.get(
         "rcvuderr",
-        |xti, rt, alloc, seat| xti.t_rcvuderr(rt, alloc, seat, fd, 64, 256),
+        |caller| caller.t_rcvuderr(fd, 64, 256),
     )?;
     assert!(me.rt;
         addr.as_slice() == nobody.as_slice() && opt.as_slice() == SIZES && code == 1,
@@ -144,7 +143,7 @@ fn to_nobody<R: Wait + Sync + Abort>(me: &mut Caller<'_, R>, fd: Fd) -> Result<(
 
 /// Datagrams until no more may wait, and their receipt.
 fn until_full<R: Wait + Sync + Abort>(
-    me: &mut Caller<'_, R>,
+    me: &mut Retrier<'_, R>,
     one: Fd,
     other: Fd,
 ) -> Result<(), AllocError> {
@@ -153,11 +152,7 @@ fn until_full<R: Wait + Sync + Abort>(
         let text = again(|| bytes_from(me.alloc, start + 20 * number, 20))?;
         me.get(
             "sndudata",
-            |xti, rt, alloc, seat| xti.t_sndudata(
-                rt,
-                alloc,
-                seat,
-                other,
+            |caller| caller.t_sndudata(other,
                 LONG,
                 b"",
                 text.as_slice(),
@@ -167,19 +162,19 @@ fn until_full<R: Wait + Sync + Abort>(
     me.fails(
         "sndudata",
         "TFLOW",
-        |xti, rt, alloc, seat| xti.t_sndudata(rt, alloc, seat, other, LONG, b"", HELLO),
+        |caller| caller.t_sndudata(other, LONG, b"", HELLO),
     )?;
     for _ in 0..16 {
         let (datagram, _flags) = me.get(
             "rcvudata",
-            |xti, rt, alloc, seat| xti.t_rcvudata(rt, alloc, seat, one, MOST),
+            |caller| caller.t_rcvudata(one, MOST),
         )?;
         me.take(datagram.udata.as_slice());
     }
     assert!(me.rt; me.received == start + 320, "all datagrams");
     let event = me.get(
         "look",
-        |xti, rt, alloc, seat| xti.t_look(rt, alloc, seat, other),
+        |caller| caller.t_look(other),
     )?;
     assert!(me.rt; matches!(event, Some(Event::T_GODATA)), "the flow event");
     Ok(())
@@ -187,7 +182,7 @@ fn until_full<R: Wait + Sync + Abort>(
 
 /// A receipt by two buffers, and one whose buffer for the address is too short.
 fn with_short_buffers<R: Wait + Sync + Abort>(
-    me: &mut Caller<'_, R>,
+    me: &mut Retrier<'_, R>,
     one: Fd,
     other: Fd,
 ) -> Result<(), AllocError> {
@@ -196,11 +191,7 @@ fn with_short_buffers<R: Wait + Sync + Abort>(
     for _ in 0..2 {
         me.get(
             "sndudata",
-            |xti, rt, alloc, seat| xti.t_sndudata(
-                rt,
-                alloc,
-                seat,
-                one,
+            |caller| caller.t_sndudata(one,
                 OTHER,
                 b"",
                 text.as_slice(),
@@ -217,7 +208,7 @@ fn with_short_buffers<R: Wait + Sync + Abort>(
     me.fails(
         "rcvudata",
         "TBUFOVFLW",
-        |xti, rt, alloc, seat| xti.t_rcvudata(rt, alloc, seat, other, max),
+        |caller| caller.t_rcvudata(other, max),
     )
 }
 
@@ -255,9 +246,9 @@ fn request(alloc: Global, fd: Fd, addr: &[u8]) -> Result<Call, AllocError> {
 
 /// Makes a send of bytes of a connection that waits for flow control, while the other end receives; how many were taken.
 fn send_while<R: Wait + Sync + Abort>(
-    from: &mut Caller<'_, R>,
+    from: &mut Retrier<'_, R>,
     call: &Call,
-    to: &mut Caller<'_, R>,
+    to: &mut Retrier<'_, R>,
     fd: Fd,
 ) -> Result<u32, AllocError> {
     for _ in 0..1_000 {
@@ -273,8 +264,8 @@ fn send_while<R: Wait + Sync + Abort>(
 
 /// Makes a connection of two blocking endpoints, with one seat each.
 fn connect<R: Wait + Sync + Abort>(
-    caller: &mut Caller<'_, R>,
-    listener: &mut Caller<'_, R>,
+    caller: &mut Retrier<'_, R>,
+    listener: &mut Retrier<'_, R>,
 ) -> Result<(Fd, Fd), AllocError> {
     let there = listener.endpoint(b"ticotsord", false, LONG, 1)?;
     let here = caller.endpoint(b"ticotsord", false, b"", 0)?;
@@ -285,12 +276,12 @@ fn connect<R: Wait + Sync + Abort>(
         "a request that nobody answered"
     );
     assert!(caller.rt;
-        caller.seat.unfinished() == Some(0),
+        caller.caller.unfinished() == Some(0),
         "a request is unfinished"
     );
     let heard = listener.get(
         "listen",
-        |xti, rt, alloc, seat| xti.t_listen(rt, alloc, seat, there, MOST),
+        |caller| caller.t_listen(there, MOST),
     )?;
     assert!(caller.rt;
         heard.udata.as_slice() == HELLO && heard.opt.as_slice() == SIZES,
@@ -298,7 +289,7 @@ fn connect<R: Wait + Sync + Abort>(
     );
     listener.get(
         "accept",
-        |xti, rt, alloc, seat| xti.t_accept(rt, alloc, seat, there, there, heard.seq, b"", THERE),
+        |caller| caller.t_accept(there, there, heard.seq, b"", THERE),
     )?;
     listener.rest();
     match caller.call(&call)? {
@@ -321,8 +312,8 @@ pub fn connection<R: Wait + Sync + Abort + Eprint>(
     let Ok(second) = xti.split(rt, alloc, &mut seat) else {
         panic!(rt; "split")
     };
-    let mut caller = Caller::new(rt, alloc, xti, seat);
-    let mut listener = Caller::new(rt, alloc, xti, second);
+    let mut caller = Retrier::new(rt, alloc, xti, seat);
+    let mut listener = Retrier::new(rt, alloc, xti, second);
     let (here, there) = connect(&mut caller, &mut listener)?;
     let call = again(|| send(alloc, here, 0, 1_000, 0))?;
     assert!(rt;
@@ -353,47 +344,43 @@ pub fn connection<R: Wait + Sync + Abort + Eprint>(
         listener.received + caller.received,
         &[listener.refusals, caller.refusals],
     );
-    let Caller { seat, .. } = caller;
-    let Caller {
-        seat: mut other,
-        ..
-    } = listener;
-    Ok(xti.meet(seat, &mut other))
+    let mut other = listener.caller.into_seat();
+    Ok(xti.meet(caller.caller.into_seat(), &mut other))
 }
 
 /// An orderly release, first by the caller; the listener still sends, and then releases too.
 fn release<R: Wait + Sync + Abort>(
-    caller: &mut Caller<'_, R>,
+    caller: &mut Retrier<'_, R>,
     here: Fd,
-    listener: &mut Caller<'_, R>,
+    listener: &mut Retrier<'_, R>,
     there: Fd,
 ) -> Result<(), AllocError> {
     caller.get(
         "sndrel",
-        |xti, rt, alloc, seat| xti.t_sndrel(rt, alloc, seat, here),
+        |caller| caller.t_sndrel(here),
     )?;
     listener.fails(
         "rcv",
         "T_ORDREL",
-        |xti, rt, alloc, seat| xti.t_rcv(rt, alloc, seat, there, 10),
+        |caller| caller.t_rcv(there, 10),
     )?;
     listener.get(
         "rcvrel",
-        |xti, rt, alloc, seat| xti.t_rcvrel(rt, alloc, seat, there),
+        |caller| caller.t_rcvrel(there),
     )?;
     let last = again(|| bytes_from(listener.alloc, 500, 90))?;
     let sent = listener.get(
         "snd",
-        |xti, rt, alloc, seat| xti.t_snd(rt, alloc, seat, there, last.as_slice(), 0),
+        |caller| caller.t_snd(there, last.as_slice(), 0),
     )?;
     listener.get(
         "sndrel",
-        |xti, rt, alloc, seat| xti.t_sndrel(rt, alloc, seat, there),
+        |caller| caller.t_sndrel(there),
     )?;
     caller.receive_all(here, 64)?;
     caller.get(
         "rcvrel",
-        |xti, rt, alloc, seat| xti.t_rcvrel(rt, alloc, seat, here),
+        |caller| caller.t_rcvrel(here),
     )?;
     assert!(caller.rt;
         sent == 90 && caller.received == 590,
@@ -410,19 +397,19 @@ pub fn expedited<R: Wait + Sync + Abort + Eprint>(
     xti: &Xti,
     seat: Seat,
 ) -> Result<Seat, AllocError> {
-    let mut me = Caller::new(rt, alloc, xti, seat);
+    let mut me = Retrier::new(rt, alloc, xti, seat);
     let listener = me.endpoint(b"ticots", false, LONG, 2)?;
     let first = me.endpoint(b"ticots", true, OTHER, 0)?;
     let second = me.endpoint(b"ticots", true, b"", 0)?;
     let fd = me.get(
         "open",
-        |xti, rt, alloc, seat| xti.t_open(rt, alloc, seat, b"ticots", false),
+        |caller| caller.t_open(b"ticots", false),
     )?;
     for from in [first, second] {
         me.fails(
             "connect",
             "TNODATA",
-            |xti, rt, alloc, seat| xti.t_connect(rt, alloc, seat, from, LONG, SIZES, HELLO, MOST),
+            |caller| caller.t_connect(from, LONG, SIZES, HELLO, MOST),
         )?;
     }
     let mut numbers = [Seq(0); 2];
@@ -430,27 +417,27 @@ pub fn expedited<R: Wait + Sync + Abort + Eprint>(
         *number = me
             .get(
                 "listen",
-                |xti, rt, alloc, seat| xti.t_listen(rt, alloc, seat, listener, MOST),
+                |caller| caller.t_listen(listener, MOST),
             )?
             .seq;
     }
     let [yes, no] = numbers;
     me.get(
         "accept",
-        |xti, rt, alloc, seat| xti.t_accept(rt, alloc, seat, listener, fd, yes, b"", THERE),
+        |caller| caller.t_accept(listener, fd, yes, b"", THERE),
     )?;
     me.get(
         "snddis",
-        |xti, rt, alloc, seat| xti.t_snddis(rt, alloc, seat, listener, no, BYE),
+        |caller| caller.t_snddis(listener, no, BYE),
     )?;
     let (reason, _seq, udata) = me.get(
         "rcvdis",
-        |xti, rt, alloc, seat| xti.t_rcvdis(rt, alloc, seat, second, 64),
+        |caller| caller.t_rcvdis(second, 64),
     )?;
     assert!(rt; reason == 3 && udata.as_slice() == BYE, "the rejection");
     let answer = me.get(
         "rcvconnect",
-        |xti, rt, alloc, seat| xti.t_rcvconnect(rt, alloc, seat, first, MOST),
+        |caller| caller.t_rcvconnect(first, MOST),
     )?;
     assert!(rt;
         answer.addr.as_slice() == LONG && answer.udata.as_slice() == THERE,
@@ -459,32 +446,31 @@ pub fn expedited<R: Wait + Sync + Abort + Eprint>(
     messages(&mut me, first, fd)?;
     me.get(
         "snddis",
-        |xti, rt, alloc, seat| xti.t_snddis(rt, alloc, seat, first, Seq(0), BYE),
+        |caller| caller.t_snddis(first, Seq(0), BYE),
     )?;
     me.fails(
         "rcv",
         "T_DISCONNECT",
-        |xti, rt, alloc, seat| xti.t_rcv(rt, alloc, seat, fd, 10),
+        |caller| caller.t_rcv(fd, 10),
     )?;
     let (reason, _seq, udata) = me.get(
         "rcvdis",
-        |xti, rt, alloc, seat| xti.t_rcvdis(rt, alloc, seat, fd, 64),
+        |caller| caller.t_rcvdis(fd, 64),
     )?;
     assert!(rt; reason == 4 && udata.as_slice() == BYE, "the disconnect");
     for fd in [listener, first, second, fd] {
         me.get(
             "close",
-            |xti, rt, alloc, seat| xti.t_close(rt, alloc, seat, fd),
+            |caller| caller.t_close(fd),
         )?;
     }
     say(rt, me.received, &[me.refusals]);
-    let Caller { seat, .. } = me;
-    Ok(seat)
+    Ok(me.caller.into_seat())
 }
 
 /// Expedited data overtake normal ones: bytes from place 60 on are sent first and received last.
 fn messages<R: Wait + Sync + Abort>(
-    me: &mut Caller<'_, R>,
+    me: &mut Retrier<'_, R>,
     from: Fd,
     to: Fd,
 ) -> Result<(), AllocError> {
@@ -497,7 +483,7 @@ fn messages<R: Wait + Sync + Abort>(
         let text = again(|| bytes_from(me.alloc, start, len))?;
         let sent = me.get(
             "snd",
-            |xti, rt, alloc, seat| xti.t_snd(rt, alloc, seat, from, text.as_slice(), flags),
+            |caller| caller.t_snd(from, text.as_slice(), flags),
         )?;
         assert!(me.rt; sent as usize == len, "snd");
     }
@@ -516,7 +502,7 @@ fn messages<R: Wait + Sync + Abort>(
     let pieces = again(|| parts(me.alloc, 200, &[30, 31]))?;
     me.get(
         "sndv",
-        |xti, rt, alloc, seat| xti.t_sndv(rt, alloc, seat, from, &pieces, 0),
+        |caller| caller.t_sndv(from, &pieces, 0),
     )?;
     let sizes = again(|| sizes_of(me.alloc, &[40, 40]))?;
     let call = Call::TRcvV { fd: to, sizes };
@@ -561,13 +547,13 @@ pub fn mixed<R: Threads + Wait + Sync + Abort + Eprint>(
     let Ok(second) = xti.split(rt, alloc, &mut seat) else {
         panic!(rt; "split")
     };
-    let mut me = Caller::new(rt, alloc, xti, seat);
+    let mut me = Retrier::new(rt, alloc, xti, seat);
     let to = me.endpoint(b"ticlts", false, LONG, 0)?;
-    let Caller { seat, .. } = me;
+    let seat = me.caller.into_seat();
     let ((mut second, sent, refusals), (seat, received, others)) = thread::join(
         rt,
-        || thread_of(Caller::new(rt, alloc, xti, second), |me| sender(me)),
-        || thread_of(Caller::new(rt, alloc, xti, seat), |me| receiver(me, to)),
+        || thread_of(Retrier::new(rt, alloc, xti, second), |me| sender(me)),
+        || thread_of(Retrier::new(rt, alloc, xti, seat), |me| receiver(me, to)),
     );
     let seat = xti.meet(seat, &mut second);
     if sent == End::OutOfMemory || received == End::OutOfMemory {
@@ -583,25 +569,21 @@ pub fn mixed<R: Threads + Wait + Sync + Abort + Eprint>(
 
 /// What a thread does; its seat then rests.
 fn thread_of<'a, R: Wait + Sync + Abort>(
-    mut me: Caller<'a, R>,
-    work: impl FnOnce(&mut Caller<'a, R>) -> Result<End, AllocError>,
+    mut me: Retrier<'a, R>,
+    work: impl FnOnce(&mut Retrier<'a, R>) -> Result<End, AllocError>,
 ) -> (Seat, End, Refusals) {
     let end = work(&mut me).unwrap_or(End::OutOfMemory);
     me.rest();
-    let Caller { seat, refusals, .. } = me;
-    (seat, end, refusals)
+    let Retrier { caller, refusals, .. } = me;
+    (caller.into_seat(), end, refusals)
 }
 
 /// Sends all datagrams, and between them asks about its endpoint.
-fn sender<R: Wait + Sync + Abort>(me: &mut Caller<'_, R>) -> Result<End, AllocError> {
+fn sender<R: Wait + Sync + Abort>(me: &mut Retrier<'_, R>) -> Result<End, AllocError> {
     let fd = me.endpoint(b"ticlts", false, OTHER, 0)?;
     for number in 0..ROUNDS {
         let text = again(|| bytes_from(me.alloc, LENGTH * number, LENGTH))?;
-        match me.form(|xti, rt, alloc, seat| xti.t_sndudata(
-            rt,
-            alloc,
-            seat,
-            fd,
+        match me.form(|caller| caller.t_sndudata(fd,
             LONG,
             SIZES,
             text.as_slice(),
@@ -615,34 +597,34 @@ fn sender<R: Wait + Sync + Abort>(me: &mut Caller<'_, R>) -> Result<End, AllocEr
     }
     me.get(
         "sndudata",
-        |xti, rt, alloc, seat| xti.t_sndudata(rt, alloc, seat, fd, b"nobody", b"", HELLO),
+        |caller| caller.t_sndudata(fd, b"nobody", b"", HELLO),
     )?;
     let (addr, _opt, _code) = me.get(
         "rcvuderr",
-        |xti, rt, alloc, seat| xti.t_rcvuderr(rt, alloc, seat, fd, 64, 0),
+        |caller| caller.t_rcvuderr(fd, 64, 0),
     )?;
     assert!(me.rt; addr.as_slice() == b"nobody".as_slice(), "the error");
     me.get(
         "unbind",
-        |xti, rt, alloc, seat| xti.t_unbind(rt, alloc, seat, fd),
+        |caller| caller.t_unbind(fd),
     )?;
     me.get(
         "close",
-        |xti, rt, alloc, seat| xti.t_close(rt, alloc, seat, fd),
+        |caller| caller.t_close(fd),
     )?;
     Ok(End::Done)
 }
 
 /// A call that no seat answers, since the other thread ended.
-fn stalled<R: Wait + Sync + Abort>(me: &mut Caller<'_, R>, fail: Fail) -> Result<End, AllocError> {
+fn stalled<R: Wait + Sync + Abort>(me: &mut Retrier<'_, R>, fail: Fail) -> Result<End, AllocError> {
     assert!(me.rt; name_of(fail) == "stalled", "{}", name_of(fail));
     Ok(End::Stalled)
 }
 
 /// Receives all datagrams, and between them asks about its endpoint.
-fn receiver<R: Wait + Sync + Abort>(me: &mut Caller<'_, R>, fd: Fd) -> Result<End, AllocError> {
+fn receiver<R: Wait + Sync + Abort>(me: &mut Retrier<'_, R>, fd: Fd) -> Result<End, AllocError> {
     for number in 0..ROUNDS {
-        match me.form(|xti, rt, alloc, seat| xti.t_rcvudata(rt, alloc, seat, fd, MOST))? {
+        match me.form(|caller| caller.t_rcvudata(fd, MOST))? {
             Ok((datagram, _flags)) => me.take(datagram.udata.as_slice()),
             Err(fail) => return stalled(me, fail),
         }
@@ -655,11 +637,11 @@ fn receiver<R: Wait + Sync + Abort>(me: &mut Caller<'_, R>, fd: Fd) -> Result<En
 }
 
 /// Options, information and structures of an endpoint, which stays as it was.
-fn asks<R: Wait + Sync + Abort>(me: &mut Caller<'_, R>, fd: Fd) -> Result<(), AllocError> {
+fn asks<R: Wait + Sync + Abort>(me: &mut Retrier<'_, R>, fd: Fd) -> Result<(), AllocError> {
     for action in [CURRENT, NEGOTIATE, CHECK, DEFAULT] {
         let (result, opt) = me.get(
             "optmgmt",
-            |xti, rt, alloc, seat| xti.t_optmgmt(rt, alloc, seat, fd, action, SIZES, 256),
+            |caller| caller.t_optmgmt(fd, action, SIZES, 256),
         )?;
         assert!(me.rt;
             result == 32 && opt.as_slice().len() == SIZES.len(),
@@ -669,20 +651,20 @@ fn asks<R: Wait + Sync + Abort>(me: &mut Caller<'_, R>, fd: Fd) -> Result<(), Al
     me.fails(
         "optmgmt",
         "TBADFLAG",
-        |xti, rt, alloc, seat| xti.t_optmgmt(rt, alloc, seat, fd, 1, SIZES, 256),
+        |caller| caller.t_optmgmt(fd, 1, SIZES, 256),
     )?;
     let info = me.get(
         "getinfo",
-        |xti, rt, alloc, seat| xti.t_getinfo(rt, alloc, seat, fd),
+        |caller| caller.t_getinfo(fd),
     )?;
     structures(me, &info)?;
     let state = me.get(
         "getstate",
-        |xti, rt, alloc, seat| xti.t_getstate(rt, alloc, seat, fd),
+        |caller| caller.t_getstate(fd),
     )?;
     let synced = me.get(
         "sync",
-        |xti, rt, alloc, seat| xti.t_sync(rt, alloc, seat, fd),
+        |caller| caller.t_sync(fd),
     )?;
     assert!(me.rt;
         state == State::T_IDLE && synced == State::T_IDLE,
@@ -690,7 +672,7 @@ fn asks<R: Wait + Sync + Abort>(me: &mut Caller<'_, R>, fd: Fd) -> Result<(), Al
     );
     let (local, peer) = me.get(
         "getprotaddr",
-        |xti, rt, alloc, seat| xti.t_getprotaddr(rt, alloc, seat, fd, 64, 64),
+        |caller| caller.t_getprotaddr(fd, 64, 64),
     )?;
     assert!(me.rt;
         local.as_slice().len() > 16 && peer.as_slice().is_empty(),
@@ -699,18 +681,18 @@ fn asks<R: Wait + Sync + Abort>(me: &mut Caller<'_, R>, fd: Fd) -> Result<(), Al
     me.fails(
         "rcv",
         "TNOTSUPPORT",
-        |xti, rt, alloc, seat| xti.t_rcv(rt, alloc, seat, fd, 10),
+        |caller| caller.t_rcv(fd, 10),
     )?;
     me.fails(
         "rcvuderr",
         "TNOUDERR",
-        |xti, rt, alloc, seat| xti.t_rcvuderr(rt, alloc, seat, fd, 64, 64),
+        |caller| caller.t_rcvuderr(fd, 64, 64),
     )
 }
 
 /// The structures of a provider of datagrams.
 fn structures<R: Wait + Sync + Abort>(
-    me: &mut Caller<'_, R>,
+    me: &mut Retrier<'_, R>,
     info: &Info,
 ) -> Result<(), AllocError> {
     for kind in [

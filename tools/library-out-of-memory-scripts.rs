@@ -1,6 +1,6 @@
-//! The calls of a script, which a seat for each worker makes by `Xti::call`, by turns on one thread. Nothing here is proved.
+//! The calls of a script, which a seat for each worker makes by `Caller::call`, by turns on one thread. Nothing here is proved.
 
-use crate::caller::{Caller, Refusals, again};
+use crate::caller::{Retrier, Refusals, again};
 use crate::conversations::say;
 use std::alloc::{AllocError, Global};
 use std::io::Eprint;
@@ -16,10 +16,10 @@ pub fn script_of(alloc: Global, text: &str) -> Result<Script, AllocError> {
     again(|| read_script(alloc, text.as_bytes()).map_err(|_| AllocError))
 }
 
-/// A worker: its seat, what it knows of its lines, and its call that isn't answered yet.
+/// A worker: its caller, what it knows of its lines, and its call that isn't answered yet.
 #[derive(Drop)]
-struct Player<'a, R> {
-    caller: Caller<'a, R>,
+struct Player<'a, R: Wait + Sync> {
+    caller: Retrier<'a, R>,
     worker: Worker,
     call: Option<Call>,
 }
@@ -43,7 +43,7 @@ impl<'a, R: Wait + Sync + Abort> Player<'a, R> {
         let Some(call) = self.call.take() else {
             return Ok(false);
         };
-        let steps = self.caller.seat.steps();
+        let steps = self.caller.caller.steps();
         self.caller.others = Some(others);
         let answered = self.caller.call(&call)?;
         self.caller.rest();
@@ -51,7 +51,7 @@ impl<'a, R: Wait + Sync + Abort> Player<'a, R> {
             Some(reply) => self.learn(lines, call, reply)?,
             None => self.call = Some(call),
         }
-        Ok(self.caller.seat.steps() != steps)
+        Ok(self.caller.caller.steps() != steps)
     }
 
     /// The worker learns what its call was answered.
@@ -68,7 +68,7 @@ impl<'a, R: Wait + Sync + Abort> Player<'a, R> {
 fn steps_of<R: Wait + Sync + Abort>(players: &[Player<'_, R>]) -> u64 {
     let mut steps = 0;
     for player in players {
-        steps += player.caller.seat.steps();
+        steps += player.caller.caller.steps();
     }
     steps
 }
@@ -86,7 +86,7 @@ fn play_all<R: Wait + Sync + Abort>(
         for place in 0..players.len() {
             let all = before + steps_of(players.as_slice());
             let player = &mut players[place];
-            let others = all - player.caller.seat.steps();
+            let others = all - player.caller.caller.steps();
             goes_on |= player.turn(lines, setup, others)?;
         }
     }
@@ -123,7 +123,7 @@ fn players_of<'a, R: Wait + Sync + Abort>(
             panic!(rt; "split")
         };
         xti.rest(rt, &mut seat);
-        let caller = Caller::new(rt, alloc, xti, seat);
+        let caller = Retrier::new(rt, alloc, xti, seat);
         players.push_reserved(Player {
             caller,
             worker,
@@ -143,14 +143,15 @@ pub fn play<R: Wait + Sync + Abort + Eprint>(
 ) -> Result<Seat, AllocError> {
     let mut workers = again(|| fresh_workers(alloc, lines))?;
     let main = Player {
-        caller: Caller::new(rt, alloc, xti, seat),
+        caller: Retrier::new(rt, alloc, xti, seat),
         worker: workers.remove(0),
         call: None,
     };
     let Player { caller, worker, .. } = set_up(main, lines)?;
-    let Caller {
-        mut seat, refusals, ..
+    let Retrier {
+        caller, refusals, ..
     } = caller;
+    let mut seat = caller.into_seat();
     let mut players = players_of(rt, alloc, xti, &mut seat, workers)?;
     xti.rest(rt, &mut seat);
     play_all(&mut players, lines, &worker, seat.steps())?;

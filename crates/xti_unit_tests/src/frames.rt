@@ -5,7 +5,7 @@ use bytes::Bytes;
 use std::alloc::Global;
 use tpi_grammar::{Measure, measure_frame};
 use tpi_prim::primitive::Prim;
-use tpi_prim::{FrameReader, Gathering, encode};
+use tpi_prim::{FrameReader, IndicationWriter, encode};
 
 /// T_DATA_IND, MORE_flag 0, two bytes of user data.
 const DATA: &[u8] = b"\0\0\0\x08\0\0\0\x02\0\0\0\x0e\0\0\0\0hi";
@@ -226,14 +226,14 @@ fn feeds(rt: HostRuntime) {
 }
 
 /// Whether user data in pieces make the frame.
-fn is_gathered(alloc: Global) -> bool {
-    let Ok(mut gathering) = Gathering::begin(alloc, false, false, 2) else {
+fn is_written(alloc: Global) -> bool {
+    let Ok(mut writer) = IndicationWriter::begin(alloc, false, false, 2) else {
         return false;
     };
-    gathering.put(b"h");
-    gathering.put(b"");
-    gathering.put(b"i");
-    let frame = gathering.finish();
+    writer.put(b"h");
+    writer.put(b"");
+    writer.put(b"i");
+    let frame = writer.finish();
     let is_data = frame.bytes() == DATA;
     drop(frame);
     is_data
@@ -241,5 +241,5 @@ fn is_gathered(alloc: Global) -> bool {
 
 #[test]
 fn user_data_in_pieces(rt: HostRuntime) {
-    assert!(rt; is_gathered(rt.alloc()));
+    assert!(rt; is_written(rt.alloc()));
 }

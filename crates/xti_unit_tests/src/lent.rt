@@ -1,8 +1,8 @@
 //! The cells that a step is lent.
 
-ghost use Rattle.std.specs.Prelude.{◌≡◌, [], None, true, IfSome};
+ghost use Rattle.std.specs.Prelude.{◌≡◌, true, IfSome};
 ghost use Rattle.xti_end.specs.Held.{is_open};
-ghost use Rattle.xti_model.specs.Profile.{usual};
+ghost use Rattle.xti_unit_tests.specs.Lent.{HasNothing};
 
 use std::alloc::Global;
 use xti_base::{Fd, Prov};
@@ -21,7 +21,7 @@ fn opened(alloc: Global) -> Option<Box<Endpoint>>
 
 /// Whether an open endpoint of place 5 that is lent is changed where it is, and is found by its own descriptor alone.
 fn is_changed(lent: &mut Lent, e: Box<Endpoint>) -> bool
-    requires nothing { lent.old ≡ record { providers = usual; numbers = []; held = []; registry = None } }
+    requires nothing { HasNothing lent.old }
     requires place { e.value.place ≡ 5 }
     requires open { is_open e.value ≡ true }
 {

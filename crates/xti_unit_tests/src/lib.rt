@@ -10,8 +10,6 @@ mod endpoints;
 #[cfg(test)]
 mod frames;
 #[cfg(test)]
-mod gather;
-#[cfg(test)]
 mod journal;
 #[cfg(test)]
 mod lent;
@@ -19,6 +17,8 @@ mod lent;
 mod queue;
 #[cfg(test)]
 mod registry;
+#[cfg(test)]
+mod send_parts;
 #[cfg(test)]
 mod summary;
 #[cfg(test)]
