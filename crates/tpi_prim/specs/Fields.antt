@@ -1,5 +1,5 @@
 -- The primitive of a frame, by the frame's bytes. Of bytes that are no frame nothing is meant.
-use Rattle.std.specs.Prelude.{◌≤◌, ◌+◌, ℕ, Bool, List, [], ◌∷◌, length, take, drop, nat_eq, not}
+use Rattle.std.specs.Prelude.{◌≤◌, ◌+◌, ℕ, Bool, true, false, List, [], ◌∷◌, length, take, drop, nat_eq, not}
 use Rattle.std.specs.Int.{w32, from_be_bytes}
 use Rattle.tpi_grammar.specs.Frame.{Slot, upto, part}
 use Rattle.tpi_grammar.specs.declared.kind.Kind.{Kind}
@@ -47,6 +47,40 @@ read_as kind.T_OK_ACK bs = prim.T_OK_ACK (word_in bs 12)
 read_as kind.T_UNITDATA_IND bs = prim.T_UNITDATA_IND (part_in bs 12) (part_in bs 20) (user_in bs)
 read_as kind.T_UDERROR_IND bs = prim.T_UDERROR_IND (part_in bs 12) (part_in bs 20) (word_in bs 28)
 read_as kind.T_ORDREL_IND bs = prim.T_ORDREL_IND
+
+-- primitives of an address, options and user data
+abbrev pub is_addressed : Kind → Bool
+is_addressed kind.T_CONN_REQ = true
+is_addressed kind.T_UNITDATA_REQ = true
+is_addressed kind.T_CONN_IND = true
+is_addressed kind.T_CONN_CON = true
+is_addressed kind.T_UNITDATA_IND = true
+is_addressed other = false
+
+-- primitives of numbers and user data
+abbrev pub has_no_part : Kind → Bool
+has_no_part kind.T_DISCON_REQ = true
+has_no_part kind.T_DATA_REQ = true
+has_no_part kind.T_EXDATA_REQ = true
+has_no_part kind.T_DISCON_IND = true
+has_no_part kind.T_DATA_IND = true
+has_no_part kind.T_EXDATA_IND = true
+has_no_part other = false
+
+-- primitives of an address and a number
+abbrev pub is_binding : Kind → Bool
+is_binding kind.T_BIND_REQ = true
+is_binding kind.T_BIND_ACK = true
+is_binding other = false
+
+-- primitives of numbers alone, or of none
+abbrev pub has_numbers_alone : Kind → Bool
+has_numbers_alone kind.T_UNBIND_REQ = true
+has_numbers_alone kind.T_ORDREL_REQ = true
+has_numbers_alone kind.T_ERROR_ACK = true
+has_numbers_alone kind.T_OK_ACK = true
+has_numbers_alone kind.T_ORDREL_IND = true
+has_numbers_alone other = false
 
 -- the kind of a frame
 unfoldable pub kind_in : List ℕ → Kind
