@@ -7,6 +7,7 @@ use Rattle.xti_base.specs.declared.kinds.Prov.TheVariants.{Ticlts}
 use Rattle.xti_base.specs.declared.kinds.State.TheVariants.{T_UNINIT}
 use Rattle.xti_model.specs.declared.profile.Providers.{Providers}
 use Rattle.xti_model.specs.Endpoint.{Endpoint, Target, Indication, Disconnect, Confirmation, Datagram, DatagramError, opened, without_number}
+use Rattle.xti_model.specs.Profile.{usual}
 use Rattle.xti_model.specs.Provider.{profile}
 use Rattle.xti_model.specs.Calls.Datagrams.{with_datagram, with_error}
 use Rattle.xti_model.specs.Spot.{spot_bytes}
@@ -42,35 +43,7 @@ is_open h = is_some h.body
 
 -- an endpoint of which each part is empty
 abbrev pub empty_endpoint : Endpoint
-empty_endpoint = record {
-  prov = Ticlts;
-  nonblock = false;
-  state = T_UNINIT;
-  address = None;
-  qlen = 0;
-  last_number = 0;
-  pending = [];
-  outstanding = [];
-  disconnects = [];
-  target = None;
-  peer = None;
-  peer_address = None;
-  confirmation = None;
-  normal = [];
-  expedited = [];
-  mid_expedited = false;
-  release = false;
-  datagrams = [];
-  begun = false;
-  datagram_errors = [];
-  unfinished_normal = 0;
-  unfinished_expedited = 0;
-  flow_normal = false;
-  flow_expedited = false;
-  flow_datagram = None;
-  sndbuf = 0;
-  rcvbuf = 0;
-}
+empty_endpoint = record (opened usual.ticlts Ticlts false) { state = T_UNINIT; sndbuf = 0; rcvbuf = 0 }
 
 -- the open endpoint; of a closed one nothing is meant
 abbrev pub parts_of : Option Endpoint → Endpoint

@@ -9,15 +9,15 @@ ghost use Rattle.xti_end.specs.Frames.{confirmation_in};
 ghost use Rattle.xti_end.specs.Held.{is_open, is_open_as, parts, with_parts, SameRoom};
 ghost use Rattle.xti_end.specs.Taken.{confirmation_of, confirmation_overflows, confirming, told_confirmation, IsSureBy, MakesBy, StillBlocked, TellsConfirmation};
 
-use crate::answers::{done, refused};
+use crate::answers::done;
 use crate::endpoint::Endpoint;
 use crate::fields::{is_too_long, trimmed_copy};
 use crate::providers::has_connections;
 use std::alloc::AllocError;
 use tpi_prim::Frame;
 use tpi_prim::primitive::Part;
-use xti_base::{Errno, Event, Fd, Seq, State};
-use xti_model::{Applied, Providers, Reply};
+use xti_base::{Fd, Seq, State};
+use xti_model::{Providers, Reply, Tried};
 
 /// The address of who answered.
 fn address(frame: &Frame) -> &[u8]
@@ -92,14 +92,7 @@ impl Endpoint {
     }
 
     /// Tells the confirmation, which must be there, or takes it without telling it where a field is too long.
-    fn tell_confirmation(
-        &mut self,
-        p: &Providers,
-        fd: Fd,
-        amax: u32,
-        omax: u32,
-        umax: u32,
-    ) -> Result<Applied, AllocError>
+    fn tell_confirmation(&mut self, p: &Providers, fd: Fd, amax: u32, omax: u32, umax: u32) -> Tried
         requires place { place_of p.now fd.0 ≡ self.old.place }
         requires open { is_open_as p.now fd.0 self.old ≡ true }
         requires waits { is_some (parts self.old).confirmation ≡ true }
@@ -125,7 +118,7 @@ impl Endpoint {
         amax: u32,
         omax: u32,
         umax: u32,
-    ) -> Result<Applied, AllocError>
+    ) -> Tried
         requires { place_of p.now fd.0 ≡ self.old.place }
         ensures step { MakesBy p.now (confirming fd.0 amax omax umax) self.old self.new result }
         ensures still { StillBlocked self.old self.new result }
@@ -133,25 +126,11 @@ impl Endpoint {
         ensures err { OnErr result (self.new ≡ self.old) }
         ensures sure { IsSureBy p.now (confirming fd.0 amax omax umax) self.old result }
     {
-        if !self.is(p, fd) {
-            return Ok(refused(self, p, fd, Errno::TBADF));
-        }
-        if !has_connections(self.prov()) {
-            return Ok(refused(self, p, fd, Errno::TNOTSUPPORT));
-        }
-        if !self.state().is(State::T_OUTCON) {
-            return Ok(refused(self, p, fd, Errno::TOUTSTATE));
-        }
-        if self.has_disconnect() {
-            let event = Event::T_DISCONNECT;
-            return Ok(done(self, p, fd, Reply::Look { event }));
-        }
-        if self.has_confirmation() {
-            self.tell_confirmation(p, fd, amax, omax, umax)
-        } else if self.nonblock() {
-            Ok(refused(self, p, fd, Errno::TNODATA))
-        } else {
-            Ok(Applied::Blocked)
-        }
+        refuse!(self, p, fd;
+            TBADF if !self.is(p, fd),
+            TNOTSUPPORT if !has_connections(self.prov()),
+            TOUTSTATE if !self.state().is(State::T_OUTCON);
+            look T_DISCONNECT if self.has_disconnect());
+        once_there!(self, p, fd; self.has_confirmation() => self.tell_confirmation(p, fd, amax, omax, umax))
     }
 }

@@ -14,6 +14,34 @@ macro_rules! or_drop {
     };
 }
 
+/// Ends a call with the error of the first of these conditions that holds, if one does; and else with TLOOK, where the last tells an
+/// event.
+macro_rules! refuse {
+    ($e:expr, $p:expr, $fd:expr;
+        $($errno:ident if $condition:expr),+ $(; look $event:ident if $looks:expr)?) => {
+        $(if $condition {
+            return Ok(crate::answers::refused($e, $p, $fd, xti_base::Errno::$errno));
+        })+
+        $(if $looks {
+            let event = xti_base::Event::$event;
+            return Ok(crate::answers::done($e, $p, $fd, xti_model::Reply::Look { event }));
+        })?
+    };
+}
+
+/// Makes a step where what it takes is there. Where it isn't, the call is refused with TNODATA or waits.
+macro_rules! once_there {
+    ($e:expr, $p:expr, $fd:expr; $there:expr => $step:expr) => {
+        if $there {
+            $step
+        } else if $e.nonblock() {
+            Ok(crate::answers::refused($e, $p, $fd, xti_base::Errno::TNODATA))
+        } else {
+            Ok(xti_model::Applied::Blocked)
+        }
+    };
+}
+
 mod answers;
 mod confirming;
 mod datagrams;

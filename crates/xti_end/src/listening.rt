@@ -12,15 +12,15 @@ ghost use Rattle.xti_end.specs.Frames.{indication_of, IsRequest};
 ghost use Rattle.xti_end.specs.Held.{is_open, is_open_as, parts, with_parts, SameRoom};
 ghost use Rattle.xti_end.specs.Taken.{listening, request_overflows, told_request, IsSureBy, MakesBy, StillBlocked, TellsRequest};
 
-use crate::answers::{done, refused};
+use crate::answers::done;
 use crate::endpoint::Endpoint;
 use crate::fields::{is_too_long, trimmed_copy};
 use crate::indications::Ind;
 use crate::providers::has_connections;
 use std::alloc::AllocError;
 use tpi_prim::primitive::Part;
-use xti_base::{Errno, Event, Fd, Seq, State};
-use xti_model::{Applied, Providers, Reply};
+use xti_base::{Fd, Seq, State};
+use xti_model::{Providers, Reply, Tried};
 
 /// Whether an endpoint in this state takes requests to connect.
 pub fn is_listening(state: State) -> bool
@@ -128,14 +128,7 @@ impl Endpoint {
     }
 
     /// Tells the oldest pending request, which must be there, or its number alone where a field is too long.
-    fn tell_request(
-        &mut self,
-        p: &Providers,
-        fd: Fd,
-        amax: u32,
-        omax: u32,
-        umax: u32,
-    ) -> Result<Applied, AllocError>
+    fn tell_request(&mut self, p: &Providers, fd: Fd, amax: u32, omax: u32, umax: u32) -> Tried
         requires place { place_of p.now fd.0 ≡ self.old.place }
         requires open { is_open_as p.now fd.0 self.old ≡ true }
         requires waits { some_wait (parts self.old).pending ≡ true }
@@ -155,14 +148,7 @@ impl Endpoint {
     }
 
     /// t_listen.
-    pub(crate) fn listen(
-        &mut self,
-        p: &Providers,
-        fd: Fd,
-        amax: u32,
-        omax: u32,
-        umax: u32,
-    ) -> Result<Applied, AllocError>
+    pub(crate) fn listen(&mut self, p: &Providers, fd: Fd, amax: u32, omax: u32, umax: u32) -> Tried
         requires { place_of p.now fd.0 ≡ self.old.place }
         ensures step { MakesBy p.now (listening fd.0 amax omax umax) self.old self.new result }
         ensures still { StillBlocked self.old self.new result }
@@ -170,31 +156,13 @@ impl Endpoint {
         ensures err { OnErr result (self.new ≡ self.old) }
         ensures sure { IsSureBy p.now (listening fd.0 amax omax umax) self.old result }
     {
-        if !self.is(p, fd) {
-            return Ok(refused(self, p, fd, Errno::TBADF));
-        }
-        if !has_connections(self.prov()) {
-            return Ok(refused(self, p, fd, Errno::TNOTSUPPORT));
-        }
-        if !is_listening(self.state()) {
-            return Ok(refused(self, p, fd, Errno::TOUTSTATE));
-        }
-        if self.qlen() == 0 {
-            return Ok(refused(self, p, fd, Errno::TBADQLEN));
-        }
-        if self.ocnt() == self.qlen() as usize {
-            return Ok(refused(self, p, fd, Errno::TQFULL));
-        }
-        if self.has_disconnect() {
-            let event = Event::T_DISCONNECT;
-            return Ok(done(self, p, fd, Reply::Look { event }));
-        }
-        if self.has_pending() {
-            self.tell_request(p, fd, amax, omax, umax)
-        } else if self.nonblock() {
-            Ok(refused(self, p, fd, Errno::TNODATA))
-        } else {
-            Ok(Applied::Blocked)
-        }
+        refuse!(self, p, fd;
+            TBADF if !self.is(p, fd),
+            TNOTSUPPORT if !has_connections(self.prov()),
+            TOUTSTATE if !is_listening(self.state()),
+            TBADQLEN if self.qlen() == 0,
+            TQFULL if self.ocnt() == self.qlen() as usize;
+            look T_DISCONNECT if self.has_disconnect());
+        once_there!(self, p, fd; self.has_pending() => self.tell_request(p, fd, amax, omax, umax))
     }
 }

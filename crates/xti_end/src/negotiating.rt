@@ -14,10 +14,9 @@ use crate::answers::{done, refused};
 use crate::endpoint::Endpoint;
 use crate::fields::{is_too_long, trimmed};
 use crate::providers::profile;
-use std::alloc::AllocError;
 use xti_base::limits::MOST_OPTIONS;
 use xti_base::{Errno, Fd, Room, Seq};
-use xti_model::{Applied, Providers, Reply};
+use xti_model::{Applied, Providers, Reply, Tried};
 use xti_opt::{OptRefusal, Settings, answer_size, negotiate_bytes};
 
 /// A request to negotiate: what is to be done with the options, and the options.
@@ -99,13 +98,7 @@ impl Endpoint {
     }
 
     /// t_optmgmt.
-    pub(crate) fn optmgmt(
-        &mut self,
-        p: &Providers,
-        fd: Fd,
-        asked: Request<'_>,
-        omax: u32,
-    ) -> Result<Applied, AllocError>
+    pub(crate) fn optmgmt(&mut self, p: &Providers, fd: Fd, asked: Request<'_>, omax: u32) -> Tried
         requires { place_of p.now fd.0 ≡ self.old.place }
         ensures step { MakesBy p.now (negotiating fd.0 asked.entry omax) self.old self.new result }
         ensures still { StillBlocked self.old self.new result }

@@ -9,15 +9,15 @@ ghost use Rattle.xti_model.specs.Calls.Datagrams as Datagrams;
 ghost use Rattle.xti_end.specs.Held.{is_open, is_open_as, parts, with_parts, SameRoom};
 ghost use Rattle.xti_end.specs.Taken.{first_bytes, first_has_rest, receiving, filling, IsSureBy, MakesBy, Receives, StillBlocked};
 
-use crate::answers::{done, refused};
+use crate::answers::done;
 use crate::endpoint::Endpoint;
 use crate::fields::{is_too_long, trimmed_copy};
 use crate::providers::has_datagrams;
 use std::alloc::AllocError;
 use tpi_prim::primitive::Part;
 use xti_base::limits::MOST_PARTS;
-use xti_base::{Errno, Event, Fd, Octets, Seq, State};
-use xti_model::{Applied, Providers, Reply};
+use xti_base::{Fd, Octets, Seq, State};
+use xti_model::{Providers, Reply, Tried};
 
 /// Whether there are more bytes than `max`.
 fn is_more(bytes: &[u8], max: usize) -> bool
@@ -134,14 +134,7 @@ impl Endpoint {
     }
 
     /// Receives of the first datagram, which must be there, or loses it where a field is too long.
-    fn receive_or_lose(
-        &mut self,
-        p: &Providers,
-        fd: Fd,
-        max: usize,
-        amax: u32,
-        omax: u32,
-    ) -> Result<Applied, AllocError>
+    fn receive_or_lose(&mut self, p: &Providers, fd: Fd, max: usize, amax: u32, omax: u32) -> Tried
         requires place { place_of p.now fd.0 ≡ self.old.place }
         requires open { is_open_as p.now fd.0 self.old ≡ true }
         requires waits { some_wait (parts self.old).datagrams ≡ true }
@@ -177,7 +170,7 @@ impl Endpoint {
         sizes: Sizes,
         amax: u32,
         omax: u32,
-    ) -> Result<Applied, AllocError>
+    ) -> Tried
         requires { place_of p.now fd.0 ≡ self.old.place }
         ensures step { MakesBy p.now (receiving fd.0 sizes amax omax) self.old self.new result }
         ensures still { StillBlocked self.old self.new result }
@@ -185,29 +178,13 @@ impl Endpoint {
         ensures err { OnErr result (self.new ≡ self.old) }
         ensures sure { IsSureBy p.now (receiving fd.0 sizes amax omax) self.old result }
     {
-        if !self.is(p, fd) {
-            return Ok(refused(self, p, fd, Errno::TBADF));
-        }
-        if !has_datagrams(self.prov()) {
-            return Ok(refused(self, p, fd, Errno::TNOTSUPPORT));
-        }
-        if !self.state().is(State::T_IDLE) {
-            return Ok(refused(self, p, fd, Errno::TOUTSTATE));
-        }
-        if sizes.count > MOST_PARTS {
-            return Ok(refused(self, p, fd, Errno::TBADDATA));
-        }
-        if self.has_datagram_error() {
-            let event = Event::T_UDERR;
-            return Ok(done(self, p, fd, Reply::Look { event }));
-        }
-        if self.has_datagram() {
-            self.receive_or_lose(p, fd, sizes.total, amax, omax)
-        } else if self.nonblock() {
-            Ok(refused(self, p, fd, Errno::TNODATA))
-        } else {
-            Ok(Applied::Blocked)
-        }
+        refuse!(self, p, fd;
+            TBADF if !self.is(p, fd),
+            TNOTSUPPORT if !has_datagrams(self.prov()),
+            TOUTSTATE if !self.state().is(State::T_IDLE),
+            TBADDATA if sizes.count > MOST_PARTS;
+            look T_UDERR if self.has_datagram_error());
+        once_there!(self, p, fd; self.has_datagram() => self.receive_or_lose(p, fd, sizes.total, amax, omax))
     }
 
     /// t_rcvvudata.
@@ -218,7 +195,7 @@ impl Endpoint {
         sizes: &[u32],
         amax: u32,
         omax: u32,
-    ) -> Result<Applied, AllocError>
+    ) -> Tried
         requires { place_of p.now fd.0 ≡ self.old.place }
         ensures step { MakesBy p.now (filling fd.0 sizes.now amax omax) self.old self.new result }
         ensures still { StillBlocked self.old self.new result }

@@ -8,15 +8,15 @@ ghost use Rattle.xti_model.specs.Calls.Receive as Receive;
 ghost use Rattle.xti_end.specs.Held.{is_open, parts, with_parts, without_normal, without_expedited, SameRoom};
 ghost use Rattle.xti_end.specs.Taken.{data_reply, receiving_data, filling_data, IsSureBy, MakesBy, StillBlocked};
 
-use crate::answers::{done, refused};
+use crate::answers::done;
 use crate::endpoint::Endpoint;
 use crate::providers::{has_connections, is_stream};
 use crate::receiving::Sizes;
 use crate::receiving_release::is_receiving;
 use std::alloc::AllocError;
 use xti_base::limits::MOST_PARTS;
-use xti_base::{Errno, Event, Fd};
-use xti_model::{Applied, Providers, Reply};
+use xti_base::{Event, Fd};
+use xti_model::{Providers, Reply, Tried};
 use xti_queue::Piece;
 
 /// T_EXPEDITED, 2, and T_MORE, 1.
@@ -91,7 +91,7 @@ impl Endpoint {
     }
 
     /// t_rcv, or t_rcvv into these sizes.
-    pub(crate) fn rcv(&mut self, p: &Providers, fd: Fd, sizes: Sizes) -> Result<Applied, AllocError>
+    pub(crate) fn rcv(&mut self, p: &Providers, fd: Fd, sizes: Sizes) -> Tried
         requires { place_of p.now fd.0 ≡ self.old.place }
         ensures step { MakesBy p.now (receiving_data fd.0 sizes) self.old self.new result }
         ensures still { StillBlocked self.old self.new result }
@@ -99,38 +99,22 @@ impl Endpoint {
         ensures err { OnErr result (self.new ≡ self.old) }
         ensures sure { IsSureBy p.now (receiving_data fd.0 sizes) self.old result }
     {
-        if !self.is(p, fd) {
-            return Ok(refused(self, p, fd, Errno::TBADF));
-        }
-        if !has_connections(self.prov()) {
-            return Ok(refused(self, p, fd, Errno::TNOTSUPPORT));
-        }
-        if !is_receiving(self.state()) {
-            return Ok(refused(self, p, fd, Errno::TOUTSTATE));
-        }
-        if sizes.count > MOST_PARTS {
-            return Ok(refused(self, p, fd, Errno::TBADDATA));
-        }
+        refuse!(self, p, fd;
+            TBADF if !self.is(p, fd),
+            TNOTSUPPORT if !has_connections(self.prov()),
+            TOUTSTATE if !is_receiving(self.state()),
+            TBADDATA if sizes.count > MOST_PARTS);
         if let Some(event) = self.event_before_data() {
             return Ok(done(self, p, fd, Reply::Look { event }));
         }
-        if !self.has_nothing() {
+        once_there!(self, p, fd; !self.has_nothing() => {
             let reply = self.receive_data(p, sizes.total)?;
             Ok(done(self, p, fd, reply))
-        } else if self.nonblock() {
-            Ok(refused(self, p, fd, Errno::TNODATA))
-        } else {
-            Ok(Applied::Blocked)
-        }
+        })
     }
 
     /// t_rcvv.
-    pub(crate) fn rcvv(
-        &mut self,
-        p: &Providers,
-        fd: Fd,
-        sizes: &[u32],
-    ) -> Result<Applied, AllocError>
+    pub(crate) fn rcvv(&mut self, p: &Providers, fd: Fd, sizes: &[u32]) -> Tried
         requires { place_of p.now fd.0 ≡ self.old.place }
         ensures step { MakesBy p.now (filling_data fd.0 sizes.now) self.old self.new result }
         ensures still { StillBlocked self.old self.new result }

@@ -13,14 +13,14 @@ ghost use Rattle.xti_end.specs.Frames.{disconnect_in};
 ghost use Rattle.xti_end.specs.Held.{is_open, is_open_as, parts, with_parts, SameRoom};
 ghost use Rattle.xti_end.specs.Taken.{receiving_disconnect, told_disconnect, IsSureBy, MakesBy, StillBlocked, TellsDisconnect};
 
-use crate::answers::{done, refused};
+use crate::answers::done;
 use crate::endpoint::Endpoint;
 use crate::fields::{is_too_long, trimmed_copy};
 use crate::providers::has_connections;
 use std::alloc::AllocError;
 use tpi_prim::Frame;
-use xti_base::{Errno, Fd, Seq, State};
-use xti_model::{Applied, Providers, Reply};
+use xti_base::{Fd, Seq, State};
+use xti_model::{Providers, Reply, Tried};
 
 /// Whether there is a connection, or a request for one.
 pub fn is_connected_or_asking(state: State) -> bool
@@ -102,7 +102,7 @@ impl Endpoint {
     }
 
     /// Tells the oldest disconnect, which must be there, or takes it without telling its data where they are too long.
-    fn tell_disconnect(&mut self, p: &Providers, fd: Fd, umax: u32) -> Result<Applied, AllocError>
+    fn tell_disconnect(&mut self, p: &Providers, fd: Fd, umax: u32) -> Tried
         requires place { place_of p.now fd.0 ≡ self.old.place }
         requires open { is_open_as p.now fd.0 self.old ≡ true }
         requires waits { some_wait (parts self.old).disconnects ≡ true }
@@ -121,7 +121,7 @@ impl Endpoint {
     }
 
     /// t_rcvdis.
-    pub(crate) fn rcvdis(&mut self, p: &Providers, fd: Fd, umax: u32) -> Result<Applied, AllocError>
+    pub(crate) fn rcvdis(&mut self, p: &Providers, fd: Fd, umax: u32) -> Tried
         requires { place_of p.now fd.0 ≡ self.old.place }
         ensures step { MakesBy p.now (receiving_disconnect fd.0 umax) self.old self.new result }
         ensures still { StillBlocked self.old self.new result }
@@ -129,18 +129,11 @@ impl Endpoint {
         ensures err { OnErr result (self.new ≡ self.old) }
         ensures sure { IsSureBy p.now (receiving_disconnect fd.0 umax) self.old result }
     {
-        if !self.is(p, fd) {
-            return Ok(refused(self, p, fd, Errno::TBADF));
-        }
-        if !has_connections(self.prov()) {
-            return Ok(refused(self, p, fd, Errno::TNOTSUPPORT));
-        }
-        if !is_connected_or_asking(self.state()) {
-            return Ok(refused(self, p, fd, Errno::TOUTSTATE));
-        }
-        if !self.has_disconnect() {
-            return Ok(refused(self, p, fd, Errno::TNODIS));
-        }
+        refuse!(self, p, fd;
+            TBADF if !self.is(p, fd),
+            TNOTSUPPORT if !has_connections(self.prov()),
+            TOUTSTATE if !is_connected_or_asking(self.state()),
+            TNODIS if !self.has_disconnect());
         self.tell_disconnect(p, fd, umax)
     }
 }

@@ -12,15 +12,15 @@ ghost use Rattle.xti_end.specs.Frames.{error_in};
 ghost use Rattle.xti_end.specs.Held.{is_open, is_open_as, parts, with_parts, SameRoom};
 ghost use Rattle.xti_end.specs.Taken.{error_fields, receiving_error, told_error, IsSureBy, MakesBy, StillBlocked, TellsError};
 
-use crate::answers::{done, refused};
+use crate::answers::done;
 use crate::endpoint::Endpoint;
 use crate::fields::{is_too_long, trimmed_copy};
 use crate::providers::has_datagrams;
 use std::alloc::AllocError;
 use tpi_prim::Frame;
 use tpi_prim::primitive::Part;
-use xti_base::{Errno, Fd, Seq, State};
-use xti_model::{Applied, Providers, Reply};
+use xti_base::{Fd, Seq, State};
+use xti_model::{Providers, Reply, Tried};
 
 /// Where the datagram of a T_UDERROR_IND was to go.
 fn destination(frame: &Frame) -> &[u8]
@@ -92,13 +92,7 @@ impl Endpoint {
     }
 
     /// Tells the first datagram error, which must be there, or loses it where a field is too long.
-    fn tell_or_lose(
-        &mut self,
-        p: &Providers,
-        fd: Fd,
-        amax: u32,
-        omax: u32,
-    ) -> Result<Applied, AllocError>
+    fn tell_or_lose(&mut self, p: &Providers, fd: Fd, amax: u32, omax: u32) -> Tried
         requires place { place_of p.now fd.0 ≡ self.old.place }
         requires open { is_open_as p.now fd.0 self.old ≡ true }
         requires waits { some_wait (parts self.old).datagram_errors ≡ true }
@@ -117,13 +111,7 @@ impl Endpoint {
     }
 
     /// t_rcvuderr.
-    pub(crate) fn rcvuderr(
-        &mut self,
-        p: &Providers,
-        fd: Fd,
-        amax: u32,
-        omax: u32,
-    ) -> Result<Applied, AllocError>
+    pub(crate) fn rcvuderr(&mut self, p: &Providers, fd: Fd, amax: u32, omax: u32) -> Tried
         requires { place_of p.now fd.0 ≡ self.old.place }
         ensures step { MakesBy p.now (receiving_error fd.0 amax omax) self.old self.new result }
         ensures still { StillBlocked self.old self.new result }
@@ -131,18 +119,11 @@ impl Endpoint {
         ensures err { OnErr result (self.new ≡ self.old) }
         ensures sure { IsSureBy p.now (receiving_error fd.0 amax omax) self.old result }
     {
-        if !self.is(p, fd) {
-            return Ok(refused(self, p, fd, Errno::TBADF));
-        }
-        if !has_datagrams(self.prov()) {
-            return Ok(refused(self, p, fd, Errno::TNOTSUPPORT));
-        }
-        if !self.state().is(State::T_IDLE) {
-            return Ok(refused(self, p, fd, Errno::TOUTSTATE));
-        }
-        if !self.has_datagram_error() {
-            return Ok(refused(self, p, fd, Errno::TNOUDERR));
-        }
+        refuse!(self, p, fd;
+            TBADF if !self.is(p, fd),
+            TNOTSUPPORT if !has_datagrams(self.prov()),
+            TOUTSTATE if !self.state().is(State::T_IDLE),
+            TNOUDERR if !self.has_datagram_error());
         self.tell_or_lose(p, fd, amax, omax)
     }
 }

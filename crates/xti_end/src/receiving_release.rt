@@ -20,15 +20,7 @@ use xti_model::{Applied, Providers, Reply};
 pub(crate) fn is_receiving(state: State) -> bool
     ensures { result ≡ list_any (same_state state) receiving }
 {
-    match state {
-        State::T_DATAXFER | State::T_OUTREL => true,
-        State::T_UNINIT
-        | State::T_UNBND
-        | State::T_IDLE
-        | State::T_OUTCON
-        | State::T_INCON
-        | State::T_INREL => false,
-    }
+    state.is(State::T_DATAXFER) || state.is(State::T_OUTREL)
 }
 
 impl Endpoint {

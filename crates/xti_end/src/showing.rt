@@ -11,9 +11,8 @@ use crate::answers::{done, refused};
 use crate::endpoint::Endpoint;
 use crate::fields::{is_too_long, trimmed_copy};
 use crate::providers::info;
-use std::alloc::AllocError;
-use xti_base::{Errno, Fd, Seq, State};
-use xti_model::{Applied, Providers, Reply};
+use xti_base::{Errno, Fd, Seq, State, let_go};
+use xti_model::{Applied, Providers, Reply, Tried};
 
 impl Endpoint {
     /// t_getstate and t_sync.
@@ -82,13 +81,7 @@ impl Endpoint {
     }
 
     /// t_getprotaddr.
-    pub(crate) fn getprotaddr(
-        &self,
-        p: &Providers,
-        fd: Fd,
-        amax: u32,
-        pmax: u32,
-    ) -> Result<Applied, AllocError>
+    pub(crate) fn getprotaddr(&self, p: &Providers, fd: Fd, amax: u32, pmax: u32) -> Tried
         requires { place_of p.now fd.0 ≡ self.now.place }
         ensures step { MakesBy p.now (showing_addresses fd.0 amax pmax) self.now self.now result }
         ensures sure { IsSureBy p.now (showing_addresses fd.0 amax pmax) self.now result }
@@ -102,7 +95,13 @@ impl Endpoint {
             return Ok(done(self, p, fd, Reply::Overflow { seq: Seq(0) }));
         }
         let local = trimmed_copy(self.alloc, local, amax)?;
-        let peer = or_drop!(trimmed_copy(self.alloc, peer, pmax), local);
+        let peer = match trimmed_copy(self.alloc, peer, pmax) {
+            Ok(made) => made,
+            Err(fail) => {
+                let_go(local);
+                return Err(fail);
+            }
+        };
         Ok(done(self, p, fd, Reply::Addresses { local, peer }))
     }
 }

@@ -1,6 +1,6 @@
 -- Lent cells once an endpoint was written.
 use Rattle.std.proofs.Common.{◌≡◌, ℕ, ◌<◌, subst, Bool, true, false, cond, eqb, List, [], ◌∷◌, Option, Some, None, refl, sym, ap, ◌∙◌}
-use Rattle.std.specs.Prelude.{map, is_some}
+use Rattle.std.specs.Prelude.{map, is_some, Result, Ok, Err, OnOk, OnErr}
 use Rattle.std.proofs.lemmas.Bool.{eq-eqb}
 use Rattle.xti_model.specs.declared.profile.Providers.{Providers}
 use Rattle.xti_model.specs.Endpoint.{Endpoint}
@@ -11,7 +11,7 @@ use Rattle.xti_lent.specs.Lending.{Lending, held_in, held_at, put_in, with_held,
 use Rattle.xti_lent.specs.Fit.{AtOwnPlaces, place_of_held, SameCells}
 use Rattle.xti_lent.proofs.Places.{place-below}
 use Rattle.xti_lent.proofs.Lendings.{written, switch-written, endpoint-written}
-use Rattle.xti_lent.proofs.Open.{OpenAt, tail_of}
+use Rattle.xti_lent.proofs.Open.{OpenAt, tail_of, own-place}
 
 -- the same endpoint again
 back-step : (b : Bool) (x h : Held) (hs rest : List Held) (o : Option Held) → cond b (Some x) o ≡ Some h → (o ≡ Some h → rest ≡ hs) → cond b (h ∷ hs) (x ∷ rest) ≡ x ∷ hs
@@ -99,3 +99,20 @@ written-by l p fd n h new f e q eh c = fd-written l fd n h new f (q ∙ ap (λ (
 
 pub lent-by : (l : Lending) (p : Providers) (fd n : ℕ) → p ≡ l.providers → n ≡ place_of p fd → is_some (held_at l (place_of l.providers fd)) ≡ true → is_some (held_at l n) ≡ true
 lent-by l p fd n e q h = subst (λ m. is_some (held_at l m) ≡ true) (sym (q ∙ ap (λ (x : Providers). place_of x fd) e)) h
+
+-- An endpoint that was found at the place of a descriptor is written.
+module _ (l : Lending) (p : Providers) (fd n : ℕ) (h : Held) where
+  -- it lies there
+  pub placed-by : AtOwnPlaces l → n ≡ place_of p fd → Some h ≡ held_at l n → h.place ≡ place_of p fd
+  placed-by own q is = own-place l.numbers l.held n h own (sym is) ∙ q
+
+  -- what the cells become, and that the same are lent
+  pub rewritten : (new : Held) (f : Endpoint → Endpoint) → p ≡ l.providers → n ≡ place_of p fd → Some h ≡ held_at l n → cell new ≡ change_endpoint (generation_of p fd) f (cell h) → new.place ≡ h.place
+      → (cells (with_held l n new) ≡ changed l.providers (cells l) (at_endpoint fd f ∷ [])) × SameCells l (with_held l n new)
+  rewritten new f e q is c s = (written-by l p fd n h new f e q (sym is) c, written-same l n h new (sym is) s)
+
+  -- the same where the change may fail, after which all is as it was
+  pub rewritten_or_same : {T E : Type 0} (r : Result T E) (new : Held) (f : Endpoint → Endpoint) → p ≡ l.providers → n ≡ place_of p fd → Some h ≡ held_at l n → OnOk r (cell new ≡ change_endpoint (generation_of p fd) f (cell h)) → new.place ≡ h.place → OnErr r (new ≡ h)
+      → OnOk r (cells (with_held l n new) ≡ changed l.providers (cells l) (at_endpoint fd f ∷ [])) × SameCells l (with_held l n new) × OnErr r (with_held l n new ≡ l)
+  rewritten_or_same (Ok x) new f e q is c s i = (written-by l p fd n h new f e q (sym is) c, written-same l n h new (sym is) s, tt)
+  rewritten_or_same (Err x) new f e q is c s i = (tt, written-same l n h new (sym is) s, same-back l n h new (sym is) i)

@@ -303,3 +303,6 @@ pub enum Applied {
     /// It would have to wait.
     Blocked,
 }
+
+/// What applying a step gives, unless memory runs out.
+pub type Tried = Result<Applied, AllocError>;

@@ -12,7 +12,7 @@ mod spot;
 
 pub use call::Call;
 pub use cells::Cells;
-pub use entry::{Act, Applied, Entries, Entry, Go, Outcome, Reply};
+pub use entry::{Act, Applied, Entries, Entry, Go, Outcome, Reply, Tried};
 pub use laws::{
     calls_send_bytes, robin_follows, robin_goes_on, robin_is_complete, robin_is_legal,
     usual_is_valid,

@@ -1,16 +1,8 @@
-use Rattle.std.proofs.Common.{◌∙◌, sym}
-use Rattle.xti_lent.proofs.Open.{own-place}
-use Rattle.xti_lent.proofs.Written.{written-by, written-same, lent-by}
+use Rattle.xti_lent.proofs.Written.{placed-by, rewritten}
 use Rattle.xti_data.proofs.writes.mark_flow.Goals as goal
 
-pub endpoint-requires : goal.endpoint-requires
-endpoint-requires c = lent-by c.args.lent.now c.providers.result.now c.args.fd.0 c.place_of.result c.providers.ensures.providers c.place_of.ensures.place c.requires.there
-
 pub mark_flow-requires : goal.mark_flow-requires
-mark_flow-requires c = own-place c.args.lent.now.numbers c.args.lent.now.held c.place_of.result c.endpoint.result.now c.requires.own (sym c.endpoint.ensures.now) ∙ c.place_of.ensures.place
+mark_flow-requires c = placed-by c.args.lent.now c.providers.result.now c.args.fd.0 c.place_of.result c.endpoint.result.now c.requires.own c.place_of.ensures.place c.endpoint.ensures.now
 
-pub returns-clause-cells : goal.returns-clause-cells
-returns-clause-cells c = written-by c.args.lent.now c.providers.result.now c.args.fd.0 c.place_of.result c.endpoint.result.now c.mark_flow.new.at _ c.providers.ensures.providers c.place_of.ensures.place (sym c.endpoint.ensures.now) c.mark_flow.ensures.cell
-
-pub returns-clause-kept : goal.returns-clause-kept
-returns-clause-kept c = written-same c.args.lent.now c.place_of.result c.endpoint.result.now c.mark_flow.new.at (sym c.endpoint.ensures.now) c.mark_flow.ensures.place
+pub returns : goal.returns
+returns c = let w = rewritten c.args.lent.now c.providers.result.now c.args.fd.0 c.place_of.result c.endpoint.result.now c.mark_flow.new.at _ c.providers.ensures.providers c.place_of.ensures.place c.endpoint.ensures.now c.mark_flow.ensures.cell c.mark_flow.ensures.place in record { cells = w.0; kept = w.1 }

@@ -1,13 +1,8 @@
-use Rattle.std.proofs.Common.{◌∙◌, sym}
-use Rattle.xti_lent.proofs.Open.{own-place}
-use Rattle.xti_lent.proofs.Written.{written-by, written-same}
+use Rattle.xti_lent.proofs.Written.{placed-by, rewritten}
 use Rattle.xti_switch.proofs.disconnect.make_idle.Goals as goal
 
 pub make_idle_at-requires : goal.make_idle_at-requires
-make_idle_at-requires c = own-place c.args.lent.now.numbers c.args.lent.now.held c.place_of.result c.endpoint.result.now c.requires.own (sym c.endpoint.ensures.now) ∙ c.place_of.ensures.place
+make_idle_at-requires c = placed-by c.args.lent.now c.providers.result.now c.args.fd.0 c.place_of.result c.endpoint.result.now c.requires.own c.place_of.ensures.place c.endpoint.ensures.now
 
-pub returns-clause-cells : goal.returns-clause-cells
-returns-clause-cells c = written-by c.args.lent.now c.providers.result.now c.args.fd.0 c.place_of.result c.endpoint.result.now c.make_idle_at.new.at _ c.providers.ensures.providers c.place_of.ensures.place (sym c.endpoint.ensures.now) c.make_idle_at.ensures.cell
-
-pub returns-clause-kept : goal.returns-clause-kept
-returns-clause-kept c = written-same c.args.lent.now c.place_of.result c.endpoint.result.now c.make_idle_at.new.at (sym c.endpoint.ensures.now) c.make_idle_at.ensures.place
+pub returns : goal.returns
+returns c = let w = rewritten c.args.lent.now c.providers.result.now c.args.fd.0 c.place_of.result c.endpoint.result.now c.make_idle_at.new.at _ c.providers.ensures.providers c.place_of.ensures.place c.endpoint.ensures.now c.make_idle_at.ensures.cell c.make_idle_at.ensures.place in record { cells = w.0; kept = w.1 }
