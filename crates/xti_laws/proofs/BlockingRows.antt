@@ -69,16 +69,18 @@ same_row row xs ys h = go row.holds
     go true = refl
     go false = h
 
+-- what a test tells of each refusal of a later step as of the first step's, it tells of the rows
+pub later-same : (test : Option Refusal → Bool) (n : ℕ) → ((r : Refusal) → test (Some (later n r)) ≡ test (Some r)) → (rows : List Row) → test (first (map (later_row n) rows)) ≡ test (first rows)
+later-same test n h [] = refl
+later-same test n h (row ∷ rows) = go row.holds (later-same test n h rows)
+  where
+    go : (b : Bool) → test (first (map (later_row n) rows)) ≡ test (first rows) → test (cond b (Some (later n row.refusal)) (first (map (later_row n) rows))) ≡ test (cond b (Some row.refusal) (first rows))
+    go true k = h row.refusal
+    go false k = k
+
 -- a later step of a send waits where the first would
 pub later-waits : (n : ℕ) (rows : List Row) → is_waiting (first (map (later_row n) rows)) ≡ is_waiting (first rows)
-later-waits n [] = refl
-later-waits n (row ∷ rows) = go row.holds row.refusal (later-waits n rows)
-  where
-    go : (b : Bool) (r : Refusal) → is_waiting (first (map (later_row n) rows)) ≡ is_waiting (first rows) → is_waiting (cond b (Some (later n r)) (first (map (later_row n) rows))) ≡ is_waiting (cond b (Some r) (first rows))
-    go true (answers reply) k = refl
-    go true (waits reply) k = refl
-    go true loses k = refl
-    go false r k = k
+later-waits n rows = later-same is_waiting n (λ r. elim r as (λ k. is_waiting (Some (later n k)) ≡ is_waiting (Some k)) [ answers reply ↦ refl | waits reply ↦ refl | loses ↦ refl ]) rows
 
 and-right : (a b : Bool) → (a && b) ≡ true → b ≡ true
 and-right true b h = h

@@ -23,4 +23,6 @@ pub mod KnownPlaces
 pub mod BlockingRows
 pub mod WaitingForWants
 pub mod GoodArguments
+pub mod LinkedHistory
+pub mod OwnEntries
 mod histories

@@ -12,7 +12,8 @@ use Rattle.xti_model.specs.declared.profile.Providers.{Providers}
 use Rattle.xti_model.specs.Profile.{valid}
 use Rattle.xti_model.specs.World.{World, opening}
 use Rattle.xti_model.specs.Step.{Step, step}
-use Rattle.xti_model.specs.History.{Going, own, is_own, call_after, going_after, unfinished_from, unfinished, begins, made_by, doing, step_going, step_at, left_by, Fits, LegalFrom, Legal}
+use Rattle.xti_model.specs.History.{Going, own, call_after, going_after, unfinished_from, unfinished, begins, made_by, doing, step_going, step_at, left_by, Fits, LegalFrom, Legal}
+use Rattle.xti_laws.proofs.OwnEntries.{own-kept}
 use Rattle.xti_laws_requests.proofs.Histories.{opening-none}
 use Rattle.xti_laws_sound.specs.Invariant.{SoundWorld}
 use Rattle.xti_laws_sound.specs.Given.{StaysSound}
@@ -47,16 +48,8 @@ unfinished-bytes : (o : Option Call) (g : Option Going) (es : List Entry) → By
 unfinished-bytes o g [] h k a = k
 unfinished-bytes o g (e ∷ es) h k a = (let c = call-bytes o e.act h a.0.0 in unfinished-bytes (call_after o e.act) (going_after (call_after o e.act) e.outcome) es c (going-bytes (call_after o e.act) e.outcome c a.0.1) a.1)
 
-own-bytes : (es : List Entry) (worker : ℕ) → Past es → Past (own es worker)
-own-bytes [] worker a = tt
-own-bytes (e ∷ es) worker a = go (is_own worker e) (own-bytes es worker a.1)
-  where
-    go : (b : Bool) → Past (own es worker) → Past (cond b (e ∷ own es worker) (own es worker))
-    go true k = (a.0, k)
-    go false k = k
-
 doing-bytes : (past : List Entry) (e : Entry) → Past past → BeginsOfBytes e.act → ByteGoing (doing past e)
-doing-bytes past e h k = go (unfinished past e.worker) e.act k (unfinished-bytes None None (own past e.worker) tt tt (own-bytes past e.worker h))
+doing-bytes past e h k = go (unfinished past e.worker) e.act k (unfinished-bytes None None (own past e.worker) tt tt (own-kept Past (λ e es a. a.1) (λ e es kept a k. (a.0, k)) tt past e.worker h))
   where
     begun : (o : Option Going) (c : Call) → IsOfBytes c → ByteGoing (begins o c)
     begun None c i = (i, tt)

@@ -46,7 +46,7 @@ use Rattle.xti_model.specs.SentBytes.{AreBytes}
 use Rattle.xti_laws_requests.proofs.StepWays.{is_denial, all_deny, none-is}
 use Rattle.xti_laws_sound.specs.Invariant.{SoundWorld}
 use Rattle.xti_laws_sound.proofs.CountingBindings.{few-bindings}
-use Rattle.xti_laws_sound.proofs.ToldOutcomes.{StepTells, RefusalTells, denied, later-told, later-none, Clear, clear, told}
+use Rattle.xti_laws_sound.proofs.ToldOutcomes.{StepTells, step-told, RefusalTells, denied, later-told, later-none, Clear, clear, told}
 use Rattle.xti_laws_bytes.specs.Values.{IsOfBytes, IsNumber, IsLimit, AreLimits, HasValues}
 use Rattle.xti_laws_bytes.proofs.ByteLists.{none-bytes, chosen-bytes, front-bytes}
 use Rattle.xti_laws_bytes.proofs.AnsweredOptions.{negotiated-fits}
@@ -61,17 +61,7 @@ record Tells (x : Plan) : Type 0 where
   lost : IsNumber x.lost_number
 
 step-tells : (p : Providers) (w : World) (x : Plan) → Tells x → StepTells HasValues (step_of p w x)
-step-tells p w x t = go (first x.rows) refl t.refused
-  where
-    wait : (reply : Reply) (b : Bool) → HasValues (Done reply) → StepTells HasValues (cond b (Some (made p x.fd (Done reply) (changed p w x.marks))) None)
-    wait reply true k = k
-    wait reply false k = tt
-
-    go : (r : Option Refusal) → first x.rows ≡ r → RefusalTells HasValues r → StepTells HasValues (step_by p w x r)
-    go None i k = t.done i
-    go (Some loses) i k = t.lost
-    go (Some (answers reply)) i k = k
-    go (Some (waits reply)) i k = wait reply x.nonblock k
+step-tells p w x t = step-told HasValues p w x t.lost t.refused t.done
 
 denial : (r : Reply) → is_denial r ≡ true → HasValues (Done r)
 denial (reply.Refused e) h = tt

@@ -22,14 +22,8 @@ use Rattle.xti_model.specs.Events.{looked, is_here, looks_connecting, some_wait}
 
 -- a state of a connection is not that of a listener with indications
 pub not-asked : (s : State) → is_connected s ≡ true → list_any (same_state s) (T_INCON ∷ []) ≡ false
-not-asked T_UNINIT h = absurd (false≢true h)
-not-asked T_UNBND h = absurd (false≢true h)
-not-asked T_IDLE h = absurd (false≢true h)
 not-asked T_INCON h = absurd (false≢true h)
-not-asked T_OUTCON h = refl
-not-asked T_DATAXFER h = refl
-not-asked T_OUTREL h = refl
-not-asked T_INREL h = refl
+not-asked other h = refl
 
 -- where no connecting event is shown no disconnect waits
 pub no-disconnect : (e : Endpoint) → is_some (looked looks_connecting e) ≡ false → some_wait e.disconnects ≡ false
@@ -49,21 +43,10 @@ still-asks p w fd number e i s o d f = (s.asked fd number i.caller e o (record {
 
 pub same-prov : (a b : Prov) → same_prov a b ≡ true → a ≡ b
 same-prov Ticots Ticots h = refl
-same-prov Ticots Ticotsord h = absurd (false≢true h)
-same-prov Ticots Ticlts h = absurd (false≢true h)
-same-prov Ticots Other h = absurd (false≢true h)
-same-prov Ticotsord Ticots h = absurd (false≢true h)
 same-prov Ticotsord Ticotsord h = refl
-same-prov Ticotsord Ticlts h = absurd (false≢true h)
-same-prov Ticotsord Other h = absurd (false≢true h)
-same-prov Ticlts Ticots h = absurd (false≢true h)
-same-prov Ticlts Ticotsord h = absurd (false≢true h)
 same-prov Ticlts Ticlts h = refl
-same-prov Ticlts Other h = absurd (false≢true h)
-same-prov Other Ticots h = absurd (false≢true h)
-same-prov Other Ticotsord h = absurd (false≢true h)
-same-prov Other Ticlts h = absurd (false≢true h)
 same-prov Other Other h = refl
+same-prov a b h = absurd (false≢true h)
 
 -- the states of a responding endpoint
 pub responder-state : (s : State) → list_any (same_state s) (T_UNBND ∷ T_IDLE ∷ T_INCON ∷ []) ≡ true → (is_connected s ≡ false) × ((s ≡ T_OUTCON) → ⊥)

@@ -5,7 +5,7 @@ use Rattle.std.specs.List.{list_any}
 use Rattle.xti_base.specs.Kinds.{same_state}
 use Rattle.xti_base.specs.declared.kinds.Prov.{Prov}
 use Rattle.xti_base.specs.declared.kinds.State.{State}
-use Rattle.xti_base.specs.declared.kinds.State.TheVariants.{T_UNINIT, T_UNBND, T_IDLE, T_INCON, T_OUTCON, T_DATAXFER, T_OUTREL, T_INREL}
+use Rattle.xti_base.specs.declared.kinds.State.TheVariants.{T_UNBND, T_IDLE, T_INCON, T_OUTCON, T_DATAXFER, T_OUTREL, T_INREL}
 use Rattle.xti_base.specs.declared.kinds.Event.TheVariants.{T_DISCONNECT}
 use Rattle.xti_model.specs.declared.entry.Go.{Go}
 use Rattle.xti_model.specs.declared.entry.Go.TheVariants as go
@@ -85,34 +85,18 @@ no-disconnect-here e h = no-disconnects e.disconnects (go (some_wait e.disconnec
     go false h = refl
 
 receiving-connected : (s : State) → list_any (same_state s) receiving ≡ true → (is_connected s ≡ true) × ((s ≡ T_OUTCON) → ⊥)
-receiving-connected T_UNINIT h = absurd (false≢true h)
-receiving-connected T_UNBND h = absurd (false≢true h)
-receiving-connected T_IDLE h = absurd (false≢true h)
-receiving-connected T_INCON h = absurd (false≢true h)
-receiving-connected T_OUTCON h = absurd (false≢true h)
-receiving-connected T_INREL h = absurd (false≢true h)
 receiving-connected T_DATAXFER h = (refl, λ j. absurd (false≢true (ap (λ z. list_any (same_state z) (T_OUTCON ∷ [])) j)))
 receiving-connected T_OUTREL h = (refl, λ j. absurd (false≢true (ap (λ z. list_any (same_state z) (T_OUTCON ∷ [])) j)))
+receiving-connected other h = absurd (false≢true h)
 
 sending-connected : (s : State) → list_any (same_state s) sending ≡ true → (is_connected s ≡ true) × ((s ≡ T_OUTCON) → ⊥)
-sending-connected T_UNINIT h = absurd (false≢true h)
-sending-connected T_UNBND h = absurd (false≢true h)
-sending-connected T_IDLE h = absurd (false≢true h)
-sending-connected T_INCON h = absurd (false≢true h)
-sending-connected T_OUTCON h = absurd (false≢true h)
-sending-connected T_OUTREL h = absurd (false≢true h)
 sending-connected T_DATAXFER h = (refl, λ j. absurd (false≢true (ap (λ z. list_any (same_state z) (T_OUTCON ∷ [])) j)))
 sending-connected T_INREL h = (refl, λ j. absurd (false≢true (ap (λ z. list_any (same_state z) (T_OUTCON ∷ [])) j)))
+sending-connected other h = absurd (false≢true h)
 
 out-connected : (s : State) → list_any (same_state s) (T_OUTCON ∷ []) ≡ true → is_connected s ≡ true
-out-connected T_UNINIT h = absurd (false≢true h)
-out-connected T_UNBND h = absurd (false≢true h)
-out-connected T_IDLE h = absurd (false≢true h)
-out-connected T_INCON h = absurd (false≢true h)
 out-connected T_OUTCON h = refl
-out-connected T_DATAXFER h = absurd (false≢true h)
-out-connected T_OUTREL h = absurd (false≢true h)
-out-connected T_INREL h = absurd (false≢true h)
+out-connected other h = absurd (false≢true h)
 
 module _ (p : Providers) (w : World) (z : SoundLinks p w) (s : Step) where
   pub open-call : (prov : Prov) (nonblock : Bool) → step_of p w (Open.plan p w prov nonblock) ≡ Some s → SoundLinks p s.world

@@ -104,3 +104,14 @@ count-smaller m n (x ∷ xs) = go (eqb x.number n) (count-smaller m n xs)
     go : (b : Bool) → indications_with m (without_number n xs) ≤ indications_with m xs → indications_with m (cond b xs (x ∷ without_number n xs)) ≤ indications_with m (x ∷ xs)
     go true h = omega arith
     go false h = omega arith
+
+-- no number is found in two lists that have each number at most once together
+pub found-once : (n m : ℕ) (xs ys : List Indication) (i j : Indication) → indications_with n xs + indications_with n ys ≤ 1 → find_number n xs ≡ Some i → find_number m ys ≡ Some j → eqb m n ≡ false
+found-once n m xs ys i j u p f = go (eqb m n) refl
+  where
+    go : (b : Bool) → eqb m n ≡ b → b ≡ false
+    go false q = refl
+    go true q =
+        let a : 1 ≤ indications_with n ys = (find-some n ys j (ap (λ z. find_number z ys) (sym (eqb-true m n q)) ∙ f)).0 in
+        let b : 1 ≤ indications_with n xs = (find-some n xs i p).0 in
+        absurd (omega arith)

@@ -11,7 +11,7 @@ use Rattle.xti_model.specs.Calls.Listen as Listen
 use Rattle.xti_laws_requests.specs.Requests.{is_connected, indications_with, disconnects_with, SoundRequests, Stands}
 use Rattle.xti_model.specs.Calls.Disconnect.{is_asked}
 use Rattle.xti_laws_requests.proofs.StepWays.{some-is, none-is, not-both}
-use Rattle.xti_laws_requests.proofs.IndicationNumbers.{count-append, find-none, find-some, none-count, find-left, find-right, find-without, count-without, count-taken, length-taken, count-smaller, count-cons}
+use Rattle.xti_laws_requests.proofs.IndicationNumbers.{found-once, count-append, find-none, find-some, none-count, find-left, find-right, find-without, count-without, count-taken, length-taken, count-smaller, count-cons}
 use Rattle.xti_laws_requests.proofs.OneChange.{Alike}
 use Rattle.xti_laws_requests.proofs.EndpointUpdates.{Both, asks-not, target-none}
 
@@ -146,14 +146,7 @@ module _ (e : Endpoint) (g : SoundRequests e) (n : ℕ) (i : Indication) (found 
   out-gone = find-none n (without_number n e.outstanding) (let a : indications_with n (without_number n e.outstanding) + 1 ≡ indications_with n e.outstanding = count-taken n e.outstanding i found in let b : indications_with n e.pending + indications_with n e.outstanding ≤ 1 = g.once n in omega arith)
 
   pub pending-other : (m : ℕ) (j : Indication) → find_number m e.pending ≡ Some j → eqb m n ≡ false
-  pending-other m j f = go (eqb m n) refl
-    where
-      go : (b : Bool) → eqb m n ≡ b → b ≡ false
-      go false q = refl
-      go true q =
-          let a : 1 ≤ indications_with n e.pending = (find-some n e.pending j (ap (λ z. find_number z e.pending) (sym (eqb-true m n q)) ∙ f)).0 in
-          let b : 1 ≤ indications_with n e.outstanding = (find-some n e.outstanding i found).0 in
-          let u : indications_with n e.pending + indications_with n e.outstanding ≤ 1 = g.once n in absurd (omega arith)
+  pending-other m j f = found-once n m e.outstanding e.pending i j (omega (arith, g.once n)) found f
 
   pub left-other : (m : ℕ) (j : Indication) → find_number m (without_number n e.outstanding) ≡ Some j → eqb m n ≡ false
   left-other m j f = go (eqb m n) refl

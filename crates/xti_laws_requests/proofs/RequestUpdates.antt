@@ -13,7 +13,7 @@ use Rattle.xti_model.specs.Calls.Disconnect as Disconnect
 use Rattle.xti_laws_requests.specs.Requests.{is_connected, indications_with, disconnects_with, SoundRequests, Stands}
 use Rattle.xti_model.specs.Calls.Disconnect.{is_asked}
 use Rattle.xti_laws_requests.proofs.StepWays.{some-is, none-is, not-both}
-use Rattle.xti_laws_requests.proofs.IndicationNumbers.{count-append, cut-append, find-none, find-some, find-left, find-right, find-without, count-taken, count-smaller}
+use Rattle.xti_laws_requests.proofs.IndicationNumbers.{found-once, count-append, cut-append, find-none, find-some, find-left, find-right, find-without, count-taken, count-smaller}
 use Rattle.xti_laws_requests.proofs.EndpointUpdates.{Idle, only-idle, good-plain, asks-not, target-none}
 use Rattle.xti_laws_requests.proofs.ListenerUpdates.{asked-hears}
 
@@ -37,14 +37,7 @@ module _ (e : Endpoint) (g : SoundRequests e) (n c reason : ℕ) (udata : List �
   }
 
   outstanding-other : (i : Indication) → find_number n e.pending ≡ Some i → (m : ℕ) (j : Indication) → find_number m e.outstanding ≡ Some j → eqb m n ≡ false
-  outstanding-other i p m j f = go (eqb m n) refl
-    where
-      go : (b : Bool) → eqb m n ≡ b → b ≡ false
-      go false q = refl
-      go true q =
-          let a : 1 ≤ indications_with n e.outstanding = (find-some n e.outstanding j (ap (λ z. find_number z e.outstanding) (sym (eqb-true m n q)) ∙ f)).0 in
-          let b : 1 ≤ indications_with n e.pending = (find-some n e.pending i p).0 in
-          let u : indications_with n e.pending + indications_with n e.outstanding ≤ 1 = g.once n in absurd (omega arith)
+  outstanding-other i p m j f = found-once n m e.pending e.outstanding i j (g.once n) p f
 
   pending-gone : (i : Indication) → find_number n e.pending ≡ Some i → (m : ℕ) (j : Indication) → find_number m (without_number n e.pending) ≡ Some j → eqb m n ≡ false
   pending-gone i p m j f = go (eqb m n) refl

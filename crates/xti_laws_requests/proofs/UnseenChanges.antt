@@ -46,8 +46,7 @@ desk-choice true x y e h k = h
 desk-choice false x y e h k = k
 
 pub mark_flow-unseen : (expedited on : Bool) → Unseen (Send.mark_flow expedited on)
-mark_flow-unseen true on e = refl
-mark_flow-unseen false on e = refl
+mark_flow-unseen expedited on e = desk-choice expedited (record e { flow_expedited = on }) (record e { flow_normal = on }) e refl refl
 
 pub sent-unseen : (p : Providers) (expedited ends : Bool) (now : ℕ) → Unseen (Send.sent p expedited ends now)
 sent-unseen p true ends now e = refl

@@ -12,6 +12,7 @@ use Rattle.xti_model.specs.Endpoint.{Endpoint}
 use Rattle.xti_model.specs.World.{World, Numbered, Cell, Switch, Binding, endpoint_cell, switch_cell, endpoint, endpoint_in, cell_at, the_switch, place_of, generation_of, descriptor}
 use Rattle.xti_model.specs.Switch.{bound, descriptors, is_bound, is_listening, listener, least, less}
 use Rattle.xti_model.specs.Sound.{ThereAgrees, CellAgrees, bindings_at, binding_of, binding_to}
+use Rattle.xti_laws_requests.proofs.AcceptEnds.{same-prov}
 use Rattle.xti_laws_requests.proofs.StepWays.{none-is}
 use Rattle.xti_laws_sound.specs.Invariant.{SoundWorld}
 use Rattle.xti_laws_sound.specs.Laws.{OpenAndBound, OpenAndListening}
@@ -48,21 +49,22 @@ bound-at p s prov address fd h =
     subst (λ bs. 0 < length (filter (is_bound prov address) bs)) (sym (filter-within (λ b. eqb b.fd fd) (λ b. eqb (place_of p b.fd) (place_of p fd)) (λ b i. eq-eqb (place_of p b.fd) (place_of p fd) (ap (place_of p) (eqb-true b.fd fd i))) s.bindings))
     (subst (λ bs. 0 < length bs) (filter-swap (λ b. eqb b.fd fd) (is_bound prov address) s.bindings) (least-found (filter (is_bound prov address) s.bindings) fd h))
 
-same-prov : (x y : Prov) → same_prov x y ≡ true → x ≡ y
-same-prov Ticots Ticots h = refl
-same-prov Ticotsord Ticotsord h = refl
-same-prov Ticlts Ticlts h = refl
-same-prov Other Other h = refl
-same-prov x y h = absurd (false≢true h)
-
 generation-at : (p : Providers) (g n fd : ℕ) → descriptor p g n ≡ fd → n < 64 → generation_of p fd ≡ g
 generation-at p g n fd h l = omega (arith, h, l)
 
--- and that binding is an open endpoint's
-open-of : (p : Providers) (w : World) (prov : Prov) (address : List ℕ) (fd g : ℕ) (c : Numbered) (body : Option Endpoint) → cell_at w (place_of p fd) ≡ Some c → c.cell ≡ endpoint_cell g body
-    → 0 < length (filter (is_bound prov address) (filter (λ b. eqb b.fd fd) (binding_of (descriptor p g (place_of p fd)) body))) → OpenAndBound p w prov address fd
-open-of p w prov address fd g c None i j h = absurd (omega (arith, h))
-open-of p w prov address fd g c (Some e) i j h = go e.address refl h
+-- an open endpoint, at whose descriptor the switch has a binding that passes a test
+record FoundOpen (test : Binding → Bool) (p : Providers) (w : World) (fd : ℕ) : Type 0 where
+  there : Endpoint
+  is_open : endpoint p w fd ≡ Some there
+  address : List ℕ
+  is_bound_to : there.address ≡ Some address
+  number : ℕ
+  passes : test (record { prov = there.prov; address = address; fd = number; listening = nat_lt 0 there.qlen }) ≡ true
+
+open-of : (test : Binding → Bool) (p : Providers) (w : World) (fd g : ℕ) (c : Numbered) (body : Option Endpoint) → cell_at w (place_of p fd) ≡ Some c → c.cell ≡ endpoint_cell g body
+    → 0 < length (filter test (filter (λ b. eqb b.fd fd) (binding_of (descriptor p g (place_of p fd)) body))) → FoundOpen test p w fd
+open-of test p w fd g c None i j h = absurd (omega (arith, h))
+open-of test p w fd g c (Some e) i j h = go e.address refl h
   where
     given : List ℕ → Binding
     given a = record { prov = e.prov; address = a; fd = descriptor p g (place_of p fd); listening = nat_lt 0 e.qlen }
@@ -70,28 +72,32 @@ open-of p w prov address fd g c (Some e) i j h = go e.address refl h
     opened : descriptor p g (place_of p fd) ≡ fd → endpoint p w fd ≡ Some e
     opened k = ap (option_and_then (λ c. endpoint_in (generation_of p fd) c.cell)) i ∙ (ap (endpoint_in (generation_of p fd)) j ∙ ap (λ b. cond b (Some e) None) (eq-eqb g (generation_of p fd) (sym (generation-at p g (place_of p fd) fd k (below fd)))))
 
-    found : (a : List ℕ) → e.address ≡ Some a → (b : Bool) → eqb (descriptor p g (place_of p fd)) fd ≡ b → (d : Bool) → is_bound prov address (given a) ≡ d
-        → 0 < length (filter (is_bound prov address) (cond b (given a ∷ []) [])) → OpenAndBound p w prov address fd
+    found : (a : List ℕ) → e.address ≡ Some a → (b : Bool) → eqb (descriptor p g (place_of p fd)) fd ≡ b → (d : Bool) → test (given a) ≡ d → 0 < length (filter test (cond b (given a ∷ []) [])) → FoundOpen test p w fd
     found a k false l d m z = absurd (omega (arith, z))
     found a k true l false m z = absurd (omega (arith, simp m at z))
-    found a k true l true m z =
-        let both = and_parts (same_prov e.prov prov) (bytes_eq a address) m in
-        record { there = e; is_open = opened (eqb-true (descriptor p g (place_of p fd)) fd l); is_of = same-prov e.prov prov both.0; is_bound_to = k ∙ ap Some ((bytes_eq-Decides a address).0 both.1) }
+    found a k true l true m z = record { there = e; is_open = opened (eqb-true (descriptor p g (place_of p fd)) fd l); address = a; is_bound_to = k; number = descriptor p g (place_of p fd); passes = m }
 
-    go : (o : Option (List ℕ)) → e.address ≡ o → 0 < length (filter (is_bound prov address) (filter (λ b. eqb b.fd fd) (binding_to (descriptor p g (place_of p fd)) e o))) → OpenAndBound p w prov address fd
+    go : (o : Option (List ℕ)) → e.address ≡ o → 0 < length (filter test (filter (λ b. eqb b.fd fd) (binding_to (descriptor p g (place_of p fd)) e o))) → FoundOpen test p w fd
     go None k z = absurd (omega (arith, z))
-    go (Some a) k z = found a k (eqb (descriptor p g (place_of p fd)) fd) refl (is_bound prov address (given a)) refl z
+    go (Some a) k z = found a k (eqb (descriptor p g (place_of p fd)) fd) refl (test (given a)) refl z
 
-pub bound-open : (p : Providers) (w : World) (prov : Prov) (address : List ℕ) (fd : ℕ) → SoundWorld p w → bound (the_switch p w) prov address ≡ Some fd → OpenAndBound p w prov address fd
-bound-open p w prov address fd h i = go (cell_at w (place_of p fd)) refl (h.registered.agreement.each_agrees (place_of p fd) (below fd))
+-- a binding at a descriptor's place is an open endpoint's
+found-open : (test : Binding → Bool) (p : Providers) (w : World) (fd : ℕ) → SoundWorld p w → 0 < length (filter test (filter (λ b. eqb b.fd fd) (bindings_at p (the_switch p w) (place_of p fd)))) → FoundOpen test p w fd
+found-open test p w fd h i = go (cell_at w (place_of p fd)) refl (h.registered.agreement.each_agrees (place_of p fd) (below fd))
   where
-    inside : (c : Numbered) → cell_at w (place_of p fd) ≡ Some c → (x : Cell) → c.cell ≡ x → CellAgrees p (the_switch p w) (place_of p fd) x → OpenAndBound p w prov address fd
+    inside : (c : Numbered) → cell_at w (place_of p fd) ≡ Some c → (x : Cell) → c.cell ≡ x → CellAgrees p (the_switch p w) (place_of p fd) x → FoundOpen test p w fd
     inside c j (switch_cell s) k a = absurd a
-    inside c j (endpoint_cell g body) k a = open-of p w prov address fd g c body j k (subst (λ bs. 0 < length (filter (is_bound prov address) (filter (λ b. eqb b.fd fd) bs))) a.bindings_known (bound-at p (the_switch p w) prov address fd i))
+    inside c j (endpoint_cell g body) k a = open-of test p w fd g c body j k (subst (λ bs. 0 < length (filter test (filter (λ b. eqb b.fd fd) bs))) a.bindings_known i)
 
-    go : (o : Option Numbered) → cell_at w (place_of p fd) ≡ o → ThereAgrees p (the_switch p w) (place_of p fd) o → OpenAndBound p w prov address fd
+    go : (o : Option Numbered) → cell_at w (place_of p fd) ≡ o → ThereAgrees p (the_switch p w) (place_of p fd) o → FoundOpen test p w fd
     go None j a = absurd a
     go (Some c) j a = inside c j c.cell refl a
+
+pub bound-open : (p : Providers) (w : World) (prov : Prov) (address : List ℕ) (fd : ℕ) → SoundWorld p w → bound (the_switch p w) prov address ≡ Some fd → OpenAndBound p w prov address fd
+bound-open p w prov address fd h i =
+    let f = found-open (is_bound prov address) p w fd h (bound-at p (the_switch p w) prov address fd i) in
+    let both = and_parts (same_prov f.there.prov prov) (bytes_eq f.address address) f.passes in
+    record { there = f.there; is_open = f.is_open; is_of = same-prov f.there.prov prov both.0; is_bound_to = f.is_bound_to ∙ ap Some ((bytes_eq-Decides f.address address).0 both.1) }
 
 -- A listener that is found is open, has the address, and has a queue.
 least-beside : (fd : ℕ) (bs : List Binding) (l : ℕ) → least (filter (λ other. not (eqb other fd)) (map (λ b. b.fd) bs)) ≡ Some l → 0 < length (filter (λ b. eqb b.fd l) bs)
@@ -115,41 +121,12 @@ listening-at p s prov address fd l h =
     subst (λ bs. 0 < length (filter (is_listening prov address) bs)) (sym (filter-within (λ b. eqb b.fd l) (λ b. eqb (place_of p b.fd) (place_of p l)) (λ b i. eq-eqb (place_of p b.fd) (place_of p l) (ap (place_of p) (eqb-true b.fd l i))) s.bindings))
     (subst (λ bs. 0 < length bs) (filter-swap (λ b. eqb b.fd l) (is_listening prov address) s.bindings) (least-beside fd (filter (is_listening prov address) s.bindings) l h))
 
--- and that binding is an open endpoint's
-listening-of : (p : Providers) (w : World) (prov : Prov) (address : List ℕ) (fd g : ℕ) (c : Numbered) (body : Option Endpoint) → cell_at w (place_of p fd) ≡ Some c → c.cell ≡ endpoint_cell g body
-    → 0 < length (filter (is_listening prov address) (filter (λ b. eqb b.fd fd) (binding_of (descriptor p g (place_of p fd)) body))) → OpenAndListening p w prov address fd
-listening-of p w prov address fd g c None i j h = absurd (omega (arith, h))
-listening-of p w prov address fd g c (Some e) i j h = go e.address refl h
-  where
-    given : List ℕ → Binding
-    given a = record { prov = e.prov; address = a; fd = descriptor p g (place_of p fd); listening = nat_lt 0 e.qlen }
-
-    opened : descriptor p g (place_of p fd) ≡ fd → endpoint p w fd ≡ Some e
-    opened k = ap (option_and_then (λ c. endpoint_in (generation_of p fd) c.cell)) i ∙ (ap (endpoint_in (generation_of p fd)) j ∙ ap (λ b. cond b (Some e) None) (eq-eqb g (generation_of p fd) (sym (generation-at p g (place_of p fd) fd k (below fd)))))
-
-    found : (a : List ℕ) → e.address ≡ Some a → (b : Bool) → eqb (descriptor p g (place_of p fd)) fd ≡ b → (d : Bool) → is_listening prov address (given a) ≡ d
-        → 0 < length (filter (is_listening prov address) (cond b (given a ∷ []) [])) → OpenAndListening p w prov address fd
-    found a k false l d m z = absurd (omega (arith, z))
-    found a k true l false m z = absurd (omega (arith, simp m at z))
-    found a k true l true m z =
-        let heard = and_parts (is_bound prov address (given a)) (nat_lt 0 e.qlen) m in
-        let both = and_parts (same_prov e.prov prov) (bytes_eq a address) heard.0 in
-        record { has_queue = ltb-true 0 e.qlen heard.1; there = e; is_open = opened (eqb-true (descriptor p g (place_of p fd)) fd l); is_of = same-prov e.prov prov both.0; is_bound_to = k ∙ ap Some ((bytes_eq-Decides a address).0 both.1) }
-
-    go : (o : Option (List ℕ)) → e.address ≡ o → 0 < length (filter (is_listening prov address) (filter (λ b. eqb b.fd fd) (binding_to (descriptor p g (place_of p fd)) e o))) → OpenAndListening p w prov address fd
-    go None k z = absurd (omega (arith, z))
-    go (Some a) k z = found a k (eqb (descriptor p g (place_of p fd)) fd) refl (is_listening prov address (given a)) refl z
-
 pub listener-open : (p : Providers) (w : World) (prov : Prov) (address : List ℕ) (from fd : ℕ) → SoundWorld p w → listener (the_switch p w) prov address from ≡ Some fd → OpenAndListening p w prov address fd
-listener-open p w prov address from fd h i = go (cell_at w (place_of p fd)) refl (h.registered.agreement.each_agrees (place_of p fd) (below fd))
-  where
-    inside : (c : Numbered) → cell_at w (place_of p fd) ≡ Some c → (x : Cell) → c.cell ≡ x → CellAgrees p (the_switch p w) (place_of p fd) x → OpenAndListening p w prov address fd
-    inside c j (switch_cell s) k a = absurd a
-    inside c j (endpoint_cell g body) k a = listening-of p w prov address fd g c body j k (subst (λ bs. 0 < length (filter (is_listening prov address) (filter (λ b. eqb b.fd fd) bs))) a.bindings_known (listening-at p (the_switch p w) prov address from fd i))
-
-    go : (o : Option Numbered) → cell_at w (place_of p fd) ≡ o → ThereAgrees p (the_switch p w) (place_of p fd) o → OpenAndListening p w prov address fd
-    go None j a = absurd a
-    go (Some c) j a = inside c j c.cell refl a
+listener-open p w prov address from fd h i =
+    let f = found-open (is_listening prov address) p w fd h (listening-at p (the_switch p w) prov address from fd i) in
+    let heard = and_parts (is_bound prov address (record { prov = f.there.prov; address = f.address; fd = f.number; listening = nat_lt 0 f.there.qlen })) (nat_lt 0 f.there.qlen) f.passes in
+    let both = and_parts (same_prov f.there.prov prov) (bytes_eq f.address address) heard.0 in
+    record { has_queue = ltb-true 0 f.there.qlen heard.1; there = f.there; is_open = f.is_open; is_of = same-prov f.there.prov prov both.0; is_bound_to = f.is_bound_to ∙ ap Some ((bytes_eq-Decides f.address address).0 both.1) }
 
 -- the least of those that pass a test passes it
 least-passes : (test : ℕ → Bool) (ns : List ℕ) (l : ℕ) → least (filter test ns) ≡ Some l → test l ≡ true

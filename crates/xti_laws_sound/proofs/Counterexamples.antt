@@ -22,23 +22,10 @@ use Rattle.xti_model.specs.Symbols.{ends_waiting, bytes_waiting}
 use Rattle.xti_model.specs.Step.{plan, step}
 use Rattle.xti_model.specs.World.{opening, endpoint}
 use Rattle.xti_model.specs.History.{Legal, after}
+use Rattle.xti_laws.proofs.LinkedHistory.{linked}
 use Rattle.xti_laws_sound.specs.Endpoints.{Buffers, ShortDatagram}
 use Rattle.xti_laws_sound.specs.Symbols.{FewEnds, SoundSymbols}
 use Rattle.xti_laws_sound.specs.Laws.{OfAllProviders}
-
--- two endpoints are linked
-linked : List Entry
-linked =
-    record { worker = 0; act = act.Begin (call.TOpen Ticotsord false); outcome = Done (Opened (record { 0 = 0 })); after = T_UNBND } ∷
-    record { worker = 0; act = act.Begin (call.TBind (record { 0 = 0 }) (codes "l") 1 64); outcome = Done (Bound (codes "l") 1); after = T_IDLE } ∷
-    record { worker = 0; act = act.Begin (call.TOpen Ticotsord true); outcome = Done (Opened (record { 0 = 1 })); after = T_UNBND } ∷
-    record { worker = 0; act = act.Begin (call.TBind (record { 0 = 1 }) (codes "c") 0 64); outcome = Done (Bound (codes "c") 0); after = T_IDLE } ∷
-    record { worker = 0; act = act.Begin (call.TOpen Ticotsord true); outcome = Done (Opened (record { 0 = 2 })); after = T_UNBND } ∷
-    record { worker = 0; act = act.Begin (call.TConnect (record { 0 = 1 }) (codes "l") [] [] 64 256 64); outcome = Done (Refused TNODATA); after = T_OUTCON } ∷
-    record { worker = 0; act = act.Begin (call.TListen (record { 0 = 0 }) 64 256 64); outcome = Done (Listened (record { 0 = 1 }) (codes "c") [] []); after = T_INCON } ∷
-    record { worker = 0; act = act.Begin (call.TAccept (record { 0 = 0 }) (record { 0 = 2 }) (record { 0 = 1 }) [] []); outcome = Done Plain; after = T_IDLE } ∷
-    record { worker = 0; act = act.Begin (call.TRcvConnect (record { 0 = 1 }) 64 256 64); outcome = Done (Connected (codes "l") [] []); after = T_DATAXFER } ∷
-    []
 
 -- 17 times the number 256 is sent, as expedited data
 entries : List Entry

@@ -10,7 +10,8 @@ use Rattle.xti_model.specs.declared.entry.Outcome.TheVariants.{Done, Part}
 use Rattle.xti_model.specs.declared.profile.Providers.{Providers}
 use Rattle.xti_model.specs.World.{World, opening}
 use Rattle.xti_model.specs.Step.{Step, step}
-use Rattle.xti_model.specs.History.{Going, own, is_own, call_after, going_after, unfinished_from, unfinished, begins, made_by, doing, step_going, step_at, left_by, after_from, after}
+use Rattle.xti_model.specs.History.{Going, own, call_after, going_after, unfinished_from, unfinished, begins, made_by, doing, step_going, step_at, left_by, after_from, after}
+use Rattle.xti_laws.proofs.OwnEntries.{own-kept}
 use Rattle.xti_laws_requests.proofs.Histories.{opening-none, opening-sound}
 use Rattle.xti_laws_requests.proofs.Steps.{sound-step, bound-step}
 use Rattle.xti_laws_requests.specs.Requests.{SoundLinks, BoundToOpen}
@@ -42,16 +43,8 @@ unfinished-bytes : (o : Option Call) (g : Option Going) (es : List Entry) → By
 unfinished-bytes o g [] h k a = k
 unfinished-bytes o g (e ∷ es) h k a = unfinished-bytes (call_after o e.act) (going_after (call_after o e.act) e.outcome) es (call-bytes o e.act h a.0) (going-bytes (call_after o e.act) e.outcome (call-bytes o e.act h a.0)) a.1
 
-own-bytes : (es : List Entry) (worker : ℕ) → AllSendBytes es → AllSendBytes (own es worker)
-own-bytes [] worker a = tt
-own-bytes (e ∷ es) worker a = go (is_own worker e) (own-bytes es worker a.1)
-  where
-    go : (b : Bool) → AllSendBytes (own es worker) → AllSendBytes (cond b (e ∷ own es worker) (own es worker))
-    go true k = (a.0, k)
-    go false k = k
-
 doing-bytes : (past : List Entry) (e : Entry) → AllSendBytes past → BeginsBytes e.act → ByteGoing (doing past e)
-doing-bytes past e h k = go (unfinished past e.worker) e.act k (unfinished-bytes None None (own past e.worker) tt tt (own-bytes past e.worker h))
+doing-bytes past e h k = go (unfinished past e.worker) e.act k (unfinished-bytes None None (own past e.worker) tt tt (own-kept AllSendBytes (λ e es a. a.1) (λ e es kept a k. (a.0, k)) tt past e.worker h))
   where
     begun : (o : Option Going) (c : Call) → SendsBytes c → ByteGoing (begins o c)
     begun None c i = i

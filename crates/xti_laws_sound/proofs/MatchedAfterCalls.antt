@@ -46,6 +46,7 @@ use Rattle.xti_laws_requests.proofs.AcceptEnds.{asks, not_resfd, not_fd, respond
 use Rattle.xti_laws_requests.specs.Requests.{is_one_of}
 use Rattle.xti_laws_sound.specs.Invariant.{Paired}
 use Rattle.xti_laws_sound.specs.Connections.{other_states, LinkedWith, Matched}
+use Rattle.xti_laws_sound.proofs.PairedAfterCalls.{accept-keeps}
 use Rattle.xti_laws_sound.proofs.PassedRows.{Keeps, call-keeps, step-keeps}
 use Rattle.xti_laws.proofs.ClearedRows.{Cleared, cleared}
 use Rattle.xti_laws_sound.proofs.States.{only}
@@ -488,19 +489,8 @@ module _ (p : Providers) (w : World) (z : SoundLinks p w) (h : Matched p w) (fd 
 
 module _ (p : Providers) (w : World) (z : SoundLinks p w) (q : Paired p w) (h : Matched p w) where
   accept-matched : (fd resfd number : ℕ) (options udata : List ℕ) → Matched p (left_by w (step_of p w (Listen.accept_plan p w fd resfd number options udata)))
-  accept-matched fd resfd number options udata = on-open p w z q h fd (λ e. Listen.accept_with p fd resfd number options udata e (endpoint p w resfd)) (λ e a. at_resfd e a (endpoint p w resfd) refl)
-    where
-      found : (e r : Endpoint) → endpoint p w fd ≡ Some e → endpoint p w resfd ≡ Some r → Cleared (Listen.accept_rows p fd resfd number options udata e r) → (o : Option Indication) → find_number number e.outstanding ≡ o → Matched p (changed p w (Listen.accept_found fd resfd o options udata e r))
-      found e r a b c None f = h
-      found e r a b c (Some i) f = accepts-matched p w z h fd resfd number options udata e r i a b c f
-
-      at_resfd : (e : Endpoint) → endpoint p w fd ≡ Some e → (o : Option Endpoint) → endpoint p w resfd ≡ o → Keeps (Matched p) p w (Listen.accept_with p fd resfd number options udata e o)
-      at_resfd e a None b = record { changes = λ g. h; lost = λ g. h; marks = λ g. h }
-      at_resfd e a (Some r) b = record {
-        changes = λ g. found e r a b (cleared (Listen.accept_rows p fd resfd number options udata e r) g) (find_number number e.outstanding) refl;
-        lost = λ g. found e r a b (cleared (Listen.accept_rows p fd resfd number options udata e r) g) (find_number number e.outstanding) refl;
-        marks = λ g. h;
-      }
+  accept-matched fd resfd number options udata = on-open p w z q h fd (λ e. Listen.accept_with p fd resfd number options udata e (endpoint p w resfd))
+      (accept-keeps (Matched p) p w fd resfd number options udata h (λ e r i a b c f. accepts-matched p w z h fd resfd number options udata e r i a b c f))
 
   open-matched : (prov : Prov) (nonblock : Bool) → Matched p (left_by w (step_of p w (Open.plan p w prov nonblock)))
   open-matched prov nonblock = go (opening_place p (the_switch p w) prov)

@@ -317,20 +317,27 @@ module _ (p : Providers) (w : World) (z : SoundLinks p w) (h : Paired p w) (fd r
   pub accepts-paired : Paired p (changed p w (Listen.accept_changes fd resfd i options udata e r))
   accepts-paired = subst (Paired p) (sym (changed-append p (one_world p w fd (Listen.taken_out i.number)) (Listen.bind_like e resfd r) (Listen.linking resfd i (address_of (Listen.bound_like e r)) options udata))) (linked-two (address_of (Listen.bound_like e r)))
 
-accept-paired : (p : Providers) (w : World) → SoundLinks p w → Paired p w → (fd resfd number : ℕ) (options udata : List ℕ) → Paired p (left_by w (step_of p w (Listen.accept_plan p w fd resfd number options udata)))
-accept-paired p w z h fd resfd number options udata = call-keeps (Paired p) p w fd (λ e. Listen.accept_with p fd resfd number options udata e (endpoint p w resfd)) h (λ e a. at_resfd e a (endpoint p w resfd) refl)
+-- what the changes of an accept keep, where the indication is found, its plan keeps
+pub accept-keeps : (P : World → Type 0) (p : Providers) (w : World) (fd resfd number : ℕ) (options udata : List ℕ) → P w
+    → ((e r : Endpoint) (i : Indication) → endpoint p w fd ≡ Some e → endpoint p w resfd ≡ Some r → Cleared (Listen.accept_rows p fd resfd number options udata e r) → find_number number e.outstanding ≡ Some i → P (changed p w (Listen.accept_changes fd resfd i options udata e r)))
+    → (e : Endpoint) → endpoint p w fd ≡ Some e → Keeps P p w (Listen.accept_with p fd resfd number options udata e (endpoint p w resfd))
+accept-keeps P p w fd resfd number options udata h accepts e a = at_resfd (endpoint p w resfd) refl
   where
-    found : (e r : Endpoint) → endpoint p w fd ≡ Some e → endpoint p w resfd ≡ Some r → Cleared (Listen.accept_rows p fd resfd number options udata e r) → (o : Option Indication) → find_number number e.outstanding ≡ o → Paired p (changed p w (Listen.accept_found fd resfd o options udata e r))
-    found e r a b c None f = h
-    found e r a b c (Some i) f = accepts-paired p w z h fd resfd number options udata e r i a b c f
+    found : (r : Endpoint) → endpoint p w resfd ≡ Some r → Cleared (Listen.accept_rows p fd resfd number options udata e r) → (o : Option Indication) → find_number number e.outstanding ≡ o → P (changed p w (Listen.accept_found fd resfd o options udata e r))
+    found r b c None f = h
+    found r b c (Some i) f = accepts e r i a b c f
 
-    at_resfd : (e : Endpoint) → endpoint p w fd ≡ Some e → (o : Option Endpoint) → endpoint p w resfd ≡ o → Keeps (Paired p) p w (Listen.accept_with p fd resfd number options udata e o)
-    at_resfd e a None b = record { changes = λ g. h; lost = λ g. h; marks = λ g. h }
-    at_resfd e a (Some r) b = record {
-      changes = λ g. found e r a b (cleared (Listen.accept_rows p fd resfd number options udata e r) g) (find_number number e.outstanding) refl;
-      lost = λ g. found e r a b (cleared (Listen.accept_rows p fd resfd number options udata e r) g) (find_number number e.outstanding) refl;
+    at_resfd : (o : Option Endpoint) → endpoint p w resfd ≡ o → Keeps P p w (Listen.accept_with p fd resfd number options udata e o)
+    at_resfd None b = record { changes = λ g. h; lost = λ g. h; marks = λ g. h }
+    at_resfd (Some r) b = record {
+      changes = λ g. found r b (cleared (Listen.accept_rows p fd resfd number options udata e r) g) (find_number number e.outstanding) refl;
+      lost = λ g. found r b (cleared (Listen.accept_rows p fd resfd number options udata e r) g) (find_number number e.outstanding) refl;
       marks = λ g. h;
     }
+
+accept-paired : (p : Providers) (w : World) → SoundLinks p w → Paired p w → (fd resfd number : ℕ) (options udata : List ℕ) → Paired p (left_by w (step_of p w (Listen.accept_plan p w fd resfd number options udata)))
+accept-paired p w z h fd resfd number options udata = call-keeps (Paired p) p w fd (λ e. Listen.accept_with p fd resfd number options udata e (endpoint p w resfd)) h
+    (accept-keeps (Paired p) p w fd resfd number options udata h (λ e r i a b c f. accepts-paired p w z h fd resfd number options udata e r i a b c f))
 
 -- What tame changes keep is kept by every call but accept and open, and by these where they keep it.
 module _ (p : Providers) (w : World) (P : World → Type 0) (h : P w) (k : (cs : List Change) → AllTame cs → P (changed p w cs)) where

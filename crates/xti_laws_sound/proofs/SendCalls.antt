@@ -18,6 +18,7 @@ use Rattle.xti_model.specs.Plan.{Row, Refusal, answers, waits, loses, first, if_
 use Rattle.xti_model.specs.Step.{step_of, send}
 use Rattle.xti_model.specs.History.{left_by}
 use Rattle.xti_model.specs.Calls.Send as Send
+use Rattle.xti_laws.proofs.BlockingRows.{later-same}
 use Rattle.xti_laws.proofs.ChangedEndpoints.{changed-append}
 use Rattle.xti_laws_requests.proofs.KeptEndpoints.{AllKeep, keeps}
 use Rattle.xti_laws_requests.proofs.StepWays.{some-is}
@@ -36,14 +37,7 @@ use Rattle.xti_laws_sound.proofs.AcrossCalls.{choice}
 
 -- a later step has an effect only where the first would
 pub later-effect : (n : ℕ) (rows : List Row) → has_effect (first (map (later_row n) rows)) ≡ has_effect (first rows)
-later-effect n [] = refl
-later-effect n (row ∷ rows) = go row.holds row.refusal (later-effect n rows)
-  where
-    go : (b : Bool) (r : Refusal) → has_effect (first (map (later_row n) rows)) ≡ has_effect (first rows) → has_effect (cond b (Some (later n r)) (first (map (later_row n) rows))) ≡ has_effect (cond b (Some r) (first rows))
-    go true (answers y) k = refl
-    go true (waits y) k = refl
-    go true loses k = refl
-    go false r k = k
+later-effect n rows = later-same has_effect n (λ r. elim r as (λ k. has_effect (Some (later n k)) ≡ has_effect (Some k)) [ answers reply ↦ refl | waits reply ↦ refl | loses ↦ refl ]) rows
 
 symbols-quiet : (b : Bool) (symbols : List ℕ) → Quiet (Send.received b symbols)
 symbols-quiet true symbols z e = refl

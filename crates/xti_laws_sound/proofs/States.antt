@@ -47,13 +47,7 @@ busy-receiving s h = absurd (false≢true h)
 
 pub asking-bound : (s : State) → is_one_of connected_or_asking s ≡ true → is_one_of (T_UNBND ∷ []) s ≡ false
 asking-bound T_UNBND h = absurd (false≢true h)
-asking-bound T_UNINIT h = absurd (false≢true h)
-asking-bound T_IDLE h = refl
-asking-bound T_OUTCON h = refl
-asking-bound T_INCON h = refl
-asking-bound T_DATAXFER h = refl
-asking-bound T_OUTREL h = refl
-asking-bound T_INREL h = refl
+asking-bound other h = refl
 
 pub listening-bound : (s : State) → is_one_of (T_IDLE ∷ T_INCON ∷ []) s ≡ true → is_one_of (T_UNBND ∷ []) s ≡ false
 listening-bound T_UNBND h = absurd (false≢true h)

@@ -27,18 +27,21 @@ pub record Tells (O : Outcome → Type 0) (x : Plan) : Type 0 where
   pub refused : RefusalTells O (first x.rows)
   pub done : first x.rows ≡ None → O x.outcome
 
-pub step-tells : (O : Outcome → Type 0) → ((n : _) → O (Done (Overflow n))) → (p : Providers) (w : World) (x : Plan) → Tells O x → StepTells O (step_of p w x)
-step-tells O lost p w x t = go (first x.rows) refl t.refused
+pub step-told : (O : Outcome → Type 0) (p : Providers) (w : World) (x : Plan) → O (Done (Overflow (record { 0 = x.lost_number }))) → RefusalTells O (first x.rows) → (first x.rows ≡ None → O x.outcome) → StepTells O (step_of p w x)
+step-told O p w x lost refused done = go (first x.rows) refl refused
   where
     wait : (reply : Reply) (b : Bool) → O (Done reply) → StepTells O (cond b (Some (made p x.fd (Done reply) (changed p w x.marks))) None)
     wait reply true k = k
     wait reply false k = tt
 
     go : (r : Option Refusal) → first x.rows ≡ r → RefusalTells O r → StepTells O (step_by p w x r)
-    go None i k = t.done i
-    go (Some loses) i k = lost _
+    go None i k = done i
+    go (Some loses) i k = lost
     go (Some (answers reply)) i k = k
     go (Some (waits reply)) i k = wait reply x.nonblock k
+
+pub step-tells : (O : Outcome → Type 0) → ((n : _) → O (Done (Overflow n))) → (p : Providers) (w : World) (x : Plan) → Tells O x → StepTells O (step_of p w x)
+step-tells O lost p w x t = step-told O p w x (lost _) t.refused t.done
 
 -- rows whose answers deny
 pub denied : (O : Outcome → Type 0) → ((r : Reply) → is_denial r ≡ true → O (Done r)) → (rows : List Row) → all_deny rows ≡ true → RefusalTells O (first rows)

@@ -1,24 +1,22 @@
 -- Without the premise on bytes no law holds: on a byte stream a number 256 that is sent is read as the end of a message, and lost.
 use Rattle.std.proofs.Common.{ℕ, Bool, true, false, List, [], ◌∷◌, ◌++◌, ◌≡◌, refl, sym, ap, ◌∙◌, eqb, Some}
-use Rattle.std.specs.Prelude.{codes}
 use Rattle.std.proofs.lemmas.Bool.{false≢true}
 use Rattle.std.specs.Fmt.{digits}
 use Rattle.xti_base.specs.Options.{begins_option, is_option_list, options_within}
-use Rattle.xti_base.specs.declared.errno.Errno.TheVariants.{TNODATA}
-use Rattle.xti_base.specs.declared.kinds.Prov.TheVariants.{Ticotsord}
-use Rattle.xti_base.specs.declared.kinds.State.TheVariants.{T_UNBND, T_IDLE, T_OUTCON, T_INCON, T_DATAXFER, T_OUTREL, T_INREL}
+use Rattle.xti_base.specs.declared.kinds.State.TheVariants.{T_DATAXFER, T_OUTREL, T_INREL}
 use Rattle.xti_base.specs.declared.limit.Limit.TheVariants.{At}
 use Rattle.xti_model.specs.declared.call.Call.TheVariants as call
 use Rattle.xti_model.specs.declared.entry.Act.TheVariants as act
 use Rattle.xti_model.specs.declared.entry.Entry.{Entry}
 use Rattle.xti_model.specs.declared.entry.Outcome.TheVariants.{Done}
-use Rattle.xti_model.specs.declared.entry.Reply.TheVariants.{Plain, Opened, Bound, Connected, Listened, Sent, Got, Refused}
+use Rattle.xti_model.specs.declared.entry.Reply.TheVariants.{Plain, Sent, Got}
 use Rattle.xti_model.specs.declared.profile.Providers.{Providers}
 use Rattle.xti_model.specs.Step.{plan, step}
 use Rattle.xti_model.specs.Endpoint.{Endpoint}
 use Rattle.xti_model.specs.World.{opening, endpoint}
 use Rattle.xti_model.specs.History.{after, Legal}
 use Rattle.xti_model.specs.Streams.{Connection, connection}
+use Rattle.xti_laws.proofs.LinkedHistory.{linked}
 use Rattle.xti_laws_streams.specs.Laws.{Prefix, PrefixLaw, WaitingLaw, ReleaseLaw, got_at, sent_to, has_ended, received_release, is_unbroken}
 
 providers : Providers
@@ -26,15 +24,7 @@ providers = record { ticots = record { tsdu = At 65536; sendzero = true; same_ad
 
 entries : List Entry
 entries =
-    record { worker = 0; act = act.Begin (call.TOpen Ticotsord false); outcome = Done (Opened (record { 0 = 0 })); after = T_UNBND } ∷
-    record { worker = 0; act = act.Begin (call.TBind (record { 0 = 0 }) (codes "l") 1 64); outcome = Done (Bound (codes "l") 1); after = T_IDLE } ∷
-    record { worker = 0; act = act.Begin (call.TOpen Ticotsord true); outcome = Done (Opened (record { 0 = 1 })); after = T_UNBND } ∷
-    record { worker = 0; act = act.Begin (call.TBind (record { 0 = 1 }) (codes "c") 0 64); outcome = Done (Bound (codes "c") 0); after = T_IDLE } ∷
-    record { worker = 0; act = act.Begin (call.TOpen Ticotsord true); outcome = Done (Opened (record { 0 = 2 })); after = T_UNBND } ∷
-    record { worker = 0; act = act.Begin (call.TConnect (record { 0 = 1 }) (codes "l") [] [] 64 256 64); outcome = Done (Refused TNODATA); after = T_OUTCON } ∷
-    record { worker = 0; act = act.Begin (call.TListen (record { 0 = 0 }) 64 256 64); outcome = Done (Listened (record { 0 = 1 }) (codes "c") [] []); after = T_INCON } ∷
-    record { worker = 0; act = act.Begin (call.TAccept (record { 0 = 0 }) (record { 0 = 2 }) (record { 0 = 1 }) [] []); outcome = Done Plain; after = T_IDLE } ∷
-    record { worker = 0; act = act.Begin (call.TRcvConnect (record { 0 = 1 }) 64 256 64); outcome = Done (Connected (codes "l") [] []); after = T_DATAXFER } ∷
+    linked ++
     record { worker = 0; act = act.Begin (call.TSnd (record { 0 = 1 }) (256 ∷ 1 ∷ []) 0); outcome = Done (Sent 2); after = T_DATAXFER } ∷
     record { worker = 0; act = act.Begin (call.TRcv (record { 0 = 2 }) 9); outcome = Done (Got [] 0); after = T_DATAXFER } ∷
     record { worker = 0; act = act.Begin (call.TRcv (record { 0 = 2 }) 9); outcome = Done (Got (1 ∷ []) 0); after = T_DATAXFER } ∷
@@ -43,22 +33,22 @@ entries =
     []
 
 is-legal : Legal providers entries
-unfolding providers entries digits opening step plan is_option_list options_within begins_option
+unfolding providers entries linked digits opening step plan is_option_list options_within begins_option
 is-legal = ((refl, refl), ((refl, refl), ((refl, refl), ((refl, refl), ((refl, refl), ((refl, refl), ((refl, refl), ((refl, refl), ((refl, refl), ((refl, refl), ((refl, refl), ((refl, refl), ((refl, refl), ((refl, refl), tt))))))))))))))
 
 between : Connection
 between = record { responder = 2; caller = 1; has_ends = false }
 
 is-between : connection providers entries 7 ≡ Some between
-unfolding providers entries between digits opening step plan is_option_list options_within begins_option
+unfolding providers entries linked between digits opening step plan is_option_list options_within begins_option
 is-between = refl
 
 got-one : got_at entries 7 between true false ≡ 1 ∷ []
-unfolding entries between
+unfolding entries linked between
 got-one = refl
 
 sent-two : sent_to entries 7 between true false ≡ 256 ∷ 1 ∷ []
-unfolding entries between
+unfolding entries linked between
 sent-two = refl
 
 one-differs : (rest more : List ℕ) → (1 ∷ rest) ≡ (256 ∷ more) → ⊥
@@ -81,11 +71,11 @@ record Drained : Type 0 where
   is_empty : e.normal ≡ []
 
 drained : Drained
-unfolding providers entries digits opening step plan is_option_list options_within begins_option
+unfolding providers entries linked digits opening step plan is_option_list options_within begins_option
 drained = record { e = _; is_open = refl; unbroken = refl; is_empty = refl }
 
 has-not-ended : has_ended entries 7 2 ≡ false
-unfolding entries
+unfolding entries linked
 has-not-ended = refl
 
 pub waiting-needs : ((p : Providers) (entries : List Entry) → Legal p entries → WaitingLaw p entries) → ⊥
@@ -95,7 +85,7 @@ waiting-needs law =
     one-differs [] (1 ∷ []) (ap (λ l. l ++ []) (sym got-one) ∙ (ap (λ l. got_at entries 7 between true false ++ l) (sym d.is_empty) ∙ (law providers entries is-legal 7 between true false d.e is-between has-not-ended d.is_open d.unbroken ∙ sent-two)))
 
 was-released : received_release entries 7 2 ≡ true
-unfolding entries
+unfolding entries linked
 was-released = refl
 
 pub release-needs : ((p : Providers) (entries : List Entry) → Legal p entries → ReleaseLaw p entries) → ⊥

@@ -4,7 +4,7 @@ use Rattle.std.proofs.lemmas.Bool.{false≢true}
 use Rattle.std.specs.List.{list_any}
 use Rattle.xti_base.specs.Kinds.{same_state}
 use Rattle.xti_base.specs.declared.kinds.State.{State}
-use Rattle.xti_base.specs.declared.kinds.State.TheVariants.{T_UNINIT, T_UNBND, T_IDLE, T_INCON, T_OUTCON, T_DATAXFER, T_OUTREL, T_INREL}
+use Rattle.xti_base.specs.declared.kinds.State.TheVariants.{T_IDLE, T_OUTCON, T_DATAXFER}
 use Rattle.xti_base.specs.declared.kinds.Fd.{Fd}
 use Rattle.xti_model.specs.declared.call.Call.TheVariants as call
 use Rattle.xti_model.specs.declared.entry.Go.{Go}
@@ -30,14 +30,8 @@ use Rattle.xti_laws_streams.proofs.ReceiveCalls.{LiveEndpoint}
 use Rattle.xti_laws_streams.proofs.OtherCalls.{own-refused, refused}
 
 out-from : (s : State) → list_any (same_state s) (T_OUTCON ∷ []) ≡ true → s ≡ T_OUTCON
-out-from T_UNINIT h = absurd (false≢true h)
-out-from T_UNBND h = absurd (false≢true h)
-out-from T_IDLE h = absurd (false≢true h)
-out-from T_INCON h = absurd (false≢true h)
 out-from T_OUTCON h = refl
-out-from T_DATAXFER h = absurd (false≢true h)
-out-from T_OUTREL h = absurd (false≢true h)
-out-from T_INREL h = absurd (false≢true h)
+out-from other h = absurd (false≢true h)
 
 module _ (p : Providers) (w : World) (c : Connection) (x : ℕ) (e : Endpoint) (g : Going) (a : LiveEndpoint p w c x e) (sends_not : sending_of g.call ≡ None) (releases_not : (o : Outcome) → is_release_receipt g.call o ≡ false) (amax omax umax : ℕ) where
   abbrev confirm_plan : Endpoint → Plan

@@ -16,7 +16,7 @@ use Rattle.xti_laws_streams.proofs.ConnectionEnds.{End, with_step}
 use Rattle.xti_laws_streams.proofs.Invariant.{View, waiting_in, HasView, NotNamedBy, HoldsRest, GotAll, LiveEnd, LinkedEnd, BothLive, OneLive, NoneLive, PeerGone, rest_left, was_broken, SoundWhere}
 use Rattle.xti_laws_requests.specs.Requests.{is_connected}
 use Rattle.xti_laws_streams.proofs.Refusals.{state-of_view, connected-lasts}
-use Rattle.xti_laws_streams.proofs.Effects.{SendsNothing, GetsNothing, PeerBecomes, same, with_symbols, with_release, cut_off, NamesNobody, Effect, changes_nothing, confirms, sends, receives, leaves, breaks, sends_release, sends_last, gets_release, gets_last, rest-prefixes, gone-prefixes, more-sent, rest-same, rest-back, all-same, all-back, prefixes-same, gone-same, or-before}
+use Rattle.xti_laws_streams.proofs.Effects.{TransfersNothing, SendsNothing, GetsNothing, PeerBecomes, same, with_symbols, with_release, cut_off, NamesNobody, Effect, changes_nothing, confirms, sends, receives, leaves, breaks, sends_release, sends_last, gets_release, gets_last, rest-prefixes, gone-prefixes, more-sent, rest-same, rest-back, all-same, all-back, prefixes-same, gone-same, or-before}
 
 -- States in which a call cannot be made.
 
@@ -139,6 +139,18 @@ module _ (p : Providers) (w w' : World) (c : Connection) (x y : End) (m : Made) 
   before-released : (b : BothLive p w c x y) → GetsNothing c m → receives_release m ≡ false → (with_step c x m).got_release ≡ true → (b.u.state ≡ T_OUTREL) × GotAll (with_step c x m) y
   before-released b t r j = let q = b.x_end.released (or-before c x y m r j) in (q.1, all-same c x y m t q.2)
 
+  -- x moves to another state of its connection and receives nothing: it had received no release
+  moved-x : (b : BothLive p w c x y) (s : State) (u : View) → is_connected s ≡ true → HasView (record b.v { state = s }) (endpoint p w' x.fd) → GetsNothing c m → receives_release m ≡ false → u.state ≡ b.u.state → (b.v.state ≡ T_INREL → ⊥)
+      → LinkedEnd p w' c (with_step c x m) y (record b.v { state = s }) u
+  moved-x b s u h l g r same n = record {
+    here = l;
+    live = state-live p c b.v s b.x_end.live h;
+    peer = b.x_end.peer;
+    holds_rest = rest-same c x y m b.v g b.x_end.holds_rest;
+    release = λ i. same ∙ b.x_end.release i;
+    released = λ i. absurd (n (b.x_end.released (or-before c x y m r i)).0);
+  }
+
   pub both-sound : (b : BothLive p w c x y) → eqb y.fd x.fd ≡ false → Effect p w w' c x.fd b.v m → SoundWhere p w' c (with_step c x m) y (is_over m.after) false
   both-sound b n (changes_nothing t l f) = both-last b.v l b.x_end.live.in_connection (record {
     v = b.v;
@@ -149,14 +161,7 @@ module _ (p : Providers) (w w' : World) (c : Connection) (x y : End) (m : Made) 
   both-sound b n (confirms t s l f) = both-last (record b.v { state = T_DATAXFER }) l refl (record {
     v = record b.v { state = T_DATAXFER };
     u = b.u;
-    x_end = record {
-      here = l;
-      live = state-live p c b.v T_DATAXFER b.x_end.live refl;
-      peer = b.x_end.peer;
-      holds_rest = rest-same c x y m b.v t.gets b.x_end.holds_rest;
-      release = b.x_end.release;
-      released = λ i. two-states is_out b.v.state T_OUTCON T_INREL s (b.x_end.released (or-before c x y m t.releases i)).0 refl refl;
-    };
+    x_end = moved-x b T_DATAXFER b.u refl l t.gets t.releases refl (λ i. two-states is_out b.v.state T_OUTCON T_INREL s i refl refl);
     y_end = linked-y b.v (record b.v { state = T_DATAXFER }) b.u b.y_end (peer-view b same n f) t.sends (λ i. two-states is_out b.v.state T_OUTCON T_OUTREL s i refl refl);
   })
   both-sound b n (sends s e symbols l t a g r f) = both-last b.v l b.x_end.live.in_connection (record {
@@ -199,14 +204,7 @@ module _ (p : Providers) (w w' : World) (c : Connection) (x y : End) (m : Made) 
   both-sound b n (sends_release t s l f) = both-last (record b.v { state = T_OUTREL }) l refl (record {
     v = record b.v { state = T_OUTREL };
     u = with_release b.u;
-    x_end = record {
-      here = l;
-      live = state-live p c b.v T_OUTREL b.x_end.live refl;
-      peer = b.x_end.peer;
-      holds_rest = rest-same c x y m b.v t.gets b.x_end.holds_rest;
-      release = b.x_end.release;
-      released = λ i. two-states is_data b.v.state T_DATAXFER T_INREL s (b.x_end.released (or-before c x y m t.releases i)).0 refl refl;
-    };
+    x_end = moved-x b T_OUTREL (with_release b.u) refl l t.gets t.releases refl (λ i. two-states is_data b.v.state T_DATAXFER T_INREL s i refl refl);
     y_end = record {
       here = peer-view b with_release n f;
       live = record { in_connection = b.y_end.live.in_connection; without_target = b.y_end.live.without_target; ends = b.y_end.live.ends; stream = b.y_end.live.stream };
@@ -255,6 +253,20 @@ module _ (p : Providers) (w w' : World) (c : Connection) (x y : End) (m : Made) 
       let none : (k : Bool) → (got_made c k m ≡ []) × (waiting_in k (record v { normal = normal; expedited = expedited }) ≡ []) = λ k. both-empty (got_made c k m) (waiting_in k (record v { normal = normal; expedited = expedited })) (g k ∙ nothing-waits k v a b) in
       was_broken n d (none false).1 (none true).1 (prefixes-same c x y m (λ k. (none k).0) q)
 
+  -- x moves to another state of its connection, and transfers nothing: it had neither received nor sent a release
+  one-moved : (b : OneLive p w c x y) (s : State) → is_connected s ≡ true → NotNamedBy x.fd (endpoint p w' y.fd) → TransfersNothing c m.going m.outcome → HasView (record b.v { state = s }) (endpoint p w' x.fd) → (b.v.state ≡ T_INREL → ⊥) → (b.v.state ≡ T_OUTREL → ⊥)
+      → SoundWhere p w' c (with_step c x m) y (is_over m.after) true
+  one-moved b s h a t l n k = one-last (record b.v { state = s }) l h (record {
+    v = record b.v { state = s };
+    here = l;
+    live = state-live p c b.v s b.live h;
+    not_named = a;
+    peer_gone = state-gone (with_step c x m) y b.v s (gone-same c x y m b.v t.gets b.peer_gone);
+    released = λ i. absurd (n (b.released (or-before c x y m t.releases i)).0);
+    other = more-sent c x y m b.other;
+    other_released = λ i. absurd (k (b.other_released i).0);
+  })
+
   pub one-sound : (b : OneLive p w c x y) → NotNamedBy x.fd (endpoint p w' y.fd) → Effect p w w' c x.fd b.v m → SoundWhere p w' c (with_step c x m) y (is_over m.after) true
   one-sound b a (changes_nothing t l f) = one-last b.v l b.live.in_connection (record {
     v = b.v;
@@ -266,16 +278,7 @@ module _ (p : Providers) (w w' : World) (c : Connection) (x y : End) (m : Made) 
     other = more-sent c x y m b.other;
     other_released = λ i. (let q = b.other_released i in (q.0, all-back c x y m t.sends q.1));
   })
-  one-sound b a (confirms t s l f) = one-last (record b.v { state = T_DATAXFER }) l refl (record {
-    v = record b.v { state = T_DATAXFER };
-    here = l;
-    live = state-live p c b.v T_DATAXFER b.live refl;
-    not_named = a;
-    peer_gone = state-gone (with_step c x m) y b.v T_DATAXFER (gone-same c x y m b.v t.gets b.peer_gone);
-    released = λ i. two-states is_out b.v.state T_OUTCON T_INREL s (b.released (or-before c x y m t.releases i)).0 refl refl;
-    other = more-sent c x y m b.other;
-    other_released = λ i. two-states is_out b.v.state T_OUTCON T_OUTREL s (b.other_released i).0 refl refl;
-  })
+  one-sound b a (confirms t s l f) = one-moved b T_DATAXFER refl a t l (λ i. two-states is_out b.v.state T_OUTCON T_INREL s i refl refl) (λ i. two-states is_out b.v.state T_OUTCON T_OUTREL s i refl refl)
   one-sound b a (sends s e symbols l t q g r f) = one-last b.v l b.live.in_connection (record {
     v = b.v;
     here = l;
@@ -298,16 +301,7 @@ module _ (p : Providers) (w w' : World) (c : Connection) (x y : End) (m : Made) 
   })
   one-sound b a (leaves t o z f) = one-end o (both-ended b t.sends t.gets (was-released b t.gets t.releases))
   one-sound b a (breaks t o z f) = one-end o (both-ended b t.sends t.gets (was-released b t.gets t.releases))
-  one-sound b a (sends_release t s l f) = one-last (record b.v { state = T_OUTREL }) l refl (record {
-    v = record b.v { state = T_OUTREL };
-    here = l;
-    live = state-live p c b.v T_OUTREL b.live refl;
-    not_named = a;
-    peer_gone = state-gone (with_step c x m) y b.v T_OUTREL (gone-same c x y m b.v t.gets b.peer_gone);
-    released = λ i. two-states is_data b.v.state T_DATAXFER T_INREL s (b.released (or-before c x y m t.releases i)).0 refl refl;
-    other = more-sent c x y m b.other;
-    other_released = λ i. two-states is_data b.v.state T_DATAXFER T_OUTREL s (b.other_released i).0 refl refl;
-  })
+  one-sound b a (sends_release t s l f) = one-moved b T_OUTREL refl a t l (λ i. two-states is_data b.v.state T_DATAXFER T_INREL s i refl refl) (λ i. two-states is_data b.v.state T_DATAXFER T_OUTREL s i refl refl)
   one-sound b a (sends_last t s o z f) = one-end o (both-ended b t.sends t.gets (was-released b t.gets t.releases))
   one-sound b a (gets_release s r h i l t g f) = (let q = gone-all b.v b.peer_gone r h i in one-last (record b.v { state = T_INREL; release = false }) l refl (record {
     v = record b.v { state = T_INREL; release = false };

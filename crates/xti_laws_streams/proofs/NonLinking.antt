@@ -5,8 +5,7 @@ use Rattle.std.specs.Prelude.{◌+◌, ◌-◌, option_and_then, is_some}
 use Rattle.std.specs.List.{concat}
 use Rattle.xti_base.specs.declared.kinds.Prov.{Prov}
 use Rattle.xti_base.specs.declared.kinds.Event.{Event}
-use Rattle.xti_base.specs.declared.kinds.Event.TheVariants.{T_GODATA, T_GOEXDATA}
-use Rattle.xti_base.specs.declared.kinds.State.TheVariants.{T_UNBND, T_DATAXFER}
+use Rattle.xti_base.specs.declared.kinds.State.TheVariants.{T_DATAXFER}
 use Rattle.xti_model.specs.declared.call.Call.{Call}
 use Rattle.xti_model.specs.declared.call.Call.TheVariants as call
 use Rattle.xti_model.specs.declared.entry.Go.{Go}
@@ -32,6 +31,8 @@ use Rattle.xti_model.specs.Calls.Disconnect as Disconnect
 use Rattle.xti_model.specs.Calls.Release as Release
 use Rattle.xti_model.specs.Calls.Datagrams as Datagrams
 use Rattle.xti_model.specs.Calls.Show as Show
+use Rattle.xti_laws_requests.proofs.EndpointUpdates.{Desk}
+use Rattle.xti_laws_requests.proofs.UnseenChanges.{Unseen, mark_flow-unseen, sent-unseen, bound_like-unseen, datagram-unseen, shown-unseen}
 use Rattle.xti_laws_streams.proofs.Invariant.{view}
 
 -- the update keeps the view
@@ -76,29 +77,28 @@ peer-choice : (b : Bool) (z : ℕ) (x y : Endpoint) → names z x.peer ≡ false
 peer-choice true z x y h k = h
 peer-choice false z x y h k = k
 
+-- what is unseen by the facts on requests keeps the view
+pub unseen-keeps_view : (f : Endpoint → Endpoint) → Unseen f → KeepsView f
+unseen-keeps_view f h e = ap (λ (d : Desk). record { prov = d.prov; state = d.state; target = d.target; peer = d.peer; normal = d.normal; expedited = d.expedited; release = d.release }) (h e)
+
 pub mark_flow-keeps_view : (expedited on : Bool) → KeepsView (Send.mark_flow expedited on)
-mark_flow-keeps_view true on e = refl
-mark_flow-keeps_view false on e = refl
+mark_flow-keeps_view expedited on = unseen-keeps_view (Send.mark_flow expedited on) (mark_flow-unseen expedited on)
 
 pub sent-keeps_view : (p : Providers) (expedited ends : Bool) (now : ℕ) → KeepsView (Send.sent p expedited ends now)
-sent-keeps_view p true ends now e = refl
-sent-keeps_view p false ends now e = refl
+sent-keeps_view p expedited ends now = unseen-keeps_view (Send.sent p expedited ends now) (sent-unseen p expedited ends now)
 
 pub taken_back-keeps_view : (number reason : ℕ) (udata : List ℕ) → KeepsView (taken_back number reason udata)
 taken_back-keeps_view number reason udata e = view-choice (is_some (find_number number e.pending)) (record e { pending = without_number number e.pending }) (cond (is_some (find_number number e.outstanding)) (disconnected reason number udata e) e) e refl
     (view-choice (is_some (find_number number e.outstanding)) (disconnected reason number udata e) e e refl refl)
 
 pub bound_like-keeps_view : (l : Endpoint) → KeepsView (Listen.bound_like l)
-bound_like-keeps_view l e = view-choice (is_state (T_UNBND ∷ []) e) (record e { address = Some (address_of l); qlen = 0 }) e e refl refl
+bound_like-keeps_view l = unseen-keeps_view (Listen.bound_like l) (bound_like-unseen l)
 
 pub datagram-keeps_view : (max : ℕ) → KeepsView (Datagrams.received max)
-datagram-keeps_view max e = view-choice (Datagrams.has_rest max (Datagrams.first_of e)) (record e { datagrams = Datagrams.shortened max (Datagrams.first_of e) ∷ drop 1 e.datagrams; begun = true }) (Datagrams.dropped e) e refl refl
+datagram-keeps_view max = unseen-keeps_view (Datagrams.received max) (datagram-unseen max)
 
 pub shown-keeps_view : (o : Option Event) → KeepsView (Show.shown o)
-shown-keeps_view None e = refl
-shown-keeps_view (Some T_GODATA) e = refl
-shown-keeps_view (Some T_GOEXDATA) e = refl
-shown-keeps_view (Some other) e = refl
+shown-keeps_view o = unseen-keeps_view (Show.shown o) (shown-unseen o)
 
 -- to take a target away that is not there changes nothing
 no-target : (e : Endpoint) → e.target ≡ None → view (record e { target = None }) ≡ view e

@@ -4,7 +4,7 @@ use Rattle.std.proofs.lemmas.Bool.{false≢true}
 use Rattle.std.specs.List.{list_any}
 use Rattle.xti_base.specs.Kinds.{same_state}
 use Rattle.xti_base.specs.declared.kinds.State.{State}
-use Rattle.xti_base.specs.declared.kinds.State.TheVariants.{T_UNINIT, T_UNBND, T_IDLE, T_INCON, T_OUTCON, T_DATAXFER, T_OUTREL, T_INREL}
+use Rattle.xti_base.specs.declared.kinds.State.TheVariants.{T_DATAXFER, T_OUTREL, T_INREL}
 use Rattle.xti_base.specs.declared.kinds.Event.TheVariants.{T_ORDREL}
 use Rattle.xti_model.specs.declared.entry.Outcome.{Outcome}
 use Rattle.xti_model.specs.declared.entry.Outcome.TheVariants.{Done}
@@ -31,24 +31,14 @@ use Rattle.xti_laws_streams.proofs.ReceiveCalls.{LiveEndpoint}
 
 -- States in which data may be sent or received.
 sends-from : (s : State) → list_any (same_state s) sending ≡ true → (s ≡ T_DATAXFER) ⊎ (s ≡ T_INREL)
-sends-from T_UNINIT h = absurd (false≢true h)
-sends-from T_UNBND h = absurd (false≢true h)
-sends-from T_IDLE h = absurd (false≢true h)
-sends-from T_INCON h = absurd (false≢true h)
-sends-from T_OUTCON h = absurd (false≢true h)
-sends-from T_OUTREL h = absurd (false≢true h)
 sends-from T_DATAXFER h = inl refl
 sends-from T_INREL h = inr refl
+sends-from other h = absurd (false≢true h)
 
 receives-from : (s : State) → list_any (same_state s) receiving ≡ true → (s ≡ T_DATAXFER) ⊎ (s ≡ T_OUTREL)
-receives-from T_UNINIT h = absurd (false≢true h)
-receives-from T_UNBND h = absurd (false≢true h)
-receives-from T_IDLE h = absurd (false≢true h)
-receives-from T_INCON h = absurd (false≢true h)
-receives-from T_OUTCON h = absurd (false≢true h)
-receives-from T_INREL h = absurd (false≢true h)
 receives-from T_DATAXFER h = inl refl
 receives-from T_OUTREL h = inr refl
+receives-from other h = absurd (false≢true h)
 
 -- the view after the call, by the state before it
 after_send-view : (e : Endpoint) (s : State) → e.state ≡ s → view (Release.after_send e) ≡ view (cond (list_any (same_state s) (T_DATAXFER ∷ [])) (record e { state = T_OUTREL }) (Disconnect.idle e))

@@ -32,23 +32,7 @@ is_answer_letter text = cond (eqb (get_or text 0 0) 111) true (cond (eqb (get_or
 pub answer-letter : (o : Outcome) (s : State) → is_answer_letter (answer_text o s) ≡ true
 answer-letter (Part taken) s = refl
 answer-letter (Done reply.Plain) s = refl
-answer-letter (Done (reply.Opened fd)) s = refl
-answer-letter (Done (reply.Bound addr qlen)) s = refl
-answer-letter (Done (reply.Connected addr opt udata)) s = refl
-answer-letter (Done (reply.Listened seq addr opt udata)) s = refl
-answer-letter (Done (reply.Sent n)) s = refl
-answer-letter (Done (reply.Got bytes flags)) s = refl
-answer-letter (Done (reply.Discon reason seq udata)) s = refl
-answer-letter (Done (reply.UData addr opt bytes flags)) s = refl
-answer-letter (Done (reply.UDErr addr opt code)) s = refl
-answer-letter (Done (reply.Seen event)) s = refl
-answer-letter (Done (reply.Stands state)) s = refl
-answer-letter (Done (reply.Limits info)) s = refl
-answer-letter (Done (reply.Addresses local peer)) s = refl
-answer-letter (Done (reply.Options result opt)) s = refl
-answer-letter (Done (reply.Refused errno)) s = refl
-answer-letter (Done (reply.Look event)) s = refl
-answer-letter (Done (reply.Overflow seq)) s = refl
+answer-letter (Done other) s = refl
 
 pub no-answer : (text : List ℕ) (o : Outcome) (s : State) → is_answer_letter text ≡ false → text ≡ answer_text o s → ⊥
 no-answer text o s f e = let c : false ≡ true = sym f ∙ ap is_answer_letter e ∙ answer-letter o s in absurd cc

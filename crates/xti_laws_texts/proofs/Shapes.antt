@@ -83,18 +83,7 @@ record AreOctets (v : Value) : Type 0 where
 
 octets-of : (v : Value) → IsOctets v → AreOctets v
 octets-of (value.Bytes bytes) h = record { bytes = bytes; same = refl }
-octets-of (value.Number x) h = absurd h
-octets-of (value.Parts x) h = absurd h
-octets-of (value.Sizes x) h = absurd h
-octets-of (value.Truth x) h = absurd h
-octets-of (value.Provider x) h = absurd h
-octets-of (value.Mode x) h = absurd h
-octets-of (value.Limit x) h = absurd h
-octets-of (value.Service x) h = absurd h
-octets-of (value.State x) h = absurd h
-octets-of (value.Event x) h = absurd h
-octets-of (value.EventOrNone x) h = absurd h
-octets-of (value.Errno x) h = absurd h
+octets-of other h = absurd h
 
 exact : (k : Kind) (v u : Value) → IsOfKind k v → IsOfKind k u → value_text v ≡ value_text u → v ≡ u
 exact k v u h g e = some_is v u (sym (value_full k v h) ∙ ap (value_in k) e ∙ value_full k u g)
@@ -105,36 +94,14 @@ one-value kind.Bytes v u h g e =
     let b = octets-of u g in
     let same : octets_text a.bytes ≡ octets_text b.bytes = ap value_text (sym a.same) ∙ e ∙ ap value_text b.same in
     a.same ∙ ap value.Bytes (one-octets a.bytes b.bytes same) ∙ sym b.same
-one-value kind.Number v u h g e = exact kind.Number v u h g e
-one-value kind.Parts v u h g e = exact kind.Parts v u h g e
-one-value kind.Sizes v u h g e = exact kind.Sizes v u h g e
-one-value kind.Truth v u h g e = exact kind.Truth v u h g e
-one-value kind.Provider v u h g e = exact kind.Provider v u h g e
-one-value kind.Mode v u h g e = exact kind.Mode v u h g e
-one-value kind.Limit v u h g e = exact kind.Limit v u h g e
-one-value kind.Service v u h g e = exact kind.Service v u h g e
-one-value kind.State v u h g e = exact kind.State v u h g e
-one-value kind.Event v u h g e = exact kind.Event v u h g e
-one-value kind.EventOrNone v u h g e = exact kind.EventOrNone v u h g e
-one-value kind.Errno v u h g e = exact kind.Errno v u h g e
+one-value k v u h g e = exact k v u h g e
 
 above : (k : Kind) (v : Value) → IsShaped k v → Above 32 (value_text v)
 above kind.Bytes v h =
     let a = octets-of v h in
     let same : value_text v ≡ octets_text a.bytes = ap value_text a.same in
     rw same (octets-above a.bytes)
-above kind.Number v h = value_above kind.Number v h
-above kind.Parts v h = value_above kind.Parts v h
-above kind.Sizes v h = value_above kind.Sizes v h
-above kind.Truth v h = value_above kind.Truth v h
-above kind.Provider v h = value_above kind.Provider v h
-above kind.Mode v h = value_above kind.Mode v h
-above kind.Limit v h = value_above kind.Limit v h
-above kind.Service v h = value_above kind.Service v h
-above kind.State v h = value_above kind.State v h
-above kind.Event v h = value_above kind.Event v h
-above kind.EventOrNone v h = value_above kind.EventOrNone v h
-above kind.Errno v h = value_above kind.Errno v h
+above k v h = value_above k v h
 
 -- ---- fields
 
@@ -145,31 +112,9 @@ AreShaped (kind ∷ kinds) (value ∷ values) = IsShaped kind value × AreShaped
 AreShaped kinds values = ⊥
 
 shaped : (k : Kind) (v : Value) → IsOfKind k v → IsShaped k v
-shaped kind.Number v h = h
-shaped kind.Parts v h = h
-shaped kind.Sizes v h = h
-shaped kind.Truth v h = h
-shaped kind.Provider v h = h
-shaped kind.Mode v h = h
-shaped kind.Limit v h = h
-shaped kind.Service v h = h
-shaped kind.State v h = h
-shaped kind.Event v h = h
-shaped kind.EventOrNone v h = h
-shaped kind.Errno v h = h
 shaped kind.Bytes (value.Bytes bytes) h = tt
-shaped kind.Bytes (value.Number x) h = absurd h
-shaped kind.Bytes (value.Parts x) h = absurd h
-shaped kind.Bytes (value.Sizes x) h = absurd h
-shaped kind.Bytes (value.Truth x) h = absurd h
-shaped kind.Bytes (value.Provider x) h = absurd h
-shaped kind.Bytes (value.Mode x) h = absurd h
-shaped kind.Bytes (value.Limit x) h = absurd h
-shaped kind.Bytes (value.Service x) h = absurd h
-shaped kind.Bytes (value.State x) h = absurd h
-shaped kind.Bytes (value.Event x) h = absurd h
-shaped kind.Bytes (value.EventOrNone x) h = absurd h
-shaped kind.Bytes (value.Errno x) h = absurd h
+shaped kind.Bytes other h = absurd h
+shaped k v h = h
 
 pub are-shaped : (keys : _) (values : List Value) → AreFields keys values → AreShaped (map kind_of keys) values
 are-shaped [] [] h = tt

@@ -171,23 +171,7 @@ told-sort : (o : Outcome) (s : State) → sort_in (words o s) ≡ sort_of (answe
 unfolding answer_form field
 told-sort (Part taken) s = refl
 told-sort (Done reply.Plain) s = refl
-told-sort (Done (reply.Opened fd)) s = refl
-told-sort (Done (reply.Bound addr qlen)) s = refl
-told-sort (Done (reply.Connected addr opt udata)) s = refl
-told-sort (Done (reply.Listened seq addr opt udata)) s = refl
-told-sort (Done (reply.Sent n)) s = refl
-told-sort (Done (reply.Got bytes flags)) s = refl
-told-sort (Done (reply.Discon reason seq udata)) s = refl
-told-sort (Done (reply.UData addr opt bytes flags)) s = refl
-told-sort (Done (reply.UDErr addr opt code)) s = refl
-told-sort (Done (reply.Seen event)) s = refl
-told-sort (Done (reply.Stands state)) s = refl
-told-sort (Done (reply.Limits info)) s = refl
-told-sort (Done (reply.Addresses local peer)) s = refl
-told-sort (Done (reply.Options result opt)) s = refl
-told-sort (Done (reply.Refused errno)) s = refl
-told-sort (Done (reply.Look event)) s = refl
-told-sort (Done (reply.Overflow seq)) s = refl
+told-sort (Done other) s = refl
 
 -- the answer of this sort
 abbrev answer_with : Verb → ℕ → Answer
