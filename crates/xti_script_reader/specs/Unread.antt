@@ -1,5 +1,5 @@
 -- Fields that are read one after the other, and the call that their values make.
-use Rattle.std.specs.Prelude.{◌≡◌, ℕ, Bool, true, false, List, [], ◌∷◌, Option, Some, None, Result, Ok, Err}
+use Rattle.std.specs.Prelude.{◌≡◌, ℕ, Bool, true, false, List, [], ◌∷◌, ◌⊎◌, Option, Some, None, Result, Ok, Err}
 use Rattle.xti_model.specs.declared.script.NamedCall.{NamedCall}
 use Rattle.xti_script_reader.specs.Kinds.{Kind}
 use Rattle.xti_script_reader.specs.Kinds.{Kind as kind}
@@ -13,7 +13,8 @@ use Rattle.xti_script_reader.specs.declared.fields.FieldFail.{FieldFail}
 use Rattle.xti_script_reader.specs.declared.fields.FieldFail.TheVariants.{Wrong, OutOfMemory}
 use Rattle.xti_script_reader.specs.Names.{Spot, after}
 use Rattle.xti_words.specs.Values.{onto}
-use Rattle.xti_script_reader.specs.Reading.{written_value, fields_of}
+use Rattle.xti_verbs.specs.declared.verb.Verb.{Verb}
+use Rattle.xti_script_reader.specs.Reading.{written_value, fields_of, with_values}
 
 abbrev pub usual_is : Usual → Value
 usual_is usual.Empty = value.Bytes []
@@ -24,13 +25,20 @@ usual_is usual.Blocking = value.Mode false
 abbrev pub spot_of : Fields → Spot
 spot_of fields = after fields.draft.now fields.worker
 
--- the values that the words give the fields that are not read yet
+-- the values that the words give the fields that are not read yet, or none after one that is wrong
+abbrev pub left : Bool → Option (List Value) → Option (List Value)
+left true values = None
+left false values = values
+
 abbrev pub unread : Fields → Option (List Value)
-unread fields = fields_of (spot_of fields) fields.keys.now fields.words
+unread fields = left fields.is_wrong (fields_of (spot_of fields) fields.keys.now fields.words)
 
 -- the next field was taken, with this key and this word: its value is the first of those that were not read
-abbrev pub TakesField : Fields → Fields → Key → Option (List ℕ) → Type 0
-TakesField old new key text = unread old ≡ onto (written_value (spot_of new) key text) (unread new)
+pub record TakesField (old new : Fields) (key : Key) (text : Option (List ℕ)) : Type 0 where
+  pub spot : spot_of new ≡ spot_of old
+  pub keys : old.keys.now ≡ key ∷ new.keys.now
+  pub memory : new.ran_out ≡ old.ran_out
+  pub value : unread old ≡ onto (written_value (spot_of old) key text) (unread new)
 
 -- the next field has this key
 abbrev pub IsNext : Key → List Key → Type 0
@@ -45,11 +53,27 @@ is_naming kind.NewSequence = true
 is_naming kind.Sequence = true
 is_naming other = false
 
--- what is read is the first of the values, which the others follow, or there are none
-abbrev pub Reads : {A : Type 0} → (A → Value) → Option (List Value) → Option (List Value) → Result A FieldFail → Type 0
-Reads is_value values others (Ok read) = values ≡ onto (Some (is_value read)) others
-Reads is_value values others (Err Wrong) = values ≡ None
-Reads is_value values others (Err OutOfMemory) = Unit {0}
+-- these are written as bytes
+abbrev pub are_bytes : Kind → Bool
+are_bytes kind.Bytes = true
+are_bytes kind.Options = true
+are_bytes other = false
+
+-- these are numbers
+abbrev pub are_number : Kind → Bool
+are_number kind.Number = true
+are_number kind.Action = true
+are_number other = false
+
+-- what was read is given; or it is noted that it is wrong, or that memory ran out
+abbrev pub Notes : {A E : Type 0} → Result (Option A) E → Fields → Fields → A → Type 0
+Notes (Ok (Some read)) old new given = (given ≡ read) × (new ≡ old)
+Notes (Ok None) old new given = new ≡ record old { is_wrong = true }
+Notes (Err e) old new given = new ≡ record old { ran_out = true }
+
+-- the value is the first of those that were not read, which the others follow; or memory ran out
+abbrev pub Reads : Value → Fields → Fields → Type 0
+Reads value old new = (new.ran_out ≡ true) ⊎ ((new.ran_out ≡ old.ran_out) × (unread old ≡ onto (Some value) (unread new)))
 
 -- the call, where no value is left
 abbrev pub alone : NamedCall → Option (List Value) → Option NamedCall
@@ -57,8 +81,12 @@ alone call None = None
 alone call (Some []) = Some call
 alone call (Some (value ∷ values)) = None
 
--- what is read is the call that the values make, where no value is left; or they make none
-abbrev pub Makes : Option NamedCall → Option (List Value) → Result NamedCall FieldFail → Type 0
-Makes call others (Ok read) = call ≡ alone read others
-Makes call others (Err Wrong) = call ≡ None
-Makes call others (Err OutOfMemory) = Unit {0}
+-- the call is the one that the values make, where no value is left; or memory ran out
+abbrev pub Makes : Verb → NamedCall → Fields → Fields → Type 0
+Makes verb call old new = (new.ran_out ≡ true) ⊎ ((new.ran_out ≡ old.ran_out) × (with_values verb (unread old) ≡ alone call (unread new)))
+
+-- no value is left; or there are none; or memory ran out
+abbrev pub EndsAs : {A : Type 0} → Fields → Result A FieldFail → Type 0
+EndsAs fields (Ok read) = (fields.ran_out ≡ false) × (unread fields ≡ Some [])
+EndsAs fields (Err Wrong) = (fields.ran_out ≡ false) × (unread fields ≡ None)
+EndsAs fields (Err OutOfMemory) = Unit {0}

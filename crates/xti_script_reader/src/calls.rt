@@ -60,11 +60,14 @@ fn read_call(draft: &mut Draft, worker: u32, words: Words) -> Result<Taken, Allo
         return Ok(Taken::Wrong);
     };
     let mut fields = Fields::new(draft, worker, form(verb), words);
-    match read_fields(verb, &mut fields) {
-        Ok(call) if fields.are_read() => draft.add(worker, call),
-        Ok(call) => refused(call),
-        Err(FieldFail::Wrong) => Ok(Taken::Wrong),
-        Err(FieldFail::OutOfMemory) => Err(AllocError),
+    let call = read_fields(verb, &mut fields);
+    match fields.end() {
+        Ok(()) => draft.add(worker, call),
+        Err(FieldFail::Wrong) => refused(call),
+        Err(FieldFail::OutOfMemory) => {
+            drop(call);
+            Err(AllocError)
+        }
     }
 }
 

@@ -1,211 +1,197 @@
 //! Reading calls from their fields.
 
-ghost use Rattle.std.specs.Prelude.{◌≡◌, true, [], IfOk};
+ghost use Rattle.std.specs.Prelude.{◌≡◌, true, []};
 ghost use Rattle.xti_script_reader.specs.Calls.{form};
 ghost use Rattle.xti_verbs.specs.Families.{is_local, is_connecting, is_data, is_datagram};
 ghost use Rattle.xti_verbs.specs.Verbs.{is_plain};
-ghost use Rattle.xti_script_reader.specs.Reading.{with_values};
-ghost use Rattle.xti_script_reader.specs.Unread.{unread, Makes};
+ghost use Rattle.xti_script_reader.specs.Unread.{Makes};
 
-use crate::fields::{FieldFail, Fields, Key};
-use xti_base::build_or_drop;
+use crate::fields::{Fields, Key};
 use xti_model::NamedCall;
 use xti_verbs::Verb;
 
-/// A call, or why its fields aren't read.
-type ReadCall = Result<NamedCall, FieldFail>;
-
-/// Makes a call at the endpoint with the name, which was read before its other fields. Where one of these can't be read, those
-/// before it are let go with the name, and the function ends with that error.
-macro_rules! call_at {
-    ($name:ident, $call:ident { $($field:tt)* }) => {
-        build_or_drop!(@ NamedCall::$call [$name,] [$name] $($field)*)
-    };
-}
-
 /// A call that says no more than which endpoint.
 #[tactic(auto, unfolding(crate::specs::Fields::field, crate::specs::Calls::form, crate::specs::Calls::call_with))]
-fn read_plain(verb: Verb, fields: &mut Fields) -> ReadCall
+fn read_plain(verb: Verb, fields: &mut Fields) -> NamedCall
     requires family { is_plain verb ≡ true }
     requires keys { fields.old.keys.now ≡ form verb }
-    ensures call { Makes (with_values verb (unread fields.old)) (unread fields.new) result }
-    ensures keys { IfOk result (λ _. fields.new.keys.now ≡ []) }
+    ensures call { Makes verb result fields.old fields.new }
+    ensures keys { fields.new.keys.now ≡ [] }
 {
-    let fd = fields.name(Key::Endpoint)?;
-    Ok(verb.plain_named_call(fd))
+    verb.plain_named_call(fields.name(Key::Endpoint))
 }
 
 /// A call that opens an endpoint, or sets or asks what belongs to it.
 #[tactic(auto, unfolding(crate::specs::Fields::field, crate::specs::Calls::form, crate::specs::Calls::call_with))]
-fn read_local(verb: Verb, fields: &mut Fields) -> ReadCall
+fn read_local(verb: Verb, fields: &mut Fields) -> NamedCall
     requires family { is_local verb ≡ true }
     requires keys { fields.old.keys.now ≡ form verb }
-    ensures call { Makes (with_values verb (unread fields.old)) (unread fields.new) result }
-    ensures keys { IfOk result (λ _. fields.new.keys.now ≡ []) }
+    ensures call { Makes verb result fields.old fields.new }
+    ensures keys { fields.new.keys.now ≡ [] }
 {
     match verb {
-        Verb::Open => Ok(build_or_drop!(NamedCall::TOpen {
+        Verb::Open => NamedCall::TOpen {
             name: fields.name(Key::NewEndpoint),
-            prov = fields.provider(Key::Provider),
-            nonblock = fields.mode(Key::ModeOrBlock),
-        })),
-        Verb::Bind => Ok(build_or_drop!(NamedCall::TBind {
+            prov: fields.provider(Key::Provider),
+            nonblock: fields.mode(Key::ModeOrBlock),
+        },
+        Verb::Bind => NamedCall::TBind {
             fd: fields.name(Key::Endpoint),
             addr: fields.bytes(Key::Addr),
-            qlen = fields.number(Key::Qlen),
-            amax = fields.number(Key::Amax),
-        })),
-        Verb::SetMode => Ok(build_or_drop!(NamedCall::SetMode {
+            qlen: fields.number(Key::Qlen),
+            amax: fields.number(Key::Amax),
+        },
+        Verb::SetMode => NamedCall::SetMode {
             fd: fields.name(Key::Endpoint),
-            nonblock = fields.mode(Key::Mode),
-        })),
-        Verb::GetProtAddr => Ok(build_or_drop!(NamedCall::TGetProtAddr {
+            nonblock: fields.mode(Key::Mode),
+        },
+        Verb::GetProtAddr => NamedCall::TGetProtAddr {
             fd: fields.name(Key::Endpoint),
-            amax = fields.number(Key::Amax),
-            pmax = fields.number(Key::Pmax),
-        })),
-        Verb::OptMgmt => Ok(build_or_drop!(NamedCall::TOptMgmt {
+            amax: fields.number(Key::Amax),
+            pmax: fields.number(Key::Pmax),
+        },
+        Verb::OptMgmt => NamedCall::TOptMgmt {
             fd: fields.name(Key::Endpoint),
-            action = fields.action(Key::Action),
-            opt: fields.options(Key::Opt),
-            omax = fields.number(Key::Omax),
-        })),
+            action: fields.number(Key::Action),
+            opt: fields.bytes(Key::Opt),
+            omax: fields.number(Key::Omax),
+        },
         _ => unreachable!(),
     }
 }
 
 /// A call that makes a connection or breaks it.
 #[tactic(auto, unfolding(crate::specs::Fields::field, crate::specs::Calls::form, crate::specs::Calls::call_with))]
-fn read_connecting(verb: Verb, fields: &mut Fields) -> ReadCall
+fn read_connecting(verb: Verb, fields: &mut Fields) -> NamedCall
     requires family { is_connecting verb ≡ true }
     requires keys { fields.old.keys.now ≡ form verb }
-    ensures call { Makes (with_values verb (unread fields.old)) (unread fields.new) result }
-    ensures keys { IfOk result (λ _. fields.new.keys.now ≡ []) }
+    ensures call { Makes verb result fields.old fields.new }
+    ensures keys { fields.new.keys.now ≡ [] }
 {
-    let fd = fields.name(Key::Endpoint)?;
+    let fd = fields.name(Key::Endpoint);
     match verb {
-        Verb::Connect => Ok(call_at!(fd, TConnect {
+        Verb::Connect => NamedCall::TConnect {
+            fd,
             addr: fields.bytes(Key::Addr),
-            opt: fields.options(Key::Opt),
+            opt: fields.bytes(Key::Opt),
             udata: fields.bytes(Key::UData),
-            amax = fields.number(Key::Amax),
-            omax = fields.number(Key::Omax),
-            umax = fields.number(Key::Umax),
-        })),
-        Verb::RcvConnect => Ok(call_at!(fd, TRcvConnect {
-            amax = fields.number(Key::Amax),
-            omax = fields.number(Key::Omax),
-            umax = fields.number(Key::Umax),
-        })),
-        Verb::Listen => Ok(call_at!(fd, TListen {
+            amax: fields.number(Key::Amax),
+            omax: fields.number(Key::Omax),
+            umax: fields.number(Key::Umax),
+        },
+        Verb::RcvConnect => NamedCall::TRcvConnect {
+            fd,
+            amax: fields.number(Key::Amax),
+            omax: fields.number(Key::Omax),
+            umax: fields.number(Key::Umax),
+        },
+        Verb::Listen => NamedCall::TListen {
+            fd,
             name: fields.name(Key::NewSequence),
-            amax = fields.number(Key::Amax),
-            omax = fields.number(Key::Omax),
-            umax = fields.number(Key::Umax),
-        })),
-        Verb::Accept => Ok(call_at!(
+            amax: fields.number(Key::Amax),
+            omax: fields.number(Key::Omax),
+            umax: fields.number(Key::Umax),
+        },
+        Verb::Accept => NamedCall::TAccept {
             fd,
-            TAccept {
-                resfd: fields.name(Key::Endpoint),
-                seq: fields.name(Key::Sequence),
-                opt: fields.options(Key::Opt),
-                udata: fields.bytes(Key::UData),
-            }
-        )),
-        Verb::SndDis => Ok(call_at!(
+            resfd: fields.name(Key::Endpoint),
+            seq: fields.name(Key::Sequence),
+            opt: fields.bytes(Key::Opt),
+            udata: fields.bytes(Key::UData),
+        },
+        Verb::SndDis => NamedCall::TSndDis {
             fd,
-            TSndDis {
-                seq: fields.sequence_or_none(Key::SequenceOrNone),
-                udata: fields.bytes(Key::UData),
-            }
-        )),
-        Verb::RcvDis => Ok(call_at!(fd, TRcvDis {
-            umax = fields.number(Key::Umax),
-        })),
+            seq: fields.sequence_or_none(Key::SequenceOrNone),
+            udata: fields.bytes(Key::UData),
+        },
+        Verb::RcvDis => NamedCall::TRcvDis {
+            fd,
+            umax: fields.number(Key::Umax),
+        },
         _ => unreachable!(),
     }
 }
 
 /// A call that sends or receives on a connection.
 #[tactic(auto, unfolding(crate::specs::Fields::field, crate::specs::Calls::form, crate::specs::Calls::call_with))]
-fn read_data(verb: Verb, fields: &mut Fields) -> ReadCall
+fn read_data(verb: Verb, fields: &mut Fields) -> NamedCall
     requires family { is_data verb ≡ true }
     requires keys { fields.old.keys.now ≡ form verb }
-    ensures call { Makes (with_values verb (unread fields.old)) (unread fields.new) result }
-    ensures keys { IfOk result (λ _. fields.new.keys.now ≡ []) }
+    ensures call { Makes verb result fields.old fields.new }
+    ensures keys { fields.new.keys.now ≡ [] }
 {
-    let fd = fields.name(Key::Endpoint)?;
+    let fd = fields.name(Key::Endpoint);
     match verb {
-        Verb::Snd => Ok(call_at!(fd, TSnd {
-            bytes: fields.bytes(Key::Data),
-            flags = fields.number(Key::Flags),
-        })),
-        Verb::SndV => Ok(call_at!(fd, TSndV {
-            parts: fields.parts(Key::Parts),
-            flags = fields.number(Key::Flags),
-        })),
-        Verb::Rcv => Ok(call_at!(fd, TRcv {
-            max = fields.number(Key::Max),
-        })),
-        Verb::RcvV => Ok(call_at!(
+        Verb::Snd => NamedCall::TSnd {
             fd,
-            TRcvV {
-                sizes: fields.sizes(Key::Sizes),
-            }
-        )),
+            bytes: fields.bytes(Key::Data),
+            flags: fields.number(Key::Flags),
+        },
+        Verb::SndV => NamedCall::TSndV {
+            fd,
+            parts: fields.parts(Key::Parts),
+            flags: fields.number(Key::Flags),
+        },
+        Verb::Rcv => NamedCall::TRcv {
+            fd,
+            max: fields.number(Key::Max),
+        },
+        Verb::RcvV => NamedCall::TRcvV {
+            fd,
+            sizes: fields.sizes(Key::Sizes),
+        },
         _ => unreachable!(),
     }
 }
 
 /// A call that sends or receives a datagram, or the error of one.
 #[tactic(auto, unfolding(crate::specs::Fields::field, crate::specs::Calls::form, crate::specs::Calls::call_with))]
-fn read_datagram(verb: Verb, fields: &mut Fields) -> ReadCall
+fn read_datagram(verb: Verb, fields: &mut Fields) -> NamedCall
     requires family { is_datagram verb ≡ true }
     requires keys { fields.old.keys.now ≡ form verb }
-    ensures call { Makes (with_values verb (unread fields.old)) (unread fields.new) result }
-    ensures keys { IfOk result (λ _. fields.new.keys.now ≡ []) }
+    ensures call { Makes verb result fields.old fields.new }
+    ensures keys { fields.new.keys.now ≡ [] }
 {
-    let fd = fields.name(Key::Endpoint)?;
+    let fd = fields.name(Key::Endpoint);
     match verb {
-        Verb::SndUData => Ok(call_at!(
+        Verb::SndUData => NamedCall::TSndUData {
             fd,
-            TSndUData {
-                addr: fields.bytes(Key::Addr),
-                opt: fields.options(Key::Opt),
-                bytes: fields.bytes(Key::Data),
-            }
-        )),
-        Verb::SndVUData => Ok(call_at!(
+            addr: fields.bytes(Key::Addr),
+            opt: fields.bytes(Key::Opt),
+            bytes: fields.bytes(Key::Data),
+        },
+        Verb::SndVUData => NamedCall::TSndVUData {
             fd,
-            TSndVUData {
-                addr: fields.bytes(Key::Addr),
-                opt: fields.options(Key::Opt),
-                parts: fields.parts(Key::Parts),
-            }
-        )),
-        Verb::RcvUData => Ok(call_at!(fd, TRcvUData {
-            max = fields.number(Key::Max),
-            amax = fields.number(Key::Amax),
-            omax = fields.number(Key::Omax),
-        })),
-        Verb::RcvVUData => Ok(call_at!(fd, TRcvVUData {
+            addr: fields.bytes(Key::Addr),
+            opt: fields.bytes(Key::Opt),
+            parts: fields.parts(Key::Parts),
+        },
+        Verb::RcvUData => NamedCall::TRcvUData {
+            fd,
+            max: fields.number(Key::Max),
+            amax: fields.number(Key::Amax),
+            omax: fields.number(Key::Omax),
+        },
+        Verb::RcvVUData => NamedCall::TRcvVUData {
+            fd,
             sizes: fields.sizes(Key::Sizes),
-            amax = fields.number(Key::Amax),
-            omax = fields.number(Key::Omax),
-        })),
-        Verb::RcvUDErr => Ok(call_at!(fd, TRcvUDErr {
-            amax = fields.number(Key::Amax),
-            omax = fields.number(Key::Omax),
-        })),
+            amax: fields.number(Key::Amax),
+            omax: fields.number(Key::Omax),
+        },
+        Verb::RcvUDErr => NamedCall::TRcvUDErr {
+            fd,
+            amax: fields.number(Key::Amax),
+            omax: fields.number(Key::Omax),
+        },
         _ => unreachable!(),
     }
 }
 
 /// The call whose fields these are.
-pub(crate) fn read_fields(verb: Verb, fields: &mut Fields) -> ReadCall
+pub(crate) fn read_fields(verb: Verb, fields: &mut Fields) -> NamedCall
     requires { fields.old.keys.now ≡ form verb }
-    ensures call { Makes (with_values verb (unread fields.old)) (unread fields.new) result }
-    ensures keys { IfOk result (λ _. fields.new.keys.now ≡ []) }
+    ensures call { Makes verb result fields.old fields.new }
+    ensures keys { fields.new.keys.now ≡ [] }
 {
     match verb {
         Verb::Open | Verb::Bind | Verb::SetMode | Verb::GetProtAddr | Verb::OptMgmt => read_local(

@@ -1,17 +1,18 @@
 //! The fields of calls: words in a fixed order, of which those with a usual value may be left out.
 
-ghost use Rattle.std.specs.Prelude.{◌≡◌, ◌∷◌, [], true, Some, None, if◌then◌else◌, option_map, drop};
+ghost use Rattle.std.specs.Prelude.{◌≡◌, [], true, Ok, IfOk, option_map, drop};
 ghost use Rattle.std.specs.Option.{option_copied};
+ghost use Rattle.std.specs.declared.alloc.AllocError.{AllocError};
 ghost use Rattle.xti_script_reader.specs.FieldValue.{Value as value};
 ghost use Rattle.xti_script_reader.specs.Fields.{key_word, kind_of, usual_value};
-ghost use Rattle.xti_script_reader.specs.Names.{after, can_name};
-ghost use Rattle.xti_script_reader.specs.Reading.{behind_key, field_rest, fields_of, IsFieldText};
-ghost use Rattle.xti_script_reader.specs.Unread.{usual_is, spot_of, unread, TakesField, IsNext, is_naming, Reads};
+ghost use Rattle.xti_script_reader.specs.Names.{Spot, after, can_name};
+ghost use Rattle.xti_script_reader.specs.Reading.{behind_key, field_rest, fields_of, written_value, IsFieldText};
+ghost use Rattle.xti_script_reader.specs.Values.{value_in};
+ghost use Rattle.xti_script_reader.specs.Unread.{usual_is, spot_of, unread, are_bytes, are_number, is_naming, EndsAs, IsNext, Notes, Reads, TakesField};
 ghost use Rattle.xti_script_reader.specs.Kinds.{Kind as kind};
-ghost use Rattle.xti_script_reader.specs.declared.fields.FieldFail.TheVariants.{OutOfMemory};
 
 use crate::draft::Draft;
-use std::alloc::AllocError;
+use std::alloc::{AllocError, Global};
 use xti_base::limits::{MOST_ADDRESS, MOST_CONNECT_DATA, MOST_OPTIONS, MOST_SEND};
 use xti_base::{Octets, Parts, Prov, Sizes};
 use xti_model::Name;
@@ -141,20 +142,12 @@ fn usual_value(key: Key) -> Option<Usual>
     }
 }
 
-/// Why a field is not read.
+/// Why fields are not read.
 #[derive(Clone, Copy, Debug, PartialEq, Eq)]
 pub(crate) enum FieldFail {
-    /// It is wrong, or missing.
+    /// One is wrong or missing, or a word is left.
     Wrong,
     OutOfMemory,
-}
-
-impl From<AllocError> for FieldFail {
-    ghost from_gives = { λ _ e. e ≡ OutOfMemory };
-
-    fn from(_e: AllocError) -> FieldFail {
-        FieldFail::OutOfMemory
-    }
 }
 
 /// What is after the key; `None` where the word doesn't begin with it.
@@ -184,7 +177,65 @@ fn field_text<'a>(key: Key, words: &mut Words<'a>) -> Option<&'a [u8]>
     Some(text)
 }
 
-/// The fields of a call that are not read yet.
+/// The bytes or options of a field with this word behind its key, or with none.
+#[inline(always)]
+#[tactic(auto, unfolding(crate::specs::Fields::field))]
+fn octets_of(alloc: Global, key: Key, text: Option<&[u8]>) -> Result<Option<Octets>, AllocError>
+    requires { are_bytes (kind_of key) ≡ true }
+    ensures { IfOk result (λ read. (s : Spot) →
+        option_map value.Bytes read ≡ written_value s key (option_copied text.entry)) }
+{
+    match text {
+        Some(text) if matches!(key, Key::Opt) => options_in(alloc, text),
+        Some(text) => bytes_in(alloc, text),
+        None => match usual_value(key) {
+            Some(Usual::Empty) => Ok(Some(Octets::new(alloc))),
+            _ => Ok(None),
+        },
+    }
+}
+
+/// The number of a field with this word behind its key, or with none.
+#[inline(always)]
+#[tactic(auto, unfolding(crate::specs::Fields::field))]
+fn number_of(key: Key, text: Option<&[u8]>) -> Option<u32>
+    requires { are_number (kind_of key) ≡ true }
+    ensures { (s : Spot) →
+        option_map value.Number result ≡ written_value s key (option_copied text.entry) }
+{
+    match text {
+        Some(text) if matches!(key, Key::Action) => action_in(text),
+        Some(text) => number_in(text),
+        None => match usual_value(key) {
+            Some(Usual::Number(number)) => Some(number),
+            _ => None,
+        },
+    }
+}
+
+/// Whether the mode of a field with this word, or with none, is `nonblock`.
+#[tactic(auto, unfolding(crate::specs::Fields::field))]
+fn mode_of(key: Key, text: Option<&[u8]>) -> Option<bool>
+    requires { kind_of key ≡ kind.Mode }
+    ensures { (s : Spot) →
+        option_map value.Mode result ≡ written_value s key (option_copied text.entry) }
+{
+    match text {
+        Some(text) => mode_in(text),
+        None => match usual_value(key) {
+            Some(Usual::Blocking) => Some(false),
+            _ => None,
+        },
+    }
+}
+
+/// A name that stands for one that wasn't read. Takes no memory.
+fn no_name(alloc: Global) -> Name {
+    Name::copy_of(alloc, b"").unwrap()
+}
+
+/// The fields of a call that are not read yet. Where one can't be read, that is noted and something else is given in its place:
+/// each call is made whole, and whether its fields were read is asked once, at the end.
 #[derive(Drop)]
 pub(crate) struct Fields<'a> {
     /// The lines before that of the call.
@@ -195,6 +246,10 @@ pub(crate) struct Fields<'a> {
     keys: &'static [Key],
     /// The words in which they stand.
     words: Words<'a>,
+    /// Whether a field before these is wrong or missing.
+    is_wrong: bool,
+    /// Whether memory ran out at a field before these.
+    ran_out: bool,
 }
 
 impl<'a> Fields<'a> {
@@ -213,15 +268,23 @@ impl<'a> Fields<'a> {
             worker,
             keys,
             words,
+            is_wrong: false,
+            ran_out: false,
         }
     }
 
-    /// Whether no word is left.
-    pub(crate) fn are_read(&self) -> bool
+    /// Whether each field was read, and no word is left.
+    pub(crate) fn end(&self) -> Result<(), FieldFail>
         requires { self.now.keys.now ≡ [] }
-        ensures { unread self.now ≡ (if result then Some [] else None) }
+        ensures { EndsAs self.now result }
     {
-        self.words.is_empty()
+        if self.ran_out {
+            Err(FieldFail::OutOfMemory)
+        } else if self.is_wrong || !self.words.is_empty() {
+            Err(FieldFail::Wrong)
+        } else {
+            Ok(())
+        }
     }
 
     /// Takes the next key, which is this one, and the word with it where the field is written: what is after the key, or
@@ -229,9 +292,7 @@ impl<'a> Fields<'a> {
     #[inline(always)]
     fn next(&mut self, key: Key) -> Option<&'a [u8]>
         requires { IsNext key self.old.keys.now }
-        ensures spot { spot_of self.new ≡ spot_of self.old }
-        ensures keys { self.old.keys.now ≡ key ∷ self.new.keys.now }
-        ensures value { TakesField self.old self.new key (option_copied result) }
+        ensures { TakesField self.old self.new key (option_copied result) }
     {
         self.keys = &self.keys[1..];
         field_text(key, &mut self.words)
@@ -242,93 +303,99 @@ impl<'a> Fields<'a> {
     fn next_word(&mut self, key: Key) -> Option<&'a [u8]>
         requires next { IsNext key self.old.keys.now }
         requires bare { key_word key ≡ [] }
-        ensures spot { spot_of self.new ≡ spot_of self.old }
-        ensures keys { self.old.keys.now ≡ key ∷ self.new.keys.now }
-        ensures value { TakesField self.old self.new key (option_copied result) }
+        ensures { TakesField self.old self.new key (option_copied result) }
     {
         self.keys = &self.keys[1..];
         self.words.next()
     }
 
-    /// The bytes of the next field.
+    /// What was read; where nothing was, that is noted, and this is given.
     #[inline(always)]
-    #[tactic(auto, unfolding(crate::specs::Fields::field))]
-    pub(crate) fn bytes(&mut self, key: Key) -> Result<Octets, FieldFail>
-        requires next { IsNext key self.old.keys.now }
-        requires kind { kind_of key ≡ kind.Bytes }
-        ensures keys { self.new.keys.now ≡ drop 1 self.old.keys.now }
-        ensures value { Reads value.Bytes (unread self.old) (unread self.new) result }
+    fn or_note<T: Copy>(&mut self, read: Option<T>, other: T) -> T
+        ensures { Notes {E = AllocError} (Ok read) self.old self.new result }
     {
-        match self.next(key) {
-            Some(text) => bytes_in(self.draft.alloc(), text)?.ok_or(FieldFail::Wrong),
-            None => match usual_value(key) {
-                Some(Usual::Empty) => Ok(Octets::new(self.draft.alloc())),
-                _ => Err(FieldFail::Wrong),
-            },
+        match read {
+            Some(value) => value,
+            None => {
+                self.is_wrong = true;
+                other
+            }
         }
     }
 
-    /// The options of the next field, in bytes.
+    /// The same of what owns memory, which may run out.
     #[inline(always)]
-    #[tactic(auto, unfolding(crate::specs::Fields::field))]
-    pub(crate) fn options(&mut self, key: Key) -> Result<Octets, FieldFail>
-        requires next { IsNext key self.old.keys.now }
-        requires kind { kind_of key ≡ kind.Options }
-        ensures keys { self.new.keys.now ≡ drop 1 self.old.keys.now }
-        ensures value { Reads value.Bytes (unread self.old) (unread self.new) result }
+    fn or_keep<T: Drop>(&mut self, read: Result<Option<T>, AllocError>, other: T) -> T
+        ensures { Notes read self.old self.new result }
     {
-        match self.next(key) {
-            Some(text) => options_in(self.draft.alloc(), text)?.ok_or(FieldFail::Wrong),
-            None => match usual_value(key) {
-                Some(Usual::Empty) => Ok(Octets::new(self.draft.alloc())),
-                _ => Err(FieldFail::Wrong),
-            },
+        match read {
+            Ok(Some(value)) => {
+                drop(other);
+                value
+            }
+            Ok(None) => {
+                self.is_wrong = true;
+                other
+            }
+            Err(AllocError) => {
+                self.ran_out = true;
+                other
+            }
         }
+    }
+
+    /// The bytes of the next field, or its options in bytes.
+    #[inline(always)]
+    pub(crate) fn bytes(&mut self, key: Key) -> Octets
+        requires next { IsNext key self.old.keys.now }
+        requires kind { are_bytes (kind_of key) ≡ true }
+        ensures keys { self.new.keys.now ≡ drop 1 self.old.keys.now }
+        ensures value { Reads (value.Bytes result) self.old self.new }
+    {
+        let alloc = self.draft.alloc();
+        let text = self.next(key);
+        self.or_keep(octets_of(alloc, key, text), Octets::new(alloc))
     }
 
     /// The number of the next field.
     #[inline(always)]
-    #[tactic(auto, unfolding(crate::specs::Fields::field))]
-    pub(crate) fn number(&mut self, key: Key) -> Result<u32, FieldFail>
+    pub(crate) fn number(&mut self, key: Key) -> u32
         requires next { IsNext key self.old.keys.now }
-        requires kind { kind_of key ≡ kind.Number }
+        requires kind { are_number (kind_of key) ≡ true }
         ensures keys { self.new.keys.now ≡ drop 1 self.old.keys.now }
-        ensures value { Reads value.Number (unread self.old) (unread self.new) result }
+        ensures value { Reads (value.Number result) self.old self.new }
     {
-        match self.next(key) {
-            Some(text) => number_in(text).ok_or(FieldFail::Wrong),
-            None => match usual_value(key) {
-                Some(Usual::Number(number)) => Ok(number),
-                _ => Err(FieldFail::Wrong),
-            },
-        }
+        let text = self.next(key);
+        self.or_note(number_of(key, text), 0)
     }
 
     /// The parts of the next field, which has no usual value.
     #[tactic(auto, unfolding(crate::specs::Fields::field))]
-    pub(crate) fn parts(&mut self, key: Key) -> Result<Parts, FieldFail>
+    pub(crate) fn parts(&mut self, key: Key) -> Parts
         requires next { IsNext key self.old.keys.now }
         requires kind { kind_of key ≡ kind.Parts }
         ensures keys { self.new.keys.now ≡ drop 1 self.old.keys.now }
-        ensures value { Reads value.Parts (unread self.old) (unread self.new) result }
+        ensures value { Reads (value.Parts result) self.old self.new }
     {
+        let alloc = self.draft.alloc();
         match self.next(key) {
-            Some(text) => parts_in(self.draft.alloc(), text)?.ok_or(FieldFail::Wrong),
-            None => Err(FieldFail::Wrong),
+            Some(text) => self.or_keep(parts_in(alloc, text), Parts::new(alloc)),
+            None => self.or_keep(Ok(None), Parts::new(alloc)),
         }
     }
 
     /// The sizes of the next field, which has no usual value.
     #[tactic(auto, unfolding(crate::specs::Fields::field))]
-    pub(crate) fn sizes(&mut self, key: Key) -> Result<Sizes, FieldFail>
+    pub(crate) fn sizes(&mut self, key: Key) -> Sizes
         requires next { IsNext key self.old.keys.now }
         requires kind { kind_of key ≡ kind.Sizes }
         ensures keys { self.new.keys.now ≡ drop 1 self.old.keys.now }
-        ensures value { Reads value.Sizes (unread self.old) (unread self.new) result }
+        ensures value { Reads (value.Sizes result) self.old self.new }
     {
+        let alloc = self.draft.alloc();
         match self.next(key) {
-            Some(text) => sizes_in(self.draft.alloc(), text)?.ok_or(FieldFail::Wrong),
-            None => Err(FieldFail::Wrong),
+            Some(text) => self.or_keep(sizes_in(alloc, text), Sizes::new(alloc)),
+            None => self.or_keep(Ok(None), Sizes::new(alloc)),
         }
     }
 
@@ -346,85 +413,95 @@ impl<'a> Fields<'a> {
         }
     }
 
+    /// The name that the text is as this field.
+    #[tactic(auto, unfolding(crate::specs::Fields::field))]
+    fn name_in(&self, key: Key, text: &[u8]) -> Result<Option<Name>, AllocError>
+        requires { is_naming (kind_of key) ≡ true }
+        ensures { IfOk result (λ name.
+            option_map value.Name name ≡ value_in (spot_of self.now) (kind_of key) text.now) }
+    {
+        if self.can_name(key, text) {
+            Ok(Some(Name::copy_of(self.draft.alloc(), text)?))
+        } else {
+            Ok(None)
+        }
+    }
+
     /// The name that the next field is.
     #[tactic(auto, unfolding(crate::specs::Fields::field))]
-    pub(crate) fn name(&mut self, key: Key) -> Result<Name, FieldFail>
+    pub(crate) fn name(&mut self, key: Key) -> Name
         requires next { IsNext key self.old.keys.now }
         requires bare { key_word key ≡ [] }
         requires kind { is_naming (kind_of key) ≡ true }
         ensures keys { self.new.keys.now ≡ drop 1 self.old.keys.now }
-        ensures value { Reads value.Name (unread self.old) (unread self.new) result }
+        ensures value { Reads (value.Name result) self.old self.new }
     {
+        let other = no_name(self.draft.alloc());
         match self.next_word(key) {
-            Some(text) if self.can_name(key, text) => Ok(Name::copy_of(self.draft.alloc(), text)?),
-            _ => Err(FieldFail::Wrong),
+            Some(text) => {
+                let read = self.name_in(key, text);
+                self.or_keep(read, other)
+            }
+            None => self.or_keep(Ok(None), other),
+        }
+    }
+
+    /// The name of a sequence number that the text is; `None` for `-`.
+    fn sequence_in(&self, text: &[u8]) -> Result<Option<Option<Name>>, AllocError>
+        ensures { IfOk result (λ name.
+            option_map value.NameOrNone name ≡ value_in (spot_of self.now) kind.SequenceOrNone text.now) }
+    {
+        if text == b"-".as_slice() {
+            Ok(Some(None))
+        } else if self.draft.has_sequence(self.worker, text) {
+            Ok(Some(Some(Name::copy_of(self.draft.alloc(), text)?)))
+        } else {
+            Ok(None)
         }
     }
 
     /// The name of a sequence number that the next field is; `None` for `-`.
     #[tactic(auto, unfolding(crate::specs::Fields::field))]
-    pub(crate) fn sequence_or_none(&mut self, key: Key) -> Result<Option<Name>, FieldFail>
+    pub(crate) fn sequence_or_none(&mut self, key: Key) -> Option<Name>
         requires next { IsNext key self.old.keys.now }
         requires bare { key_word key ≡ [] }
         requires kind { kind_of key ≡ kind.SequenceOrNone }
         ensures keys { self.new.keys.now ≡ drop 1 self.old.keys.now }
-        ensures value { Reads value.NameOrNone (unread self.old) (unread self.new) result }
+        ensures value { Reads (value.NameOrNone result) self.old self.new }
     {
         match self.next_word(key) {
-            Some(b"-") => Ok(None),
-            Some(text) if self.draft.has_sequence(self.worker, text) => Ok(Some(Name::copy_of(
-                self.draft.alloc(),
-                text,
-            )?)),
-            _ => Err(FieldFail::Wrong),
+            Some(text) => {
+                let read = self.sequence_in(text);
+                self.or_keep(read, None)
+            }
+            None => self.or_keep(Ok(None), None),
         }
     }
 
     /// The provider that the next field is.
     #[tactic(auto, unfolding(crate::specs::Fields::field))]
-    pub(crate) fn provider(&mut self, key: Key) -> Result<Prov, FieldFail>
+    pub(crate) fn provider(&mut self, key: Key) -> Prov
         requires next { IsNext key self.old.keys.now }
         requires bare { key_word key ≡ [] }
         requires kind { kind_of key ≡ kind.Provider }
         ensures keys { self.new.keys.now ≡ drop 1 self.old.keys.now }
-        ensures value { Reads value.Provider (unread self.old) (unread self.new) result }
+        ensures value { Reads (value.Provider result) self.old self.new }
     {
         match self.next_word(key) {
-            Some(text) => provider_in(text).ok_or(FieldFail::Wrong),
-            None => Err(FieldFail::Wrong),
+            Some(text) => self.or_note(provider_in(text), Prov::Other),
+            None => self.or_note(None, Prov::Other),
         }
     }
 
     /// Whether the mode that the next field is, is `nonblock`.
-    #[tactic(auto, unfolding(crate::specs::Fields::field))]
-    pub(crate) fn mode(&mut self, key: Key) -> Result<bool, FieldFail>
+    pub(crate) fn mode(&mut self, key: Key) -> bool
         requires next { IsNext key self.old.keys.now }
         requires bare { key_word key ≡ [] }
         requires kind { kind_of key ≡ kind.Mode }
         ensures keys { self.new.keys.now ≡ drop 1 self.old.keys.now }
-        ensures value { Reads value.Mode (unread self.old) (unread self.new) result }
+        ensures value { Reads (value.Mode result) self.old self.new }
     {
-        match self.next_word(key) {
-            Some(text) => mode_in(text).ok_or(FieldFail::Wrong),
-            None => match usual_value(key) {
-                Some(Usual::Blocking) => Ok(false),
-                _ => Err(FieldFail::Wrong),
-            },
-        }
-    }
-
-    /// The action that the next field is.
-    #[tactic(auto, unfolding(crate::specs::Fields::field))]
-    pub(crate) fn action(&mut self, key: Key) -> Result<u32, FieldFail>
-        requires next { IsNext key self.old.keys.now }
-        requires bare { key_word key ≡ [] }
-        requires kind { kind_of key ≡ kind.Action }
-        ensures keys { self.new.keys.now ≡ drop 1 self.old.keys.now }
-        ensures value { Reads value.Number (unread self.old) (unread self.new) result }
-    {
-        match self.next_word(key) {
-            Some(text) => action_in(text).ok_or(FieldFail::Wrong),
-            None => Err(FieldFail::Wrong),
-        }
+        let text = self.next_word(key);
+        self.or_note(mode_of(key, text), false)
     }
 }
