@@ -1,19 +1,7 @@
--- Families of a script's calls.
+-- Families of a script's calls; Verbs.antt of xti_verbs has those that say no more than which endpoint.
 use Rattle.std.specs.Prelude.{Bool, true, false}
 use Rattle.xti_model.specs.declared.script.NamedCall.{NamedCall}
 use Rattle.xti_model.specs.declared.script.NamedCall.TheVariants as named
-
--- says no more than which endpoint
-abbrev pub names_endpoint : NamedCall → Bool
-names_endpoint (named.TClose fd) = true
-names_endpoint (named.TUnbind fd) = true
-names_endpoint (named.TSndRel fd) = true
-names_endpoint (named.TRcvRel fd) = true
-names_endpoint (named.TLookAt fd) = true
-names_endpoint (named.TGetState fd) = true
-names_endpoint (named.TSync fd) = true
-names_endpoint (named.TGetInfo fd) = true
-names_endpoint other = false
 
 -- names an address, asks for addresses or settles options
 abbrev pub is_address_or_options : NamedCall → Bool

@@ -1,29 +1,18 @@
 //! The calls of a script's lines, with numbers in place of names.
 
-ghost use Rattle.std.specs.Prelude.{◌≡◌, IsTrue, OnOk, Option};
+ghost use Rattle.std.specs.Prelude.{◌≡◌, IsTrue, OnOk, Option, true};
 ghost use Rattle.xti_model.specs.declared.entry.Act.TheVariants.{Begin, More};
 ghost use Rattle.xti_model.specs.Resolve.{seq_or_none, with_numbers};
-ghost use Rattle.xti_replay.specs.Families.{names_endpoint, is_address_or_options, is_connect, is_connection_answer, is_connection_receipt, moves_data, sends_datagram, receives_datagram};
+ghost use Rattle.xti_replay.specs.Families.{is_address_or_options, is_connect, is_connection_answer, is_connection_receipt, moves_data, sends_datagram, receives_datagram};
 ghost use Rattle.xti_replay.specs.Known.{first_number, meanings_in};
+ghost use Rattle.xti_verbs.specs.Verbs.{is_plain, verb_of_named};
 
 use crate::names::{Names, Table, number_before};
 use std::alloc::AllocError;
 use xti_base::limits::NO_NUMBER;
-use xti_base::{Fd, Seq, write_over};
+use xti_base::{Fd, Seq, build_or_drop, write_over};
 use xti_model::{Act, Call, Name, NamedCall};
-
-/// What was copied; where it wasn't, the copies before it are let go by calls, and the function ends.
-macro_rules! or_drop {
-    ($copied:expr, $($owned:ident),+) => {
-        match $copied {
-            Ok(copied) => copied,
-            Err(fail) => {
-                $(xti_base::let_go($owned);)+
-                return Err(fail);
-            }
-        }
-    };
-}
+use xti_verbs::Verb;
 
 /// Writes the call of an entry in its place, where none stands yet, so that it isn't moved any more.
 #[inline(always)]
@@ -35,6 +24,31 @@ fn set(act: &mut Act, call: Call)
         Act::More => write_over(act, Act::Begin(call)),
         Act::Begin(_) => unreachable!(),
     }
+}
+
+/// A field of a call, made of that of a line.
+macro_rules! field {
+    ($scope:expr, $named:ident endpoint) => { $scope.fd($named) };
+    ($scope:expr, $named:ident indication) => { $scope.seq($named) };
+    ($scope:expr, $named:ident indication_or_none) => { $scope.seq_or_none($named) };
+    ($scope:expr, $named:ident same) => { *$named };
+}
+
+/// Begins a call of one of these forms, and answers the value. Each field has how it is made of the line's; those after the
+/// semicolon own memory, and are copied by calls.
+macro_rules! begin {
+    ($scope:expr, $named:expr, $act:expr, $done:expr;
+        $($kind:ident { $($part:ident: $how:ident),+; $($owned:ident),* }),+) => {
+        match $named {
+            $(NamedCall::$kind { $($part,)+ $($owned,)* .. } => {
+                set($act, build_or_drop!(
+                    Call::$kind { $($part: field!($scope, $part $how)),+; $($owned: $owned.copy()),* }
+                ));
+                $done
+            })+
+            _ => unreachable!(),
+        }
+    };
 }
 
 /// Where a line stands: its place in the script, the names of its worker, and those of worker 0.
@@ -89,23 +103,16 @@ impl<'a> Scope<'a> {
         }
     }
 
-    /// The call that only names an endpoint.
+    /// The call that says no more than which endpoint.
     #[inline(never)]
     fn plain(&self, call: &NamedCall, act: &mut Act)
-        requires kind { IsTrue (names_endpoint call.now) }
+        requires kind { is_plain (verb_of_named call.now) ≡ true }
         requires none { act.old ≡ More }
         ensures { act.new ≡ Begin (with_numbers (meanings_in self.now) call.now) }
     {
-        match call {
-            NamedCall::TClose { fd } => set(act, Call::TClose { fd: self.fd(fd) }),
-            NamedCall::TUnbind { fd } => set(act, Call::TUnbind { fd: self.fd(fd) }),
-            NamedCall::TSndRel { fd } => set(act, Call::TSndRel { fd: self.fd(fd) }),
-            NamedCall::TRcvRel { fd } => set(act, Call::TRcvRel { fd: self.fd(fd) }),
-            NamedCall::TLookAt { fd } => set(act, Call::TLookAt { fd: self.fd(fd) }),
-            NamedCall::TGetState { fd } => set(act, Call::TGetState { fd: self.fd(fd) }),
-            NamedCall::TSync { fd } => set(act, Call::TSync { fd: self.fd(fd) }),
-            NamedCall::TGetInfo { fd } => set(act, Call::TGetInfo { fd: self.fd(fd) }),
-            _ => unreachable!(),
+        match Verb::plain_name(call) {
+            Some(name) => set(act, Verb::of_named(call).plain_call(self.fd(name))),
+            None => unreachable!(),
         }
     }
 
@@ -116,54 +123,10 @@ impl<'a> Scope<'a> {
         requires none { act.old ≡ More }
         ensures { OnOk result (act.new ≡ Begin (with_numbers (meanings_in self.now) call.now)) }
     {
-        match call {
-            NamedCall::TBind {
-                fd,
-                addr,
-                qlen,
-                amax,
-            } => {
-                set(
-                    act,
-                    Call::TBind {
-                        fd: self.fd(fd),
-                        addr: addr.copy()?,
-                        qlen: *qlen,
-                        amax: *amax,
-                    },
-                );
-                Ok(())
-            }
-            NamedCall::TGetProtAddr { fd, amax, pmax } => {
-                set(
-                    act,
-                    Call::TGetProtAddr {
-                        fd: self.fd(fd),
-                        amax: *amax,
-                        pmax: *pmax,
-                    },
-                );
-                Ok(())
-            }
-            NamedCall::TOptMgmt {
-                fd,
-                action,
-                opt,
-                omax,
-            } => {
-                set(
-                    act,
-                    Call::TOptMgmt {
-                        fd: self.fd(fd),
-                        action: *action,
-                        opt: opt.copy()?,
-                        omax: *omax,
-                    },
-                );
-                Ok(())
-            }
-            _ => unreachable!(),
-        }
+        begin!(self, call, act, Ok(());
+            TBind { fd: endpoint, qlen: same, amax: same; addr },
+            TGetProtAddr { fd: endpoint, amax: same, pmax: same; },
+            TOptMgmt { fd: endpoint, action: same, omax: same; opt })
     }
 
     /// The call that asks for a connection.
@@ -173,34 +136,8 @@ impl<'a> Scope<'a> {
         requires none { act.old ≡ More }
         ensures { OnOk result (act.new ≡ Begin (with_numbers (meanings_in self.now) call.now)) }
     {
-        let NamedCall::TConnect {
-            fd,
-            addr,
-            opt,
-            udata,
-            amax,
-            omax,
-            umax,
-        } = call
-        else {
-            unreachable!()
-        };
-        let addr = addr.copy()?;
-        let opt = or_drop!(opt.copy(), addr);
-        let udata = or_drop!(udata.copy(), addr, opt);
-        set(
-            act,
-            Call::TConnect {
-                fd: self.fd(fd),
-                addr,
-                opt,
-                udata,
-                amax: *amax,
-                omax: *omax,
-                umax: *umax,
-            },
-        );
-        Ok(())
+        begin!(self, call, act, Ok(());
+            TConnect { fd: endpoint, amax: same, omax: same, umax: same; addr, opt, udata })
     }
 
     /// The call that accepts a connection, refuses or breaks one.
@@ -210,41 +147,9 @@ impl<'a> Scope<'a> {
         requires none { act.old ≡ More }
         ensures { OnOk result (act.new ≡ Begin (with_numbers (meanings_in self.now) call.now)) }
     {
-        match call {
-            NamedCall::TAccept {
-                fd,
-                resfd,
-                seq,
-                opt,
-                udata,
-            } => {
-                let opt = opt.copy()?;
-                let udata = or_drop!(udata.copy(), opt);
-                set(
-                    act,
-                    Call::TAccept {
-                        fd: self.fd(fd),
-                        resfd: self.fd(resfd),
-                        seq: self.seq(seq),
-                        opt,
-                        udata,
-                    },
-                );
-                Ok(())
-            }
-            NamedCall::TSndDis { fd, seq, udata } => {
-                set(
-                    act,
-                    Call::TSndDis {
-                        fd: self.fd(fd),
-                        seq: self.seq_or_none(seq),
-                        udata: udata.copy()?,
-                    },
-                );
-                Ok(())
-            }
-            _ => unreachable!(),
-        }
+        begin!(self, call, act, Ok(());
+            TAccept { fd: endpoint, resfd: endpoint, seq: indication; opt, udata },
+            TSndDis { fd: endpoint, seq: indication_or_none; udata })
     }
 
     /// The call that takes what the other side asked or answered about a connection.
@@ -254,45 +159,10 @@ impl<'a> Scope<'a> {
         requires none { act.old ≡ More }
         ensures { act.new ≡ Begin (with_numbers (meanings_in self.now) call.now) }
     {
-        match call {
-            NamedCall::TRcvConnect {
-                fd,
-                amax,
-                omax,
-                umax,
-            } => set(
-                act,
-                Call::TRcvConnect {
-                    fd: self.fd(fd),
-                    amax: *amax,
-                    omax: *omax,
-                    umax: *umax,
-                },
-            ),
-            NamedCall::TListen {
-                fd,
-                amax,
-                omax,
-                umax,
-                ..
-            } => set(
-                act,
-                Call::TListen {
-                    fd: self.fd(fd),
-                    amax: *amax,
-                    omax: *omax,
-                    umax: *umax,
-                },
-            ),
-            NamedCall::TRcvDis { fd, umax } => set(
-                act,
-                Call::TRcvDis {
-                    fd: self.fd(fd),
-                    umax: *umax,
-                },
-            ),
-            _ => unreachable!(),
-        }
+        begin!(self, call, act, ();
+            TRcvConnect { fd: endpoint, amax: same, omax: same, umax: same; },
+            TListen { fd: endpoint, amax: same, omax: same, umax: same; },
+            TRcvDis { fd: endpoint, umax: same; })
     }
 
     /// The call that sends or receives data on a connection.
@@ -302,51 +172,11 @@ impl<'a> Scope<'a> {
         requires none { act.old ≡ More }
         ensures { OnOk result (act.new ≡ Begin (with_numbers (meanings_in self.now) call.now)) }
     {
-        match call {
-            NamedCall::TSnd { fd, bytes, flags } => {
-                set(
-                    act,
-                    Call::TSnd {
-                        fd: self.fd(fd),
-                        bytes: bytes.copy()?,
-                        flags: *flags,
-                    },
-                );
-                Ok(())
-            }
-            NamedCall::TSndV { fd, parts, flags } => {
-                set(
-                    act,
-                    Call::TSndV {
-                        fd: self.fd(fd),
-                        parts: parts.copy()?,
-                        flags: *flags,
-                    },
-                );
-                Ok(())
-            }
-            NamedCall::TRcv { fd, max } => {
-                set(
-                    act,
-                    Call::TRcv {
-                        fd: self.fd(fd),
-                        max: *max,
-                    },
-                );
-                Ok(())
-            }
-            NamedCall::TRcvV { fd, sizes } => {
-                set(
-                    act,
-                    Call::TRcvV {
-                        fd: self.fd(fd),
-                        sizes: sizes.copy()?,
-                    },
-                );
-                Ok(())
-            }
-            _ => unreachable!(),
-        }
+        begin!(self, call, act, Ok(());
+            TSnd { fd: endpoint, flags: same; bytes },
+            TSndV { fd: endpoint, flags: same; parts },
+            TRcv { fd: endpoint, max: same; },
+            TRcvV { fd: endpoint; sizes })
     }
 
     /// The call that sends a datagram.
@@ -356,49 +186,9 @@ impl<'a> Scope<'a> {
         requires none { act.old ≡ More }
         ensures { OnOk result (act.new ≡ Begin (with_numbers (meanings_in self.now) call.now)) }
     {
-        match call {
-            NamedCall::TSndUData {
-                fd,
-                addr,
-                opt,
-                bytes,
-            } => {
-                let addr = addr.copy()?;
-                let opt = or_drop!(opt.copy(), addr);
-                let bytes = or_drop!(bytes.copy(), addr, opt);
-                set(
-                    act,
-                    Call::TSndUData {
-                        fd: self.fd(fd),
-                        addr,
-                        opt,
-                        bytes,
-                    },
-                );
-                Ok(())
-            }
-            NamedCall::TSndVUData {
-                fd,
-                addr,
-                opt,
-                parts,
-            } => {
-                let addr = addr.copy()?;
-                let opt = or_drop!(opt.copy(), addr);
-                let parts = or_drop!(parts.copy(), addr, opt);
-                set(
-                    act,
-                    Call::TSndVUData {
-                        fd: self.fd(fd),
-                        addr,
-                        opt,
-                        parts,
-                    },
-                );
-                Ok(())
-            }
-            _ => unreachable!(),
-        }
+        begin!(self, call, act, Ok(());
+            TSndUData { fd: endpoint; addr, opt, bytes },
+            TSndVUData { fd: endpoint; addr, opt, parts })
     }
 
     /// The call that receives a datagram, or the error of one.
@@ -408,54 +198,10 @@ impl<'a> Scope<'a> {
         requires none { act.old ≡ More }
         ensures { OnOk result (act.new ≡ Begin (with_numbers (meanings_in self.now) call.now)) }
     {
-        match call {
-            NamedCall::TRcvUData {
-                fd,
-                max,
-                amax,
-                omax,
-            } => {
-                set(
-                    act,
-                    Call::TRcvUData {
-                        fd: self.fd(fd),
-                        max: *max,
-                        amax: *amax,
-                        omax: *omax,
-                    },
-                );
-                Ok(())
-            }
-            NamedCall::TRcvVUData {
-                fd,
-                sizes,
-                amax,
-                omax,
-            } => {
-                set(
-                    act,
-                    Call::TRcvVUData {
-                        fd: self.fd(fd),
-                        sizes: sizes.copy()?,
-                        amax: *amax,
-                        omax: *omax,
-                    },
-                );
-                Ok(())
-            }
-            NamedCall::TRcvUDErr { fd, amax, omax } => {
-                set(
-                    act,
-                    Call::TRcvUDErr {
-                        fd: self.fd(fd),
-                        amax: *amax,
-                        omax: *omax,
-                    },
-                );
-                Ok(())
-            }
-            _ => unreachable!(),
-        }
+        begin!(self, call, act, Ok(());
+            TRcvUData { fd: endpoint, max: same, amax: same, omax: same; },
+            TRcvVUData { fd: endpoint, amax: same, omax: same; sizes },
+            TRcvUDErr { fd: endpoint, amax: same, omax: same; })
     }
 
     /// The call of a line that stands here, with numbers in place of names.
