@@ -1,6 +1,6 @@
 -- The reply of a call that was answered is of its kind, and is told by the typed answer.
 use Rattle.std.proofs.Common.{◌≡◌, ◌≤◌, ℕ, true, sym, subst, arith}
-use Rattle.std.specs.Prelude.{Result, Ok, Err}
+use Rattle.std.specs.Prelude.{Result, Ok, Err, IfOk, MatchResult}
 use Rattle.xti_model.specs.declared.call.Call.{Call}
 use Rattle.xti_model.specs.declared.entry.Go.TheVariants.{Begin}
 use Rattle.xti_model.specs.declared.entry.Outcome.{Outcome}
@@ -25,8 +25,8 @@ use Rattle.xti_laws_answers.specs.Answers.{AnswersInForm}
 use Rattle.xti_calls.specs.declared.answers.Fail.{Fail}
 use Rattle.xti_calls.specs.declared.answers.Fail.TheVariants as fail
 use Rattle.xti_calls.specs.Calling.{Answered}
-use Rattle.xti_calls.specs.Typed.{MayBe, Says, HasAtMost}
-use Rattle.xti_calls.specs.Forms.{IsAnswered, Makes}
+use Rattle.xti_calls.specs.Typed.{MayBe, Says, Told, HasAtMost}
+use Rattle.xti_calls.specs.Forms.{IsAnswered, Fails, Makes}
 use Rattle.xti_calls.proofs.LastSteps.{IsStepOf, answered-step}
 
 may-be : (verb : Verb) (r : Reply) → MayAnswer verb (answer_to (Done r)) → MayBe (answer_of verb) r
@@ -66,17 +66,17 @@ answered_short v c v' r ok s a =
     subst (IsShortOutcome (lengths_of c)) (sym k.outcome) (replies-short p (after p k.past) (after-sound p k.past ok) c k.so_far k.made k.is)
 
 -- the data of a reply that is short have room
-pub got_fits : (n m : ℕ) (r : Reply) → MayBe Got r → IsShort (lengths n 0 0) r → n ≤ m → HasAtMost m r
-got_fits n m (reply.Got bytes flags) k s h = omega (arith, s, h)
-got_fits n m (reply.UData addr opt bytes flags) k s h = absurd (cc k)
+pub got_fits : (n m : ℕ) (reply : Result Reply Fail) → IfOk reply (MayBe Got) → IfOk reply (IsShort (lengths n 0 0)) → n ≤ m → IfOk reply (HasAtMost m)
+got_fits n m (Ok (reply.Got bytes flags)) k s h = omega (arith, s, h)
+got_fits n m (Ok (reply.UData addr opt bytes flags)) k s h = absurd (cc k)
 got_fits n m other k s h = tt
 
-pub datagram_fits : (a o n m : ℕ) (r : Reply) → MayBe UData r → IsShort (lengths a o n) r → n ≤ m → HasAtMost m r
-datagram_fits a o n m (reply.Got bytes flags) k s h = absurd (cc k)
-datagram_fits a o n m (reply.UData addr opt bytes flags) k s h = omega (arith, s.2, h)
+pub datagram_fits : (a o n m : ℕ) (reply : Result Reply Fail) → IfOk reply (MayBe UData) → IfOk reply (IsShort (lengths a o n)) → n ≤ m → IfOk reply (HasAtMost m)
+datagram_fits a o n m (Ok (reply.Got bytes flags)) k s h = absurd (cc k)
+datagram_fits a o n m (Ok (reply.UData addr opt bytes flags)) k s h = omega (arith, s.2, h)
 datagram_fits a o n m other k s h = tt
 
-pub makes_said : {T : Type 0} (is : T → Reply → Type 0) (s : SeatView) (c : Call) (s' : SeatView) (r : Reply) (result : Result T Fail) → IsAnswered c s s' r → Says is r result → Makes c is s s' result
+makes_said : {T : Type 0} (is : T → Reply → Type 0) (s : SeatView) (c : Call) (s' : SeatView) (r : Reply) (result : Result T Fail) → IsAnswered c s s' r → Says is r result → Makes c is s s' result
 makes_said is s c s' r (Ok a) k h = (r, k, h)
 makes_said is s c s' r (Err (fail.Err errno)) k h = subst (IsAnswered c s s') h k
 makes_said is s c s' r (Err (fail.Look event)) k h = subst (IsAnswered c s s') h k
@@ -84,3 +84,9 @@ makes_said is s c s' r (Err (fail.Overflow seq)) k h = subst (IsAnswered c s s')
 makes_said is s c s' r (Err (fail.Halt halt)) k h = absurd h
 makes_said is s c s' r (Err (fail.Memory e)) k h = absurd h
 makes_said is s c s' r (Err fail.Unfinished) k h = absurd h
+
+-- what is told of the reply of a call, or of why it has none, is what the call makes
+pub makes_told : {T : Type 0} (is : T → Reply → Type 0) (s : SeatView) (c : Call) (s' : SeatView) (reply : Result Reply Fail) (result : Result T Fail) →
+    MatchResult reply (IsAnswered c s s') (Fails c s s') → Told is reply result → Makes c is s s' result
+makes_told is s c s' (Ok r) result k h = makes_said is s c s' r result k h
+makes_told is s c s' (Err fail) result k h = subst (Makes c is s s') (sym h) k

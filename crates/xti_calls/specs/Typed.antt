@@ -1,5 +1,5 @@
 -- The answers of calls in their own types, and the replies that they stand for.
-use Rattle.std.specs.Prelude.{◌≡◌, ◌≤◌, ℕ, List, [], length, Option, Result, MatchResult}
+use Rattle.std.specs.Prelude.{◌≡◌, ◌≤◌, ℕ, List, [], length, Option, Result, Err, MatchResult}
 use Rattle.std.specs.List.{concat}
 use Rattle.xti_base.specs.declared.kinds.Event.{Event}
 use Rattle.xti_base.specs.declared.kinds.Fd.{Fd}
@@ -49,6 +49,10 @@ HasAtMost n other = Unit {0}
 -- the reply is this answer, or this error
 abbrev pub Says : {T : Type 0} → (T → Reply → Type 0) → Reply → Result T Fail → Type 0
 Says is r result = MatchResult result (λ answer. is answer r) (SaysError r)
+
+-- the same of a call that may have stopped before its reply
+abbrev pub Told : {T : Type 0} → (T → Reply → Type 0) → Result Reply Fail → Result T Fail → Type 0
+Told is reply result = MatchResult reply (λ r. Says is r result) (λ fail. result ≡ Err fail)
 
 -- ---- answers
 

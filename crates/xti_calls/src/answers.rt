@@ -1,8 +1,8 @@
 //! The answers of calls in their own types.
 
-ghost use Rattle.std.specs.Prelude.{◌≡◌, min, sum};
+ghost use Rattle.std.specs.Prelude.{◌≡◌, min, sum, IfOk, MatchResult};
 ghost use Rattle.xti_verbs.specs.declared.answer.Answer.TheVariants as answer;
-ghost use Rattle.xti_calls.specs.Typed.{MayBe, Says, IsError, SaysError, HasAtMost};
+ghost use Rattle.xti_calls.specs.Typed.{MayBe, Told, IsError, SaysError, HasAtMost};
 ghost use Rattle.xti_calls.specs.Typed.{IsDone, IsOpened, IsBound, IsConnected, IsListened, IsSent, IsGot, AreGot, IsDisconnect, IsDatagram, IsDatagramInParts, IsDatagramError, IsSeen, IsState, IsInfo, AreAddresses, IsNegotiated};
 
 use crate::buffers::Buffers;
@@ -130,61 +130,74 @@ impl fmt::Debug for TCall {
 /// What stands for a sequence number where there is none.
 const NO_SEQ: Seq = Seq(0);
 
-/// The error that a call answered.
-fn failed(reply: Reply) -> Fail
-    requires { IsError reply }
-    ensures { SaysError reply result }
+/// The error that a call answered, or why it stopped.
+fn error_of(reply: &Result<Reply, Fail>) -> Fail
+    requires { IfOk reply.now IsError }
+    ensures { MatchResult reply.now (λ r. SaysError r result) (λ fail. result ≡ fail) }
 {
-    let fail = match &reply {
-        Reply::Refused { errno } => Fail::Err(*errno),
-        Reply::Look { event } => Fail::Look(*event),
-        Reply::Overflow { seq } => Fail::Overflow(*seq),
-        _ => unreachable!(),
-    };
+    match reply {
+        Ok(Reply::Refused { errno }) => Fail::Err(*errno),
+        Ok(Reply::Look { event }) => Fail::Look(*event),
+        Ok(Reply::Overflow { seq }) => Fail::Overflow(*seq),
+        Ok(_) => unreachable!(),
+        Err(fail) => *fail,
+    }
+}
+
+/// The same of a reply that nothing else is taken from.
+fn failed(reply: Result<Reply, Fail>) -> Fail
+    requires { IfOk reply IsError }
+    ensures { MatchResult reply (λ r. SaysError r result) (λ fail. result ≡ fail) }
+{
+    let fail = error_of(&reply);
     let_go(reply);
     fail
 }
 
 /// Nothing, of a call that tells nothing.
-pub(crate) fn done(reply: Reply) -> Result<(), Fail>
-    requires { MayBe answer.Plain reply }
-    ensures { Says IsDone reply result }
+pub(crate) fn done(reply: Result<Reply, Fail>) -> Result<(), Fail>
+    requires { IfOk reply (MayBe answer.Plain) }
+    ensures { Told IsDone reply result }
 {
-    match reply {
-        Reply::Plain => Ok(()),
-        other => Err(failed(other)),
-    }
+    let told = match &reply {
+        Ok(Reply::Plain) => Ok(()),
+        other => Err(error_of(other)),
+    };
+    let_go(reply);
+    told
 }
 
 /// The descriptor of a new endpoint.
-pub(crate) fn opened(reply: Reply) -> Result<Fd, Fail>
-    requires { MayBe answer.Opened reply }
-    ensures { Says IsOpened reply result }
+pub(crate) fn opened(reply: Result<Reply, Fail>) -> Result<Fd, Fail>
+    requires { IfOk reply (MayBe answer.Opened) }
+    ensures { Told IsOpened reply result }
 {
-    match reply {
-        Reply::Opened { fd } => Ok(fd),
-        other => Err(failed(other)),
-    }
+    let told = match &reply {
+        Ok(Reply::Opened { fd }) => Ok(*fd),
+        other => Err(error_of(other)),
+    };
+    let_go(reply);
+    told
 }
 
 /// The address that was bound, and the queue length.
-pub(crate) fn bound(reply: Reply) -> Result<(Octets, u32), Fail>
-    requires { MayBe answer.Bound reply }
-    ensures { Says IsBound reply result }
+pub(crate) fn bound(reply: Result<Reply, Fail>) -> Result<(Octets, u32), Fail>
+    requires { IfOk reply (MayBe answer.Bound) }
+    ensures { Told IsBound reply result }
 {
     match reply {
-        Reply::Bound { addr, qlen } => Ok((addr, qlen)),
+        Ok(Reply::Bound { addr, qlen }) => Ok((addr, qlen)),
         other => Err(failed(other)),
     }
 }
 
 /// The answer to a request to connect, with 0 for a sequence number.
-pub(crate) fn connected(reply: Reply) -> Result<TCall, Fail>
-    requires { MayBe answer.Connected reply }
-    ensures { Says IsConnected reply result }
+pub(crate) fn connected(reply: Result<Reply, Fail>) -> Result<TCall, Fail>
+    requires { IfOk reply (MayBe answer.Connected) }
+    ensures { Told IsConnected reply result }
 {
     match reply {
-        Reply::Connected { addr, opt, udata } => Ok(TCall {
+        Ok(Reply::Connected { addr, opt, udata }) => Ok(TCall {
             seq: NO_SEQ,
             addr,
             opt,
@@ -195,17 +208,19 @@ pub(crate) fn connected(reply: Reply) -> Result<TCall, Fail>
 }
 
 /// A request to connect, with its sequence number.
-pub(crate) fn listened(reply: Reply) -> Result<TCall, Fail>
-    requires { MayBe answer.Listened reply }
-    ensures { Says IsListened reply result }
+pub(crate) fn listened(reply: Result<Reply, Fail>) -> Result<TCall, Fail>
+    requires { IfOk reply (MayBe answer.Listened) }
+    ensures { Told IsListened reply result }
 {
     match reply {
-        Reply::Listened {
-            seq,
-            addr,
-            opt,
-            udata,
-        } => Ok(TCall {
+        Ok(
+            Reply::Listened {
+                seq,
+                addr,
+                opt,
+                udata,
+            },
+        ) => Ok(TCall {
             seq,
             addr,
             opt,
@@ -216,35 +231,37 @@ pub(crate) fn listened(reply: Reply) -> Result<TCall, Fail>
 }
 
 /// How many bytes were taken.
-pub(crate) fn sent(reply: Reply) -> Result<u32, Fail>
-    requires { MayBe answer.Sent reply }
-    ensures { Says IsSent reply result }
+pub(crate) fn sent(reply: Result<Reply, Fail>) -> Result<u32, Fail>
+    requires { IfOk reply (MayBe answer.Sent) }
+    ensures { Told IsSent reply result }
 {
-    match reply {
-        Reply::Sent { n } => Ok(n),
-        other => Err(failed(other)),
-    }
+    let told = match &reply {
+        Ok(Reply::Sent { n }) => Ok(*n),
+        other => Err(error_of(other)),
+    };
+    let_go(reply);
+    told
 }
 
 /// Bytes of a connection, and flags.
-pub(crate) fn got(reply: Reply) -> Result<(Octets, u32), Fail>
-    requires { MayBe answer.Got reply }
-    ensures { Says IsGot reply result }
+pub(crate) fn got(reply: Result<Reply, Fail>) -> Result<(Octets, u32), Fail>
+    requires { IfOk reply (MayBe answer.Got) }
+    ensures { Told IsGot reply result }
 {
     match reply {
-        Reply::Got { bytes, flags } => Ok((bytes, flags)),
+        Ok(Reply::Got { bytes, flags }) => Ok((bytes, flags)),
         other => Err(failed(other)),
     }
 }
 
 /// Bytes of a connection in the caller's buffers, and flags.
-pub(crate) fn got_parts(reply: Reply, buffers: Buffers) -> Result<(Parts, u32), Fail>
-    requires kind { MayBe answer.Got reply }
-    requires room { HasAtMost (min (sum buffers.sizes) buffers.most) reply }
-    ensures { Says (AreGot buffers.sizes) reply result }
+pub(crate) fn got_parts(reply: Result<Reply, Fail>, buffers: Buffers) -> Result<(Parts, u32), Fail>
+    requires kind { IfOk reply (MayBe answer.Got) }
+    requires room { IfOk reply (HasAtMost (min (sum buffers.sizes) buffers.most)) }
+    ensures { Told (AreGot buffers.sizes) reply result }
 {
     match reply {
-        Reply::Got { bytes, flags } => {
+        Ok(Reply::Got { bytes, flags }) => {
             let parts = buffers.fill(&bytes);
             let_go(bytes);
             Ok((parts, flags))
@@ -257,28 +274,30 @@ pub(crate) fn got_parts(reply: Reply, buffers: Buffers) -> Result<(Parts, u32), 
 }
 
 /// The reason of a disconnect, its sequence number and data.
-pub(crate) fn disconnected(reply: Reply) -> Result<(u32, Seq, Octets), Fail>
-    requires { MayBe answer.Discon reply }
-    ensures { Says IsDisconnect reply result }
+pub(crate) fn disconnected(reply: Result<Reply, Fail>) -> Result<(u32, Seq, Octets), Fail>
+    requires { IfOk reply (MayBe answer.Discon) }
+    ensures { Told IsDisconnect reply result }
 {
     match reply {
-        Reply::Discon { reason, seq, udata } => Ok((reason, seq, udata)),
+        Ok(Reply::Discon { reason, seq, udata }) => Ok((reason, seq, udata)),
         other => Err(failed(other)),
     }
 }
 
 /// A datagram or a part of one, and flags.
-pub(crate) fn datagram(reply: Reply) -> Result<(TCall, u32), Fail>
-    requires { MayBe answer.UData reply }
-    ensures { Says IsDatagram reply result }
+pub(crate) fn datagram(reply: Result<Reply, Fail>) -> Result<(TCall, u32), Fail>
+    requires { IfOk reply (MayBe answer.UData) }
+    ensures { Told IsDatagram reply result }
 {
     match reply {
-        Reply::UData {
-            addr,
-            opt,
-            bytes,
-            flags,
-        } => {
+        Ok(
+            Reply::UData {
+                addr,
+                opt,
+                bytes,
+                flags,
+            },
+        ) => {
             let datagram = TCall {
                 seq: NO_SEQ,
                 addr,
@@ -294,20 +313,22 @@ pub(crate) fn datagram(reply: Reply) -> Result<(TCall, u32), Fail>
 /// A datagram or a part of one in the caller's buffers, and flags.
 pub(crate) fn datagram_parts(
     alloc: Global,
-    reply: Reply,
+    reply: Result<Reply, Fail>,
     buffers: Buffers,
 ) -> Result<(TCall, Parts, u32), Fail>
-    requires kind { MayBe answer.UData reply }
-    requires room { HasAtMost (min (sum buffers.sizes) buffers.most) reply }
-    ensures { Says (IsDatagramInParts buffers.sizes) reply result }
+    requires kind { IfOk reply (MayBe answer.UData) }
+    requires room { IfOk reply (HasAtMost (min (sum buffers.sizes) buffers.most)) }
+    ensures { Told (IsDatagramInParts buffers.sizes) reply result }
 {
     match reply {
-        Reply::UData {
-            addr,
-            opt,
-            bytes,
-            flags,
-        } => {
+        Ok(
+            Reply::UData {
+                addr,
+                opt,
+                bytes,
+                flags,
+            },
+        ) => {
             let datagram = TCall {
                 seq: NO_SEQ,
                 addr,
@@ -326,67 +347,73 @@ pub(crate) fn datagram_parts(
 }
 
 /// Address and options of a datagram that was not delivered, and the code.
-pub(crate) fn datagram_error(reply: Reply) -> Result<(Octets, Octets, u32), Fail>
-    requires { MayBe answer.UDErr reply }
-    ensures { Says IsDatagramError reply result }
+pub(crate) fn datagram_error(reply: Result<Reply, Fail>) -> Result<(Octets, Octets, u32), Fail>
+    requires { IfOk reply (MayBe answer.UDErr) }
+    ensures { Told IsDatagramError reply result }
 {
     match reply {
-        Reply::UDErr { addr, opt, code } => Ok((addr, opt, code)),
+        Ok(Reply::UDErr { addr, opt, code }) => Ok((addr, opt, code)),
         other => Err(failed(other)),
     }
 }
 
 /// The first event that is pending, or none.
-pub(crate) fn seen(reply: Reply) -> Result<Option<Event>, Fail>
-    requires { MayBe answer.Seen reply }
-    ensures { Says IsSeen reply result }
+pub(crate) fn seen(reply: Result<Reply, Fail>) -> Result<Option<Event>, Fail>
+    requires { IfOk reply (MayBe answer.Seen) }
+    ensures { Told IsSeen reply result }
 {
-    match reply {
-        Reply::Seen { event } => Ok(event),
-        other => Err(failed(other)),
-    }
+    let told = match &reply {
+        Ok(Reply::Seen { event }) => Ok(*event),
+        other => Err(error_of(other)),
+    };
+    let_go(reply);
+    told
 }
 
 /// The state.
-pub(crate) fn state(reply: Reply) -> Result<State, Fail>
-    requires { MayBe answer.Stands reply }
-    ensures { Says IsState reply result }
+pub(crate) fn state(reply: Result<Reply, Fail>) -> Result<State, Fail>
+    requires { IfOk reply (MayBe answer.Stands) }
+    ensures { Told IsState reply result }
 {
-    match reply {
-        Reply::Stands { state } => Ok(state),
-        other => Err(failed(other)),
-    }
+    let told = match &reply {
+        Ok(Reply::Stands { state }) => Ok(*state),
+        other => Err(error_of(other)),
+    };
+    let_go(reply);
+    told
 }
 
 /// What the provider offers.
-pub(crate) fn info(reply: Reply) -> Result<Info, Fail>
-    requires { MayBe answer.Limits reply }
-    ensures { Says IsInfo reply result }
+pub(crate) fn info(reply: Result<Reply, Fail>) -> Result<Info, Fail>
+    requires { IfOk reply (MayBe answer.Limits) }
+    ensures { Told IsInfo reply result }
 {
-    match reply {
-        Reply::Limits { info } => Ok(info),
-        other => Err(failed(other)),
-    }
+    let told = match &reply {
+        Ok(Reply::Limits { info }) => Ok(*info),
+        other => Err(error_of(other)),
+    };
+    let_go(reply);
+    told
 }
 
 /// The endpoint's address and its peer's.
-pub(crate) fn addresses(reply: Reply) -> Result<(Octets, Octets), Fail>
-    requires { MayBe answer.Addresses reply }
-    ensures { Says AreAddresses reply result }
+pub(crate) fn addresses(reply: Result<Reply, Fail>) -> Result<(Octets, Octets), Fail>
+    requires { IfOk reply (MayBe answer.Addresses) }
+    ensures { Told AreAddresses reply result }
 {
     match reply {
-        Reply::Addresses { local, peer } => Ok((local, peer)),
+        Ok(Reply::Addresses { local, peer }) => Ok((local, peer)),
         other => Err(failed(other)),
     }
 }
 
 /// The overall result of a negotiation, and the answered options.
-pub(crate) fn negotiated(reply: Reply) -> Result<(u32, Octets), Fail>
-    requires { MayBe answer.Options reply }
-    ensures { Says IsNegotiated reply result }
+pub(crate) fn negotiated(reply: Result<Reply, Fail>) -> Result<(u32, Octets), Fail>
+    requires { IfOk reply (MayBe answer.Options) }
+    ensures { Told IsNegotiated reply result }
 {
     match reply {
-        Reply::Options { result, opt } => Ok((result, opt)),
+        Ok(Reply::Options { result, opt }) => Ok((result, opt)),
         other => Err(failed(other)),
     }
 }

@@ -7,7 +7,7 @@ ghost use Rattle.xti_calls.specs.Parts.{split_by, HaveRoom};
 use std::alloc::{AllocError, Global};
 use std::marker::Model;
 use xti_base::limits::MOST_SIZE;
-use xti_base::{Octets, Parts, Room};
+use xti_base::{Octets, Parts, Room, Sizes};
 
 /// The most bytes that one receive on a connection gives: those of the sender's buffer and of the receiver's.
 pub(crate) const MOST_OF_STREAM: usize = 2 * MOST_SIZE as usize;
@@ -44,7 +44,7 @@ impl Model for Buffers {
 
 impl Buffers {
     /// Room for parts of these sizes, and for at most so many bytes in all of them together.
-    pub(crate) fn new(alloc: Global, sizes: &[u32], most: usize) -> Result<Buffers, AllocError>
+    fn of_sizes(alloc: Global, sizes: &[u32], most: usize) -> Result<Buffers, AllocError>
         ensures sizes { IfOk result (λ b. b.sizes ≡ sizes.now) }
         ensures most { IfOk result (λ b. b.most ≡ most) }
     {
@@ -55,6 +55,20 @@ impl Buffers {
             buffers,
             parts,
         })
+    }
+
+    /// The same, and the sizes once more, for the call.
+    pub(crate) fn new(
+        alloc: Global,
+        sizes: &Sizes,
+        most: usize,
+    ) -> Result<(Buffers, Sizes), AllocError>
+        ensures sizes { IfOk result (λ r. (r.0.sizes ≡ sizes.now) × (r.1 ≡ sizes.now)) }
+        ensures most { IfOk result (λ r. r.0.most ≡ most) }
+    {
+        let buffers = Buffers::of_sizes(alloc, sizes.as_slice(), most)?;
+        let sizes = or_drop!(sizes.copy(), buffers);
+        Ok((buffers, sizes))
     }
 
     /// The bytes cut into parts by the sizes. Takes no memory.

@@ -9,11 +9,7 @@ ghost use Rattle.xti_glance.specs.Glances.{Finds, IsSameLater};
 ghost use Rattle.xti_step.specs.Steps.{Later, MayGo, Tells};
 ghost use Rattle.xti_calls.specs.declared.answers.Fail.TheVariants.{Unfinished};
 ghost use Rattle.xti_calls.specs.Calling.{IsUnfinished, Answered, Halted, where_left};
-ghost use Rattle.xti_calls.specs.Forms.{Fails, IsAnswered};
-ghost use Rattle.xti_calls.specs.Library.{GoesOn, HasUnfinished, IsFree, IsMarkedAsBefore, IsOf};
-ghost use Rattle.xti_calls.specs.Typed.{MayBe};
-ghost use Rattle.xti_laws_sound.specs.Replies.{lengths_of, IsShort};
-ghost use Rattle.xti_verbs.specs.Verbs.{answer_of, verb_of};
+ghost use Rattle.xti_calls.specs.Library.{HasUnfinished, IsFree, IsMarkedAsBefore, IsOf};
 
 use crate::answers::Fail;
 use crate::calling::Halt;
@@ -36,10 +32,10 @@ use xti_step::Gate;
 /// the library make theirs beside it, each on a thread of its own. `split` gives one more.
 #[derive(Drop)]
 pub struct Caller<'a, R> {
-    xti: &'a Xti,
-    rt: &'a R,
+    pub(crate) xti: &'a Xti,
+    pub(crate) rt: &'a R,
     pub(crate) alloc: Global,
-    seat: Seat,
+    pub(crate) seat: Seat,
 }
 
 impl<'a, R> Model for Caller<'a, R> {
@@ -221,17 +217,5 @@ impl<'a, R: Wait + Sync> Caller<'a, R> {
     {
         self.xti
             .resume(self.rt, self.alloc, &mut self.seat, gate, call)
-    }
-
-    /// The reply of a call, which is of the call's kind, and no longer than the call allows.
-    pub(crate) fn reply(&mut self, call: Call) -> Result<Reply, Fail>
-        requires none { IsFree self.old }
-        ensures seat { GoesOn self.old self.new }
-        ensures made { MatchResult result
-            (λ r. IsAnswered call self.old self.new r × MayBe (answer_of (verb_of call)) r)
-            (Fails call self.old self.new) }
-        ensures short { IfOk result (IsShort (lengths_of call)) }
-    {
-        self.xti.reply(self.rt, self.alloc, &mut self.seat, call)
     }
 }

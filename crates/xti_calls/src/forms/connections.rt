@@ -8,10 +8,12 @@ ghost use Rattle.xti_calls.specs.Library.{GoesOn};
 
 use crate::answers::{Fail, Max, TCall, connected, disconnected, done, listened};
 use crate::caller::Caller;
+use crate::forms::{three_copies, two_copies};
 use std::sync::Wait;
 use xti_base::{Fd, Octets, Seq};
 use xti_model::Call;
 
+#[tactic(auto, using(crate::proofs::Replied::makes_told), unfolding(xti_verbs::specs::Verbs::row_of))]
 impl<'a, R: Wait + Sync> Caller<'a, R> {
     /// Asks the listener at an address for a connection, and in blocking mode waits for the answer (XNS, t_connect).
     ///
@@ -41,7 +43,6 @@ impl<'a, R: Wait + Sync> Caller<'a, R> {
     /// - TLOOK with T_DISCONNECT: there is no connection. `t_rcvdis` tells why, and leads back to T_IDLE.
     /// - TNODATA: the endpoint was set to O_NONBLOCK meanwhile, and there is no answer yet.
     /// - TBUFOVFLW: a field of the answer is longer than `max` says. The endpoint is in T_DATAXFER all the same.
-    #[tactic(auto, using(crate::proofs::Replied::makes_said), unfolding(xti_verbs::specs::Verbs::row_of))]
     pub fn t_connect(
         &mut self,
         fd: Fd,
@@ -53,11 +54,8 @@ impl<'a, R: Wait + Sync> Caller<'a, R> {
         ensures seat { GoesOn self.old self.new }
         ensures made { Connects fd addr.now opt.now udata.now max self.old self.new result }
     {
-        self.ready()?;
-        let addr = Octets::copy_of(self.alloc, addr)?;
-        let opt = or_drop!(Octets::copy_of(self.alloc, opt), addr);
-        let udata = or_drop!(Octets::copy_of(self.alloc, udata), addr, opt);
-        let call = Call::TConnect {
+        let (addr, opt, udata) = made_or_fail!(self, three_copies(self.alloc, addr, opt, udata));
+        connected(self.reply(Call::TConnect {
             fd,
             addr,
             opt,
@@ -65,8 +63,7 @@ impl<'a, R: Wait + Sync> Caller<'a, R> {
             amax: max.addr,
             omax: max.opt,
             umax: max.udata,
-        };
-        connected(self.reply(call)?)
+        }))
     }
 
     /// Takes the answer to a request that `t_connect` made with O_NONBLOCK (XNS, t_rcvconnect).
@@ -84,19 +81,16 @@ impl<'a, R: Wait + Sync> Caller<'a, R> {
     /// - TLOOK with T_DISCONNECT: there is no connection. `t_rcvdis` tells why.
     /// - TNODATA, with O_NONBLOCK: there is no answer yet.
     /// - TBUFOVFLW: a field is longer than `max` says. The endpoint is in T_DATAXFER all the same.
-    #[tactic(auto, using(crate::proofs::Replied::makes_said), unfolding(xti_verbs::specs::Verbs::row_of))]
     pub fn t_rcvconnect(&mut self, fd: Fd, max: Max) -> Result<TCall, Fail>
         ensures seat { GoesOn self.old self.new }
         ensures made { Confirms fd max self.old self.new result }
     {
-        self.ready()?;
-        let call = Call::TRcvConnect {
+        connected(self.reply(Call::TRcvConnect {
             fd,
             amax: max.addr,
             omax: max.opt,
             umax: max.udata,
-        };
-        connected(self.reply(call)?)
+        }))
     }
 
     /// Takes the oldest request to connect (connect indication) that waits at a listener (XNS, t_listen).
@@ -116,19 +110,16 @@ impl<'a, R: Wait + Sync> Caller<'a, R> {
     /// - TLOOK with T_DISCONNECT: a caller has given up a request that was taken and not answered (`t_rcvdis`).
     /// - TNODATA, with O_NONBLOCK: no request waits.
     /// - TBUFOVFLW: a field is longer than `max` says. The request is taken all the same; `Fail::Overflow` has its number.
-    #[tactic(auto, using(crate::proofs::Replied::makes_said), unfolding(xti_verbs::specs::Verbs::row_of))]
     pub fn t_listen(&mut self, fd: Fd, max: Max) -> Result<TCall, Fail>
         ensures seat { GoesOn self.old self.new }
         ensures made { Listens fd max self.old self.new result }
     {
-        self.ready()?;
-        let call = Call::TListen {
+        listened(self.reply(Call::TListen {
             fd,
             amax: max.addr,
             omax: max.opt,
             umax: max.udata,
-        };
-        listened(self.reply(call)?)
+        }))
     }
 
     /// Accepts a request that `t_listen` took, so that an endpoint is connected with its caller (XNS, t_accept).
@@ -155,7 +146,6 @@ impl<'a, R: Wait + Sync> Caller<'a, R> {
     /// - TBADDATA: `udata` has more than 64 bytes.
     /// - TLOOK with T_DISCONNECT: a caller has given up a request that `fd` has taken and not answered (`t_rcvdis`).
     /// - TLOOK with T_LISTEN: a further request waits at `fd` (`t_listen`).
-    #[tactic(auto, using(crate::proofs::Replied::makes_said), unfolding(xti_verbs::specs::Verbs::row_of))]
     pub fn t_accept(
         &mut self,
         fd: Fd,
@@ -167,17 +157,14 @@ impl<'a, R: Wait + Sync> Caller<'a, R> {
         ensures seat { GoesOn self.old self.new }
         ensures made { Accepts fd resfd seq opt.now udata.now self.old self.new result }
     {
-        self.ready()?;
-        let opt = Octets::copy_of(self.alloc, opt)?;
-        let udata = or_drop!(Octets::copy_of(self.alloc, udata), opt);
-        let call = Call::TAccept {
+        let (opt, udata) = made_or_fail!(self, two_copies(self.alloc, opt, udata));
+        done(self.reply(Call::TAccept {
             fd,
             resfd,
             seq,
             opt,
             udata,
-        };
-        done(self.reply(call)?)
+        }))
     }
 
     /// Rejects a request, gives up one of its own, or ends a connection at once (XNS, t_snddis).
@@ -198,18 +185,12 @@ impl<'a, R: Wait + Sync> Caller<'a, R> {
     /// - TBADSEQ: the state is T_INCON, and `seq` is the number of no request that was taken and not answered.
     /// - TBADDATA: `udata` has more than 64 bytes.
     /// - TLOOK with T_DISCONNECT: a disconnect waits (`t_rcvdis`).
-    #[tactic(auto, using(crate::proofs::Replied::makes_said), unfolding(xti_verbs::specs::Verbs::row_of))]
     pub fn t_snddis(&mut self, fd: Fd, seq: Seq, udata: &[u8]) -> Result<(), Fail>
         ensures seat { GoesOn self.old self.new }
         ensures made { Makes (call.TSndDis fd seq udata.now) IsDone self.old self.new result }
     {
-        self.ready()?;
-        let call = Call::TSndDis {
-            fd,
-            seq,
-            udata: Octets::copy_of(self.alloc, udata)?,
-        };
-        done(self.reply(call)?)
+        let udata = made_or_fail!(self, Octets::copy_of(self.alloc, udata));
+        done(self.reply(Call::TSndDis { fd, seq, udata }))
     }
 
     /// Takes the oldest disconnect that waits, and answers its reason, sequence number and data (XNS, t_rcvdis).
@@ -230,14 +211,11 @@ impl<'a, R: Wait + Sync> Caller<'a, R> {
     /// - TOUTSTATE: the state is none of T_OUTCON, T_INCON, T_DATAXFER, T_OUTREL and T_INREL.
     /// - TNODIS: no disconnect waits.
     /// - TBUFOVFLW: the data are longer than `umax`, which isn't 0. The disconnect is taken all the same, and isn't told.
-    #[tactic(auto, using(crate::proofs::Replied::makes_said), unfolding(xti_verbs::specs::Verbs::row_of))]
     pub fn t_rcvdis(&mut self, fd: Fd, umax: u32) -> Result<(u32, Seq, Octets), Fail>
         ensures seat { GoesOn self.old self.new }
         ensures made { Makes (call.TRcvDis fd umax) IsDisconnect self.old self.new result }
     {
-        self.ready()?;
-        let call = Call::TRcvDis { fd, umax };
-        disconnected(self.reply(call)?)
+        disconnected(self.reply(Call::TRcvDis { fd, umax }))
     }
 
     /// Releases a connection in one direction: no more data will be sent (XNS, t_sndrel).
@@ -253,14 +231,11 @@ impl<'a, R: Wait + Sync> Caller<'a, R> {
     /// - TNOTSUPPORT: the provider isn't `ticotsord`.
     /// - TOUTSTATE: the state is neither T_DATAXFER nor T_INREL.
     /// - TLOOK with T_DISCONNECT: a disconnect waits (`t_rcvdis`).
-    #[tactic(auto, using(crate::proofs::Replied::makes_said), unfolding(xti_verbs::specs::Verbs::row_of))]
     pub fn t_sndrel(&mut self, fd: Fd) -> Result<(), Fail>
         ensures seat { GoesOn self.old self.new }
         ensures made { Makes (call.TSndRel fd) IsDone self.old self.new result }
     {
-        self.ready()?;
-        let call = Call::TSndRel { fd };
-        done(self.reply(call)?)
+        done(self.reply(Call::TSndRel { fd }))
     }
 
     /// Takes the other end's release of a connection, after which no more data come (XNS, t_rcvrel).
@@ -277,13 +252,10 @@ impl<'a, R: Wait + Sync> Caller<'a, R> {
     /// - TOUTSTATE: the state is neither T_DATAXFER nor T_OUTREL.
     /// - TLOOK with T_DISCONNECT: a disconnect waits (`t_rcvdis`).
     /// - TNOREL: the other end hasn't released, or not all its data were received.
-    #[tactic(auto, using(crate::proofs::Replied::makes_said), unfolding(xti_verbs::specs::Verbs::row_of))]
     pub fn t_rcvrel(&mut self, fd: Fd) -> Result<(), Fail>
         ensures seat { GoesOn self.old self.new }
         ensures made { Makes (call.TRcvRel fd) IsDone self.old self.new result }
     {
-        self.ready()?;
-        let call = Call::TRcvRel { fd };
-        done(self.reply(call)?)
+        done(self.reply(Call::TRcvRel { fd }))
     }
 }

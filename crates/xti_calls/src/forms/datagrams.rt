@@ -1,17 +1,34 @@
 //! Datagrams.
 
-ghost use Rattle.std.specs.Prelude.{◌≡◌};
+ghost use Rattle.std.specs.Prelude.{◌≡◌, IfOk};
 ghost use Rattle.xti_calls.specs.Forms.{ReceivesDatagram, ReceivesDatagramInParts, SendsDatagram, SendsDatagramInParts, TakesDatagramError};
 ghost use Rattle.xti_calls.specs.Library.{GoesOn};
 
 use crate::answers::{Fail, Max, TCall, datagram, datagram_error, datagram_parts, done};
 use crate::buffers::{Buffers, MOST_OF_DATAGRAM};
 use crate::caller::Caller;
+use crate::forms::{three_copies, two_copies};
+use std::alloc::{AllocError, Global};
 use std::sync::Wait;
 use xti_base::{Fd, Octets, Parts, Sizes};
 use xti_data::SendParts;
 use xti_model::Call;
 
+/// A copy of the address, of the options and of the parts.
+fn copies_and_parts(
+    alloc: Global,
+    addr: &[u8],
+    opt: &[u8],
+    parts: &SendParts,
+) -> Result<(Octets, Octets, Parts), AllocError>
+    ensures { IfOk result (λ r. (r.0 ≡ addr.now) × (r.1 ≡ opt.now) × (r.2 ≡ parts.now)) }
+{
+    let (addr, opt) = two_copies(alloc, addr, opt)?;
+    let parts = or_drop!(parts.parts().copy(), addr, opt);
+    Ok((addr, opt, parts))
+}
+
+#[tactic(auto, using(crate::proofs::Replied::makes_told), unfolding(xti_verbs::specs::Verbs::row_of))]
 impl<'a, R: Wait + Sync> Caller<'a, R> {
     /// Sends a datagram to an address (XNS, t_sndudata).
     ///
@@ -32,22 +49,17 @@ impl<'a, R: Wait + Sync> Caller<'a, R> {
     /// - TBADDATA: `bytes` are more than `tsdu`, or none without T_SENDZERO.
     /// - TLOOK with T_UDERR: the error of a datagram waits (`t_rcvuderr`).
     /// - TFLOW, with O_NONBLOCK: 16 datagrams wait at the destination. T_GODATA then tells when one more may be sent there.
-    #[tactic(auto, using(crate::proofs::Replied::makes_said), unfolding(xti_verbs::specs::Verbs::row_of))]
     pub fn t_sndudata(&mut self, fd: Fd, addr: &[u8], opt: &[u8], bytes: &[u8]) -> Result<(), Fail>
         ensures seat { GoesOn self.old self.new }
         ensures made { SendsDatagram fd addr.now opt.now bytes.now self.old self.new result }
     {
-        self.ready()?;
-        let addr = Octets::copy_of(self.alloc, addr)?;
-        let opt = or_drop!(Octets::copy_of(self.alloc, opt), addr);
-        let bytes = or_drop!(Octets::copy_of(self.alloc, bytes), addr, opt);
-        let call = Call::TSndUData {
+        let (addr, opt, bytes) = made_or_fail!(self, three_copies(self.alloc, addr, opt, bytes));
+        done(self.reply(Call::TSndUData {
             fd,
             addr,
             opt,
             bytes,
-        };
-        done(self.reply(call)?)
+        }))
     }
 
     /// Sends parts, joined, as one datagram to an address (XNS, t_sndvudata).
@@ -58,7 +70,6 @@ impl<'a, R: Wait + Sync> Caller<'a, R> {
     /// # Errors
     ///
     /// XTI ([`Fail`]) answers those of `t_sndudata`, in their order. TBADDATA comes for more than 16 parts too.
-    #[tactic(auto, using(crate::proofs::Replied::makes_said), unfolding(xti_verbs::specs::Verbs::row_of))]
     pub fn t_sndvudata(
         &mut self,
         fd: Fd,
@@ -69,17 +80,16 @@ impl<'a, R: Wait + Sync> Caller<'a, R> {
         ensures seat { GoesOn self.old self.new }
         ensures made { SendsDatagramInParts fd addr.now opt.now parts.now self.old self.new result }
     {
-        self.ready()?;
-        let addr = Octets::copy_of(self.alloc, addr)?;
-        let opt = or_drop!(Octets::copy_of(self.alloc, opt), addr);
-        let parts = or_drop!(parts.parts().copy(), addr, opt);
-        let call = Call::TSndVUData {
+        let (addr, opt, parts) = made_or_fail!(
+            self,
+            copies_and_parts(self.alloc, addr, opt, parts)
+        );
+        done(self.reply(Call::TSndVUData {
             fd,
             addr,
             opt,
             parts,
-        };
-        done(self.reply(call)?)
+        }))
     }
 
     /// Receives the first datagram that waits, or a part of it, and answers it with flags (XNS, t_rcvudata).
@@ -100,19 +110,16 @@ impl<'a, R: Wait + Sync> Caller<'a, R> {
     /// - TNODATA, with O_NONBLOCK: no datagram waits.
     /// - TBUFOVFLW: the address or the options are longer than `max` says. The whole datagram is gone. A later part never has
     ///   this error, and more bytes than `max.udata` are none.
-    #[tactic(auto, using(crate::proofs::Replied::makes_said), unfolding(xti_verbs::specs::Verbs::row_of))]
     pub fn t_rcvudata(&mut self, fd: Fd, max: Max) -> Result<(TCall, u32), Fail>
         ensures seat { GoesOn self.old self.new }
         ensures made { ReceivesDatagram fd max self.old self.new result }
     {
-        self.ready()?;
-        let call = Call::TRcvUData {
+        datagram(self.reply(Call::TRcvUData {
             fd,
             max: max.udata,
             amax: max.addr,
             omax: max.opt,
-        };
-        datagram(self.reply(call)?)
+        }))
     }
 
     /// Receives a datagram or a part of it in parts of at most these sizes, and answers it with flags (XNS, t_rcvvudata).
@@ -126,7 +133,7 @@ impl<'a, R: Wait + Sync> Caller<'a, R> {
     ///
     /// XTI ([`Fail`]) answers those of `t_rcvudata`, in their order, and between TOUTSTATE and TLOOK:
     /// - TBADDATA: there are more than 16 sizes.
-    #[tactic(auto, using(crate::proofs::Replied::makes_said, crate::proofs::Replied::datagram_fits), unfolding(xti_verbs::specs::Verbs::row_of))]
+    #[tactic(auto, using(crate::proofs::Replied::makes_told, crate::proofs::Replied::datagram_fits), unfolding(xti_verbs::specs::Verbs::row_of))]
     pub fn t_rcvvudata(
         &mut self,
         fd: Fd,
@@ -137,16 +144,16 @@ impl<'a, R: Wait + Sync> Caller<'a, R> {
         ensures seat { GoesOn self.old self.new }
         ensures made { ReceivesDatagramInParts fd sizes.now amax omax self.old self.new result }
     {
-        self.ready()?;
-        let buffers = Buffers::new(self.alloc, sizes.as_slice(), MOST_OF_DATAGRAM)?;
-        let sizes = or_drop!(sizes.copy(), buffers);
-        let call = Call::TRcvVUData {
+        let (buffers, sizes) = made_or_fail!(
+            self,
+            Buffers::new(self.alloc, sizes, MOST_OF_DATAGRAM)
+        );
+        let reply = self.reply(Call::TRcvVUData {
             fd,
             sizes,
             amax,
             omax,
-        };
-        let reply = or_drop!(self.reply(call), buffers);
+        });
         datagram_parts(self.alloc, reply, buffers)
     }
 
@@ -165,7 +172,6 @@ impl<'a, R: Wait + Sync> Caller<'a, R> {
     /// - TNOUDERR: no such error waits.
     /// - TBUFOVFLW: the destination is longer than `amax`, which isn't 0, or the options than `omax`, which isn't 0. The error
     ///   is taken all the same, and isn't told.
-    #[tactic(auto, using(crate::proofs::Replied::makes_said), unfolding(xti_verbs::specs::Verbs::row_of))]
     pub fn t_rcvuderr(
         &mut self,
         fd: Fd,
@@ -175,8 +181,6 @@ impl<'a, R: Wait + Sync> Caller<'a, R> {
         ensures seat { GoesOn self.old self.new }
         ensures made { TakesDatagramError fd amax omax self.old self.new result }
     {
-        self.ready()?;
-        let call = Call::TRcvUDErr { fd, amax, omax };
-        datagram_error(self.reply(call)?)
+        datagram_error(self.reply(Call::TRcvUDErr { fd, amax, omax }))
     }
 }

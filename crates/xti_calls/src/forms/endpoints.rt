@@ -12,6 +12,7 @@ use std::sync::Wait;
 use xti_base::{Event, Fd, Info, Octets, Prov, State};
 use xti_model::Call;
 
+#[tactic(auto, using(crate::proofs::Replied::makes_told), unfolding(xti_verbs::specs::Verbs::row_of))]
 impl<'a, R: Wait + Sync> Caller<'a, R> {
     /// Opens an endpoint of a loopback provider and answers its descriptor (XNS, t_open).
     ///
@@ -26,17 +27,12 @@ impl<'a, R: Wait + Sync> Caller<'a, R> {
     /// XTI ([`Fail`]) answers the first that holds; nothing has changed then:
     /// - TBADNAME: `name` is none of the three.
     /// - TSYSERR: each of the 64 places is open, or was closed 67,108,863 times.
-    #[tactic(auto, using(crate::proofs::Replied::makes_said), unfolding(xti_verbs::specs::Verbs::row_of))]
     pub fn t_open(&mut self, name: &[u8], nonblock: bool) -> Result<Fd, Fail>
         ensures seat { GoesOn self.old self.new }
         ensures made { Opens name.now nonblock self.old self.new result }
     {
-        self.ready()?;
-        let call = Call::TOpen {
-            prov: Prov::of_name(name),
-            nonblock,
-        };
-        opened(self.reply(call)?)
+        let prov = Prov::of_name(name);
+        opened(self.reply(Call::TOpen { prov, nonblock }))
     }
 
     /// Closes an endpoint, in whatever state it is (XNS, t_close).
@@ -51,14 +47,11 @@ impl<'a, R: Wait + Sync> Caller<'a, R> {
     /// # Errors
     ///
     /// XTI ([`Fail`]) answers TBADF alone: no endpoint is open with `fd`.
-    #[tactic(auto, using(crate::proofs::Replied::makes_said), unfolding(xti_verbs::specs::Verbs::row_of))]
     pub fn t_close(&mut self, fd: Fd) -> Result<(), Fail>
         ensures seat { GoesOn self.old self.new }
         ensures made { Makes (call.TClose fd) IsDone self.old self.new result }
     {
-        self.ready()?;
-        let call = Call::TClose { fd };
-        done(self.reply(call)?)
+        done(self.reply(Call::TClose { fd }))
     }
 
     /// Binds an endpoint to an address, and answers the address and the queue length that it has then (XNS, t_bind).
@@ -78,7 +71,6 @@ impl<'a, R: Wait + Sync> Caller<'a, R> {
     /// - TADDRBUSY: at `ticlts`, an endpoint is bound to `addr`. At the others, `qlen` is over 0, and an endpoint with a queue
     ///   length over 0 is bound to it; any number of endpoints without a queue may have one address.
     /// - TBUFOVFLW: the address that is given is longer than `amax`, and `amax` isn't 0. The endpoint is bound all the same.
-    #[tactic(auto, using(crate::proofs::Replied::makes_said), unfolding(xti_verbs::specs::Verbs::row_of))]
     pub fn t_bind(
         &mut self,
         fd: Fd,
@@ -89,14 +81,13 @@ impl<'a, R: Wait + Sync> Caller<'a, R> {
         ensures seat { GoesOn self.old self.new }
         ensures made { Makes (call.TBind fd addr.now qlen amax) IsBound self.old self.new result }
     {
-        self.ready()?;
-        let call = Call::TBind {
+        let addr = made_or_fail!(self, Octets::copy_of(self.alloc, addr));
+        bound(self.reply(Call::TBind {
             fd,
-            addr: Octets::copy_of(self.alloc, addr)?,
+            addr,
             qlen,
             amax,
-        };
-        bound(self.reply(call)?)
+        }))
     }
 
     /// Takes its address from an endpoint, which goes from T_IDLE to T_UNBND (XNS, t_unbind).
@@ -111,14 +102,11 @@ impl<'a, R: Wait + Sync> Caller<'a, R> {
     /// - TOUTSTATE: the state isn't T_IDLE.
     /// - TLOOK with T_LISTEN: a request to connect waits that no `t_listen` has taken.
     /// - TLOOK with T_DATA: a datagram waits.
-    #[tactic(auto, using(crate::proofs::Replied::makes_said), unfolding(xti_verbs::specs::Verbs::row_of))]
     pub fn t_unbind(&mut self, fd: Fd) -> Result<(), Fail>
         ensures seat { GoesOn self.old self.new }
         ensures made { Makes (call.TUnbind fd) IsDone self.old self.new result }
     {
-        self.ready()?;
-        let call = Call::TUnbind { fd };
-        done(self.reply(call)?)
+        done(self.reply(Call::TUnbind { fd }))
     }
 
     /// Answers the first event that is pending at an endpoint; `None` where there is none (XNS, t_look).
@@ -138,14 +126,11 @@ impl<'a, R: Wait + Sync> Caller<'a, R> {
     /// # Errors
     ///
     /// XTI ([`Fail`]) answers TBADF alone: no endpoint is open with `fd`.
-    #[tactic(auto, using(crate::proofs::Replied::makes_said), unfolding(xti_verbs::specs::Verbs::row_of))]
     pub fn t_look(&mut self, fd: Fd) -> Result<Option<Event>, Fail>
         ensures seat { GoesOn self.old self.new }
         ensures made { Makes (call.TLookAt fd) IsSeen self.old self.new result }
     {
-        self.ready()?;
-        let call = Call::TLookAt { fd };
-        seen(self.reply(call)?)
+        seen(self.reply(Call::TLookAt { fd }))
     }
 
     /// Answers the state of an endpoint (XNS, t_getstate).
@@ -157,14 +142,11 @@ impl<'a, R: Wait + Sync> Caller<'a, R> {
     /// # Errors
     ///
     /// XTI ([`Fail`]) answers TBADF alone: no endpoint is open with `fd`. TSTATECHNG never comes.
-    #[tactic(auto, using(crate::proofs::Replied::makes_said), unfolding(xti_verbs::specs::Verbs::row_of))]
     pub fn t_getstate(&mut self, fd: Fd) -> Result<State, Fail>
         ensures seat { GoesOn self.old self.new }
         ensures made { Makes (call.TGetState fd) IsState self.old self.new result }
     {
-        self.ready()?;
-        let call = Call::TGetState { fd };
-        state(self.reply(call)?)
+        state(self.reply(Call::TGetState { fd }))
     }
 
     /// Answers the state of an endpoint, as `t_getstate` does (XNS, t_sync).
@@ -175,14 +157,11 @@ impl<'a, R: Wait + Sync> Caller<'a, R> {
     /// # Errors
     ///
     /// XTI ([`Fail`]) answers TBADF alone: no endpoint is open with `fd`.
-    #[tactic(auto, using(crate::proofs::Replied::makes_said), unfolding(xti_verbs::specs::Verbs::row_of))]
     pub fn t_sync(&mut self, fd: Fd) -> Result<State, Fail>
         ensures seat { GoesOn self.old self.new }
         ensures made { Makes (call.TSync fd) IsState self.old self.new result }
     {
-        self.ready()?;
-        let call = Call::TSync { fd };
-        state(self.reply(call)?)
+        state(self.reply(Call::TSync { fd }))
     }
 
     /// Answers what the endpoint's provider offers: its limits, its service type and its flags (XNS, t_getinfo).
@@ -197,14 +176,11 @@ impl<'a, R: Wait + Sync> Caller<'a, R> {
     /// # Errors
     ///
     /// XTI ([`Fail`]) answers TBADF alone: no endpoint is open with `fd`.
-    #[tactic(auto, using(crate::proofs::Replied::makes_said), unfolding(xti_verbs::specs::Verbs::row_of))]
     pub fn t_getinfo(&mut self, fd: Fd) -> Result<Info, Fail>
         ensures seat { GoesOn self.old self.new }
         ensures made { Makes (call.TGetInfo fd) IsInfo self.old self.new result }
     {
-        self.ready()?;
-        let call = Call::TGetInfo { fd };
-        info(self.reply(call)?)
+        info(self.reply(Call::TGetInfo { fd }))
     }
 
     /// Answers the address that an endpoint is bound to, and that of the other end of its connection (XNS, t_getprotaddr).
@@ -219,14 +195,11 @@ impl<'a, R: Wait + Sync> Caller<'a, R> {
     /// XTI ([`Fail`]) answers the first that holds; nothing has changed then:
     /// - TBADF: no endpoint is open with `fd`.
     /// - TBUFOVFLW: the first is longer than `amax`, which isn't 0, or the second than `pmax`, which isn't 0. Neither is told.
-    #[tactic(auto, using(crate::proofs::Replied::makes_said), unfolding(xti_verbs::specs::Verbs::row_of))]
     pub fn t_getprotaddr(&mut self, fd: Fd, amax: u32, pmax: u32) -> Result<(Octets, Octets), Fail>
         ensures seat { GoesOn self.old self.new }
         ensures made { TellsAddresses fd amax pmax self.old self.new result }
     {
-        self.ready()?;
-        let call = Call::TGetProtAddr { fd, amax, pmax };
-        addresses(self.reply(call)?)
+        addresses(self.reply(Call::TGetProtAddr { fd, amax, pmax }))
     }
 
     /// Negotiates or tells options, and answers the overall result and the options with their values (XNS, t_optmgmt).
@@ -250,7 +223,6 @@ impl<'a, R: Wait + Sync> Caller<'a, R> {
     /// - TBADFLAG: `action` is none of the four.
     /// - TBADOPT: `opt` has more than 256 bytes, or is no list of options, or has two levels.
     /// - TBUFOVFLW: the options that are answered are longer than `omax`, which isn't 0. The sizes are set all the same.
-    #[tactic(auto, using(crate::proofs::Replied::makes_said), unfolding(xti_verbs::specs::Verbs::row_of))]
     pub fn t_optmgmt(
         &mut self,
         fd: Fd,
@@ -261,14 +233,13 @@ impl<'a, R: Wait + Sync> Caller<'a, R> {
         ensures seat { GoesOn self.old self.new }
         ensures made { Negotiates fd action opt.now omax self.old self.new result }
     {
-        self.ready()?;
-        let call = Call::TOptMgmt {
+        let opt = made_or_fail!(self, Octets::copy_of(self.alloc, opt));
+        negotiated(self.reply(Call::TOptMgmt {
             fd,
             action,
-            opt: Octets::copy_of(self.alloc, opt)?,
+            opt,
             omax,
-        };
-        negotiated(self.reply(call)?)
+        }))
     }
 
     /// Sets an endpoint to O_NONBLOCK, or to blocking mode (fcntl in XNS).
@@ -281,13 +252,10 @@ impl<'a, R: Wait + Sync> Caller<'a, R> {
     /// # Errors
     ///
     /// XTI ([`Fail`]) answers TBADF alone: no endpoint is open with `fd`.
-    #[tactic(auto, using(crate::proofs::Replied::makes_said), unfolding(xti_verbs::specs::Verbs::row_of))]
     pub fn set_mode(&mut self, fd: Fd, nonblock: bool) -> Result<(), Fail>
         ensures seat { GoesOn self.old self.new }
         ensures made { Makes (call.SetMode fd nonblock) IsDone self.old self.new result }
     {
-        self.ready()?;
-        let call = Call::SetMode { fd, nonblock };
-        done(self.reply(call)?)
+        done(self.reply(Call::SetMode { fd, nonblock }))
     }
 }

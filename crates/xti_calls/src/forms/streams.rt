@@ -14,6 +14,7 @@ use xti_base::{Fd, Octets, Parts, Sizes};
 use xti_data::SendParts;
 use xti_model::Call;
 
+#[tactic(auto, using(crate::proofs::Replied::makes_told), unfolding(xti_verbs::specs::Verbs::row_of))]
 impl<'a, R: Wait + Sync> Caller<'a, R> {
     /// Sends bytes on a connection, and answers how many were taken (XNS, t_snd).
     ///
@@ -40,18 +41,12 @@ impl<'a, R: Wait + Sync> Caller<'a, R> {
     /// - TLOOK with T_DISCONNECT: a disconnect waits (`t_rcvdis`).
     /// - TLOOK with T_ORDREL: the other end has released, and all its data were received (`t_rcvrel`).
     /// - TFLOW, with O_NONBLOCK: there is no room. T_GODATA, or T_GOEXDATA for expedited data, then tells when there is.
-    #[tactic(auto, using(crate::proofs::Replied::makes_said), unfolding(xti_verbs::specs::Verbs::row_of))]
     pub fn t_snd(&mut self, fd: Fd, bytes: &[u8], flags: u32) -> Result<u32, Fail>
         ensures seat { GoesOn self.old self.new }
         ensures made { Makes (call.TSnd fd bytes.now flags) IsSent self.old self.new result }
     {
-        self.ready()?;
-        let call = Call::TSnd {
-            fd,
-            bytes: Octets::copy_of(self.alloc, bytes)?,
-            flags,
-        };
-        sent(self.reply(call)?)
+        let bytes = made_or_fail!(self, Octets::copy_of(self.alloc, bytes));
+        sent(self.reply(Call::TSnd { fd, bytes, flags }))
     }
 
     /// Sends parts, joined, on a connection, and answers how many bytes were taken (XNS, t_sndv).
@@ -62,18 +57,12 @@ impl<'a, R: Wait + Sync> Caller<'a, R> {
     /// # Errors
     ///
     /// XTI ([`Fail`]) answers those of `t_snd`, in their order. TBADDATA comes for more than 16 parts too.
-    #[tactic(auto, using(crate::proofs::Replied::makes_said), unfolding(xti_verbs::specs::Verbs::row_of))]
     pub fn t_sndv(&mut self, fd: Fd, parts: &SendParts, flags: u32) -> Result<u32, Fail>
         ensures seat { GoesOn self.old self.new }
         ensures made { Makes (call.TSndV fd parts.now flags) IsSent self.old self.new result }
     {
-        self.ready()?;
-        let call = Call::TSndV {
-            fd,
-            parts: parts.parts().copy()?,
-            flags,
-        };
-        sent(self.reply(call)?)
+        let parts = made_or_fail!(self, parts.parts().copy());
+        sent(self.reply(Call::TSndV { fd, parts, flags }))
     }
 
     /// Receives at most `max` bytes of a connection, and answers them with flags (XNS, t_rcv).
@@ -93,14 +82,11 @@ impl<'a, R: Wait + Sync> Caller<'a, R> {
     /// - TLOOK with T_DISCONNECT: a disconnect waits (`t_rcvdis`).
     /// - TLOOK with T_ORDREL: the other end has released, and all its data were received (`t_rcvrel`).
     /// - TNODATA, with O_NONBLOCK: no data wait that may be received.
-    #[tactic(auto, using(crate::proofs::Replied::makes_said), unfolding(xti_verbs::specs::Verbs::row_of))]
     pub fn t_rcv(&mut self, fd: Fd, max: u32) -> Result<(Octets, u32), Fail>
         ensures seat { GoesOn self.old self.new }
         ensures made { Makes (call.TRcv fd max) IsGot self.old self.new result }
     {
-        self.ready()?;
-        let call = Call::TRcv { fd, max };
-        got(self.reply(call)?)
+        got(self.reply(Call::TRcv { fd, max }))
     }
 
     /// Receives bytes of a connection in parts of at most these sizes, and answers them with flags (XNS, t_rcvv).
@@ -113,16 +99,12 @@ impl<'a, R: Wait + Sync> Caller<'a, R> {
     ///
     /// XTI ([`Fail`]) answers those of `t_rcv`, in their order, and between TOUTSTATE and TLOOK:
     /// - TBADDATA: there are more than 16 sizes.
-    #[tactic(auto, using(crate::proofs::Replied::makes_said, crate::proofs::Replied::got_fits), unfolding(xti_verbs::specs::Verbs::row_of))]
+    #[tactic(auto, using(crate::proofs::Replied::makes_told, crate::proofs::Replied::got_fits), unfolding(xti_verbs::specs::Verbs::row_of))]
     pub fn t_rcvv(&mut self, fd: Fd, sizes: &Sizes) -> Result<(Parts, u32), Fail>
         ensures seat { GoesOn self.old self.new }
         ensures made { Makes (call.TRcvV fd sizes.now) (AreGot sizes.now) self.old self.new result }
     {
-        self.ready()?;
-        let buffers = Buffers::new(self.alloc, sizes.as_slice(), MOST_OF_STREAM)?;
-        let sizes = or_drop!(sizes.copy(), buffers);
-        let call = Call::TRcvV { fd, sizes };
-        let reply = or_drop!(self.reply(call), buffers);
-        got_parts(reply, buffers)
+        let (buffers, sizes) = made_or_fail!(self, Buffers::new(self.alloc, sizes, MOST_OF_STREAM));
+        got_parts(self.reply(Call::TRcvV { fd, sizes }), buffers)
     }
 }
