@@ -2,14 +2,4 @@
 #![tactic(auto)]
 
 #[cfg(test)]
-mod cases;
-#[cfg(test)]
-mod memory;
-#[cfg(test)]
-mod option_lists;
-#[cfg(test)]
-mod options;
-#[cfg(test)]
-mod providers;
-#[cfg(test)]
-mod streams;
+mod tests;

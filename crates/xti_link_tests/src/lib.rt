@@ -2,12 +2,4 @@
 #![tactic(auto)]
 
 #[cfg(test)]
-mod carriers;
-#[cfg(test)]
-mod cases;
-#[cfg(test)]
-mod receivers;
-#[cfg(test)]
-mod senders;
-#[cfg(test)]
-mod wires;
+mod tests;

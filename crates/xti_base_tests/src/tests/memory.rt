@@ -1,20 +1,8 @@
 //! With memory at hand these calls don't answer out of memory.
 
-use crate::cases::expect_right;
-use std::alloc::{AllocError, Global};
+use super::cases::{are_bytes, expect};
+use std::alloc::Global;
 use xti_base::{Calls, Octets, Parts, Room};
-
-/// Whether these are the bytes, for which there was memory.
-fn are_bytes(bytes: Result<Octets, AllocError>, wanted: &[u8]) -> bool {
-    match bytes {
-        Ok(bytes) => {
-            let is_same = bytes.as_slice() == wanted;
-            drop(bytes);
-            is_same
-        }
-        Err(_) => false,
-    }
-}
 
 /// Whether a copy of the bytes, with one more, has these.
 fn is_copied(alloc: Global, front: &[u8], last: u8, wanted: &[u8]) -> bool {
@@ -24,19 +12,7 @@ fn is_copied(alloc: Global, front: &[u8], last: u8, wanted: &[u8]) -> bool {
     let is_added = bytes.push(last).is_ok();
     let copy = bytes.copy();
     drop(bytes);
-    is_added && are_bytes(copy, wanted)
-}
-
-/// Whether there are such parts, for which there was memory.
-fn are_parts(parts: Result<Parts, AllocError>, count: usize) -> bool {
-    match parts {
-        Ok(parts) => {
-            let is_same = parts.as_slice().len() == count;
-            drop(parts);
-            is_same
-        }
-        Err(_) => false,
-    }
+    are_bytes(copy, wanted) && is_added
 }
 
 /// Whether a copy of a list of one part has one.
@@ -47,20 +23,10 @@ fn is_copied_part(alloc: Global) -> bool {
     let mut parts = Parts::new(alloc);
     let is_added = parts.push(part).is_ok();
     let copy = parts.copy();
+    let is_copied = matches!(&copy, Ok(copy) if copy.as_slice().len() == 1);
+    drop(copy);
     drop(parts);
-    is_added && are_parts(copy, 1)
-}
-
-/// Whether these are the numbers, for which there was memory.
-fn are_calls(calls: Result<Calls, AllocError>, wanted: &[u64]) -> bool {
-    match calls {
-        Ok(calls) => {
-            let is_same = calls.as_slice() == wanted;
-            drop(calls);
-            is_same
-        }
-        Err(_) => false,
-    }
+    is_added && is_copied
 }
 
 /// Whether a copy of a list of one number has that number alone.
@@ -68,8 +34,10 @@ fn is_copied_number(alloc: Global) -> bool {
     let mut calls = Calls::new(alloc);
     let is_added = calls.push(7).is_ok();
     let copy = calls.copy();
+    let is_copied = matches!(&copy, Ok(copy) if copy.as_slice() == [7].as_slice());
+    drop(copy);
     drop(calls);
-    is_added && are_calls(copy, &[7])
+    is_added && is_copied
 }
 
 /// Whether room that nothing is added to has no bytes.
@@ -97,18 +65,10 @@ fn is_copied_twice(alloc: Global, bytes: &[u8]) -> bool {
     are_bytes(second, bytes)
 }
 
-/// The first length of which the bytes aren't copied.
-fn first_wrong(alloc: Global, bytes: &[u8]) -> Option<usize> {
-    for length in 0..=bytes.len() {
-        let (front, _) = bytes.split_at(length);
-        if !is_copied_twice(alloc, front) {
-            return Some(length);
-        }
-    }
-    None
-}
-
 #[test]
 fn bytes_of_each_length(rt: HostRuntime) {
-    expect_right(&rt, first_wrong(rt.alloc(), &[7; 100]));
+    let bytes = [7; 100];
+    for length in 0..=bytes.len() {
+        expect(&rt, is_copied_twice(rt.alloc(), &bytes[..length]), &length);
+    }
 }

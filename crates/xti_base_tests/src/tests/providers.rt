@@ -1,6 +1,6 @@
 //! The bounds of the providers' values.
 
-use crate::cases::expect_right;
+use super::cases::expect;
 use xti_base::Limit;
 use xti_model::{Profile, Providers};
 
@@ -55,23 +55,16 @@ static MESSAGE_SIZES: [MessageSize; 12] = [
     (Limit::Invalid, false, [false, false, false]),
 ];
 
-fn first_wrong_message_size() -> Option<usize> {
+#[test]
+fn bounds_of_message_sizes(rt: HostRuntime) {
     for (number, (tsdu, sendzero, wanted)) in MESSAGE_SIZES.iter().enumerate() {
         let profile = Profile {
             tsdu: *tsdu,
             sendzero: *sendzero,
             ..plain()
         };
-        if may_have(profile) != *wanted {
-            return Some(number);
-        }
+        expect(&rt, may_have(profile) == *wanted, &number);
     }
-    None
-}
-
-#[test]
-fn bounds_of_message_sizes(rt: HostRuntime) {
-    expect_right(&rt, first_wrong_message_size());
 }
 
 /// A size of a buffer, and whether each provider may have it.
@@ -83,8 +76,9 @@ static BUFFERS: [(u32, bool); 5] = [
     (4294967295, false),
 ];
 
-fn first_wrong_buffer() -> Option<usize> {
-    for (number, (size, is_valid)) in BUFFERS.iter().enumerate() {
+#[test]
+fn bounds_of_buffers(rt: HostRuntime) {
+    for (size, is_valid) in &BUFFERS {
         let sends = Profile {
             sndbuf: *size,
             ..plain()
@@ -93,16 +87,12 @@ fn first_wrong_buffer() -> Option<usize> {
             rcvbuf: *size,
             ..plain()
         };
-        if may_have(sends) != [*is_valid; 3] || may_have(receives) != [*is_valid; 3] {
-            return Some(number);
-        }
+        expect(
+            &rt,
+            [may_have(sends), may_have(receives)] == [[*is_valid; 3]; 2],
+            size,
+        );
     }
-    None
-}
-
-#[test]
-fn bounds_of_buffers(rt: HostRuntime) {
-    expect_right(&rt, first_wrong_buffer());
 }
 
 #[test]

@@ -1,6 +1,6 @@
 //! The table of negotiation: each case as a list and in bytes.
 
-use crate::cases::expect_right;
+use super::cases::{are_bytes, expect};
 use std::alloc::{AllocError, Global};
 use xti_base::{Room, is_option_list};
 use xti_opt::*;
@@ -39,7 +39,7 @@ const STARTS_SENDS: &[u8] = b"\0\0\x20\0";
 
 const STARTS_RECEIVES: &[u8] = b"\0\0\x40\0";
 
-static NEGOTIATES: [Case; 6] = [
+static CASES: [Case; 15] = [
     (
         T_NEGOTIATE,
         &[
@@ -115,9 +115,6 @@ static NEGOTIATES: [Case; 6] = [
         T_NOTSUPPORT,
         (5, 2000),
     ),
-];
-
-static CHECKS: [Case; 4] = [
     (
         T_CHECK,
         &[
@@ -167,9 +164,6 @@ static CHECKS: [Case; 4] = [
         T_NOTSUPPORT,
         (1000, 2000),
     ),
-];
-
-static TELLS: [Case; 5] = [
     (
         T_CURRENT,
         &[
@@ -233,30 +227,27 @@ struct Wanted<'a> {
 }
 
 impl Wanted<'_> {
-    /// Whether it is answered so; what the provider started with stays as it was.
-    fn is(&self, bytes: &[u8], overall: u32, after: Settings) -> bool {
+    /// Whether this is the overall result, and the settings afterwards; what the provider started with stays as it was.
+    fn is(&self, overall: u32, after: Settings) -> bool {
         let (sndbuf, rcvbuf) = self.sizes;
         let wanted = Settings {
             sndbuf,
             rcvbuf,
             ..settings()
         };
-        bytes == self.bytes && overall == self.overall && after == wanted
+        overall == self.overall && after == wanted
     }
 }
 
 /// Adds an option at the end.
 fn add(bytes: &mut Vec<u8>, words: [u32; 3], value: &[u8]) -> Result<(), AllocError> {
-    let Ok(length) = u32::try_from(16 + value.len()) else {
-        return Err(AllocError);
-    };
-    bytes.extend_from_slice(&length.to_be_bytes())?;
-    for word in &words {
+    let [level, name, status] = words;
+    let length = u32::try_from(16 + value.len()).unwrap_or(u32::MAX);
+    for word in [length, level, name, status] {
         bytes.extend_from_slice(&word.to_be_bytes())?;
     }
     bytes.extend_from_slice(value)?;
-    bytes.extend_from_slice(&[0, 0, 0][..(4 - value.len() % 4) % 4])?;
-    Ok(())
+    bytes.extend_from_slice(&[0, 0, 0][..(4 - value.len() % 4) % 4])
 }
 
 /// Adds the options as they are asked, with a status that doesn't count, and as they are to be answered.
@@ -279,14 +270,9 @@ fn is_answered_in_bytes(alloc: Global, action: u32, request: &[u8], wanted: &Wan
     let mut after = settings();
     let answered = negotiate_bytes(&mut after, action, request, &mut room);
     let bytes = room.finish();
-    let is_wanted = match answered {
-        Ok(overall) => {
-            bytes.as_slice().len() == size && wanted.is(bytes.as_slice(), overall, after)
-        }
-        Err(_) => false,
-    };
+    let is_same = bytes.as_slice().len() == size && bytes.as_slice() == wanted.bytes;
     drop(bytes);
-    is_wanted
+    is_same && matches!(answered, Ok(overall) if wanted.is(overall, after))
 }
 
 /// Whether the request is answered so as a list.
@@ -300,14 +286,9 @@ fn is_answered_as_list(alloc: Global, action: u32, request: &[u8], wanted: &Want
     let Ok((answers, overall)) = answered else {
         return false;
     };
-    let written = write_options(alloc, &answers);
+    let is_same = are_bytes(write_options(alloc, &answers), wanted.bytes);
     drop(answers);
-    let Ok(bytes) = written else {
-        return false;
-    };
-    let is_wanted = wanted.is(bytes.as_slice(), overall, after);
-    drop(bytes);
-    is_wanted
+    is_same && wanted.is(overall, after)
 }
 
 /// Whether the request is answered as the case is to be, as a list and in bytes.
@@ -331,21 +312,11 @@ fn holds(alloc: Global, case: &Case) -> bool {
     holds
 }
 
-/// The first case that doesn't hold.
-fn first_wrong(alloc: Global, cases: &[Case]) -> Option<usize> {
-    for (number, case) in cases.iter().enumerate() {
-        if !holds(alloc, case) {
-            return Some(number);
-        }
-    }
-    None
-}
-
 #[test]
 fn negotiates(rt: HostRuntime) {
-    expect_right(&rt, first_wrong(rt.alloc(), &NEGOTIATES));
-    expect_right(&rt, first_wrong(rt.alloc(), &CHECKS));
-    expect_right(&rt, first_wrong(rt.alloc(), &TELLS));
+    for (number, case) in CASES.iter().enumerate() {
+        expect(&rt, holds(rt.alloc(), case), &number);
+    }
 }
 
 /// The bytes of an option without a value at level 6.
@@ -406,19 +377,12 @@ static ANSWERS: [Answered; 4] = [
     ),
 ];
 
-/// The first request that isn't answered so.
-fn first_wrong_answer(alloc: Global) -> Option<usize> {
-    for (number, (action, request, wanted)) in ANSWERS.iter().enumerate() {
-        if !is_answered_in_bytes(alloc, *action, request, wanted) {
-            return Some(number);
-        }
-    }
-    None
-}
-
 #[test]
 fn answers_in_bytes(rt: HostRuntime) {
-    expect_right(&rt, first_wrong_answer(rt.alloc()));
+    for (number, (action, request, wanted)) in ANSWERS.iter().enumerate() {
+        let is_answered = is_answered_in_bytes(rt.alloc(), *action, request, wanted);
+        expect(&rt, is_answered, &number);
+    }
 }
 
 /// An action, a request, and why it is refused.
@@ -462,17 +426,13 @@ fn is_refused_list(alloc: Global, action: u32, request: &[u8], refusal: OptRefus
     }
 }
 
-/// The first request that isn't refused so.
-fn first_wrong_refusal(alloc: Global) -> Option<usize> {
-    for (number, (action, request, refusal)) in REFUSALS.iter().enumerate() {
-        if !is_refused(alloc, *action, request, *refusal) {
-            return Some(number);
-        }
-    }
-    None
-}
-
 #[test]
 fn refuses(rt: HostRuntime) {
-    expect_right(&rt, first_wrong_refusal(rt.alloc()));
+    for (number, (action, request, refusal)) in REFUSALS.iter().enumerate() {
+        expect(
+            &rt,
+            is_refused(rt.alloc(), *action, request, *refusal),
+            &number,
+        );
+    }
 }

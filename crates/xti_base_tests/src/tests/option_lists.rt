@@ -1,8 +1,8 @@
 //! Lists of options: which bytes are one, and reading and writing them.
 
-use crate::cases::expect_named;
-use std::alloc::{AllocError, Global};
-use xti_base::{Octets, Opt, is_option_list};
+use super::cases::{are_bytes, expect};
+use std::alloc::Global;
+use xti_base::{Opt, is_option_list};
 use xti_opt::{OptRead, read_options, write_options};
 
 /// Length 20, level 65535, name 4098, status 0, and a value of four bytes.
@@ -60,19 +60,11 @@ static LISTS: [Case; 11] = [
     ),
 ];
 
-/// What the first wrong case is about.
-fn first_wrong_list() -> Option<&'static str> {
-    for (bytes, is_list, case) in &LISTS {
-        if is_option_list(bytes) != *is_list {
-            return Some(case);
-        }
-    }
-    None
-}
-
 #[test]
 fn tells_lists_of_options(rt: HostRuntime) {
-    expect_named(&rt, first_wrong_list());
+    for (bytes, is_list, case) in &LISTS {
+        expect(&rt, is_option_list(bytes) == *is_list, case);
+    }
 }
 
 /// Bytes, how many options they are or where the first wrong one begins, and what the case is about.
@@ -114,18 +106,6 @@ static READINGS: [Reading; 9] = [
     ),
 ];
 
-/// Whether these bytes, for which there was memory, are the same.
-fn are_same(written: Result<Octets, AllocError>, bytes: &[u8]) -> bool {
-    match written {
-        Ok(written) => {
-            let is_same = written.as_slice() == bytes;
-            drop(written);
-            is_same
-        }
-        Err(_) => false,
-    }
-}
-
 /// Whether the bytes are read as so many options, which are written as the same bytes, or refused so.
 fn is_read(alloc: Global, bytes: &[u8], expected: Result<usize, OptRead>) -> bool {
     match read_options(alloc, bytes) {
@@ -133,25 +113,17 @@ fn is_read(alloc: Global, bytes: &[u8], expected: Result<usize, OptRead>) -> boo
             let count = list.len();
             let written = write_options(alloc, &list);
             drop(list);
-            are_same(written, bytes) && Ok(count) == expected
+            are_bytes(written, bytes) && Ok(count) == expected
         }
         Err(wrong) => Err(wrong) == expected,
     }
 }
 
-/// What the first wrong case is about.
-fn first_wrong_reading(alloc: Global) -> Option<&'static str> {
-    for (bytes, expected, case) in &READINGS {
-        if !is_read(alloc, bytes, *expected) {
-            return Some(case);
-        }
-    }
-    None
-}
-
 #[test]
 fn reads_and_writes(rt: HostRuntime) {
-    expect_named(&rt, first_wrong_reading(rt.alloc()));
+    for (bytes, expected, case) in &READINGS {
+        expect(&rt, is_read(rt.alloc(), bytes, *expected), case);
+    }
 }
 
 /// Whether these are the fields of `WHOLE`.
@@ -162,12 +134,10 @@ fn is_whole(option: &Opt) -> bool {
 
 /// Whether the option of `WHOLE` has its fields.
 fn keeps(alloc: Global) -> bool {
-    let Ok(list) = read_options(alloc, WHOLE) else {
-        return false;
-    };
-    let is_kept = match list.get(0) {
-        Some(option) => is_whole(option),
-        None => false,
+    let list = read_options(alloc, WHOLE);
+    let is_kept = match &list {
+        Ok(list) => list.get(0).is_some_and(is_whole),
+        Err(_) => false,
     };
     drop(list);
     is_kept

@@ -1,6 +1,6 @@
 //! What a sender makes of bodies, acknowledgements and timeouts.
 
-use crate::cases::expect_right;
+use super::cases::expect;
 use std::alloc::Global;
 use xti_gbn::{OfferFail, Packets, Sender};
 
@@ -72,14 +72,10 @@ fn are_packets(packets: &Packets, base: u32, lengths: &[usize]) -> bool {
 
 /// Whether these are put again at a timeout.
 fn are_put_again(alloc: Global, sender: &Sender, lengths: &[usize]) -> bool {
-    match sender.timeout(alloc) {
-        Ok(packets) => {
-            let are_right = are_packets(&packets, sender.base(), lengths);
-            drop(packets);
-            are_right
-        }
-        Err(_) => false,
-    }
+    let packets = sender.timeout(alloc);
+    let are_right = matches!(&packets, Ok(packets) if are_packets(packets, sender.base(), lengths));
+    drop(packets);
+    are_right
 }
 
 /// Makes a step, and tells whether that came of it which should.
@@ -95,21 +91,11 @@ fn is_right(alloc: Global, sender: &mut Sender, step: Step) -> bool {
     }
 }
 
-/// The first step of which something else comes.
-fn first_wrong(alloc: Global, steps: &[Step]) -> Option<usize> {
-    let mut sender = Sender::new(alloc);
-    let mut wrong = None;
-    for (place, step) in steps.iter().enumerate() {
-        if !is_right(alloc, &mut sender, *step) {
-            wrong = Some(place);
-            break;
-        }
-    }
-    drop(sender);
-    wrong
-}
-
 #[test]
 fn steps_of_a_sender(rt: HostRuntime) {
-    expect_right(&rt, first_wrong(rt.alloc(), &STEPS));
+    let mut sender = Sender::new(rt.alloc());
+    for (place, step) in STEPS.iter().enumerate() {
+        expect(&rt, is_right(rt.alloc(), &mut sender, *step), place);
+    }
+    drop(sender);
 }

@@ -1,6 +1,6 @@
 //! What a receiver makes of packets.
 
-use crate::cases::expect_right;
+use super::cases::expect;
 use std::alloc::Global;
 use xti_base::Octets;
 use xti_gbn::{Packet, Receiver};
@@ -40,18 +40,11 @@ fn is_right(alloc: Global, receiver: &mut Receiver, number: u32, is_taken: bool,
     is_right
 }
 
-/// The first packet of which something else comes.
-fn first_wrong(alloc: Global) -> Option<usize> {
-    let mut receiver = Receiver::new();
-    for (place, (number, is_taken, ack)) in PACKETS.iter().enumerate() {
-        if !is_right(alloc, &mut receiver, *number, *is_taken, *ack) {
-            return Some(place);
-        }
-    }
-    None
-}
-
 #[test]
 fn packets_in_any_order(rt: HostRuntime) {
-    expect_right(&rt, first_wrong(rt.alloc()));
+    let mut receiver = Receiver::new();
+    for (place, (number, is_taken, ack)) in PACKETS.iter().enumerate() {
+        let is_right = is_right(rt.alloc(), &mut receiver, *number, *is_taken, *ack);
+        expect(&rt, is_right, place);
+    }
 }

@@ -3,7 +3,6 @@
 use std::alloc::Global;
 use std::io;
 use std::io::{ErrorKind, Read, Write};
-use std::process::Abort;
 use xti_base::Octets;
 use xti_io::*;
 
@@ -49,14 +48,10 @@ impl Write for CountedWriter {
 
 /// Whether all that the source gives, at most so many bytes, is this.
 fn gives<R: Source>(alloc: Global, source: &mut R, bytes: &[u8]) -> bool {
-    match read_all(alloc, source, bytes.len()) {
-        Ok(all) => {
-            let is_same = all.as_slice() == bytes;
-            drop(all);
-            is_same
-        }
-        Err(_) => false,
-    }
+    let all = read_all(alloc, source, bytes.len());
+    let is_same = matches!(&all, Ok(all) if all.as_slice() == bytes);
+    drop(all);
+    is_same
 }
 
 /// Whether a read that fails once is told as a fault, and the bytes are read then, in three reads in all.
@@ -130,29 +125,20 @@ fn count_writes(alloc: Global, bytes: &[u8]) -> Option<u64> {
     if is_whole { Some(writes) } else { None }
 }
 
-/// The test fails where there are no such calls, or over ten.
-fn expect_few<R: Abort>(rt: &R, calls: Option<u64>) {
-    assert!(rt; matches!(calls, Some(0..=10)), "{calls:?} calls");
+/// Whether so many bytes are read, and are written, in at most ten calls.
+fn are_calls_few(alloc: Global, length: usize) -> bool {
+    let Ok(bytes) = vec![in alloc; 7u8; length] else {
+        return false;
+    };
+    let reads = count_reads(alloc, bytes.as_slice());
+    let writes = count_writes(alloc, bytes.as_slice());
+    drop(bytes);
+    matches!((reads, writes), (Some(0..=10), Some(0..=10)))
 }
 
 #[test]
-fn reads_are_few(rt: HostRuntime) {
-    let Ok(bytes) = vec![in rt.alloc(); 7u8; 100_000] else {
-        panic!(rt; "out of memory");
-    };
-    let reads = count_reads(rt.alloc(), bytes.as_slice());
-    drop(bytes);
-    expect_few(&rt, reads);
-}
-
-#[test]
-fn writes_are_few(rt: HostRuntime) {
-    let Ok(bytes) = vec![in rt.alloc(); 7u8; 100_000] else {
-        panic!(rt; "out of memory");
-    };
-    let writes = count_writes(rt.alloc(), bytes.as_slice());
-    drop(bytes);
-    expect_few(&rt, writes);
+fn calls_are_few(rt: HostRuntime) {
+    assert!(rt; are_calls_few(rt.alloc(), 100_000));
 }
 
 /// Whether a sink in memory keeps these bytes.
