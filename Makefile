@@ -1,28 +1,37 @@
-# make                 the command, built in minutes without its proofs: build/xti
-# make prove           the command once it is proved, in its place
+# make                 the command and the library for C, in minutes without their proofs: build/xti, build/libxti.a, build/libxti.so
+# make prove           both once they are proved, in their place
 # make check           the gate: every proof, edit, test, program, example and document
-# make install         the command and its manual page, below PREFIX
+# make install         the command, the library with its headers and xti.pc, and the manual pages, below PREFIX
 # make clean           removes what make has built
 
 PREFIX ?= /usr/local
 SOURCES := $(wildcard crates/*/src/*.rt crates/*/src/*/*.rt crates.txt HANDLES)
 
-.PHONY: all prove check install clean
+.PHONY: all library prove check install clean
 
-all: build/xti
+all: build/xti library
 
 build/xti: $(SOURCES)
 	tools/build-command $@
 
+build/libxti_c.a: $(SOURCES)
+	tools/build-c-library build --unproved
+
+library: build/libxti_c.a
+	@$(MAKE) -s -C c BUILD=../build
+
 prove:
 	tools/build-command --proved build/xti
+	tools/build-c-library build
+	@$(MAKE) -s -C c BUILD=../build
 
 check:
 	.ci/run
 
-install: build/xti
+install: all
 	install -D -m 755 build/xti $(DESTDIR)$(PREFIX)/bin/xti
 	install -D -m 644 docs/xti.1 $(DESTDIR)$(PREFIX)/share/man/man1/xti.1
+	@$(MAKE) -s -C c BUILD=../build PREFIX=$(PREFIX) install
 
 clean:
 	rm -rf build

@@ -49,6 +49,25 @@ static int is_one_of_data(uint32_t call)
     return call == XTI_SND || call == XTI_SNDV || call == XTI_RCV || call == XTI_RCVV;
 }
 
+static int is_one_of_datagrams(uint32_t call)
+{
+    return call == XTI_SNDUDATA || call == XTI_SNDVUDATA || call == XTI_RCVUDATA || call == XTI_RCVVUDATA;
+}
+
+/* Those that a step may touch by links that it may end; one that moves data ends none. */
+static places linked_before(const struct xti_asked *asked)
+{
+    if (!xti_is_anybody_there() || is_one_of_data(asked->call) || is_one_of_datagrams(asked->call))
+        return 0;
+    return xti_linked(asked);
+}
+
+/* Data that were moved on a connection, or were received, change nothing that is noted here. */
+static int is_to_be_noted(uint32_t call)
+{
+    return !is_one_of_data(call) && call != XTI_RCVUDATA && call != XTI_RCVVUDATA;
+}
+
 /* Whether a step has changed anything that others, or poll, can see. */
 static int has_changed(const struct xti_asked *asked, const struct xti_told *told)
 {
@@ -85,40 +104,64 @@ static void tell(struct endpoint *e, const struct xti_asked *asked)
 
 static void stepped(const struct xti_asked *asked, const struct input *input, const struct answer *answer, places touched)
 {
-    int place;
+    struct endpoint *e;
 
-    if (!has_changed(asked, &answer->told))
+    if (!(is_to_be_noted(asked->call) || xti_is_anybody_there()) || !has_changed(asked, &answer->told))
         return;
     if (asked->call == XTI_CLOSE) {
         xti_wake((int)(asked->fd % XTI_PLACES), 1, 1);
-        xti_of_number(asked->fd)->is_open = 0;
+        xti_set_open(xti_of_number(asked->fd), 0);
     }
     xti_note_step(asked, input, answer, &touched);
-    for (place = 0; place < XTI_PLACES; place++)
-        if (touched >> place & 1 && xti_endpoints[place].is_open)
-            tell(&xti_endpoints[place], asked);
+    if (!xti_is_anybody_there())
+        return;
+    touched = (touched | xti_linked(asked)) & xti_open_places;
+    while ((e = xti_take_first(&touched)))
+        tell(e, asked);
 }
 
 static int may_wait(uint32_t call)
 {
-    return call == XTI_CONNECT || call == XTI_RCVCONNECT || call == XTI_LISTEN || is_one_of_data(call) || call == XTI_SNDUDATA ||
-        call == XTI_SNDVUDATA || call == XTI_RCVUDATA || call == XTI_RCVVUDATA;
+    return call == XTI_CONNECT || call == XTI_RCVCONNECT || call == XTI_LISTEN || is_one_of_data(call) || is_one_of_datagrams(call);
 }
 
-/* Takes over O_NONBLOCK where fcntl has changed it. */
-static void take_mode(const struct xti_asked *asked)
+/* Takes over O_NONBLOCK where fcntl has changed it; whether it has. */
+static int take_mode(const struct xti_asked *asked)
 {
     struct endpoint *e = may_wait(asked->call) ? xti_of_number(asked->fd) : NULL;
     int flags = e ? fcntl(e->signal, F_GETFL) : -1;
     struct xti_asked mode = { .call = XTI_MODE, .fd = asked->fd, .number = (flags & O_NONBLOCK) != 0 };
     struct answer a;
 
-    if (flags < 0 || e->is_nonblocking == (int)mode.number)
-        return;
-    if (xti_step(&mode, &xti_no_input, &a) == XTI_DONE && a.told.reply == XTI_PLAIN) {
-        e->is_nonblocking = (int)mode.number;
-        stepped(&mode, &xti_no_input, &a, 0);
+    if (flags < 0 || e->is_nonblocking == (int)mode.number || xti_step(&mode, &xti_no_input, &a) != XTI_DONE)
+        return 0;
+    e->is_nonblocking = (int)mode.number;
+    stepped(&mode, &xti_no_input, &a, 0);
+    return 1;
+}
+
+/* Whether the next step has to know the mode: without waiting, a request is made and not waited for, and a send that finds no room
+   leaves a mark. Of other calls the mode is looked at once they can't go on. */
+static int must_know_mode(const struct xti_asked *asked)
+{
+    const struct endpoint *e;
+
+    switch (asked->call) {
+    case XTI_CONNECT:
+    case XTI_SND:
+    case XTI_SNDV:
+    case XTI_SNDUDATA:
+    case XTI_SNDVUDATA:
+        e = xti_of_number(asked->fd);
+        return e && e->is_nonblocking;
+    default:
+        return 0;
     }
+}
+
+static int found_nothing(const struct xti_told *told)
+{
+    return told->reply == XTI_REFUSED && told->error == TNODATA;
 }
 
 static int result_of(const struct xti_told *told)
@@ -163,10 +206,13 @@ int xti_make_call_locked(struct xti_asked *asked, const struct input *input, str
         return xti_system_fail(ENOMEM);
     for (;;) {
         places touched;
-        take_mode(asked);
-        touched = xti_linked(asked);
+        if (must_know_mode(asked))
+            take_mode(asked);
+        touched = linked_before(asked);
         switch (xti_step(asked, input, a)) {
         case XTI_DONE:
+            if (asked->call != XTI_CONNECT && found_nothing(&a->told) && take_mode(asked))
+                break;
             stepped(asked, input, a, touched);
             return result_of(&a->told);
         case XTI_PART:
@@ -175,7 +221,7 @@ int xti_make_call_locked(struct xti_asked *asked, const struct input *input, str
             asked->taken = a->told.number;
             break;
         case XTI_BLOCKED:
-            if (wait_for_step(asked, input))
+            if (!take_mode(asked) && wait_for_step(asked, input))
                 return give_up(asked, a, EINTR);
             break;
         default:

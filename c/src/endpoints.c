@@ -1,33 +1,47 @@
 /* The table of endpoints. An endpoint's descriptor is that of an eventfd: its number is no file's, fcntl sets its O_NONBLOCK, and
    poll, select and epoll wait for it, since it is readable while an event is pending. */
 #include "endpoints.h"
+#include "watching.h"
+#include <errno.h>
 #include <fcntl.h>
-#include <poll.h>
 #include <string.h>
 #include <sys/eventfd.h>
 #include <sys/stat.h>
+#include <sys/uio.h>
 #include <unistd.h>
 
 /* Descriptors of the library's own begin here, where the process may have that many, so that those of a program stay low. */
 enum { FIRST_SIGNAL = 512 };
 
 struct endpoint xti_endpoints[XTI_PLACES];
+places xti_open_places;
+
+static places place_bit(const struct endpoint *e)
+{
+    return (places)1 << xti_place_of(e);
+}
+
+void xti_set_open(const struct endpoint *e, int is_open)
+{
+    xti_open_places = is_open ? xti_open_places | place_bit(e) : xti_open_places & ~place_bit(e);
+}
 
 struct endpoint *xti_of_descriptor(int fd)
 {
-    int place;
+    places left = xti_open_places;
+    struct endpoint *e;
 
-    for (place = 0; place < XTI_PLACES; place++)
-        if (xti_endpoints[place].is_open && xti_endpoints[place].fd == fd)
-            return &xti_endpoints[place];
-    return NULL;
+    while ((e = xti_take_first(&left)))
+        if (e->fd == fd)
+            break;
+    return e;
 }
 
 struct endpoint *xti_of_number(uint32_t number)
 {
     struct endpoint *e = &xti_endpoints[number % XTI_PLACES];
 
-    return e->is_open && e->number == number ? e : NULL;
+    return xti_open_places & place_bit(e) && e->number == number ? e : NULL;
 }
 
 uint32_t xti_number_of(int fd)
@@ -97,15 +111,24 @@ void xti_renew_descriptors(struct endpoint *e)
     close(fd);
 }
 
+/* Reads an eventfd, without waiting where the program has read it itself; whether it isn't readable then. */
+static int clear(int fd)
+{
+    uint64_t count;
+    struct iovec to = { &count, sizeof count };
+    ssize_t n = preadv2(fd, &to, 1, -1, RWF_NOWAIT);
+
+    if (n < 0 && errno == EOPNOTSUPP)
+        n = read(fd, &count, sizeof count);
+    return n >= 0 || errno == EAGAIN;
+}
+
 void xti_show_events(struct endpoint *e, int is_pending)
 {
-    struct pollfd readable = { e->signal, POLLIN, 0 };
     uint64_t count = 1;
 
-    if (is_pending == e->is_readable)
+    if (is_pending == e->is_readable || !xti_is_watched)
         return;
-    /* A read would wait where the program has read the eventfd itself. */
-    if (is_pending ? write(e->signal, &count, sizeof count) == sizeof count
-                   : poll(&readable, 1, 0) <= 0 || read(e->signal, &count, sizeof count) == sizeof count)
+    if (is_pending ? write(e->signal, &count, sizeof count) == sizeof count : clear(e->signal))
         e->is_readable = is_pending;
 }

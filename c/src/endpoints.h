@@ -5,6 +5,9 @@
 #include <stddef.h>
 #include <stdint.h>
 
+/* The places of endpoints, each a bit. */
+typedef uint64_t places;
+
 enum {
     XTI_PLACES = 64, /* how many endpoints may be open; an endpoint's place is its number modulo this */
     MOST_ADDRESS = 64,
@@ -27,7 +30,7 @@ struct endpoint {
     uint32_t provider;
     /* What the program has, and a second descriptor of the same eventfd, which close(2) of the first leaves open. */
     int fd, signal;
-    int is_open, is_nonblocking;
+    int is_nonblocking;
     /* Whether the eventfd is readable. */
     int is_readable;
     /* Who is at the other end of its connection; the listener that has its request, and the request's number there. A number
@@ -41,7 +44,19 @@ struct endpoint {
 };
 
 extern struct endpoint xti_endpoints[XTI_PLACES];
+/* The places of those that are open. */
+extern places xti_open_places;
 
+/* The first endpoint of some places, which is taken from them; NULL where there is none left. */
+static inline struct endpoint *xti_take_first(places *from)
+{
+    struct endpoint *e = *from ? &xti_endpoints[__builtin_ctzll(*from)] : NULL;
+
+    *from &= *from - 1;
+    return e;
+}
+
+void xti_set_open(const struct endpoint *e, int is_open);
 /* The open endpoint with this descriptor, and that with this number; NULL for none. */
 struct endpoint *xti_of_descriptor(int fd);
 struct endpoint *xti_of_number(uint32_t number);

@@ -7,11 +7,11 @@
 
 static void in_child(void)
 {
+    places open = xti_open_places;
     struct endpoint *e;
 
-    for (e = xti_endpoints; e < xti_endpoints + XTI_PLACES; e++)
-        if (e->is_open)
-            xti_renew_descriptors(e);
+    while ((e = xti_take_first(&open)))
+        xti_renew_descriptors(e);
     xti_forget_waiters();
     xti_leave();
 }

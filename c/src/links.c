@@ -23,11 +23,11 @@ static int are_linked(const struct endpoint *e, const struct endpoint *other)
 
 static places linked_with(const struct endpoint *e)
 {
-    places found = 0;
+    places found = 0, left = xti_open_places;
     const struct endpoint *other;
 
-    for (other = xti_endpoints; other < xti_endpoints + XTI_PLACES; other++)
-        if (other->is_open && are_linked(e, other))
+    while ((other = xti_take_first(&left)))
+        if (are_linked(e, other))
             found |= bit(other);
     return found;
 }
@@ -46,23 +46,24 @@ places xti_linked(const struct xti_asked *asked)
 
 int xti_destination(const struct input *input)
 {
+    places left = xti_open_places;
     const struct endpoint *e;
 
-    for (e = xti_endpoints; e < xti_endpoints + XTI_PLACES; e++)
-        if (e->is_open && e->provider == CONNECTIONLESS && xti_is_address(&e->address, input->addr, input->addr_len))
+    while ((e = xti_take_first(&left)))
+        if (e->provider == CONNECTIONLESS && xti_is_address(&e->address, input->addr, input->addr_len))
             return xti_place_of(e);
     return -1;
 }
 
 static struct endpoint *listener_at(const struct endpoint *caller, const struct input *input)
 {
+    places left = xti_open_places & ~bit(caller);
     struct endpoint *e;
 
-    for (e = xti_endpoints; e < xti_endpoints + XTI_PLACES; e++)
-        if (e->is_open && e != caller && e->provider == caller->provider && e->queue_length > 0 &&
-            xti_is_address(&e->address, input->addr, input->addr_len))
-            return e;
-    return NULL;
+    while ((e = xti_take_first(&left)))
+        if (e->provider == caller->provider && e->queue_length > 0 && xti_is_address(&e->address, input->addr, input->addr_len))
+            break;
+    return e;
 }
 
 /* A request was made: it waits at a listener, or a disconnect waits here. */
@@ -80,11 +81,12 @@ static void note_request(struct endpoint *e, const struct input *input)
 static void note_accept(struct endpoint *e, const struct xti_asked *asked)
 {
     struct endpoint *accepting = xti_of_number(asked->resfd), *caller;
+    places left = xti_open_places;
 
-    for (caller = xti_endpoints; caller < xti_endpoints + XTI_PLACES; caller++)
-        if (caller->is_open && caller->listener == e->number && caller->sequence == asked->seq)
+    while ((caller = xti_take_first(&left)))
+        if (caller->listener == e->number && caller->sequence == asked->seq)
             break;
-    if (caller == xti_endpoints + XTI_PLACES || !accepting) {
+    if (!caller || !accepting) {
         are_links_unknown = 1;
         return;
     }
@@ -95,12 +97,15 @@ static void note_accept(struct endpoint *e, const struct xti_asked *asked)
         accepting->address = e->address;
 }
 
-static void note_bind(struct endpoint *e, const struct xti_asked *asked)
+/* An endpoint has the address that it asked for, or one that was chosen, which is short, so that asking for it takes no memory. */
+static void note_bind(struct endpoint *e, const struct xti_asked *asked, const struct input *input)
 {
     struct xti_asked which = { .call = XTI_GETPROTADDR, .fd = asked->fd, .amax = MOST_ADDRESS, .umax = MOST_ADDRESS };
     struct answer answer;
 
-    if (xti_step(&which, &xti_no_input, &answer) == XTI_DONE && answer.told.reply == XTI_ADDRESSES)
+    if (input->addr_len)
+        xti_set_address(&e->address, input->addr, input->addr_len);
+    else if (xti_step(&which, &xti_no_input, &answer) == XTI_DONE && answer.told.reply == XTI_ADDRESSES)
         xti_set_address(&e->address, answer.addr, answer.told.addr);
     else
         are_links_unknown = 1;
@@ -109,7 +114,7 @@ static void note_bind(struct endpoint *e, const struct xti_asked *asked)
 
 static void note_datagram(struct endpoint *e, const struct input *input, const struct answer *answer, places *touched)
 {
-    int to = xti_destination(input);
+    int to = xti_is_anybody_there() ? xti_destination(input) : -1;
 
     if (answer->told.reply == XTI_REFUSED)
         xti_set_address(&e->flow_destination, input->addr, input->addr_len);
@@ -132,7 +137,7 @@ void xti_note_step(const struct xti_asked *asked, const struct input *input, con
         return;
     switch (asked->call) {
     case XTI_BIND:
-        note_bind(e, asked);
+        note_bind(e, asked, input);
         break;
     case XTI_UNBIND:
         e->address.len = e->flow_destination.len = 0;
@@ -161,5 +166,4 @@ void xti_note_step(const struct xti_asked *asked, const struct input *input, con
     default:
         break;
     }
-    *touched |= xti_linked(asked);
 }

@@ -4,6 +4,7 @@
 #include "forking.h"
 #include "options.h"
 #include "waiting.h"
+#include "watching.h"
 #include <errno.h>
 #include <fcntl.h>
 #include <string.h>
@@ -77,7 +78,7 @@ static int open_locked(const struct endpoint *made, struct t_info *info)
     *e = *made;
     e->number = a.told.fd;
     e->peer = e->listener = NO_ENDPOINT;
-    e->is_open = 1;
+    xti_set_open(e, 1);
     if (info)
         info_of(e->number, info);
     return e->fd;
@@ -91,6 +92,7 @@ int t_open(const char *name, int oflag, struct t_info *info)
     if ((oflag & ~O_NONBLOCK) != O_RDWR)
         return xti_fail(TBADFLAG);
     xti_watch_forks();
+    xti_find_watchers();
     if (xti_make_descriptors(&made, made.is_nonblocking) < 0)
         return xti_fail(TSYSERR);
     xti_enter();

@@ -2,6 +2,7 @@
    semaphore, since sem_wait ends with a signal, as a condition variable doesn't. */
 #include "waiting.h"
 #include "endpoints.h"
+#include "watching.h"
 #include <errno.h>
 #include <pthread.h>
 #include <semaphore.h>
@@ -22,6 +23,7 @@ struct waiter {
 static pthread_mutex_t lock = PTHREAD_MUTEX_INITIALIZER;
 static int cancel_state;
 static struct link *queues[XTI_PLACES];
+static unsigned int waiters;
 
 void xti_enter(void)
 {
@@ -70,6 +72,7 @@ static void end_wait(struct waiter *w)
 
     for (i = 0; i < count_of(w); i++)
         leave_queue(w, i);
+    waiters--;
     sem_destroy(&w->woken);
 }
 
@@ -92,6 +95,7 @@ int xti_wait(int place, int other_place, enum waits_for what)
     self.places[1] = other_place;
     for (i = 0; i < count_of(&self); i++)
         join_queue(&self, i);
+    waiters++;
     pthread_cleanup_push(cancelled, &self);
     xti_leave();
     is_interrupted = sem_wait(&self.woken) < 0 && errno == EINTR;
@@ -110,10 +114,16 @@ void xti_wake(int place, int for_change, int for_room)
             sem_post(&l->waiter->woken);
 }
 
+int xti_is_anybody_there(void)
+{
+    return waiters > 0 || xti_is_watched;
+}
+
 void xti_forget_waiters(void)
 {
     int place;
 
+    waiters = 0;
     for (place = 0; place < XTI_PLACES; place++)
         queues[place] = NULL;
 }

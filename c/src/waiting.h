@@ -2,11 +2,6 @@
 #ifndef XTI_WAITING_H
 #define XTI_WAITING_H
 
-#include <stdint.h>
-
-/* The places of endpoints, each a bit. */
-typedef uint64_t places;
-
 /* What ends a wait: at once any change, or, of a send on a connection, one that may have made room. */
 enum waits_for { WAITS_FOR_CHANGE, WAITS_FOR_ROOM };
 
@@ -17,6 +12,8 @@ void xti_leave(void);
 int xti_wait(int place, int other_place, enum waits_for what);
 /* Wakes those that wait at a place; for room too, or only for other changes. */
 void xti_wake(int place, int for_change, int for_room);
+/* Whether there is anybody to tell of a step: a call that waits, or something that can wait for descriptors. */
+int xti_is_anybody_there(void);
 /* Nobody waits any more: after a fork in the child. */
 void xti_forget_waiters(void);
 

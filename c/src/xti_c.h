@@ -90,7 +90,7 @@ struct xti_seen {
     uint32_t state, event;
 };
 
-/* Makes a world; whether there was memory for it. */
+/* Makes a world; whether there was memory for it. Where there was none, `kept` stays. */
 _Bool xti_c_make(struct xti_world *kept);
 /* Frees a world. */
 void xti_c_free(struct xti_world given);

@@ -1,5 +1,6 @@
-/* Each error of each call of endpoints and connections, with the state afterwards. */
+/* Each error of each call of endpoints, and what calls of every kind are refused for alike, with the state afterwards. */
 #include "harness.h"
+#include <sys/resource.h>
 
 static char bytes[70000];
 
@@ -27,6 +28,25 @@ static void opening(void)
     CHECK(errno == EMFILE);
     for (i = 0; i < 64; i++)
         ANSWERS(t_close(fds[i]), 0);
+}
+
+/* The process has no descriptor left, or one where two are needed. */
+static void opening_without_descriptors(void)
+{
+    struct rlimit before, few;
+    rlim_t left;
+    int fd = t_open("ticots", O_RDWR, NULL);
+
+    CHECK(fd >= 0 && getrlimit(RLIMIT_NOFILE, &before) == 0);
+    for (left = 1; left <= 2; left++) {
+        few = before;
+        few.rlim_cur = (rlim_t)fd + left;
+        CHECK(setrlimit(RLIMIT_NOFILE, &few) == 0);
+        errno = 0;
+        REFUSED(t_open("ticots", O_RDWR, NULL), TSYSERR, fd, T_UNBND);
+        CHECK(errno == EMFILE && setrlimit(RLIMIT_NOFILE, &before) == 0);
+    }
+    ANSWERS(t_close(fd), 0);
 }
 
 static void bad_descriptors(int fd)
@@ -158,115 +178,6 @@ static void looks_of_unbind(void)
     ANSWERS(t_close(d), 0);
 }
 
-static void requesting(void)
-{
-    int listener = endpoint("ticots", O_NONBLOCK, "l", 1), caller = endpoint("ticots", O_NONBLOCK, NULL, 0), second, third;
-    char small[1];
-    struct t_call call, answer;
-    struct t_discon discon = { { 0, 0, NULL }, 0, 0 };
-
-    memset(&call, 0, sizeof call);
-    memset(&answer, 0, sizeof answer);
-    REFUSED(t_connect(caller, &call, NULL), TOUTSTATE, caller, T_UNBND);
-    REFUSED(t_rcvconnect(caller, NULL), TOUTSTATE, caller, T_UNBND);
-    REFUSED(t_listen(caller, &answer), TOUTSTATE, caller, T_UNBND);
-    ANSWERS(t_bind(caller, NULL, NULL), 0);
-    REFUSED(t_connect(caller, NULL, NULL), TBADADDR, caller, T_IDLE);
-    call.addr = long_by_one(64);
-    REFUSED(t_connect(caller, &call, NULL), TBADADDR, caller, T_IDLE);
-    call.addr = text("l");
-    call.opt = text("no options");
-    REFUSED(t_connect(caller, &call, NULL), TBADOPT, caller, T_IDLE);
-    call.opt = long_by_one(256);
-    REFUSED(t_connect(caller, &call, NULL), TBADOPT, caller, T_IDLE);
-    call.opt.len = 0;
-    call.udata = long_by_one(64);
-    REFUSED(t_connect(caller, &call, NULL), TBADDATA, caller, T_IDLE);
-    call.udata = text("data");
-    REFUSED(t_listen(caller, &answer), TBADQLEN, caller, T_IDLE);
-    REFUSED(t_listen(listener, &answer), TNODATA, listener, T_IDLE);
-    REFUSED(t_connect(caller, &call, NULL), TNODATA, caller, T_OUTCON);
-    REFUSED(t_connect(caller, &call, NULL), TOUTSTATE, caller, T_OUTCON);
-    REFUSED(t_rcvconnect(caller, NULL), TNODATA, caller, T_OUTCON);
-    REFUSED(t_rcvdis(caller, NULL), TNODIS, caller, T_OUTCON);
-    second = calling("ticots", "l");
-    REFUSED(t_rcvconnect(second, NULL), TLOOK, second, T_OUTCON);
-    ANSWERS(t_rcvdis(second, &discon), 0);
-    CHECK(discon.reason == 2 && discon.sequence == 0 && t_getstate(second) == T_IDLE);
-    third = calling("ticots", "nobody");
-    ANSWERS(t_rcvdis(third, &discon), 0);
-    CHECK(discon.reason == 1);
-    answer.udata = room(small, 1);
-    REFUSED(t_listen(listener, &answer), TBUFOVFLW, listener, T_INCON);
-    CHECK(answer.sequence == 1);
-    REFUSED(t_listen(listener, &answer), TQFULL, listener, T_INCON);
-    ANSWERS(t_snddis(caller, NULL), 0);
-    REFUSED(t_listen(listener, &answer), TQFULL, listener, T_INCON);
-    REFUSED(t_accept(listener, listener, &answer), TLOOK, listener, T_INCON);
-    REFUSED(t_snddis(listener, &answer), TLOOK, listener, T_INCON);
-    ANSWERS(t_rcvdis(listener, &discon), 0);
-    CHECK(discon.reason == 4 && discon.sequence == 1 && t_getstate(listener) == T_IDLE);
-    ANSWERS(t_close(listener), 0);
-    ANSWERS(t_close(caller), 0);
-    ANSWERS(t_close(second), 0);
-    ANSWERS(t_close(third), 0);
-}
-
-static void accepting(void)
-{
-    int listener = endpoint("ticots", O_NONBLOCK, "l", 3), callers[3], i, other = endpoint("ticotsord", 0, "o", 0);
-    int with_queue = endpoint("ticots", 0, "q", 1), unbound = endpoint("ticots", 0, NULL, 0);
-    struct t_call call, answer;
-    char small[1];
-
-    memset(&call, 0, sizeof call);
-    memset(&answer, 0, sizeof answer);
-    REFUSED(t_accept(listener, unbound, &call), TOUTSTATE, listener, T_IDLE);
-    for (i = 0; i < 2; i++)
-        callers[i] = calling("ticots", "l");
-    REFUSED(t_accept(listener, -1, &call), TBADF, listener, T_IDLE);
-    call.sequence = listened(listener);
-    REFUSED(t_accept(listener, other, &call), TPROVMISMATCH, listener, T_INCON);
-    REFUSED(t_accept(listener, callers[0], &call), TOUTSTATE, listener, T_INCON);
-    answer.sequence = 99;
-    REFUSED(t_accept(listener, unbound, &answer), TBADSEQ, listener, T_INCON);
-    REFUSED(t_snddis(listener, &answer), TBADSEQ, listener, T_INCON);
-    REFUSED(t_accept(listener, with_queue, &call), TRESQLEN, listener, T_INCON);
-    call.opt = text("x");
-    REFUSED(t_accept(listener, unbound, &call), TBADOPT, listener, T_INCON);
-    call.opt.len = 0;
-    call.udata = long_by_one(64);
-    REFUSED(t_accept(listener, unbound, &call), TBADDATA, listener, T_INCON);
-    REFUSED(t_snddis(listener, &call), TBADDATA, listener, T_INCON);
-    call.udata.len = 0;
-    REFUSED(t_accept(listener, unbound, &call), TLOOK, listener, T_INCON);
-    ANSWERS(t_look(listener), T_LISTEN);
-    answer.sequence = listened(listener);
-    REFUSED(t_accept(listener, listener, &call), TINDOUT, listener, T_INCON);
-    call.udata = text("welcome");
-    ANSWERS(t_accept(listener, unbound, &call), 0);
-    CHECK(t_getstate(listener) == T_INCON && t_getstate(unbound) == T_DATAXFER);
-    answer.udata = text("no");
-    ANSWERS(t_snddis(listener, &answer), 0);
-    CHECK(t_getstate(listener) == T_IDLE);
-    memset(&answer, 0, sizeof answer);
-    answer.udata = room(small, 1);
-    REFUSED(t_rcvconnect(callers[0], &answer), TBUFOVFLW, callers[0], T_DATAXFER);
-    {
-        struct t_discon discon = { { 0, 0, NULL }, 0, 0 };
-        discon.udata = room(small, 1);
-        REFUSED(t_rcvdis(callers[1], &discon), TBUFOVFLW, callers[1], T_IDLE);
-    }
-    REFUSED(t_rcvdis(callers[1], NULL), TOUTSTATE, callers[1], T_IDLE);
-    REFUSED(t_snddis(callers[1], NULL), TOUTSTATE, callers[1], T_IDLE);
-    ANSWERS(t_close(listener), 0);
-    ANSWERS(t_close(other), 0);
-    ANSWERS(t_close(with_queue), 0);
-    ANSWERS(t_close(unbound), 0);
-    ANSWERS(t_close(callers[0]), 0);
-    ANSWERS(t_close(callers[1]), 0);
-}
-
 static void negotiating(void)
 {
     int fd = endpoint("ticots", 0, NULL, 0);
@@ -279,6 +190,8 @@ static void negotiating(void)
     REFUSED(t_optmgmt(fd, &request, NULL), TBADFLAG, fd, T_UNBND);
     request.flags = T_NEGOTIATE;
     request.opt = text("no list");
+    REFUSED(t_optmgmt(fd, &request, NULL), TBADOPT, fd, T_UNBND);
+    request.opt = long_by_one(256);
     REFUSED(t_optmgmt(fd, &request, NULL), TBADOPT, fd, T_UNBND);
     request.opt = room(list, 0);
     request.opt.len = sizeof list;
@@ -307,11 +220,10 @@ int main(void)
     bad_descriptors(fd);
     bad_descriptors(1);
     opening();
+    opening_without_descriptors();
     not_supported();
     binding();
     looks_of_unbind();
-    requesting();
-    accepting();
     negotiating();
     return finish("refusals");
 }

@@ -44,6 +44,11 @@ static int send_much(int fd)
     return t_snd(fd, bytes, sizeof bytes, 0);
 }
 
+static int send_few(int fd)
+{
+    return t_snd(fd, bytes, 20, 0);
+}
+
 static int send_parts(int fd)
 {
     struct t_iovec parts[2] = { { bytes, 10 }, { bytes + 10, 10 } };
@@ -149,8 +154,8 @@ static pthread_t begin(struct call *c, int (*call)(int), int fd)
     return thread;
 }
 
-/* The call waits, and signals end it: with EINTR, or with a number of bytes. */
-static void interrupted(int (*call)(int), int fd, int result)
+/* The call waits, and signals end it: with EINTR, or with a number of bytes. The endpoint is in this state then. */
+static void interrupted(int (*call)(int), int fd, int result, int state)
 {
     struct call c;
     pthread_t thread = begin(&c, call, fd);
@@ -162,6 +167,7 @@ static void interrupted(int (*call)(int), int fd, int result)
     pthread_join(thread, NULL);
     CHECK(c.result == result);
     CHECK(result >= 0 || (c.error == TSYSERR && c.system == EINTR));
+    ANSWERS(t_getstate(fd), state);
 }
 
 static void cancelled(int (*call)(int), int fd)
@@ -177,21 +183,21 @@ static void of_connections(void)
 {
     int listener = endpoint("ticots", 0, "signals", 2), caller = endpoint("ticots", 0, "", 0), a, c;
 
-    interrupted(take_request, listener, -1);
+    interrupted(take_request, listener, -1, T_IDLE);
     cancelled(take_request, listener);
-    interrupted(connect_to, caller, -1);
-    CHECK(t_getstate(caller) == T_OUTCON);
-    interrupted(take_answer, caller, -1);
+    interrupted(connect_to, caller, -1, T_OUTCON);
+    interrupted(take_answer, caller, -1, T_OUTCON);
     ANSWERS(t_close(listener), 0);
     ANSWERS(t_close(caller), 0);
     connected("ticots", &a, &c);
     set_nonblocking(a, 0);
     set_nonblocking(c, 0);
-    interrupted(receive, a, -1);
-    interrupted(receive_parts, a, -1);
+    interrupted(receive, a, -1, T_DATAXFER);
+    interrupted(receive_parts, a, -1, T_DATAXFER);
     cancelled(receive_parts, a);
-    interrupted(send_much, c, 32768);
-    interrupted(send_parts, c, -1);
+    interrupted(send_much, c, 32768, T_DATAXFER);
+    interrupted(send_few, c, -1, T_DATAXFER);
+    interrupted(send_parts, c, -1, T_DATAXFER);
     cancelled(send_parts, c);
     ANSWERS(t_close(a), 0);
     ANSWERS(t_close(c), 0);
@@ -203,12 +209,12 @@ static void of_datagrams(void)
     struct call c;
     pthread_t thread;
 
-    interrupted(receive_datagram, d, -1);
-    interrupted(receive_datagram_parts, d, -1);
+    interrupted(receive_datagram, d, -1, T_IDLE);
+    interrupted(receive_datagram_parts, d, -1, T_IDLE);
     for (i = 0; i < 16; i++)
         ANSWERS(send_datagram(d), 0);
-    interrupted(send_datagram, d, -1);
-    interrupted(send_datagram_parts, d, -1);
+    interrupted(send_datagram, d, -1, T_IDLE);
+    interrupted(send_datagram_parts, d, -1, T_IDLE);
     cancelled(send_datagram_parts, d);
     /* A receive at the destination makes room, and so does its end. */
     thread = begin(&c, send_datagram, d);

@@ -1,9 +1,9 @@
 -- A step that is made answers what C asked.
-use Rattle.std.proofs.Common.{◌≡◌, ◌≤◌, ◌<◌, ℕ, refl, sym, subst, ap, arith}
+use Rattle.std.proofs.Common.{◌≡◌, ◌≤◌, ◌<◌, ℕ, refl, sym, subst, ap, arith, ◌∙◌}
 use Rattle.std.specs.Prelude.{Some, None, false}
+use Rattle.std.specs.Option.{MatchOption}
 use Rattle.xti_base.specs.declared.kinds.State.{State}
 use Rattle.xti_model.specs.declared.call.Call.{Call}
-use Rattle.xti_model.specs.declared.call.Call.TheVariants as call
 use Rattle.xti_model.specs.declared.entry.Go.{Go}
 use Rattle.xti_model.specs.declared.entry.Outcome.{Outcome}
 use Rattle.xti_model.specs.declared.entry.Outcome.TheVariants.{Done, Part}
@@ -13,7 +13,8 @@ use Rattle.xti_core.specs.Standing.{Standing}
 use Rattle.xti_flat.specs.declared.asked.Asked.{Asked}
 use Rattle.xti_flat.specs.declared.bytes.Bytes.{Bytes}
 use Rattle.xti_flat.specs.declared.told.Told.{Told}
-use Rattle.xti_flat.specs.Calls.{Asks, AsksNoCall, CopiesTakeNone, go_of}
+use Rattle.xti_verbs.specs.Verbs.{verb_of}
+use Rattle.xti_flat.specs.Calls.{Asks, AsksNoCall, CopiesNone, CopiesTakeNone, go_of}
 use Rattle.xti_flat.specs.Answers.{Rooms, told_of, end_of, filled}
 use Rattle.xti_c.specs.Answers.{Answers, IsSure, Leaves, Places, RunsOutRightly, Steps, TellsNoCall}
 
@@ -21,39 +22,9 @@ pub small : (o : Outcome) → end_of o ≤ 1
 small (Done r) = omega arith
 small (Part taken) = omega arith
 
--- each call has a number up to 27
-at_most : (n k : ℕ) → n ≡ k → k ≤ 27 → 27 < n → ⊥
-at_most n k e l m = omega arith
-
-pub asks_few : (a : Asked) (b : Bytes) (c : Call) → Asks c a b → 27 < a.call → ⊥
-asks_few a b (call.TOpen prov nonblock) asks m = at_most a.call 0 asks.0 (omega arith) m
-asks_few a b (call.TClose fd) asks m = at_most a.call 1 asks.0 (omega arith) m
-asks_few a b (call.TBind fd addr qlen amax) asks m = at_most a.call 2 asks.0 (omega arith) m
-asks_few a b (call.TUnbind fd) asks m = at_most a.call 3 asks.0 (omega arith) m
-asks_few a b (call.TConnect fd addr opt udata amax omax umax) asks m = at_most a.call 4 asks.0 (omega arith) m
-asks_few a b (call.TRcvConnect fd amax omax umax) asks m = at_most a.call 5 asks.0 (omega arith) m
-asks_few a b (call.TListen fd amax omax umax) asks m = at_most a.call 6 asks.0 (omega arith) m
-asks_few a b (call.TAccept fd resfd seq opt udata) asks m = at_most a.call 7 asks.0 (omega arith) m
-asks_few a b (call.TSnd fd bytes flags) asks m = at_most a.call 8 asks.0 (omega arith) m
-asks_few a b (call.TSndV fd parts flags) asks m = at_most a.call 9 asks.0 (omega arith) m
-asks_few a b (call.TRcv fd max) asks m = at_most a.call 10 asks.0 (omega arith) m
-asks_few a b (call.TRcvV fd sizes) asks m = at_most a.call 11 asks.0 (omega arith) m
-asks_few a b (call.TSndDis fd seq udata) asks m = at_most a.call 12 asks.0 (omega arith) m
-asks_few a b (call.TRcvDis fd umax) asks m = at_most a.call 13 asks.0 (omega arith) m
-asks_few a b (call.TSndRel fd) asks m = at_most a.call 14 asks.0 (omega arith) m
-asks_few a b (call.TRcvRel fd) asks m = at_most a.call 15 asks.0 (omega arith) m
-asks_few a b (call.TSndUData fd addr opt bytes) asks m = at_most a.call 16 asks.0 (omega arith) m
-asks_few a b (call.TSndVUData fd addr opt parts) asks m = at_most a.call 17 asks.0 (omega arith) m
-asks_few a b (call.TRcvUData fd max amax omax) asks m = at_most a.call 18 asks.0 (omega arith) m
-asks_few a b (call.TRcvVUData fd sizes amax omax) asks m = at_most a.call 19 asks.0 (omega arith) m
-asks_few a b (call.TRcvUDErr fd amax omax) asks m = at_most a.call 20 asks.0 (omega arith) m
-asks_few a b (call.TLookAt fd) asks m = at_most a.call 21 asks.0 (omega arith) m
-asks_few a b (call.TGetState fd) asks m = at_most a.call 22 asks.0 (omega arith) m
-asks_few a b (call.TSync fd) asks m = at_most a.call 23 asks.0 (omega arith) m
-asks_few a b (call.TGetInfo fd) asks m = at_most a.call 24 asks.0 (omega arith) m
-asks_few a b (call.TGetProtAddr fd amax pmax) asks m = at_most a.call 25 asks.0 (omega arith) m
-asks_few a b (call.TOptMgmt fd action opt omax) asks m = at_most a.call 26 asks.0 (omega arith) m
-asks_few a b (call.SetMode fd nonblock) asks m = at_most a.call 27 asks.0 (omega arith) m
+-- a number that no call has is no call's
+pub asks_none : (a : Asked) (b : Bytes) (c : Call) → Asks c a b → AsksNoCall a → ⊥
+asks_none a b c asks m = let e : None ≡ Some (verb_of c) = sym m ∙ asks.0 in cc
 
 -- a step that is made leaves what it should
 pub made_steps : (w w' : Standing) (c : Call) (g : Go) (o : Outcome) (after : State) (n : ℕ) (t t' : Told) (r r' : Rooms)
@@ -105,19 +76,7 @@ step_rightly a b w c g n asks eg sure copies steps =
 
 -- where no call has the number, nothing is copied
 pub copies_none : (a : Asked) (b : Bytes) → AsksNoCall a → CopiesTakeNone a b
-copies_none a b m = record {
-  bind = λ (e : a.call ≡ 2). absurd (at_most a.call 2 e (omega arith) m);
-  connect = λ (e : a.call ≡ 4). absurd (at_most a.call 4 e (omega arith) m);
-  accept = λ (e : a.call ≡ 7). absurd (at_most a.call 7 e (omega arith) m);
-  send = λ (e : a.call ≡ 8). absurd (at_most a.call 8 e (omega arith) m);
-  send_parts = λ (e : a.call ≡ 9). at_most a.call 9 e (omega arith) m;
-  receive_parts = λ (e : a.call ≡ 11). at_most a.call 11 e (omega arith) m;
-  disconnect = λ (e : a.call ≡ 12). absurd (at_most a.call 12 e (omega arith) m);
-  send_datagram = λ (e : a.call ≡ 16). absurd (at_most a.call 16 e (omega arith) m);
-  send_datagram_parts = λ (e : a.call ≡ 17). at_most a.call 17 e (omega arith) m;
-  receive_datagram_parts = λ (e : a.call ≡ 19). at_most a.call 19 e (omega arith) m;
-  negotiate = λ (e : a.call ≡ 26). absurd (at_most a.call 26 e (omega arith) m);
-}
+copies_none a b m = subst (λ v. MatchOption v (Unit {0}) (λ verb. CopiesNone verb b)) (sym m) tt
 
 -- out of memory, and no such call, leave all as it was
 pub unmade_answers : (a : Asked) (b : Bytes) (w w' : Standing) (n : ℕ) (t : Places)
@@ -132,4 +91,4 @@ unmade_answers a b w w' n t ew l m no_call = record {
 
 -- a call that is read has its number
 pub reads_call : (a : Asked) (b : Bytes) (n : ℕ) (c : Call) → Asks c a b → TellsNoCall a n
-reads_call a b n c asks m = absurd (asks_few a b c asks m)
+reads_call a b n c asks m = absurd (asks_none a b c asks m)

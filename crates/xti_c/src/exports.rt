@@ -1,6 +1,6 @@
 //! What C calls.
 
-ghost use Rattle.std.specs.Prelude.{◌≡◌, true, IfOk, IfSome, IsSome};
+ghost use Rattle.std.specs.Prelude.{◌≡◌, true, false, IfOk, IfSome, IsSome};
 ghost use Rattle.std.specs.declared.option.Option.TheVariants.{Some};
 ghost use Rattle.xti_c.specs.Answers.{bytes_of, places_of, Answers, RunsOutRightly, TellsNoCall};
 ghost use Rattle.xti_c.specs.Opening.{usual_opening};
@@ -23,10 +23,11 @@ fn fresh(alloc: Global) -> Result<Box<World>, AllocError>
     Ok(Box::new(alloc, world)?)
 }
 
-/// Makes the opening world of the usual providers; whether there was memory for it.
+/// Makes the opening world of the usual providers; whether there was memory for it. Where there was none, `kept` stays.
 #[unsafe(no_mangle)]
 pub extern "C" fn xti_c_make(alloc: Global, kept: &mut Kept) -> bool
-    ensures { result ≡ true → kept.new.value ≡ Some usual_opening }
+    ensures made { result ≡ true → kept.new.value ≡ Some usual_opening }
+    ensures not_made { result ≡ false → kept.new ≡ kept.old }
 {
     match fresh(alloc) {
         Ok(world) => {

@@ -1,13 +1,17 @@
 //! The call that is asked for.
 
-ghost use Rattle.std.specs.Prelude.{◌≡◌, IfOk, IsOk};
-ghost use Rattle.xti_flat.specs.Calls.{prov_of, parts_of, IsCallOf, CopiesTakeNone, go_of};
+ghost use Rattle.std.specs.Prelude.{◌≡◌, true, IfOk, IsOk};
+ghost use Rattle.xti_verbs.specs.declared.verb.Verb.TheVariants.{Connect, Accept, SndUData};
+ghost use Rattle.xti_verbs.specs.Verbs.{verb_of};
+ghost use Rattle.xti_verbs.specs.Families.{is_local, is_connecting, is_data, is_datagram};
+ghost use Rattle.xti_flat.specs.Calls.{prov_of, parts_of, verb_at, HasArguments, IsCallOf, CopiesNone, CopiesTakeNone, go_of};
 
 use crate::asked::Asked;
 use crate::bytes::Bytes;
 use std::alloc::{AllocError, Global};
 use xti_base::{Fd, Octets, Parts, Prov, Seq, Sizes};
 use xti_model::{Call, Go};
+use xti_verbs::Verb;
 
 /// How far the call has come.
 pub fn go_of(asked: &Asked) -> Go
@@ -53,126 +57,275 @@ fn parts_of(alloc: Global, bytes: &[u8], sizes: &[u32]) -> Result<Parts, AllocEr
     Ok(Parts::from_vec(parts))
 }
 
+/// The call with this number; `None` where no call has it.
+#[tactic(auto, unfolding(crate::specs::Calls::verb_at))]
+fn verb_at(number: u32) -> Option<Verb>
+    ensures { result ≡ verb_at number }
+{
+    match number {
+        0 => Some(Verb::Open),
+        1 => Some(Verb::Close),
+        2 => Some(Verb::Bind),
+        3 => Some(Verb::Unbind),
+        4 => Some(Verb::Connect),
+        5 => Some(Verb::RcvConnect),
+        6 => Some(Verb::Listen),
+        7 => Some(Verb::Accept),
+        8 => Some(Verb::Snd),
+        9 => Some(Verb::SndV),
+        10 => Some(Verb::Rcv),
+        11 => Some(Verb::RcvV),
+        12 => Some(Verb::SndDis),
+        13 => Some(Verb::RcvDis),
+        14 => Some(Verb::SndRel),
+        15 => Some(Verb::RcvRel),
+        16 => Some(Verb::SndUData),
+        17 => Some(Verb::SndVUData),
+        18 => Some(Verb::RcvUData),
+        19 => Some(Verb::RcvVUData),
+        20 => Some(Verb::RcvUDErr),
+        21 => Some(Verb::Look),
+        22 => Some(Verb::GetState),
+        23 => Some(Verb::Sync),
+        24 => Some(Verb::GetInfo),
+        25 => Some(Verb::GetProtAddr),
+        26 => Some(Verb::OptMgmt),
+        27 => Some(Verb::SetMode),
+        _ => None,
+    }
+}
+
+/// A call that opens an endpoint, or sets or asks what belongs to it.
+fn local_call(alloc: Global, verb: Verb, asked: &Asked, bytes: &Bytes) -> Result<Call, AllocError>
+    requires { is_local verb ≡ true }
+    ensures call { IfOk result (λ c. verb_of c ≡ verb × HasArguments c asked.now bytes.now) }
+    ensures sure { CopiesNone verb bytes.now → IsOk result }
+{
+    let fd = Fd(asked.fd);
+    Ok(match verb {
+        Verb::Open => Call::TOpen {
+            prov: prov_of(asked.fd),
+            nonblock: asked.number != 0,
+        },
+        Verb::Bind => Call::TBind {
+            fd,
+            addr: Octets::copy_of(alloc, bytes.addr)?,
+            qlen: asked.number,
+            amax: asked.amax,
+        },
+        Verb::GetProtAddr => Call::TGetProtAddr {
+            fd,
+            amax: asked.amax,
+            pmax: asked.umax,
+        },
+        Verb::OptMgmt => Call::TOptMgmt {
+            fd,
+            action: asked.number,
+            opt: Octets::copy_of(alloc, bytes.opt)?,
+            omax: asked.omax,
+        },
+        Verb::SetMode => Call::SetMode {
+            fd,
+            nonblock: asked.number != 0,
+        },
+        _ => unreachable!(),
+    })
+}
+
+/// The call that asks for a connection.
+fn connect_call(alloc: Global, asked: &Asked, bytes: &Bytes) -> Result<Call, AllocError>
+    ensures call { IfOk result (λ c. verb_of c ≡ Connect × HasArguments c asked.now bytes.now) }
+    ensures sure { CopiesNone Connect bytes.now → IsOk result }
+{
+    Ok(Call::TConnect {
+        fd: Fd(asked.fd),
+        addr: Octets::copy_of(alloc, bytes.addr)?,
+        opt: Octets::copy_of(alloc, bytes.opt)?,
+        udata: Octets::copy_of(alloc, bytes.udata)?,
+        amax: asked.amax,
+        omax: asked.omax,
+        umax: asked.umax,
+    })
+}
+
+/// The call that accepts one.
+fn accept_call(alloc: Global, asked: &Asked, bytes: &Bytes) -> Result<Call, AllocError>
+    ensures call { IfOk result (λ c. verb_of c ≡ Accept × HasArguments c asked.now bytes.now) }
+    ensures sure { CopiesNone Accept bytes.now → IsOk result }
+{
+    Ok(Call::TAccept {
+        fd: Fd(asked.fd),
+        resfd: Fd(asked.resfd),
+        seq: Seq(asked.seq),
+        opt: Octets::copy_of(alloc, bytes.opt)?,
+        udata: Octets::copy_of(alloc, bytes.udata)?,
+    })
+}
+
+/// A call that makes a connection or breaks it.
+fn connecting_call(
+    alloc: Global,
+    verb: Verb,
+    asked: &Asked,
+    bytes: &Bytes,
+) -> Result<Call, AllocError>
+    requires { is_connecting verb ≡ true }
+    ensures call { IfOk result (λ c. verb_of c ≡ verb × HasArguments c asked.now bytes.now) }
+    ensures sure { CopiesNone verb bytes.now → IsOk result }
+{
+    let fd = Fd(asked.fd);
+    Ok(match verb {
+        Verb::Connect => connect_call(alloc, asked, bytes)?,
+        Verb::RcvConnect => Call::TRcvConnect {
+            fd,
+            amax: asked.amax,
+            omax: asked.omax,
+            umax: asked.umax,
+        },
+        Verb::Listen => Call::TListen {
+            fd,
+            amax: asked.amax,
+            omax: asked.omax,
+            umax: asked.umax,
+        },
+        Verb::Accept => accept_call(alloc, asked, bytes)?,
+        Verb::SndDis => Call::TSndDis {
+            fd,
+            seq: Seq(asked.seq),
+            udata: Octets::copy_of(alloc, bytes.udata)?,
+        },
+        Verb::RcvDis => Call::TRcvDis {
+            fd,
+            umax: asked.umax,
+        },
+        _ => unreachable!(),
+    })
+}
+
+/// A call that sends or receives on a connection.
+fn data_call(alloc: Global, verb: Verb, asked: &Asked, bytes: &Bytes) -> Result<Call, AllocError>
+    requires { is_data verb ≡ true }
+    ensures call { IfOk result (λ c. verb_of c ≡ verb × HasArguments c asked.now bytes.now) }
+    ensures sure { CopiesNone verb bytes.now → IsOk result }
+{
+    let fd = Fd(asked.fd);
+    Ok(match verb {
+        Verb::Snd => Call::TSnd {
+            fd,
+            bytes: Octets::copy_of(alloc, bytes.udata)?,
+            flags: asked.number,
+        },
+        Verb::SndV => Call::TSndV {
+            fd,
+            parts: parts_of(alloc, bytes.udata, bytes.sizes)?,
+            flags: asked.number,
+        },
+        Verb::Rcv => Call::TRcv {
+            fd,
+            max: asked.number,
+        },
+        Verb::RcvV => Call::TRcvV {
+            fd,
+            sizes: sizes_of(alloc, bytes.sizes)?,
+        },
+        _ => unreachable!(),
+    })
+}
+
+/// The call that sends a datagram of one part.
+fn send_datagram_call(alloc: Global, asked: &Asked, bytes: &Bytes) -> Result<Call, AllocError>
+    ensures call { IfOk result (λ c. verb_of c ≡ SndUData × HasArguments c asked.now bytes.now) }
+    ensures sure { CopiesNone SndUData bytes.now → IsOk result }
+{
+    Ok(Call::TSndUData {
+        fd: Fd(asked.fd),
+        addr: Octets::copy_of(alloc, bytes.addr)?,
+        opt: Octets::copy_of(alloc, bytes.opt)?,
+        bytes: Octets::copy_of(alloc, bytes.udata)?,
+    })
+}
+
+/// A call that sends or receives a datagram, or the error of one.
+fn datagram_call(
+    alloc: Global,
+    verb: Verb,
+    asked: &Asked,
+    bytes: &Bytes,
+) -> Result<Call, AllocError>
+    requires { is_datagram verb ≡ true }
+    ensures call { IfOk result (λ c. verb_of c ≡ verb × HasArguments c asked.now bytes.now) }
+    ensures sure { CopiesNone verb bytes.now → IsOk result }
+{
+    let fd = Fd(asked.fd);
+    Ok(match verb {
+        Verb::SndUData => send_datagram_call(alloc, asked, bytes)?,
+        Verb::SndVUData => Call::TSndVUData {
+            fd,
+            addr: Octets::copy_of(alloc, bytes.addr)?,
+            opt: Octets::copy_of(alloc, bytes.opt)?,
+            parts: parts_of(alloc, bytes.udata, bytes.sizes)?,
+        },
+        Verb::RcvUData => Call::TRcvUData {
+            fd,
+            max: asked.number,
+            amax: asked.amax,
+            omax: asked.omax,
+        },
+        Verb::RcvVUData => Call::TRcvVUData {
+            fd,
+            sizes: sizes_of(alloc, bytes.sizes)?,
+            amax: asked.amax,
+            omax: asked.omax,
+        },
+        Verb::RcvUDErr => Call::TRcvUDErr {
+            fd,
+            amax: asked.amax,
+            omax: asked.omax,
+        },
+        _ => unreachable!(),
+    })
+}
+
+/// This call, with its arguments.
+fn call_with(alloc: Global, verb: Verb, asked: &Asked, bytes: &Bytes) -> Result<Call, AllocError>
+    ensures call { IfOk result (λ c. verb_of c ≡ verb × HasArguments c asked.now bytes.now) }
+    ensures sure { CopiesNone verb bytes.now → IsOk result }
+{
+    match verb {
+        Verb::Open | Verb::Bind | Verb::GetProtAddr | Verb::OptMgmt | Verb::SetMode => {
+            local_call(alloc, verb, asked, bytes)
+        }
+        Verb::Connect
+        | Verb::RcvConnect
+        | Verb::Listen
+        | Verb::Accept
+        | Verb::SndDis
+        | Verb::RcvDis => connecting_call(alloc, verb, asked, bytes),
+        Verb::Snd | Verb::SndV | Verb::Rcv | Verb::RcvV => data_call(alloc, verb, asked, bytes),
+        Verb::SndUData | Verb::SndVUData | Verb::RcvUData | Verb::RcvVUData | Verb::RcvUDErr => {
+            datagram_call(alloc, verb, asked, bytes)
+        }
+        Verb::Close
+        | Verb::Unbind
+        | Verb::SndRel
+        | Verb::RcvRel
+        | Verb::Look
+        | Verb::GetState
+        | Verb::Sync
+        | Verb::GetInfo => Ok(verb.plain_call(Fd(asked.fd))),
+    }
+}
+
 /// The call; `None` exactly where the number is that of no call. Bytes up to 16 are copied without memory.
 pub fn call_of(alloc: Global, asked: &Asked, bytes: &Bytes) -> Result<Option<Call>, AllocError>
     ensures call { IfOk result (λ call. IsCallOf call asked.now bytes.now) }
     ensures sure { CopiesTakeNone asked.now bytes.now → IsOk result }
 {
-    let (a, b) = (asked, bytes);
-    let fd = Fd(a.fd);
-    let call = match a.call {
-        0 => Call::TOpen {
-            prov: prov_of(a.fd),
-            nonblock: a.number != 0,
+    match verb_at(asked.call) {
+        Some(verb) => match call_with(alloc, verb, asked, bytes) {
+            Ok(call) => Ok(Some(call)),
+            Err(error) => Err(error),
         },
-        1 => Call::TClose { fd },
-        2 => Call::TBind {
-            fd,
-            addr: Octets::copy_of(alloc, b.addr)?,
-            qlen: a.number,
-            amax: a.amax,
-        },
-        3 => Call::TUnbind { fd },
-        4 => Call::TConnect {
-            fd,
-            addr: Octets::copy_of(alloc, b.addr)?,
-            opt: Octets::copy_of(alloc, b.opt)?,
-            udata: Octets::copy_of(alloc, b.udata)?,
-            amax: a.amax,
-            omax: a.omax,
-            umax: a.umax,
-        },
-        5 => Call::TRcvConnect {
-            fd,
-            amax: a.amax,
-            omax: a.omax,
-            umax: a.umax,
-        },
-        6 => Call::TListen {
-            fd,
-            amax: a.amax,
-            omax: a.omax,
-            umax: a.umax,
-        },
-        7 => Call::TAccept {
-            fd,
-            resfd: Fd(a.resfd),
-            seq: Seq(a.seq),
-            opt: Octets::copy_of(alloc, b.opt)?,
-            udata: Octets::copy_of(alloc, b.udata)?,
-        },
-        8 => Call::TSnd {
-            fd,
-            bytes: Octets::copy_of(alloc, b.udata)?,
-            flags: a.number,
-        },
-        9 => Call::TSndV {
-            fd,
-            parts: parts_of(alloc, b.udata, b.sizes)?,
-            flags: a.number,
-        },
-        10 => Call::TRcv { fd, max: a.number },
-        11 => Call::TRcvV {
-            fd,
-            sizes: sizes_of(alloc, b.sizes)?,
-        },
-        12 => Call::TSndDis {
-            fd,
-            seq: Seq(a.seq),
-            udata: Octets::copy_of(alloc, b.udata)?,
-        },
-        13 => Call::TRcvDis { fd, umax: a.umax },
-        14 => Call::TSndRel { fd },
-        15 => Call::TRcvRel { fd },
-        16 => Call::TSndUData {
-            fd,
-            addr: Octets::copy_of(alloc, b.addr)?,
-            opt: Octets::copy_of(alloc, b.opt)?,
-            bytes: Octets::copy_of(alloc, b.udata)?,
-        },
-        17 => Call::TSndVUData {
-            fd,
-            addr: Octets::copy_of(alloc, b.addr)?,
-            opt: Octets::copy_of(alloc, b.opt)?,
-            parts: parts_of(alloc, b.udata, b.sizes)?,
-        },
-        18 => Call::TRcvUData {
-            fd,
-            max: a.number,
-            amax: a.amax,
-            omax: a.omax,
-        },
-        19 => Call::TRcvVUData {
-            fd,
-            sizes: sizes_of(alloc, b.sizes)?,
-            amax: a.amax,
-            omax: a.omax,
-        },
-        20 => Call::TRcvUDErr {
-            fd,
-            amax: a.amax,
-            omax: a.omax,
-        },
-        21 => Call::TLookAt { fd },
-        22 => Call::TGetState { fd },
-        23 => Call::TSync { fd },
-        24 => Call::TGetInfo { fd },
-        25 => Call::TGetProtAddr {
-            fd,
-            amax: a.amax,
-            pmax: a.umax,
-        },
-        26 => Call::TOptMgmt {
-            fd,
-            action: a.number,
-            opt: Octets::copy_of(alloc, b.opt)?,
-            omax: a.omax,
-        },
-        27 => Call::SetMode {
-            fd,
-            nonblock: a.number != 0,
-        },
-        _ => return Ok(None),
-    };
-    Ok(Some(call))
+        None => Ok(None),
+    }
 }
