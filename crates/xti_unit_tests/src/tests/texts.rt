@@ -10,7 +10,7 @@ fn compare<R: Abort>(rt: &R, text: &Octets, wanted: &[u8]) {
 }
 
 /// The test fails where there is no text, or another one.
-pub(crate) fn expect_text<R: Abort>(rt: &R, text: Result<Octets, AllocError>, wanted: &[u8]) {
+pub(super) fn expect_text<R: Abort>(rt: &R, text: Result<Octets, AllocError>, wanted: &[u8]) {
     match text {
         Ok(text) => {
             compare(rt, &text, wanted);

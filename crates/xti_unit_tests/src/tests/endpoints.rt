@@ -8,7 +8,7 @@ ghost use Rattle.xti_model.specs.Provider.{is_provider};
 ghost use Rattle.xti_end.specs.Held.{is_open};
 ghost use Rattle.xti_end.specs.Taken.{IsAt};
 
-use crate::cases::expect_right;
+use super::cases::expect;
 use bytes::Bytes;
 use std::alloc::{AllocError, Global};
 use tpi_prim::primitive::Prim;
@@ -297,17 +297,13 @@ fn answer(alloc: Global, told: Told) -> Option<(usize, State)> {
     found
 }
 
-/// The first case that is told otherwise.
-fn first_wrong(alloc: Global) -> Option<usize> {
-    for (number, (told, length, state)) in CASES.iter().enumerate() {
-        if answer(alloc, *told) != Some((*length, *state)) {
-            return Some(number);
-        }
-    }
-    None
-}
-
 #[test]
 fn tells(rt: HostRuntime) {
-    expect_right(&rt, first_wrong(rt.alloc()));
+    for (number, (told, length, state)) in CASES.iter().enumerate() {
+        expect(
+            &rt,
+            answer(rt.alloc(), *told) == Some((*length, *state)),
+            &number,
+        );
+    }
 }

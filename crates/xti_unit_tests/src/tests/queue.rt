@@ -4,7 +4,7 @@ ghost use Rattle.std.specs.Prelude.{◌≡◌};
 ghost use Rattle.tpi_prim.specs.Fields.{kind_in};
 ghost use Rattle.xti_queue.specs.Indications.{can_wait};
 
-use crate::cases::expect_right;
+use super::cases::expect;
 use bytes::Bytes;
 use std::alloc::Global;
 use tpi_prim::primitive::Prim;
@@ -140,16 +140,9 @@ fn holds(alloc: Global, case: &Case) -> bool {
     is_given && left == 0
 }
 
-fn first_wrong(alloc: Global) -> Option<usize> {
-    for (number, case) in CASES.iter().enumerate() {
-        if !holds(alloc, case) {
-            return Some(number);
-        }
-    }
-    None
-}
-
 #[test]
 fn takes(rt: HostRuntime) {
-    expect_right(&rt, first_wrong(rt.alloc()));
+    for (number, case) in CASES.iter().enumerate() {
+        expect(&rt, holds(rt.alloc(), case), &number);
+    }
 }

@@ -2,7 +2,8 @@
 
 ghost use Rattle.std.specs.Prelude.{◌≤◌};
 
-use crate::cases::{expect_named, expect_right};
+use super::cases::expect;
+use super::frames::count_completed;
 use std::alloc::Global;
 use tpi_prim::{Decoded, FeedFail, FrameReader, decode};
 
@@ -85,34 +86,15 @@ fn first_not_short(alloc: Global, input: &[u8], length: usize) -> Option<usize> 
     None
 }
 
-/// What the first damaged frame is about that isn't refused at its wrong byte, or is refused before.
-fn first_wrong_decode(alloc: Global) -> Option<&'static str> {
-    for (_, input, place, case) in &DAMAGED {
-        let is_whole_before = first_not_short(alloc, *input, *place).is_none();
-        if !is_whole_before || wrong_place(alloc, *input) != Some(*place) {
-            return Some(case);
-        }
-    }
-    None
+/// Whether the input is refused at its wrong byte, and not before.
+fn is_refused_at(alloc: Global, input: &[u8], place: usize) -> bool {
+    first_not_short(alloc, input, place).is_none() && wrong_place(alloc, input) == Some(place)
 }
 
 #[test]
 fn decodes_damaged_frames(rt: HostRuntime) {
-    expect_named(&rt, first_wrong_decode(rt.alloc()));
-}
-
-/// How many primitives the piece completes; `None` where it can't be read.
-fn count_completed(reader: &mut FrameReader, piece: &[u8]) -> Option<usize> {
-    match reader.feed(piece) {
-        Ok(prims) => {
-            let count = prims.len();
-            drop(prims);
-            Some(count)
-        }
-        Err(fail) => {
-            drop(fail);
-            None
-        }
+    for (_, input, place, case) in &DAMAGED {
+        expect(&rt, is_refused_at(rt.alloc(), input, *place), case);
     }
 }
 
@@ -165,19 +147,15 @@ fn is_found_by_all(alloc: Global, before: &[u8], input: &[u8], place: usize) -> 
     true
 }
 
-/// What the first damaged frame is about that a reader answers otherwise.
-fn first_wrong_feed(alloc: Global) -> Option<&'static str> {
-    for (before, input, place, case) in &DAMAGED {
-        if !is_found_by_all(alloc, *before, *input, *place) {
-            return Some(case);
-        }
-    }
-    None
-}
-
 #[test]
 fn feeds_damaged_frames(rt: HostRuntime) {
-    expect_named(&rt, first_wrong_feed(rt.alloc()));
+    for (before, input, place, case) in &DAMAGED {
+        expect(
+            &rt,
+            is_found_by_all(rt.alloc(), before, input, *place),
+            case,
+        );
+    }
 }
 
 /// How many primitives the pieces of this size before the last complete, and how many the last one.
@@ -193,22 +171,14 @@ fn counts(reader: &mut FrameReader, input: &[u8], size: usize) -> Option<(usize,
     Some((before, last))
 }
 
-/// The first size of pieces by which a frame isn't completed by the last one alone.
-fn first_wrong_size(alloc: Global) -> Option<usize> {
-    for size in 1..=REQUEST.len() {
-        let mut reader = FrameReader::new(alloc);
-        let found = counts(&mut reader, REQUEST, size);
-        drop(reader);
-        if found != Some((0, 1)) {
-            return Some(size);
-        }
-    }
-    None
-}
-
 #[test]
 fn feeds_pieces_of_each_size(rt: HostRuntime) {
-    let alloc = rt.alloc();
-    expect_right(&rt, first_wrong_size(alloc));
-    expect_right(&rt, first_not_short(alloc, REQUEST, REQUEST.len()));
+    for size in 1..=REQUEST.len() {
+        let mut reader = FrameReader::new(rt.alloc());
+        let found = counts(&mut reader, REQUEST, size);
+        drop(reader);
+        expect(&rt, found == Some((0, 1)), &size);
+    }
+    let wrong = first_not_short(rt.alloc(), REQUEST, REQUEST.len());
+    assert!(rt; wrong.is_none());
 }

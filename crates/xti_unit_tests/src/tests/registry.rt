@@ -1,7 +1,8 @@
 //! The switch's table: which descriptor is found at an address, and which address is chosen.
 
-use crate::cases::expect_right;
+use super::cases::expect;
 use std::alloc::Global;
+use std::process::Abort;
 use xti_base::{Fd, Octets, Prov};
 use xti_model::Providers;
 use xti_registry::Registry;
@@ -96,31 +97,23 @@ fn holds(alloc: Global, table: &mut Registry, step: &Step) -> bool {
     }
 }
 
-fn first_wrong(alloc: Global, table: &mut Registry, steps: &[Step]) -> Option<usize> {
-    for (number, step) in steps.iter().enumerate() {
-        if !holds(alloc, table, step) {
-            return Some(number);
-        }
-    }
-    None
-}
-
-/// The first of the steps, from an empty table on, that doesn't hold.
-fn first_wrong_step(alloc: Global, steps: &[Step]) -> Option<usize> {
+/// The test fails where a step, of these from an empty table on, doesn't hold.
+fn expect_steps<R: Abort>(rt: &R, alloc: Global, steps: &[Step]) {
     let Ok(mut table) = Registry::fresh(alloc, &Providers::usual()) else {
-        return Some(0);
+        panic!(rt; "out of memory");
     };
-    let wrong = first_wrong(alloc, &mut table, steps);
+    for (number, step) in steps.iter().enumerate() {
+        expect(rt, holds(alloc, &mut table, step), &number);
+    }
     drop(table);
-    wrong
 }
 
 #[test]
 fn finds_the_least_descriptor(rt: HostRuntime) {
-    expect_right(&rt, first_wrong_step(rt.alloc(), &FINDS));
+    expect_steps(&rt, rt.alloc(), &FINDS);
 }
 
 #[test]
 fn chooses_addresses(rt: HostRuntime) {
-    expect_right(&rt, first_wrong_step(rt.alloc(), &CHOOSES));
+    expect_steps(&rt, rt.alloc(), &CHOOSES);
 }

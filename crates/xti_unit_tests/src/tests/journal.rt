@@ -1,6 +1,8 @@
 //! The text of a journal, whole and entry by entry.
 
-use crate::texts::expect_text;
+ghost use Rattle.xti_summary.specs.Counting.{HaveWorkers};
+
+use super::texts::expect_text;
 use std::alloc::{AllocError, Global};
 use xti_base::{Octets, Prov, State};
 use xti_journal_text::{JournalWriter, StallLine, write_entry, write_journal};
@@ -29,7 +31,10 @@ fn entry(alloc: Global) -> Result<Entry, AllocError> {
     })
 }
 
-fn empty(alloc: Global) -> Journal {
+/// A journal without entries.
+pub(super) fn empty(alloc: Global) -> Journal
+    ensures { HaveWorkers result.entries }
+{
     Journal {
         providers: Providers::usual(),
         entries: Entries::new(alloc),

@@ -1,6 +1,6 @@
 //! Frames: how much of an input is one, and reading them in pieces.
 
-use crate::cases::{expect_named, expect_right};
+use super::cases::expect;
 use bytes::Bytes;
 use std::alloc::Global;
 use tpi_grammar::{Measure, measure_frame};
@@ -127,35 +127,22 @@ static MEASURES: [Case; 28] = [
     ),
 ];
 
-/// What the first input that is measured otherwise is about.
-fn first_wrong_measure() -> Option<&'static str> {
-    for (input, wanted, case) in &MEASURES {
-        if measure_frame(input) != *wanted {
-            return Some(case);
-        }
-    }
-    None
-}
-
 #[test]
 fn measures(rt: HostRuntime) {
-    expect_named(&rt, first_wrong_measure());
-}
-
-/// The first length to which the frame is cut and isn't short.
-fn first_not_short(frame: &[u8]) -> Option<usize> {
-    for length in 0..frame.len() {
-        let (front, _) = frame.split_at(length);
-        if measure_frame(front) != Measure::Short {
-            return Some(length);
-        }
+    for (input, wanted, case) in &MEASURES {
+        expect(&rt, measure_frame(input) == *wanted, case);
     }
-    None
 }
 
 #[test]
 fn cut_frames_are_short(rt: HostRuntime) {
-    expect_right(&rt, first_not_short(DATAGRAM));
+    for length in 0..DATAGRAM.len() {
+        expect(
+            &rt,
+            measure_frame(&DATAGRAM[..length]) == Measure::Short,
+            &length,
+        );
+    }
 }
 
 /// Whether the primitive's frame is these bytes.
@@ -191,7 +178,7 @@ static PIECES: [(&'static [u8], usize); 5] = [
 ];
 
 /// How many frames the piece completes; `None` where it can't be read.
-fn count_completed(reader: &mut FrameReader, piece: &[u8]) -> Option<usize> {
+pub(super) fn count_completed(reader: &mut FrameReader, piece: &[u8]) -> Option<usize> {
     match reader.feed(piece) {
         Ok(prims) => {
             let count = prims.len();
@@ -205,23 +192,18 @@ fn count_completed(reader: &mut FrameReader, piece: &[u8]) -> Option<usize> {
     }
 }
 
-/// The first piece that completes another number of frames.
-fn first_wrong(reader: &mut FrameReader) -> Option<usize> {
-    for (number, (piece, wanted)) in PIECES.iter().enumerate() {
-        if count_completed(reader, piece) != Some(*wanted) {
-            return Some(number);
-        }
-    }
-    None
-}
-
 #[test]
 fn feeds(rt: HostRuntime) {
     let mut reader = FrameReader::new(rt.alloc());
-    let wrong = first_wrong(&mut reader);
+    for (number, (piece, wanted)) in PIECES.iter().enumerate() {
+        expect(
+            &rt,
+            count_completed(&mut reader, piece) == Some(*wanted),
+            &number,
+        );
+    }
     let rest = reader.rest();
     drop(reader);
-    expect_right(&rt, wrong);
     assert!(rt; rest == 3);
 }
 
