@@ -39,7 +39,7 @@ table =
     ∷ row 6 (part ∷ any ∷ []) 0
     ∷ row 7 [] 0
     ∷ row 8 (part ∷ part ∷ []) MOST_DATA
-    ∷ row 10 [] 0
+    ∷ row 10 [] MOST_DATA
     ∷ row 11 (part ∷ part ∷ any ∷ []) MOST_DATA
     ∷ row 12 (part ∷ part ∷ []) MOST_DATA
     ∷ row 13 (any ∷ any ∷ []) MOST_DATA
@@ -50,7 +50,7 @@ table =
     ∷ row 19 (any ∷ []) 0
     ∷ row 20 (part ∷ part ∷ []) MOST_DATA
     ∷ row 21 (part ∷ part ∷ any ∷ []) 0
-    ∷ row 23 [] 0
+    ∷ row 23 [] MOST_DATA
     ∷ []
 
 -- what a frame has at a slot

@@ -41,7 +41,7 @@ pub enum Kind {
     T_UNBIND_REQ,
     /// Sends a datagram: DEST, OPT; with user data.
     T_UNITDATA_REQ,
-    /// Asks for an orderly release: no words.
+    /// Asks for an orderly release: no words; with user data.
     T_ORDREL_REQ,
     /// Tells of a connection that is asked for: SRC (the calling address), OPT, SEQ_number; with user data.
     T_CONN_IND,
@@ -63,7 +63,7 @@ pub enum Kind {
     T_UNITDATA_IND,
     /// Tells of a datagram that failed: DEST, OPT, ERROR_type.
     T_UDERROR_IND,
-    /// Tells of an orderly release that is asked for: no words.
+    /// Tells of an orderly release that is asked for: no words; with user data.
     T_ORDREL_IND,
 }
 
@@ -218,20 +218,20 @@ impl Kind {
             | Kind::T_DATA_REQ
             | Kind::T_EXDATA_REQ
             | Kind::T_UNITDATA_REQ
+            | Kind::T_ORDREL_REQ
             | Kind::T_CONN_IND
             | Kind::T_CONN_CON
             | Kind::T_DISCON_IND
             | Kind::T_DATA_IND
             | Kind::T_EXDATA_IND
-            | Kind::T_UNITDATA_IND => MOST_DATA,
+            | Kind::T_UNITDATA_IND
+            | Kind::T_ORDREL_IND => MOST_DATA,
             Kind::T_BIND_REQ
             | Kind::T_UNBIND_REQ
-            | Kind::T_ORDREL_REQ
             | Kind::T_BIND_ACK
             | Kind::T_ERROR_ACK
             | Kind::T_OK_ACK
-            | Kind::T_UDERROR_IND
-            | Kind::T_ORDREL_IND => 0,
+            | Kind::T_UDERROR_IND => 0,
         }
     }
 

@@ -276,12 +276,10 @@ filled-read_as kind.T_DATA_IND vs u bs room r = flagged kind.T_DATA_IND (word_in
 filled-read_as kind.T_EXDATA_IND vs u bs room r = flagged kind.T_EXDATA_IND (word_in bs 12) vs _ u r.lies.0 r.values r.user
 filled-read_as kind.T_BIND_REQ vs u bs room r = no_data kind.T_BIND_REQ _ vs u refl room r.values
 filled-read_as kind.T_UNBIND_REQ vs u bs room r = no_data kind.T_UNBIND_REQ _ vs u refl room r.values
-filled-read_as kind.T_ORDREL_REQ vs u bs room r = no_data kind.T_ORDREL_REQ _ vs u refl room r.values
 filled-read_as kind.T_BIND_ACK vs u bs room r = no_data kind.T_BIND_ACK _ vs u refl room r.values
 filled-read_as kind.T_ERROR_ACK vs u bs room r = no_data kind.T_ERROR_ACK _ vs u refl room r.values
 filled-read_as kind.T_OK_ACK vs u bs room r = no_data kind.T_OK_ACK _ vs u refl room r.values
 filled-read_as kind.T_UDERROR_IND vs u bs room r = no_data kind.T_UDERROR_IND _ vs u refl room r.values
-filled-read_as kind.T_ORDREL_IND vs u bs room r = no_data kind.T_ORDREL_IND _ vs u refl room r.values
 filled-read_as k vs u bs room r = made k _ vs _ u r.values r.user
 
 all_kinds : List Kind

@@ -22,6 +22,10 @@ part_in bs place = take (word_in bs place) (drop (8 + word_in bs (place + 4)) bs
 unfoldable pub user_in : List ℕ → List ℕ
 user_in bs = drop (8 + word_in bs 0) bs
 
+-- the two parts whose words stand first, and the user data
+abbrev pub address_options_user : List ℕ → List ℕ × List ℕ × List ℕ
+address_options_user bs = (part_in bs 12, part_in bs 20, user_in bs)
+
 abbrev pub flag_in : List ℕ → Bool
 flag_in bs = not (nat_eq (word_in bs 12) 0)
 
@@ -35,7 +39,7 @@ read_as kind.T_EXDATA_REQ bs = prim.T_EXDATA_REQ (flag_in bs) (user_in bs)
 read_as kind.T_BIND_REQ bs = prim.T_BIND_REQ (part_in bs 12) (word_in bs 20)
 read_as kind.T_UNBIND_REQ bs = prim.T_UNBIND_REQ
 read_as kind.T_UNITDATA_REQ bs = prim.T_UNITDATA_REQ (part_in bs 12) (part_in bs 20) (user_in bs)
-read_as kind.T_ORDREL_REQ bs = prim.T_ORDREL_REQ
+read_as kind.T_ORDREL_REQ bs = prim.T_ORDREL_REQ (user_in bs)
 read_as kind.T_CONN_IND bs = prim.T_CONN_IND (part_in bs 12) (part_in bs 20) (word_in bs 28) (user_in bs)
 read_as kind.T_CONN_CON bs = prim.T_CONN_CON (part_in bs 12) (part_in bs 20) (user_in bs)
 read_as kind.T_DISCON_IND bs = prim.T_DISCON_IND (word_in bs 12) (word_in bs 16) (user_in bs)
@@ -46,7 +50,7 @@ read_as kind.T_ERROR_ACK bs = prim.T_ERROR_ACK (word_in bs 12) (word_in bs 16) (
 read_as kind.T_OK_ACK bs = prim.T_OK_ACK (word_in bs 12)
 read_as kind.T_UNITDATA_IND bs = prim.T_UNITDATA_IND (part_in bs 12) (part_in bs 20) (user_in bs)
 read_as kind.T_UDERROR_IND bs = prim.T_UDERROR_IND (part_in bs 12) (part_in bs 20) (word_in bs 28)
-read_as kind.T_ORDREL_IND bs = prim.T_ORDREL_IND
+read_as kind.T_ORDREL_IND bs = prim.T_ORDREL_IND (user_in bs)
 
 -- primitives of an address, options and user data
 abbrev pub is_addressed : Kind → Bool
@@ -76,10 +80,8 @@ is_binding other = false
 -- primitives of numbers alone, or of none
 abbrev pub has_numbers_alone : Kind → Bool
 has_numbers_alone kind.T_UNBIND_REQ = true
-has_numbers_alone kind.T_ORDREL_REQ = true
 has_numbers_alone kind.T_ERROR_ACK = true
 has_numbers_alone kind.T_OK_ACK = true
-has_numbers_alone kind.T_ORDREL_IND = true
 has_numbers_alone other = false
 
 -- the kind of a frame

@@ -26,7 +26,7 @@ filled (prim.T_EXDATA_REQ more user) = of_kind kind.T_EXDATA_REQ (flag_value mor
 filled (prim.T_BIND_REQ addr conind_number) = of_kind kind.T_BIND_REQ (text addr ∷ num conind_number ∷ []) []
 filled prim.T_UNBIND_REQ = of_kind kind.T_UNBIND_REQ [] []
 filled (prim.T_UNITDATA_REQ dest opt user) = of_kind kind.T_UNITDATA_REQ (text dest ∷ text opt ∷ []) user
-filled prim.T_ORDREL_REQ = of_kind kind.T_ORDREL_REQ [] []
+filled (prim.T_ORDREL_REQ user) = of_kind kind.T_ORDREL_REQ [] user
 filled (prim.T_CONN_IND src opt seq_number user) = of_kind kind.T_CONN_IND (text src ∷ text opt ∷ num seq_number ∷ []) user
 filled (prim.T_CONN_CON res opt user) = of_kind kind.T_CONN_CON (text res ∷ text opt ∷ []) user
 filled (prim.T_DISCON_IND reason seq_number user) = of_kind kind.T_DISCON_IND (num reason ∷ num seq_number ∷ []) user
@@ -37,7 +37,7 @@ filled (prim.T_ERROR_ACK error_prim tli_error unix_error) = of_kind kind.T_ERROR
 filled (prim.T_OK_ACK correct_prim) = of_kind kind.T_OK_ACK (num correct_prim ∷ []) []
 filled (prim.T_UNITDATA_IND src opt user) = of_kind kind.T_UNITDATA_IND (text src ∷ text opt ∷ []) user
 filled (prim.T_UDERROR_IND dest opt error_type) = of_kind kind.T_UDERROR_IND (text dest ∷ text opt ∷ num error_type ∷ []) []
-filled prim.T_ORDREL_IND = of_kind kind.T_ORDREL_IND [] []
+filled (prim.T_ORDREL_IND user) = of_kind kind.T_ORDREL_IND [] user
 
 -- the kinds at their numbers; the last one stands where no kind has the number
 abbrev pub kinds_by_number : List Kind

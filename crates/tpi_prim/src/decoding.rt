@@ -6,7 +6,7 @@ ghost use Rattle.tpi_grammar.specs.Kinds.{row_of};
 ghost use Rattle.tpi_grammar.specs.Measured.{IsFrame};
 ghost use Rattle.tpi_prim.specs.declared.primitive.Prim.{Prim};
 ghost use Rattle.tpi_prim.specs.Primitive.{filled};
-ghost use Rattle.tpi_prim.specs.Fields.{part_in, user_in, read_as, primitive_in, HasPartAt, LiesIn, has_no_part, has_numbers_alone, is_addressed, is_binding};
+ghost use Rattle.tpi_prim.specs.Fields.{address_options_user, part_in, user_in, read_as, primitive_in, HasPartAt, LiesIn, has_no_part, has_numbers_alone, is_addressed, is_binding};
 ghost use Rattle.tpi_prim.specs.Decoding.{MeansDecoded, GivesBack};
 
 use crate::frames::{kind_at, part_at, user_at, word_at};
@@ -61,7 +61,6 @@ fn read_numbers(kind: Kind, bytes: &[u8]) -> Prim
 {
     match kind {
         Kind::T_UNBIND_REQ => Prim::T_UNBIND_REQ,
-        Kind::T_ORDREL_REQ => Prim::T_ORDREL_REQ,
         Kind::T_ERROR_ACK => Prim::T_ERROR_ACK {
             error_prim: word_at(bytes, 12),
             tli_error: word_at(bytes, 16),
@@ -70,7 +69,6 @@ fn read_numbers(kind: Kind, bytes: &[u8]) -> Prim
         Kind::T_OK_ACK => Prim::T_OK_ACK {
             correct_prim: word_at(bytes, 12),
         },
-        Kind::T_ORDREL_IND => Prim::T_ORDREL_IND,
         _ => unreachable!(),
     }
 }
@@ -138,7 +136,7 @@ fn read_sent(kind: Kind, user: Bytes, bytes: &[u8]) -> Prim
 fn read_addressed(kind: Kind, parts: (Bytes, Bytes, Bytes), bytes: &[u8]) -> Prim
     requires family { is_addressed kind ≡ true }
     requires lies { LiesIn (row_of kind).slots 12 bytes.now }
-    requires parts { parts ≡ (part_in bytes.now 12, part_in bytes.now 20, user_in bytes.now) }
+    requires parts { parts ≡ address_options_user bytes.now }
     ensures { result ≡ read_as kind bytes.now }
 {
     let (first, opt, user) = parts;
@@ -210,6 +208,12 @@ fn read_as(alloc: Global, kind: Kind, bytes: &[u8]) -> Result<Prim, AllocError>
                 error_type: word_at(bytes, 28),
             })
         }
+        Kind::T_ORDREL_REQ => Ok(Prim::T_ORDREL_REQ {
+            user: copy_user(alloc, bytes)?,
+        }),
+        Kind::T_ORDREL_IND => Ok(Prim::T_ORDREL_IND {
+            user: copy_user(alloc, bytes)?,
+        }),
         _ => Ok(read_numbers(kind, bytes)),
     }
 }
@@ -220,7 +224,7 @@ fn copy_all(alloc: Global, bytes: &[u8]) -> Result<(Bytes, Bytes, Bytes), AllocE
     requires words { 28 ≤ length bytes.now }
     requires first { HasPartAt bytes.now 12 }
     requires second { HasPartAt bytes.now 20 }
-    ensures { IfOk result (λ it. it ≡ (part_in bytes.now 12, part_in bytes.now 20, user_in bytes.now)) }
+    ensures { IfOk result (λ parts. parts ≡ address_options_user bytes.now) }
 {
     let (first, second) = copy_two(alloc, bytes)?;
     match copy_user(alloc, bytes) {

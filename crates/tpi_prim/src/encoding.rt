@@ -9,7 +9,7 @@ ghost use Rattle.tpi_grammar.specs.Frame.{text, AreBytes, IsFilled, spelling, wo
 ghost use Rattle.tpi_prim.specs.Primitive.{filled, Spells};
 ghost use Rattle.tpi_prim.specs.Fields.{primitive_in};
 ghost use Rattle.tpi_prim.specs.declared.frames.TheConstants.{INLINE};
-ghost use Rattle.tpi_prim.specs.declared.primitive.Prim.TheVariants.{T_CONN_IND, T_CONN_CON, T_DISCON_IND, T_UNITDATA_IND, T_UDERROR_IND};
+ghost use Rattle.tpi_prim.specs.declared.primitive.Prim.TheVariants.{T_CONN_IND, T_CONN_CON, T_DISCON_IND, T_UNITDATA_IND, T_UDERROR_IND, T_ORDREL_IND};
 ghost use Rattle.tpi_prim.specs.Lent.{control_of, filled_by, frame_of, front_of, parts_size, value_of, values_of, FailsWhereTooBig, FitsRow, HasShape, IsSpelled, IsTooBig, ReadsBack};
 
 use crate::frames::{Frame, FrameBytes, INLINE};
@@ -158,6 +158,20 @@ pub fn encode_uderror_ind<'a>(
             Field::Number(error_type),
         ],
         user: &[],
+    };
+    lent.frame(alloc)
+}
+
+/// The frame of a T_ORDREL_IND with this user data. It is lent, so that none is copied on the way to the frame.
+pub fn encode_ordrel_ind(alloc: Global, user: &[u8]) -> Result<Frame, EncodeFail>
+    ensures spelled { IsSpelled (T_ORDREL_IND user.now) result }
+    ensures read { ReadsBack (T_ORDREL_IND user.now) result }
+    ensures too_big { FailsWhereTooBig (T_ORDREL_IND user.now) result }
+{
+    let lent = Lent {
+        kind: Kind::T_ORDREL_IND,
+        fields: [Field::Nothing, Field::Nothing, Field::Nothing],
+        user,
     };
     lent.frame(alloc)
 }
@@ -494,7 +508,7 @@ fn fields_of(prim: &Prim) -> [Field<'_>; 3]
             Field::Number(*tli_error),
             Field::Number(*unix_error),
         ],
-        Prim::T_UNBIND_REQ | Prim::T_ORDREL_REQ | Prim::T_ORDREL_IND => [
+        Prim::T_UNBIND_REQ | Prim::T_ORDREL_REQ { .. } | Prim::T_ORDREL_IND { .. } => [
             Field::Nothing,
             Field::Nothing,
             Field::Nothing,
@@ -519,12 +533,14 @@ fn user_of(prim: &Prim) -> &[u8]
         | Prim::T_DATA_REQ { user, .. }
         | Prim::T_EXDATA_REQ { user, .. }
         | Prim::T_UNITDATA_REQ { user, .. }
+        | Prim::T_ORDREL_REQ { user }
         | Prim::T_CONN_IND { user, .. }
         | Prim::T_CONN_CON { user, .. }
         | Prim::T_DISCON_IND { user, .. }
         | Prim::T_DATA_IND { user, .. }
         | Prim::T_EXDATA_IND { user, .. }
-        | Prim::T_UNITDATA_IND { user, .. } => user.as_slice(),
+        | Prim::T_UNITDATA_IND { user, .. }
+        | Prim::T_ORDREL_IND { user } => user.as_slice(),
         _ => &[],
     }
 }

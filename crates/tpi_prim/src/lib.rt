@@ -12,8 +12,8 @@ mod reading;
 
 pub use decoding::{Decoded, decode};
 pub use encoding::{
-    EncodeFail, encode, encode_conn_con, encode_conn_ind, encode_discon_ind, encode_uderror_ind,
-    encode_unitdata_ind,
+    EncodeFail, encode, encode_conn_con, encode_conn_ind, encode_discon_ind, encode_ordrel_ind,
+    encode_uderror_ind, encode_unitdata_ind,
 };
 pub use frames::Frame;
 pub use indication::IndicationWriter;

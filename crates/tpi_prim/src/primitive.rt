@@ -43,7 +43,9 @@ pub enum Prim {
         opt: Bytes,
         user: Bytes,
     },
-    T_ORDREL_REQ,
+    T_ORDREL_REQ {
+        user: Bytes,
+    },
     T_CONN_IND {
         src: Bytes,
         opt: Bytes,
@@ -90,7 +92,9 @@ pub enum Prim {
         opt: Bytes,
         error_type: u32,
     },
-    T_ORDREL_IND,
+    T_ORDREL_IND {
+        user: Bytes,
+    },
 }
 
 impl Prim {
@@ -110,7 +114,7 @@ impl Prim {
             Prim::T_BIND_REQ { .. } => Kind::T_BIND_REQ,
             Prim::T_UNBIND_REQ => Kind::T_UNBIND_REQ,
             Prim::T_UNITDATA_REQ { .. } => Kind::T_UNITDATA_REQ,
-            Prim::T_ORDREL_REQ => Kind::T_ORDREL_REQ,
+            Prim::T_ORDREL_REQ { .. } => Kind::T_ORDREL_REQ,
             Prim::T_CONN_IND { .. } => Kind::T_CONN_IND,
             Prim::T_CONN_CON { .. } => Kind::T_CONN_CON,
             Prim::T_DISCON_IND { .. } => Kind::T_DISCON_IND,
@@ -121,7 +125,7 @@ impl Prim {
             Prim::T_OK_ACK { .. } => Kind::T_OK_ACK,
             Prim::T_UNITDATA_IND { .. } => Kind::T_UNITDATA_IND,
             Prim::T_UDERROR_IND { .. } => Kind::T_UDERROR_IND,
-            Prim::T_ORDREL_IND => Kind::T_ORDREL_IND,
+            Prim::T_ORDREL_IND { .. } => Kind::T_ORDREL_IND,
         }
     }
 }

@@ -49,7 +49,7 @@ frame_text (T_EXDATA_REQ more user) = name_word (codes "T_EXDATA_REQ") ++ flag_f
 frame_text (T_BIND_REQ addr conind_number) = name_word (codes "T_BIND_REQ") ++ part_field (codes " ADDR=") addr ++ number_field (codes " CONIND_number=") conind_number
 frame_text T_UNBIND_REQ = name_word (codes "T_UNBIND_REQ")
 frame_text (T_UNITDATA_REQ dest opt user) = name_word (codes "T_UNITDATA_REQ") ++ part_field (codes " DEST=") dest ++ part_field (codes " OPT=") opt ++ user_field user
-frame_text T_ORDREL_REQ = name_word (codes "T_ORDREL_REQ")
+frame_text (T_ORDREL_REQ user) = name_word (codes "T_ORDREL_REQ") ++ user_field user
 frame_text (T_CONN_IND src opt seq_number user) = name_word (codes "T_CONN_IND") ++ part_field (codes " SRC=") src ++ part_field (codes " OPT=") opt ++ number_field (codes " SEQ_number=") seq_number ++ user_field user
 frame_text (T_CONN_CON res opt user) = name_word (codes "T_CONN_CON") ++ part_field (codes " RES=") res ++ part_field (codes " OPT=") opt ++ user_field user
 frame_text (T_DISCON_IND reason seq_number user) = name_word (codes "T_DISCON_IND") ++ number_field (codes " DISCON_reason=") reason ++ number_field (codes " SEQ_number=") seq_number ++ user_field user
@@ -60,7 +60,7 @@ frame_text (T_ERROR_ACK error_prim tli_error unix_error) = name_word (codes "T_E
 frame_text (T_OK_ACK correct_prim) = name_word (codes "T_OK_ACK") ++ number_field (codes " CORRECT_prim=") correct_prim
 frame_text (T_UNITDATA_IND src opt user) = name_word (codes "T_UNITDATA_IND") ++ part_field (codes " SRC=") src ++ part_field (codes " OPT=") opt ++ user_field user
 frame_text (T_UDERROR_IND dest opt error_type) = name_word (codes "T_UDERROR_IND") ++ part_field (codes " DEST=") dest ++ part_field (codes " OPT=") opt ++ number_field (codes " ERROR_type=") error_type
-frame_text T_ORDREL_IND = name_word (codes "T_ORDREL_IND")
+frame_text (T_ORDREL_IND user) = name_word (codes "T_ORDREL_IND") ++ user_field user
 
 abbrev pub frame_line : Prim → List ℕ
 frame_line p = frame_text p ++ codes "\n"
@@ -88,11 +88,11 @@ abbrev pub is_of_connection : Prim → Bool
 is_of_connection (T_CONN_REQ dest opt user) = true
 is_of_connection (T_CONN_RES acceptor_id opt seq_number user) = true
 is_of_connection (T_DISCON_REQ seq_number user) = true
-is_of_connection T_ORDREL_REQ = true
+is_of_connection (T_ORDREL_REQ user) = true
 is_of_connection (T_CONN_IND src opt seq_number user) = true
 is_of_connection (T_CONN_CON res opt user) = true
 is_of_connection (T_DISCON_IND reason seq_number user) = true
-is_of_connection T_ORDREL_IND = true
+is_of_connection (T_ORDREL_IND user) = true
 is_of_connection other = false
 
 abbrev pub is_of_data : Prim → Bool

@@ -1,6 +1,6 @@
 //! The line of one primitive.
 
-ghost use Rattle.std.specs.Prelude.{OnOk, IsTrue};
+ghost use Rattle.std.specs.Prelude.{◌++◌, OnOk, IsTrue};
 ghost use Rattle.xti_frames.specs.FrameText.{Adds, name_word, number_field, flag_field, part_field, user_field, flagged_text, parts_text, frame_text, frame_line, is_of_connection, is_of_data, is_of_binding};
 
 use bytes::Bytes;
@@ -67,6 +67,14 @@ fn put_parts(
     put_part(out, " OPT=", opt)
 }
 
+// The name of a primitive that has no words, and the user data.
+fn put_without_words(out: &mut Vec<u8>, name: &str, user: &Bytes) -> Result<(), AllocError>
+    ensures { OnOk result (Adds (name_word name.now ++ user_field user.now) out.old out.new) }
+{
+    put_name(out, name)?;
+    put_user(out, user)
+}
+
 // A primitive of a connection, from its request to its end.
 fn put_connection(out: &mut Vec<u8>, prim: &Prim) -> Result<(), AllocError>
     requires { IsTrue (is_of_connection prim.now) }
@@ -94,7 +102,7 @@ fn put_connection(out: &mut Vec<u8>, prim: &Prim) -> Result<(), AllocError>
             put_field(out, " SEQ_number=", *seq_number)?;
             put_user(out, user)
         }
-        Prim::T_ORDREL_REQ => put_name(out, "T_ORDREL_REQ"),
+        Prim::T_ORDREL_REQ { user } => put_without_words(out, "T_ORDREL_REQ", user),
         Prim::T_CONN_IND {
             src,
             opt,
@@ -119,7 +127,7 @@ fn put_connection(out: &mut Vec<u8>, prim: &Prim) -> Result<(), AllocError>
             put_field(out, " SEQ_number=", *seq_number)?;
             put_user(out, user)
         }
-        Prim::T_ORDREL_IND => put_name(out, "T_ORDREL_IND"),
+        Prim::T_ORDREL_IND { user } => put_without_words(out, "T_ORDREL_IND", user),
         _ => unreachable!(),
     }
 }
@@ -207,11 +215,11 @@ fn put_prim(out: &mut Vec<u8>, prim: &Prim) -> Result<(), AllocError>
         Prim::T_CONN_REQ { .. }
         | Prim::T_CONN_RES { .. }
         | Prim::T_DISCON_REQ { .. }
-        | Prim::T_ORDREL_REQ
+        | Prim::T_ORDREL_REQ { .. }
         | Prim::T_CONN_IND { .. }
         | Prim::T_CONN_CON { .. }
         | Prim::T_DISCON_IND { .. }
-        | Prim::T_ORDREL_IND => put_connection(out, prim),
+        | Prim::T_ORDREL_IND { .. } => put_connection(out, prim),
         Prim::T_DATA_REQ { .. }
         | Prim::T_EXDATA_REQ { .. }
         | Prim::T_UNITDATA_REQ { .. }

@@ -14,4 +14,4 @@ pub returns-in_ok-put_field-in-T_DISCON_IND-2 : goal.returns-in_ok-put_field-in-
 returns-in_ok-put_field-in-T_DISCON_IND-2 c = rw c.in-T_DISCON_IND.is (joined_ok _ _ _ _ _ _ (joined _ _ _ _ _ (joined _ _ _ _ _ c.in_ok-put_name-in-T_DISCON_IND.ensures c.in_ok-put_field-in-T_DISCON_IND.ensures) c.in_ok-put_field-in-T_DISCON_IND-2.ensures) c.put_user-in-T_DISCON_IND.ensures)
 
 pub returns-in-T_ORDREL_IND : goal.returns-in-T_ORDREL_IND
-returns-in-T_ORDREL_IND c = rw c.in-T_ORDREL_IND.is c.put_name-in-T_ORDREL_IND.ensures
+returns-in-T_ORDREL_IND c = rw c.in-T_ORDREL_IND.is c.put_without_words-in-T_ORDREL_IND.ensures
