@@ -16,7 +16,7 @@ pub use building::{let_go, write_over};
 pub use errno::Errno;
 pub use items::{Calls, Items, Numbers, Parts, Sizes};
 pub use kinds::{Event, Fd, Prov, Seq, ServType, State};
-pub use limit::{Info, Limit};
+pub use limit::{Info, Limit, T_ORDRELDATA, T_SENDZERO};
 pub use octets::Octets;
 pub use options::{Opt, is_option_list, size_of_front};
 pub use room::Room;

@@ -2,6 +2,12 @@
 
 use crate::kinds::ServType;
 
+/// A message may be empty (XNS, `flags` of t_info).
+pub const T_SENDZERO: u32 = 1;
+
+/// Data may go with an orderly release (XNS, `flags` of t_info).
+pub const T_ORDRELDATA: u32 = 2;
+
 /// A limit of a provider, in bytes (XNS, t_info).
 #[derive(Clone, Copy, Debug, PartialEq, Eq)]
 pub enum Limit {
@@ -46,6 +52,6 @@ pub struct Info {
     pub discon: Limit,
     /// The service type.
     pub servtype: ServType,
-    /// T_SENDZERO, 1, or 0.
+    /// The sum of T_SENDZERO and T_ORDRELDATA, where the provider has them.
     pub flags: u32,
 }

@@ -60,7 +60,7 @@ pub record Endpoint : Type 0 where
   pub normal : List ℕ
   pub expedited : List ℕ
   pub mid_expedited : Bool
-  pub release : Bool
+  pub release : Option (List ℕ)
   pub datagrams : List Datagram
   pub begun : Bool
   pub datagram_errors : List DatagramError
@@ -91,7 +91,7 @@ opened profile prov nonblock = record {
   normal = [];
   expedited = [];
   mid_expedited = false;
-  release = false;
+  release = None;
   datagrams = [];
   begun = false;
   datagram_errors = [];
@@ -115,7 +115,7 @@ reset e = record e {
   normal = [];
   expedited = [];
   mid_expedited = false;
-  release = false;
+  release = None;
   unfinished_normal = 0;
   unfinished_expedited = 0;
   flow_normal = false;

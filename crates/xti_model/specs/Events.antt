@@ -43,7 +43,7 @@ is_here e T_CONNECT = is_state (T_OUTCON ∷ []) e && is_some e.confirmation
 is_here e T_UDERR = some_wait e.datagram_errors
 is_here e T_EXDATA = some_wait e.expedited && is_state receiving e
 is_here e T_DATA = (some_wait e.normal && not e.mid_expedited && is_state receiving e) || some_wait e.datagrams
-is_here e T_ORDREL = e.release && not (some_wait e.normal) && not (some_wait e.expedited) && is_state receiving e
+is_here e T_ORDREL = is_some e.release && not (some_wait e.normal) && not (some_wait e.expedited) && is_state receiving e
 is_here e T_GOEXDATA = false
 is_here e T_GODATA = false
 

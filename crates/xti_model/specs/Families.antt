@@ -1,9 +1,9 @@
 -- Families of calls and of replies.
 use Rattle.std.specs.Prelude.{Bool, true, false}
 use Rattle.xti_model.specs.declared.call.Call.{Call}
-use Rattle.xti_model.specs.declared.call.Call.TheVariants.{TBind, TConnect, TRcvConnect, TListen, TAccept, TSnd, TSndV, TRcv, TRcvV, TSndDis, TRcvDis, TSndUData, TSndVUData, TRcvUData, TRcvVUData, TRcvUDErr, TGetProtAddr, TOptMgmt}
+use Rattle.xti_model.specs.declared.call.Call.TheVariants.{TBind, TConnect, TRcvConnect, TListen, TAccept, TSnd, TSndV, TRcv, TRcvV, TSndDis, TRcvDis, TSndRelData, TRcvRelData, TSndUData, TSndVUData, TRcvUData, TRcvVUData, TRcvUDErr, TGetProtAddr, TOptMgmt}
 use Rattle.xti_model.specs.declared.entry.Reply.{Reply}
-use Rattle.xti_model.specs.declared.entry.Reply.TheVariants.{Connected, Listened, Got, Discon, UData, UDErr, Refused, Look, Overflow}
+use Rattle.xti_model.specs.declared.entry.Reply.TheVariants.{Connected, Listened, Got, Discon, RelData, UData, UDErr, Refused, Look, Overflow}
 
 -- calls
 
@@ -19,6 +19,7 @@ abbrev pub is_connection_request : Call → Bool
 is_connection_request (TConnect fd addr opt udata amax omax umax) = true
 is_connection_request (TAccept fd resfd seq opt udata) = true
 is_connection_request (TSndDis fd seq udata) = true
+is_connection_request (TSndRelData fd udata) = true
 is_connection_request other = false
 
 -- takes what the other side asked or answered about a connection
@@ -26,6 +27,7 @@ abbrev pub is_connection_receipt : Call → Bool
 is_connection_receipt (TRcvConnect fd amax omax umax) = true
 is_connection_receipt (TListen fd amax omax umax) = true
 is_connection_receipt (TRcvDis fd umax) = true
+is_connection_receipt (TRcvRelData fd umax) = true
 is_connection_receipt other = false
 
 -- sends data or a datagram
@@ -52,6 +54,7 @@ abbrev pub is_connection_news : Reply → Bool
 is_connection_news (Connected addr opt udata) = true
 is_connection_news (Listened seq addr opt udata) = true
 is_connection_news (Discon reason seq udata) = true
+is_connection_news (RelData udata) = true
 is_connection_news other = false
 
 -- data, a datagram or the error of a datagram

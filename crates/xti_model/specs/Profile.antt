@@ -1,5 +1,7 @@
 -- The values of the providers: those at the start, and those that a script may set.
-use Rattle.std.specs.Prelude.{ℕ, Bool, true, false, ◌==◌, ◌&&◌, ◌||◌, not, nat_le}
+use Rattle.std.specs.Prelude.{ℕ, Bool, true, false, ◌==◌, ◌&&◌, ◌||◌, not, nat_le, Option, Some, None, if◌then◌else◌}
+use Rattle.xti_base.specs.declared.kinds.Prov.{Prov}
+use Rattle.xti_base.specs.declared.kinds.Prov.TheVariants.{Ticots, Ticotsord, Ticlts}
 use Rattle.xti_base.specs.declared.limits.TheConstants.{MOST_SIZE, USUAL_DATAGRAM, USUAL_BUFFER}
 use Rattle.xti_base.specs.declared.limit.Limit.{Limit}
 use Rattle.xti_base.specs.declared.limit.Limit.TheVariants.{At, Infinite, Invalid}
@@ -9,9 +11,9 @@ use Rattle.xti_model.specs.declared.profile.Providers.{Providers}
 -- the values where a script sets none
 abbrev pub usual : Providers
 usual = record {
-  ticots = record { tsdu = At MOST_SIZE; sendzero = true; same_addr = false; sndbuf = USUAL_BUFFER; rcvbuf = USUAL_BUFFER };
-  ticotsord = record { tsdu = At 0; sendzero = false; same_addr = false; sndbuf = USUAL_BUFFER; rcvbuf = USUAL_BUFFER };
-  ticlts = record { tsdu = At USUAL_DATAGRAM; sendzero = true; same_addr = false; sndbuf = USUAL_BUFFER; rcvbuf = USUAL_BUFFER };
+  ticots = record { tsdu = At MOST_SIZE; sendzero = true; same_addr = false; sndbuf = USUAL_BUFFER; rcvbuf = USUAL_BUFFER; reldata = false };
+  ticotsord = record { tsdu = At 0; sendzero = false; same_addr = false; sndbuf = USUAL_BUFFER; rcvbuf = USUAL_BUFFER; reldata = false };
+  ticlts = record { tsdu = At USUAL_DATAGRAM; sendzero = true; same_addr = false; sndbuf = USUAL_BUFFER; rcvbuf = USUAL_BUFFER; reldata = false };
 }
 
 -- a message or a buffer of at least one byte
@@ -49,6 +51,10 @@ valid_connections p = has_buffers p && has_messages p.tsdu
 -- datagrams have no listener whose address could be taken
 abbrev pub valid_datagrams : Profile → Bool
 valid_datagrams p = has_buffers p && has_limit p.tsdu && not p.same_addr
+
+-- the first provider with values that no script may set
+abbrev pub first_wrong : Providers → Option Prov
+first_wrong p = if not (valid_connections p.ticots) then Some Ticots else if not (valid_orderly p.ticotsord) then Some Ticotsord else if not (valid_datagrams p.ticlts) then Some Ticlts else None
 
 -- the values that a script may set
 abbrev pub valid : Providers → Bool

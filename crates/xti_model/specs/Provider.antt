@@ -1,5 +1,6 @@
 -- What a provider offers.
-use Rattle.std.specs.Prelude.{ℕ, zero, suc, Bool, true, false, not, if◌then◌else◌, Option, Some, None}
+use Rattle.std.specs.Prelude.{ℕ, ◌+◌, ◌&&◌, zero, suc, Bool, true, false, not, if◌then◌else◌, Option, Some, None}
+use Rattle.xti_base.specs.declared.limit.TheConstants.{T_SENDZERO, T_ORDRELDATA}
 use Rattle.xti_base.specs.declared.limits.TheConstants.{MOST_ADDRESS, MOST_OPTIONS, MOST_CONNECT_DATA, MOST_EXPEDITED_MESSAGE}
 use Rattle.xti_base.specs.Kinds.{same_service}
 use Rattle.xti_base.specs.declared.limit.Info.{Info}
@@ -44,6 +45,18 @@ has_connections prov = not (has_datagrams prov)
 abbrev pub has_release : Prov → Bool
 has_release prov = same_service (service prov) T_COTS_ORD
 
+-- T_ORDRELDATA: data may go with an orderly release
+abbrev pub has_release_data : Providers → Prov → Bool
+has_release_data p prov = has_release prov && (profile p prov).reldata
+
+-- the most bytes of data that go with an orderly release
+abbrev pub release_limit : Providers → Prov → ℕ
+release_limit p prov = if has_release_data p prov then MOST_CONNECT_DATA else 0
+
+-- the flags of a provider
+abbrev pub flags : Providers → Prov → ℕ
+flags p prov = (if (profile p prov).sendzero then T_SENDZERO else 0) + (if has_release_data p prov then T_ORDRELDATA else 0)
+
 -- the most bytes of one message, where that is a number over 0
 abbrev pub limit_over_zero : Limit → Option ℕ
 limit_over_zero (At zero) = None
@@ -74,5 +87,5 @@ info p prov = record {
   connect = connection_limit prov;
   discon = connection_limit prov;
   servtype = service prov;
-  flags = if (profile p prov).sendzero then 1 else 0;
+  flags = flags p prov;
 }

@@ -38,6 +38,7 @@ HasByteArguments (named.TAccept fd resfd seq opt udata) = AreBytes opt × AreByt
 HasByteArguments (named.TSnd fd bytes flags) = AreBytes bytes
 HasByteArguments (named.TSndV fd parts flags) = AreBytes (concat parts)
 HasByteArguments (named.TSndDis fd seq udata) = AreBytes udata
+HasByteArguments (named.TSndRelData fd udata) = AreBytes udata
 HasByteArguments (named.TSndUData fd addr opt bytes) = AreBytes addr × AreBytes opt × AreBytes bytes
 HasByteArguments (named.TSndVUData fd addr opt parts) = AreBytes addr × AreBytes opt × AreBytes (concat parts)
 HasByteArguments (named.TOptMgmt fd action opt omax) = AreBytes opt

@@ -1,5 +1,5 @@
 -- One step of a world: what each call does, and what is answered.
-use Rattle.std.specs.Prelude.{ℕ, Bool, List, length, sum, Option, Some, None, is_none, if◌then◌else◌}
+use Rattle.std.specs.Prelude.{ℕ, Bool, List, [], length, sum, Option, Some, None, is_none, if◌then◌else◌}
 use Rattle.std.specs.List.{concat}
 use Rattle.xti_base.specs.declared.kinds.State.{State}
 use Rattle.xti_model.specs.declared.call.Call.{Call}
@@ -50,8 +50,10 @@ plan p w (call.TRcv fd max) go = Receive.plan p w fd.0 1 max
 plan p w (call.TRcvV fd sizes) go = Receive.plan p w fd.0 (length sizes) (sum sizes)
 plan p w (call.TSndDis fd seq udata) go = Disconnect.send_plan p w fd.0 seq.0 udata
 plan p w (call.TRcvDis fd umax) go = Disconnect.receive_plan p w fd.0 umax
-plan p w (call.TSndRel fd) go = Release.send_plan p w fd.0
+plan p w (call.TSndRel fd) go = Release.send_plan p w fd.0 []
 plan p w (call.TRcvRel fd) go = Release.receive_plan p w fd.0
+plan p w (call.TSndRelData fd udata) go = Release.send_plan p w fd.0 udata
+plan p w (call.TRcvRelData fd umax) go = Release.receive_data_plan p w fd.0 umax
 plan p w (call.TSndUData fd addr opt bytes) go = Datagrams.send_plan p w fd.0 addr opt 1 bytes
 plan p w (call.TSndVUData fd addr opt parts) go = Datagrams.send_plan p w fd.0 addr opt (length parts) (concat parts)
 plan p w (call.TRcvUData fd max amax omax) go = Datagrams.receive_plan p w fd.0 1 max amax omax

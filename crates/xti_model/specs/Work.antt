@@ -13,6 +13,7 @@ argument_bytes (named.TAccept fd resfd seq opt udata) = length opt + length udat
 argument_bytes (named.TSnd fd bytes flags) = length bytes
 argument_bytes (named.TSndV fd parts flags) = length (concat parts)
 argument_bytes (named.TSndDis fd seq udata) = length udata
+argument_bytes (named.TSndRelData fd udata) = length udata
 argument_bytes (named.TSndUData fd addr opt bytes) = length addr + length opt + length bytes
 argument_bytes (named.TSndVUData fd addr opt parts) = length addr + length opt + length (concat parts)
 argument_bytes (named.TOptMgmt fd action opt omax) = length opt

@@ -103,6 +103,16 @@ pub enum Call {
     TRcvRel {
         fd: Fd,
     },
+    /// t_sndreldata: data that go with the release.
+    TSndRelData {
+        fd: Fd,
+        udata: Octets,
+    },
+    /// t_rcvreldata.
+    TRcvRelData {
+        fd: Fd,
+        umax: u32,
+    },
     /// t_sndudata: destination, options and data of a datagram.
     TSndUData {
         fd: Fd,
@@ -251,6 +261,10 @@ fn copy_connection_request(call: &Call) -> Result<Call, AllocError>
             seq: *seq,
             udata: udata.copy()?,
         }),
+        Call::TSndRelData { fd, udata } => Ok(Call::TSndRelData {
+            fd: *fd,
+            udata: udata.copy()?,
+        }),
         _ => unreachable!(),
     }
 }
@@ -284,6 +298,10 @@ fn copy_connection_receipt(call: &Call) -> Result<Call, AllocError>
             umax: *umax,
         }),
         Call::TRcvDis { fd, umax } => Ok(Call::TRcvDis {
+            fd: *fd,
+            umax: *umax,
+        }),
+        Call::TRcvRelData { fd, umax } => Ok(Call::TRcvRelData {
             fd: *fd,
             umax: *umax,
         }),
@@ -398,6 +416,8 @@ impl Call {
             | Call::TRcvDis { fd, .. }
             | Call::TSndRel { fd }
             | Call::TRcvRel { fd }
+            | Call::TSndRelData { fd, .. }
+            | Call::TRcvRelData { fd, .. }
             | Call::TSndUData { fd, .. }
             | Call::TSndVUData { fd, .. }
             | Call::TRcvUData { fd, .. }
@@ -436,10 +456,14 @@ impl Call {
             }),
             Call::TBind { .. } | Call::TGetProtAddr { .. } | Call::TOptMgmt { .. } =>
                 copy_address_or_options(self),
-            Call::TConnect { .. } | Call::TAccept { .. } | Call::TSndDis { .. } =>
-                copy_connection_request(self),
-            Call::TRcvConnect { .. } | Call::TListen { .. } | Call::TRcvDis { .. } =>
-                copy_connection_receipt(self),
+            Call::TConnect { .. }
+            | Call::TAccept { .. }
+            | Call::TSndDis { .. }
+            | Call::TSndRelData { .. } => copy_connection_request(self),
+            Call::TRcvConnect { .. }
+            | Call::TListen { .. }
+            | Call::TRcvDis { .. }
+            | Call::TRcvRelData { .. } => copy_connection_receipt(self),
             Call::TSnd { .. }
             | Call::TSndV { .. }
             | Call::TSndUData { .. }

@@ -50,6 +50,10 @@ pub enum Reply {
         seq: Seq,
         udata: Octets,
     },
+    /// The data of an orderly release.
+    RelData {
+        udata: Octets,
+    },
     /// A datagram or a part of one, with the flag T_MORE.
     UData {
         addr: Octets,
@@ -126,6 +130,9 @@ fn copy_connection_news(reply: &Reply) -> Result<Reply, AllocError>
             seq: *seq,
             udata: udata.copy()?,
         }),
+        Reply::RelData { udata } => Ok(Reply::RelData {
+            udata: udata.copy()?,
+        }),
         _ => unreachable!(),
     }
 }
@@ -187,8 +194,10 @@ impl Reply {
             Reply::Refused { errno } => Ok(Reply::Refused { errno: *errno }),
             Reply::Look { event } => Ok(Reply::Look { event: *event }),
             Reply::Overflow { seq } => Ok(Reply::Overflow { seq: *seq }),
-            Reply::Connected { .. } | Reply::Listened { .. } | Reply::Discon { .. } =>
-                copy_connection_news(self),
+            Reply::Connected { .. }
+            | Reply::Listened { .. }
+            | Reply::Discon { .. }
+            | Reply::RelData { .. } => copy_connection_news(self),
             Reply::Got { .. } | Reply::UData { .. } | Reply::UDErr { .. } => copy_received(self),
         }
     }

@@ -4,18 +4,12 @@ ghost use Rattle.std.specs.Prelude.{◌≡◌, true};
 ghost use Rattle.std.specs.List.{concat};
 ghost use Rattle.xti_model.specs.declared.script.Script.{Script};
 ghost use Rattle.xti_model.specs.History.{Legal};
-ghost use Rattle.xti_model.specs.Profile.{usual, valid};
 ghost use Rattle.xti_model.specs.Robin.{robin};
 ghost use Rattle.xti_model.specs.SentBytes.{AreBytes, SendsBytes};
 ghost use Rattle.xti_model.specs.Complete.{Follows, Each, workers, Complete, FromAnyHistory, IsShort, GoesOnLegally, GoesOnInOrder, GoesOnToTheEnd};
 
 use crate::call::Call;
 use xti_base::Octets;
-
-/// The starting values are values that a script may set.
-pub fn usual_is_valid()
-    ensures { valid usual ≡ true }
-{}
 
 /// Round robin goes on legally from any legal history, and the whole run is legal.
 pub fn robin_is_legal()

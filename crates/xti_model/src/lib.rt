@@ -13,11 +13,8 @@ mod spot;
 pub use call::Call;
 pub use cells::Cells;
 pub use entry::{Act, Applied, Entries, Entry, Go, Outcome, Reply, Tried};
-pub use laws::{
-    calls_send_bytes, robin_follows, robin_goes_on, robin_is_complete, robin_is_legal,
-    usual_is_valid,
-};
+pub use laws::{calls_send_bytes, robin_follows, robin_goes_on, robin_is_complete, robin_is_legal};
 pub use name::Name;
-pub use profile::{Profile, Providers};
+pub use profile::{Profile, Providers, WrongValues};
 pub use script::{Journal, Line, Lines, NamedCall, Script, StallLine, Stalls};
 pub use spot::Spot;

@@ -1,12 +1,14 @@
 //! What a script's head may set for each provider.
 
-ghost use Rattle.std.specs.Prelude.{◌≡◌, ◌≤◌, ◌<◌};
+ghost use Rattle.std.specs.Prelude.{◌≡◌, ◌≤◌, ◌<◌, true, IfOk, IfErr};
+ghost use Rattle.std.specs.declared.option.Option.TheVariants.{Some};
 ghost use Rattle.xti_base.specs.declared.limits.TheConstants.{MOST_PLACES};
-ghost use Rattle.xti_model.specs.Profile.{usual, is_size, has_limit, has_messages, is_stream_limit, has_buffers, valid_connections, valid_orderly, valid_datagrams, valid};
+ghost use Rattle.xti_model.specs.Profile.{usual, is_size, has_limit, has_messages, is_stream_limit, has_buffers, valid_connections, valid_orderly, valid_datagrams, valid, first_wrong};
 ghost use Rattle.xti_model.specs.World.{places, last_generation, place_of, generation_of, descriptor};
 
+use thiserror::Error;
 use xti_base::limits::{DESCRIPTORS, MOST_PLACES, MOST_SIZE, USUAL_BUFFER, USUAL_DATAGRAM};
-use xti_base::{Fd, Limit};
+use xti_base::{Fd, Limit, Prov};
 
 /// The values of a provider that a script's head may set.
 #[derive(Clone, Copy, Debug, PartialEq, Eq)]
@@ -21,6 +23,8 @@ pub struct Profile {
     pub sndbuf: u32,
     /// The receive size of a new endpoint, in bytes.
     pub rcvbuf: u32,
+    /// Whether data may go with an orderly release, T_ORDRELDATA. It counts for `ticotsord` alone.
+    pub reldata: bool,
 }
 
 /// The values of the three loopback providers.
@@ -32,6 +36,14 @@ pub struct Providers {
     pub ticotsord: Profile,
     /// Datagrams, T_CLTS.
     pub ticlts: Profile,
+}
+
+/// No script may set these values of the provider (`Providers::valid`).
+#[derive(Clone, Copy, Debug, PartialEq, Eq, Error)]
+#[error("the values of {prov:?} are not valid")]
+pub struct WrongValues {
+    /// The provider.
+    pub prov: Prov,
 }
 
 /// Whether a message or a buffer may have so many bytes.
@@ -98,9 +110,10 @@ impl Profile {
 }
 
 impl Providers {
-    /// The starting values.
+    /// The starting values, which are valid.
     pub fn usual() -> Providers
-        ensures { result ≡ usual }
+        ensures values { result ≡ usual }
+        ensures valid { valid result ≡ true }
     {
         let plain = Profile {
             tsdu: Limit::At(MOST_SIZE),
@@ -108,6 +121,7 @@ impl Providers {
             same_addr: false,
             sndbuf: USUAL_BUFFER,
             rcvbuf: USUAL_BUFFER,
+            reldata: false,
         };
         Providers {
             ticots: plain,
@@ -132,6 +146,24 @@ impl Providers {
         self.ticots.valid_connections()
             && self.ticotsord.valid_orderly()
             && self.ticlts.valid_datagrams()
+    }
+
+    /// These values, where they are valid; else which provider's aren't, the first in the order `ticots`, `ticotsord`, `ticlts`.
+    /// Who wants other sizes sets them in the usual values, and ends with this.
+    pub fn checked(self) -> Result<Providers, WrongValues>
+        ensures ok { IfOk result (λ p. (p ≡ self) × (valid p ≡ true)) }
+        ensures err { IfErr result (λ wrong. first_wrong self ≡ Some wrong.prov) }
+    {
+        let prov = if !self.ticots.valid_connections() {
+            Prov::Ticots
+        } else if !self.ticotsord.valid_orderly() {
+            Prov::Ticotsord
+        } else if !self.ticlts.valid_datagrams() {
+            Prov::Ticlts
+        } else {
+            return Ok(self);
+        };
+        Err(WrongValues { prov })
     }
 
     /// How many places of endpoints there are.

@@ -87,6 +87,14 @@ pub enum NamedCall {
     TRcvRel {
         fd: Name,
     },
+    TSndRelData {
+        fd: Name,
+        udata: Octets,
+    },
+    TRcvRelData {
+        fd: Name,
+        umax: u32,
+    },
     TSndUData {
         fd: Name,
         addr: Octets,

@@ -1,7 +1,7 @@
 -- Families of calls and of answers; Verbs.antt has those calls that say no more than which endpoint.
 use Rattle.std.specs.Prelude.{Bool, true, false}
 use Rattle.xti_verbs.specs.declared.verb.Verb.{Verb}
-use Rattle.xti_verbs.specs.declared.verb.Verb.TheVariants.{Open, Bind, Connect, RcvConnect, Listen, Accept, Snd, SndV, Rcv, RcvV, SndDis, RcvDis, SndUData, SndVUData, RcvUData, RcvVUData, RcvUDErr, GetProtAddr, OptMgmt, SetMode}
+use Rattle.xti_verbs.specs.declared.verb.Verb.TheVariants.{Open, Bind, Connect, RcvConnect, Listen, Accept, Snd, SndV, Rcv, RcvV, SndDis, RcvDis, SndRelData, RcvRelData, SndUData, SndVUData, RcvUData, RcvVUData, RcvUDErr, GetProtAddr, OptMgmt, SetMode}
 use Rattle.xti_verbs.specs.declared.answer.Answer.{Answer}
 use Rattle.xti_verbs.specs.declared.answer.Answer.TheVariants as answer
 
@@ -14,7 +14,7 @@ is_local GetProtAddr = true
 is_local OptMgmt = true
 is_local other = false
 
--- makes a connection or breaks it
+-- makes a connection, breaks it or sends data with its release
 abbrev pub is_connecting : Verb → Bool
 is_connecting Connect = true
 is_connecting RcvConnect = true
@@ -22,6 +22,8 @@ is_connecting Listen = true
 is_connecting Accept = true
 is_connecting SndDis = true
 is_connecting RcvDis = true
+is_connecting SndRelData = true
+is_connecting RcvRelData = true
 is_connecting other = false
 
 -- sends or receives on a connection
@@ -66,6 +68,7 @@ is_news answer.Listened = true
 is_news answer.Sent = true
 is_news answer.Got = true
 is_news answer.Discon = true
+is_news answer.RelData = true
 is_news answer.UData = true
 is_news answer.UDErr = true
 is_news other = false

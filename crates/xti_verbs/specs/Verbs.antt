@@ -10,7 +10,7 @@ use Rattle.xti_model.specs.declared.entry.Outcome.{Outcome}
 use Rattle.xti_model.specs.declared.entry.Outcome.TheVariants.{Done, Part}
 use Rattle.xti_model.specs.declared.entry.Reply.TheVariants as reply
 use Rattle.xti_verbs.specs.declared.verb.Verb.{Verb}
-use Rattle.xti_verbs.specs.declared.verb.Verb.TheVariants.{Open, Close, Bind, Unbind, Connect, RcvConnect, Listen, Accept, Snd, SndV, Rcv, RcvV, SndDis, RcvDis, SndRel, RcvRel, SndUData, SndVUData, RcvUData, RcvVUData, RcvUDErr, Look, GetState, Sync, GetInfo, GetProtAddr, OptMgmt, SetMode}
+use Rattle.xti_verbs.specs.declared.verb.Verb.TheVariants.{Open, Close, Bind, Unbind, Connect, RcvConnect, Listen, Accept, Snd, SndV, Rcv, RcvV, SndDis, RcvDis, SndRel, RcvRel, SndRelData, RcvRelData, SndUData, SndVUData, RcvUData, RcvVUData, RcvUDErr, Look, GetState, Sync, GetInfo, GetProtAddr, OptMgmt, SetMode}
 use Rattle.xti_verbs.specs.declared.answer.Answer.{Answer}
 use Rattle.xti_verbs.specs.declared.answer.Answer.TheVariants as answer
 
@@ -37,6 +37,8 @@ row_of SndDis = record { word = codes "snddis"; answer = answer.Plain }
 row_of RcvDis = record { word = codes "rcvdis"; answer = answer.Discon }
 row_of SndRel = record { word = codes "sndrel"; answer = answer.Plain }
 row_of RcvRel = record { word = codes "rcvrel"; answer = answer.Plain }
+row_of SndRelData = record { word = codes "sndreldata"; answer = answer.Plain }
+row_of RcvRelData = record { word = codes "rcvreldata"; answer = answer.RelData }
 row_of SndUData = record { word = codes "sndudata"; answer = answer.Plain }
 row_of SndVUData = record { word = codes "sndvudata"; answer = answer.Plain }
 row_of RcvUData = record { word = codes "rcvudata"; answer = answer.UData }
@@ -58,7 +60,13 @@ answer_of verb = (row_of verb).answer
 
 -- ---- the call that a word is
 
--- the calls whose words have this length
+-- scripts and journals have the call; they don't have sndreldata and rcvreldata
+abbrev pub is_in_texts : Verb → Bool
+is_in_texts SndRelData = false
+is_in_texts RcvRelData = false
+is_in_texts other = true
+
+-- the calls of scripts and journals whose words have this length
 unfoldable pub verbs_of_length : ℕ → List Verb
 verbs_of_length n =
     if n == 3 then Snd ∷ Rcv ∷ [] else
@@ -99,6 +107,8 @@ verb_of (call.TSndDis fd seq udata) = SndDis
 verb_of (call.TRcvDis fd umax) = RcvDis
 verb_of (call.TSndRel fd) = SndRel
 verb_of (call.TRcvRel fd) = RcvRel
+verb_of (call.TSndRelData fd udata) = SndRelData
+verb_of (call.TRcvRelData fd umax) = RcvRelData
 verb_of (call.TSndUData fd addr opt bytes) = SndUData
 verb_of (call.TSndVUData fd addr opt parts) = SndVUData
 verb_of (call.TRcvUData fd max amax omax) = RcvUData
@@ -130,6 +140,8 @@ verb_of_named (named.TSndDis fd seq udata) = SndDis
 verb_of_named (named.TRcvDis fd umax) = RcvDis
 verb_of_named (named.TSndRel fd) = SndRel
 verb_of_named (named.TRcvRel fd) = RcvRel
+verb_of_named (named.TSndRelData fd udata) = SndRelData
+verb_of_named (named.TRcvRelData fd umax) = RcvRelData
 verb_of_named (named.TSndUData fd addr opt bytes) = SndUData
 verb_of_named (named.TSndVUData fd addr opt parts) = SndVUData
 verb_of_named (named.TRcvUData fd max amax omax) = RcvUData
@@ -206,6 +218,7 @@ answer_to (Done (reply.Listened seq addr opt udata)) = answer.Listened
 answer_to (Done (reply.Sent n)) = answer.Sent
 answer_to (Done (reply.Got bytes flags)) = answer.Got
 answer_to (Done (reply.Discon reason seq udata)) = answer.Discon
+answer_to (Done (reply.RelData udata)) = answer.RelData
 answer_to (Done (reply.UData addr opt bytes flags)) = answer.UData
 answer_to (Done (reply.UDErr addr opt code)) = answer.UDErr
 answer_to (Done (reply.Seen event)) = answer.Seen

@@ -12,6 +12,7 @@ pub enum Answer {
     Sent,
     Got,
     Discon,
+    RelData,
     UData,
     UDErr,
     Seen,

@@ -24,6 +24,8 @@ pub enum Verb {
     RcvDis,
     SndRel,
     RcvRel,
+    SndRelData,
+    RcvRelData,
     SndUData,
     SndVUData,
     RcvUData,
@@ -72,6 +74,8 @@ impl Verb {
             Verb::RcvDis => b"rcvdis",
             Verb::SndRel => b"sndrel",
             Verb::RcvRel => b"rcvrel",
+            Verb::SndRelData => b"sndreldata",
+            Verb::RcvRelData => b"rcvreldata",
             Verb::SndUData => b"sndudata",
             Verb::SndVUData => b"sndvudata",
             Verb::RcvUData => b"rcvudata",
@@ -108,6 +112,8 @@ impl Verb {
             Call::TRcvDis { .. } => Verb::RcvDis,
             Call::TSndRel { .. } => Verb::SndRel,
             Call::TRcvRel { .. } => Verb::RcvRel,
+            Call::TSndRelData { .. } => Verb::SndRelData,
+            Call::TRcvRelData { .. } => Verb::RcvRelData,
             Call::TSndUData { .. } => Verb::SndUData,
             Call::TSndVUData { .. } => Verb::SndVUData,
             Call::TRcvUData { .. } => Verb::RcvUData,
@@ -144,6 +150,8 @@ impl Verb {
             NamedCall::TRcvDis { .. } => Verb::RcvDis,
             NamedCall::TSndRel { .. } => Verb::SndRel,
             NamedCall::TRcvRel { .. } => Verb::RcvRel,
+            NamedCall::TSndRelData { .. } => Verb::SndRelData,
+            NamedCall::TRcvRelData { .. } => Verb::RcvRelData,
             NamedCall::TSndUData { .. } => Verb::SndUData,
             NamedCall::TSndVUData { .. } => Verb::SndVUData,
             NamedCall::TRcvUData { .. } => Verb::RcvUData,
@@ -225,6 +233,7 @@ impl Verb {
             | Verb::SndDis
             | Verb::SndRel
             | Verb::RcvRel
+            | Verb::SndRelData
             | Verb::SndUData
             | Verb::SndVUData
             | Verb::SetMode => Answer::Plain,
@@ -234,6 +243,7 @@ impl Verb {
             Verb::Snd | Verb::SndV => Answer::Sent,
             Verb::Rcv | Verb::RcvV => Answer::Got,
             Verb::RcvDis => Answer::Discon,
+            Verb::RcvRelData => Answer::RelData,
             Verb::RcvUData | Verb::RcvVUData => Answer::UData,
             Verb::RcvUDErr => Answer::UDErr,
             Verb::Look => Answer::Seen,
