@@ -145,6 +145,9 @@ datagram-kinds p fd address options parts bytes e (Some to) there = ((updates to
 datagram_plan-kinds : (p : Providers) (w : World) (fd sizes max amax omax : ℕ) → PlanKinds (Datagrams.receive_plan p w fd sizes max amax omax)
 datagram_plan-kinds p w fd sizes max amax omax = on_open-kinds p w fd _ (λ e. ((updates fd (Datagrams.received max) (reads_datagram max), tt), tt, (updates fd Datagrams.dropped drops_datagram, tt)))
 
+sndrel-kinds : (p : Providers) (w : World) (fd : ℕ) (udata : List ℕ) → PlanKinds (Release.send_plan p w fd udata)
+sndrel-kinds p w fd udata = on_open-kinds p w fd _ (λ e. both (at_linked fd e.peer (Release.released udata) ++ at_endpoint fd Release.after_send ∷ []) (append-kinds (at_linked fd e.peer (Release.released udata)) (at_endpoint fd Release.after_send ∷ []) (linked-kinds fd e.peer (Release.released udata) (is_released udata)) (updates fd Release.after_send releases, tt)))
+
 pub plan-kinds : (p : Providers) (w : World) (c : Call) (g : Go) → PlanKinds (plan p w c g)
 unfolding plan
 plan-kinds p w (call.TOpen prov nonblock) g = open-plan p (the_switch p w) prov nonblock (opening_place p (the_switch p w) prov)
@@ -161,8 +164,10 @@ plan-kinds p w (call.TRcv fd max) g = on_open-kinds p w fd.0 _ (λ e. one fd.0 (
 plan-kinds p w (call.TRcvV fd sizes) g = on_open-kinds p w fd.0 _ (λ e. one fd.0 (Receive.received p (sum sizes)) (reads p (sum sizes)))
 plan-kinds p w (call.TSndDis fd seq udata) g = on_open-kinds p w fd.0 _ (λ e. both (Disconnect.send_changes fd.0 seq.0 udata e) (snddis-kinds fd.0 seq.0 udata e))
 plan-kinds p w (call.TRcvDis fd umax) g = on_open-kinds p w fd.0 _ (λ e. one fd.0 Disconnect.received reads_disconnect)
-plan-kinds p w (call.TSndRel fd) g = on_open-kinds p w fd.0 _ (λ e. both (at_linked fd.0 e.peer Release.released ++ at_endpoint fd.0 Release.after_send ∷ []) (append-kinds (at_linked fd.0 e.peer Release.released) (at_endpoint fd.0 Release.after_send ∷ []) (linked-kinds fd.0 e.peer Release.released is_released) (updates fd.0 Release.after_send releases, tt)))
+plan-kinds p w (call.TSndRel fd) g = sndrel-kinds p w fd.0 []
 plan-kinds p w (call.TRcvRel fd) g = on_open-kinds p w fd.0 _ (λ e. one fd.0 Release.after_receive reads_release)
+plan-kinds p w (call.TSndRelData fd udata) g = sndrel-kinds p w fd.0 udata
+plan-kinds p w (call.TRcvRelData fd umax) g = on_open-kinds p w fd.0 _ (λ e. one fd.0 Release.after_receive reads_release)
 plan-kinds p w (call.TSndUData fd addr opt bytes) g = on_open-kinds p w fd.0 _ (λ e. datagram-kinds p fd.0 addr opt 1 bytes e (bound (the_switch p w) e.prov addr) (option_and_then (endpoint p w) (bound (the_switch p w) e.prov addr)))
 plan-kinds p w (call.TSndVUData fd addr opt parts) g = on_open-kinds p w fd.0 _ (λ e. datagram-kinds p fd.0 addr opt (length parts) (concat parts) e (bound (the_switch p w) e.prov addr) (option_and_then (endpoint p w) (bound (the_switch p w) e.prov addr)))
 plan-kinds p w (call.TRcvUData fd max amax omax) g = datagram_plan-kinds p w fd.0 1 max amax omax

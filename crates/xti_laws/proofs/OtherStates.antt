@@ -1,5 +1,5 @@
 -- A step leaves the states and counts of all endpoints but those that it takes by the table, and a refused one all of them.
-use Rattle.std.proofs.Common.{ℕ, Bool, false, List, ◌≡◌, refl, sym, ap, ◌∙◌, subst, true, eqb, length, Option, Some, None}
+use Rattle.std.proofs.Common.{ℕ, Bool, false, List, [], ◌≡◌, refl, sym, ap, ◌∙◌, subst, true, eqb, length, Option, Some, None}
 use Rattle.std.proofs.lemmas.Bool.{eqb-true}
 use Rattle.std.specs.Prelude.{sum, option_and_then}
 use Rattle.std.specs.List.{concat}
@@ -41,6 +41,9 @@ accept-fd : (p : Providers) (fd resfd number : ℕ) (options udata : List ℕ) (
 accept-fd p fd resfd number options udata e None = refl
 accept-fd p fd resfd number options udata e (Some r) = refl
 
+sndrel-leave : (p : Providers) (w : World) (x fd : ℕ) (udata : List ℕ) → eqb x (Release.send_plan p w fd udata).fd ≡ false → PlanLeaves x (Release.send_plan p w fd udata)
+sndrel-leave p w x fd udata k = on_open-leave p w x fd _ (λ e. refl) (λ e j. both x _ (append-leave x _ _ (linked-leave x fd e.peer (Release.released udata) (λ z. refl)) (elsewhere fd Release.after_send j, tt))) k
+
 -- all calls but an open leave others
 abbrev CallLeaves : ℕ → Call → Plan → Type 0
 CallLeaves x (call.TOpen prov nonblock) plan = Unit
@@ -62,8 +65,10 @@ plan-leaves p w x (call.TRcv fd max) g k r = on_open-leave p w x fd.0 _ (λ e. r
 plan-leaves p w x (call.TRcvV fd sizes) g k r = on_open-leave p w x fd.0 _ (λ e. refl) (λ e j. one x fd.0 (Receive.received p (sum sizes)) j) k
 plan-leaves p w x (call.TSndDis fd seq udata) g k r = on_open-leave p w x fd.0 _ (λ e. refl) (λ e j. both x (Disconnect.send_changes fd.0 seq.0 udata e) (snddis-leave x fd.0 seq.0 udata e j)) k
 plan-leaves p w x (call.TRcvDis fd umax) g k r = on_open-leave p w x fd.0 _ (λ e. refl) (λ e j. one x fd.0 Disconnect.received j) k
-plan-leaves p w x (call.TSndRel fd) g k r = on_open-leave p w x fd.0 _ (λ e. refl) (λ e j. both x _ (append-leave x _ _ (linked-leave x fd.0 e.peer Release.released (λ z. refl)) (elsewhere fd.0 Release.after_send j, tt))) k
+plan-leaves p w x (call.TSndRel fd) g k r = sndrel-leave p w x fd.0 [] k
 plan-leaves p w x (call.TRcvRel fd) g k r = on_open-leave p w x fd.0 _ (λ e. refl) (λ e j. one x fd.0 Release.after_receive j) k
+plan-leaves p w x (call.TSndRelData fd udata) g k r = sndrel-leave p w x fd.0 udata k
+plan-leaves p w x (call.TRcvRelData fd umax) g k r = on_open-leave p w x fd.0 _ (λ e. refl) (λ e j. one x fd.0 Release.after_receive j) k
 plan-leaves p w x (call.TSndUData fd addr opt bytes) g k r = on_open-leave p w x fd.0 _ (λ e. refl) (λ e j. datagram-leave p x fd.0 addr opt 1 bytes e (bound (the_switch p w) e.prov addr) (option_and_then (endpoint p w) (bound (the_switch p w) e.prov addr))) k
 plan-leaves p w x (call.TSndVUData fd addr opt parts) g k r = on_open-leave p w x fd.0 _ (λ e. refl) (λ e j. datagram-leave p x fd.0 addr opt (length parts) (concat parts) e (bound (the_switch p w) e.prov addr) (option_and_then (endpoint p w) (bound (the_switch p w) e.prov addr))) k
 plan-leaves p w x (call.TRcvUData fd max amax omax) g k r = on_open-leave p w x fd.0 _ (λ e. refl) (λ e j. ((elsewhere fd.0 (Datagrams.received max) j, tt), tt, (elsewhere fd.0 Datagrams.dropped j, tt))) k
@@ -158,6 +163,8 @@ marks-leave p w x (call.TSndDis fd seq udata) g = on_open-marks p w x fd.0 _ (λ
 marks-leave p w x (call.TRcvDis fd umax) g = on_open-marks p w x fd.0 _ (λ e. tt)
 marks-leave p w x (call.TSndRel fd) g = on_open-marks p w x fd.0 _ (λ e. tt)
 marks-leave p w x (call.TRcvRel fd) g = on_open-marks p w x fd.0 _ (λ e. tt)
+marks-leave p w x (call.TSndRelData fd udata) g = on_open-marks p w x fd.0 _ (λ e. tt)
+marks-leave p w x (call.TRcvRelData fd umax) g = on_open-marks p w x fd.0 _ (λ e. tt)
 marks-leave p w x (call.TSndUData fd addr opt bytes) g = on_open-marks p w x fd.0 _ (λ e. (steady fd.0 _ (λ z. refl), tt))
 marks-leave p w x (call.TSndVUData fd addr opt parts) g = on_open-marks p w x fd.0 _ (λ e. (steady fd.0 _ (λ z. refl), tt))
 marks-leave p w x (call.TRcvUData fd max amax omax) g = on_open-marks p w x fd.0 _ (λ e. tt)

@@ -158,6 +158,9 @@ datagram-in : (p : Providers) (t : List ℕ) (fd : ℕ) (address options : List 
 datagram-in p t fd address options parts bytes e None there k h = ((k, tt), (k, tt), (k, tt))
 datagram-in p t fd address options parts bytes e (Some to) there k h = ((h.0, (k, tt)), (k, tt), (h.0, (k, tt)))
 
+sndrel-in : (p : Providers) (t : List ℕ) (w : World) (fd : ℕ) (udata : List ℕ) → is_among t (place_of p fd) ≡ true → Within t (of_some (endpoint p w fd) (peer_cell p)) → InPlan p t (Release.send_plan p w fd udata)
+sndrel-in p t w fd udata k h = on_open-in p t w fd _ (λ e o. both p t (at_linked fd e.peer (Release.released udata) ++ at_endpoint fd Release.after_send ∷ []) (append-in p t (at_linked fd e.peer (Release.released udata)) (at_endpoint fd Release.after_send ∷ []) (linked-in p t fd e.peer (Release.released udata) (of_open-at t (peer_cell p) (endpoint p w fd) e o h)) (k, tt)))
+
 pub plan-in : (p : Providers) (t : List ℕ) (w : World) (c : Call) (g : Go) → Within t (named p w c) → InPlan p t (plan p w c g)
 unfolding plan
 plan-in p t w (call.TOpen prov nonblock) g h = open-in p t (the_switch p w) prov nonblock (opening_place p (the_switch p w) prov) h.0 h.1
@@ -174,8 +177,10 @@ plan-in p t w (call.TRcv fd max) g h = on_open-in p t w fd.0 _ (λ e o. one t (p
 plan-in p t w (call.TRcvV fd sizes) g h = on_open-in p t w fd.0 _ (λ e o. one t (place_of p fd.0) h.0)
 plan-in p t w (call.TSndDis fd seq udata) g h = on_open-in p t w fd.0 _ (λ e o. both p t (Disconnect.send_changes fd.0 seq.0 udata e) (snddis-in p t fd.0 seq.0 udata e h.0 (of_open-at t (λ e. peer_cell p e ++ target_cell p e ++ caller_cell p seq.0 e) (endpoint p w fd.0) e o h.1)))
 plan-in p t w (call.TRcvDis fd umax) g h = on_open-in p t w fd.0 _ (λ e o. one t (place_of p fd.0) h.0)
-plan-in p t w (call.TSndRel fd) g h = on_open-in p t w fd.0 _ (λ e o. both p t (at_linked fd.0 e.peer Release.released ++ at_endpoint fd.0 Release.after_send ∷ []) (append-in p t (at_linked fd.0 e.peer Release.released) (at_endpoint fd.0 Release.after_send ∷ []) (linked-in p t fd.0 e.peer Release.released (of_open-at t (peer_cell p) (endpoint p w fd.0) e o h.1)) (h.0, tt)))
+plan-in p t w (call.TSndRel fd) g h = sndrel-in p t w fd.0 [] h.0 h.1
 plan-in p t w (call.TRcvRel fd) g h = on_open-in p t w fd.0 _ (λ e o. one t (place_of p fd.0) h.0)
+plan-in p t w (call.TSndRelData fd udata) g h = sndrel-in p t w fd.0 udata h.0 h.1
+plan-in p t w (call.TRcvRelData fd umax) g h = on_open-in p t w fd.0 _ (λ e o. one t (place_of p fd.0) h.0)
 plan-in p t w (call.TSndUData fd addr opt bytes) g h = on_open-in p t w fd.0 _ (λ e o. datagram-in p t fd.0 addr opt 1 bytes e (bound (the_switch p w) e.prov addr) (option_and_then (endpoint p w) (bound (the_switch p w) e.prov addr)) h.0 (of_open-at t (bound_cell p w addr) (endpoint p w fd.0) e o h.1.1))
 plan-in p t w (call.TSndVUData fd addr opt parts) g h = on_open-in p t w fd.0 _ (λ e o. datagram-in p t fd.0 addr opt (length parts) (concat parts) e (bound (the_switch p w) e.prov addr) (option_and_then (endpoint p w) (bound (the_switch p w) e.prov addr)) h.0 (of_open-at t (bound_cell p w addr) (endpoint p w fd.0) e o h.1.1))
 plan-in p t w (call.TRcvUData fd max amax omax) g h = on_open-in p t w fd.0 _ (λ e o. one t (place_of p fd.0) h.0)

@@ -53,13 +53,13 @@ request-state p w fd options udata e (Some l) o = reach-state p w fd l.fd option
 pub request-taken : (p : Providers) (w : World) (fd : ℕ) (address options udata : List ℕ) (e : Endpoint) (l : Option Connect.Found) → endpoint p w fd ≡ Some e → Cleared (Connect.rows address options udata e) → Taken p w fd by_connect e (Connect.request fd options udata e l) (Connect.request fd options udata e l)
 request-taken p w fd address options udata e l o c = leads_to p w fd by_connect e (Connect.request fd options udata e l) (Some (stands T_OUTCON (ocnt e))) (request-state p w fd options udata e l o) (connect-row e.state (ocnt e) (un-not (is_state (T_IDLE ∷ []) e) c.1.0))
 
-pub send_release-taken : (p : Providers) (w : World) (fd : ℕ) (e : Endpoint) → endpoint p w fd ≡ Some e → Cleared (Release.send_rows e) → Taken p w fd by_sndrel e (at_linked fd e.peer Release.released ++ at_endpoint fd Release.after_send ∷ []) (at_linked fd e.peer Release.released ++ at_endpoint fd Release.after_send ∷ [])
-send_release-taken p w fd e o c = leads_to p w fd by_sndrel e (at_linked fd e.peer Release.released ++ at_endpoint fd Release.after_send ∷ []) (Some (stands (after_sndrel e.state) (ocnt e)))
-    (sets-after p w fd (moved after_sndrel) Release.after_send (standing e) (at_linked fd e.peer Release.released) [] send_release-sets (leaves p fd (at_linked fd e.peer Release.released) (linked-leave fd fd e.peer Release.released (λ x. refl)) w ∙ here p w fd e o) tt)
+pub send_release-taken : (p : Providers) (w : World) (fd : ℕ) (udata : List ℕ) (e : Endpoint) → endpoint p w fd ≡ Some e → Cleared (Release.send_rows p udata e) → Taken p w fd by_sndrel e (at_linked fd e.peer (Release.released udata) ++ at_endpoint fd Release.after_send ∷ []) (at_linked fd e.peer (Release.released udata) ++ at_endpoint fd Release.after_send ∷ [])
+send_release-taken p w fd udata e o c = leads_to p w fd by_sndrel e (at_linked fd e.peer (Release.released udata) ++ at_endpoint fd Release.after_send ∷ []) (Some (stands (after_sndrel e.state) (ocnt e)))
+    (sets-after p w fd (moved after_sndrel) Release.after_send (standing e) (at_linked fd e.peer (Release.released udata)) [] send_release-sets (leaves p fd (at_linked fd e.peer (Release.released udata)) (linked-leave fd fd e.peer (Release.released udata) (λ x. refl)) w ∙ here p w fd e o) tt)
     (sndrel-row e.state (ocnt e) (un-not _ c.1.0))
 
-pub receive_release-taken : (p : Providers) (w : World) (fd : ℕ) (e : Endpoint) → endpoint p w fd ≡ Some e → Cleared (Release.receive_rows e) → Taken p w fd by_rcvrel e (at_endpoint fd Release.after_receive ∷ []) (at_endpoint fd Release.after_receive ∷ [])
-receive_release-taken p w fd e o c = leads_to p w fd by_rcvrel e (at_endpoint fd Release.after_receive ∷ []) (Some (stands (after_rcvrel e.state) (ocnt e)))
+pub receive_release-taken : (p : Providers) (w : World) (fd umax : ℕ) (e : Endpoint) → endpoint p w fd ≡ Some e → Cleared (Release.receive_rows umax e) → Taken p w fd by_rcvrel e (at_endpoint fd Release.after_receive ∷ []) (at_endpoint fd Release.after_receive ∷ [])
+receive_release-taken p w fd umax e o c = leads_to p w fd by_rcvrel e (at_endpoint fd Release.after_receive ∷ []) (Some (stands (after_rcvrel e.state) (ocnt e)))
     (sets-after p w fd (moved after_rcvrel) Release.after_receive (standing e) [] [] receive_release-sets (here p w fd e o) tt) (rcvrel-row e.state (ocnt e) (un-not _ c.1.0))
 
 pub receive_disconnect-taken : (K : Type 0) (p : Providers) (w : World) (fd umax : ℕ) (e : Endpoint) → (K → OldestIsOutstanding e) → endpoint p w fd ≡ Some e → Cleared (Disconnect.receive_rows umax e)

@@ -101,7 +101,7 @@ after_rcvrel s = cond (list_any (same_state s) (T_DATAXFER ∷ [])) T_INREL T_ID
 pub receive_release-sets : Sets (moved after_rcvrel) Release.after_receive
 receive_release-sets e = go (is_state (T_DATAXFER ∷ []) e)
   where
-    go : (b : Bool) → standing (cond b (record e { release = false; state = T_INREL }) (Disconnect.idle e)) ≡ stands (cond b T_INREL T_IDLE) (ocnt e)
+    go : (b : Bool) → standing (cond b (record e { release = None; state = T_INREL }) (Disconnect.idle e)) ≡ stands (cond b T_INREL T_IDLE) (ocnt e)
     go true = refl
     go false = refl
 

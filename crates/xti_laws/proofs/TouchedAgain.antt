@@ -54,6 +54,7 @@ others-only p t w v (call.TAccept fd resfd seq opt udata) i h = ap (λ o. switch
 others-only p t w v (call.TSnd fd bytes flags) i h = ap (λ o. of_some o (peer_cell p)) (endpoint-only p t fd.0 h.0 w)
 others-only p t w v (call.TSndV fd parts flags) i h = ap (λ o. of_some o (peer_cell p)) (endpoint-only p t fd.0 h.0 w)
 others-only p t w v (call.TSndRel fd) i h = ap (λ o. of_some o (peer_cell p)) (endpoint-only p t fd.0 h.0 w)
+others-only p t w v (call.TSndRelData fd udata) i h = ap (λ o. of_some o (peer_cell p)) (endpoint-only p t fd.0 h.0 w)
 others-only p t w v (call.TSndDis fd seq udata) i h = ap (λ o. of_some o (λ e. peer_cell p e ++ target_cell p e ++ caller_cell p seq.0 e)) (endpoint-only p t fd.0 h.0 w)
 others-only p t w v (call.TSndUData fd addr opt bytes) i h = datagram-only p t w fd.0 addr h.0 h.1.0
 others-only p t w v (call.TSndVUData fd addr opt parts) i h = datagram-only p t w fd.0 addr h.0 h.1.0

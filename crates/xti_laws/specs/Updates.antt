@@ -49,7 +49,7 @@ pub data Update : (Endpoint → Endpoint) → Type 0 where
   idles : Update Disconnect.idle
   reads_disconnect : Update Disconnect.received
   -- orderly release
-  is_released : Update Release.released
+  is_released : (udata : List ℕ) → Update (Release.released udata)
   releases : Update Release.after_send
   reads_release : Update Release.after_receive
   -- datagrams

@@ -1,5 +1,5 @@
 -- Along a legal history whose calls are of bytes, each answer has values as wide as their types.
-use Rattle.std.proofs.Common.{ℕ, Bool, true, false, List, [], ◌∷◌, ◌++◌, ◌≡◌, refl, sym, subst, cond, Option, Some, None}
+use Rattle.std.proofs.Common.{true, List, [], ◌∷◌, ◌++◌, ◌≡◌, refl, sym, subst, Option, Some, None}
 use Rattle.std.specs.Prelude.{option_and_then, All}
 use Rattle.std.proofs.lemmas.List.Elements.{All-nil, All-cons}
 use Rattle.xti_model.specs.declared.call.Call.{Call}

@@ -22,17 +22,17 @@ use Rattle.xti_model.specs.declared.entry.Reply.TheVariants as reply
 use Rattle.xti_model.specs.declared.profile.Profile.{Profile}
 use Rattle.xti_model.specs.declared.profile.Providers.{Providers}
 use Rattle.xti_model.specs.Profile.{valid, valid_connections, valid_orderly, valid_datagrams, has_buffers, has_messages, has_limit, is_stream_limit, is_size}
-use Rattle.xti_model.specs.Provider.{profile, info, is_provider, expedited_limit, connection_limit}
+use Rattle.xti_model.specs.Provider.{profile, has_release_data, info, is_provider, expedited_limit, connection_limit}
 use Rattle.xti_model.specs.Endpoint.{Endpoint, Confirmation, address_of}
-use Rattle.xti_model.specs.World.{World, Switch, changed, closed_place, endpoint, the_switch}
+use Rattle.xti_model.specs.World.{World, Switch, closed_place, endpoint, the_switch}
 use Rattle.xti_model.specs.Switch.{chosen, free_place, if_provider, is_free, opening_place, place_at}
 use Rattle.xti_model.specs.Links.{linked}
 use Rattle.xti_model.specs.Sending.{room_for}
 use Rattle.xti_model.specs.Symbols.{front}
 use Rattle.xti_model.specs.Arguments.{is_expedited, is_too_many}
 use Rattle.xti_model.specs.Events.{is_state, some_wait}
-use Rattle.xti_model.specs.Plan.{Plan, Refusal, answers, waits, loses, first, trimmed, if_open, on_open, later_plan}
-use Rattle.xti_model.specs.Step.{Step, plan, step, step_of, step_by, made, send}
+use Rattle.xti_model.specs.Plan.{Plan, first, trimmed, if_open, on_open, later_plan}
+use Rattle.xti_model.specs.Step.{Step, plan, step, step_of, send}
 use Rattle.xti_model.specs.Calls.Open as Open
 use Rattle.xti_model.specs.Calls.Bind as Bind
 use Rattle.xti_model.specs.Calls.Connect as Connect
@@ -40,6 +40,7 @@ use Rattle.xti_model.specs.Calls.Listen as Listen
 use Rattle.xti_model.specs.Calls.Send as Send
 use Rattle.xti_model.specs.Calls.Receive as Receive
 use Rattle.xti_model.specs.Calls.Disconnect as Disconnects
+use Rattle.xti_model.specs.Calls.Release as Release
 use Rattle.xti_model.specs.Calls.Datagrams as Datagrams
 use Rattle.xti_model.specs.Calls.Show as Show
 use Rattle.xti_model.specs.SentBytes.{AreBytes}
@@ -50,7 +51,7 @@ use Rattle.xti_laws_sound.proofs.ToldOutcomes.{StepTells, step-told, RefusalTell
 use Rattle.xti_laws_bytes.specs.Values.{IsOfBytes, IsNumber, IsLimit, AreLimits, HasValues}
 use Rattle.xti_laws_bytes.proofs.ByteLists.{none-bytes, chosen-bytes, front-bytes}
 use Rattle.xti_laws_bytes.proofs.AnsweredOptions.{negotiated-fits}
-use Rattle.xti_laws_bytes.proofs.ByteWorlds.{ByteAddress, ByteConfirmation, ByteDisconnect, ByteDatagram, ByteError, OfBytes, Bytes, AllBytes, address-bytes, first-of, oldest-bytes, datagram-bytes}
+use Rattle.xti_laws_bytes.proofs.ByteWorlds.{ByteConfirmation, ByteDisconnect, ByteDatagram, ByteError, OfBytes, Bytes, AllBytes, any-bytes, address-bytes, first-of, oldest-bytes, datagram-bytes}
 
 -- ---- plans
 
@@ -95,12 +96,8 @@ confirmation-bytes (Some c) h = h
 peer-bytes : (e : Endpoint) → OfBytes e → AreBytes (Show.shown_peer e)
 peer-bytes e h = go (is_state (T_OUTCON ∷ T_DATAXFER ∷ T_OUTREL ∷ T_INREL ∷ []) e)
   where
-    some : (o : Option (List ℕ)) → ByteAddress o → AreBytes (unwrap_or o [])
-    some None k = none-bytes
-    some (Some a) k = k
-
     go : (b : Bool) → AreBytes (cond b (unwrap_or e.peer_address []) [])
-    go true = some e.peer_address h.4
+    go true = any-bytes e.peer_address h.4
     go false = none-bytes
 
 told-bytes : (e : Endpoint) → OfBytes e → ByteDatagram (Datagrams.told e)
@@ -132,6 +129,12 @@ queue-fits true qlen = omega arith
 queue-fits false qlen = omega arith
 
 -- ---- the limits of a provider
+
+provided-fits : (a b : Bool) → IsNumber (cond a 1 0 + cond b 2 0)
+provided-fits true true = omega arith
+provided-fits true false = omega arith
+provided-fits false true = omega arith
+provided-fits false false = omega arith
 
 size-fits : (n : ℕ) → is_size n ≡ true → IsNumber n
 size-fits n h = (let l = leb-true n 65536 (and_parts (nat_le 1 n) (nat_le n 65536) h).1 in omega (arith, l))
@@ -195,7 +198,7 @@ info-fits p prov h = record {
   etsdu = expedited-fits prov;
   connect = connecting-fits prov;
   discon = connecting-fits prov;
-  flags = more-fits (profile p prov).sendzero;
+  flags = provided-fits (profile p prov).sendzero (has_release_data p prov);
 }
 
 -- ---- opens
@@ -296,6 +299,9 @@ module _ (p : Providers) (w : World) (valued : valid p ≡ true) (h : SoundWorld
     zero-fits,
   ))
 
+  releases : (fd umax : ℕ) → StepTells HasValues (step_of p w (Release.receive_data_plan p w fd umax))
+  releases fd umax = tells p w fd _ (λ e i. (refl, (λ c. trimmed-bytes (Release.release_data e) umax (any-bytes e.release (at fd e i).10)), zero-fits))
+
   datagrams : (fd sizes max amax omax : ℕ) → StepTells HasValues (step_of p w (Datagrams.receive_plan p w fd sizes max amax omax))
   datagrams fd sizes max amax omax = tells p w fd (Datagrams.receive_from fd sizes max amax omax) (λ e i. (
     refl,
@@ -355,6 +361,8 @@ module _ (p : Providers) (w : World) (valued : valid p ≡ true) (h : SoundWorld
   replies-valued (call.TRcvDis fd umax) g s a k = told HasValues _ s (disconnects fd.0 umax)
   replies-valued (call.TSndRel fd) g s a k = told HasValues _ s (plain fd.0 _ (λ e. (refl, tt, zero-fits)))
   replies-valued (call.TRcvRel fd) g s a k = told HasValues _ s (plain fd.0 _ (λ e. (refl, tt, zero-fits)))
+  replies-valued (call.TSndRelData fd udata) g s a k = told HasValues _ s (plain fd.0 _ (λ e. (refl, tt, zero-fits)))
+  replies-valued (call.TRcvRelData fd umax) g s a k = told HasValues _ s (releases fd.0 umax)
   replies-valued (call.TSndUData fd addr opt bytes) g s a k = told HasValues _ s (plain fd.0 _ (λ e. (refl, tt, zero-fits)))
   replies-valued (call.TSndVUData fd addr opt parts) g s a k = told HasValues _ s (plain fd.0 _ (λ e. (refl, tt, zero-fits)))
   replies-valued (call.TRcvUData fd max amax omax) g s a k = told HasValues _ s (datagrams fd.0 1 max amax omax)

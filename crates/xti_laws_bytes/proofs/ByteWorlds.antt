@@ -46,9 +46,9 @@ use Rattle.xti_laws_bytes.proofs.ByteLists.{none-bytes, chosen-bytes, IsSymbol, 
 
 -- ---- what an endpoint keeps
 
-abbrev pub ByteAddress : Option (List ℕ) → Type 0
-ByteAddress None = Unit {0}
-ByteAddress (Some address) = AreBytes address
+abbrev pub BytesIfAny : Option (List ℕ) → Type 0
+BytesIfAny None = Unit {0}
+BytesIfAny (Some bytes) = AreBytes bytes
 
 abbrev pub ByteIndication : Indication → Type 0
 ByteIndication i = IsNumber i.number × AreBytes i.address × AreBytes i.options × AreBytes i.udata
@@ -68,8 +68,8 @@ ByteError d = AreBytes d.destination × AreBytes d.options × IsNumber d.code
 
 abbrev pub OfBytes : Endpoint → Type 0
 OfBytes e =
-    ByteAddress e.address × All ByteIndication e.pending × All ByteIndication e.outstanding × All ByteDisconnect e.disconnects × ByteAddress e.peer_address × ByteConfirmation e.confirmation
-    × All IsSymbol e.normal × All IsSymbol e.expedited × All ByteDatagram e.datagrams × All ByteError e.datagram_errors
+    BytesIfAny e.address × All ByteIndication e.pending × All ByteIndication e.outstanding × All ByteDisconnect e.disconnects × BytesIfAny e.peer_address × ByteConfirmation e.confirmation
+    × All IsSymbol e.normal × All IsSymbol e.expedited × All ByteDatagram e.datagrams × All ByteError e.datagram_errors × BytesIfAny e.release
 
 abbrev pub Bytes : Option Endpoint → Type 0
 Bytes None = Unit {0}
@@ -112,12 +112,13 @@ choose false x y h k = k
 no_disconnects : All ByteDisconnect []
 no_disconnects = All-nil ByteDisconnect
 
+-- none where there are no bytes
+pub any-bytes : (o : Option (List ℕ)) → BytesIfAny o → AreBytes (unwrap_or o [])
+any-bytes None k = none-bytes
+any-bytes (Some bytes) k = k
+
 pub address-bytes : (e : Endpoint) → OfBytes e → AreBytes (address_of e)
-address-bytes e h = go e.address h.0
-  where
-    go : (o : Option (List ℕ)) → ByteAddress o → AreBytes (unwrap_or o [])
-    go None k = none-bytes
-    go (Some a) k = k
+address-bytes e h = any-bytes e.address h.0
 
 -- the first that waits
 pub first-of : {X : Type 0} (P : X → Type 0) (or : Option X → X) (xs : List X) → ((x : X) → or (Some x) ≡ x) → P (or None) → All P xs → P (or (slice_get xs 0))
@@ -131,21 +132,21 @@ pub datagram-bytes : (e : Endpoint) → OfBytes e → ByteDatagram (Datagrams.fi
 datagram-bytes e h = first-of ByteDatagram Datagrams.datagram_or e.datagrams (λ i. refl) (none-bytes, none-bytes, none-bytes) h.8
 
 idle-bytes : Holds Disconnects.idle
-idle-bytes e h = (h.0, h.1, h.2, no_disconnects, tt, tt, none-symbols, none-symbols, h.8, h.9)
+idle-bytes e h = (h.0, h.1, h.2, no_disconnects, tt, tt, none-symbols, none-symbols, h.8, h.9, tt)
 
 disconnected-bytes : (reason number : ℕ) (udata : List ℕ) → IsNumber reason → IsNumber number → AreBytes udata → Holds (disconnected reason number udata)
-disconnected-bytes reason number udata r n u e h = (h.0, h.1, h.2, All-append ByteDisconnect e.disconnects (new ∷ []) h.3 (All-cons ByteDisconnect new [] (r, n, u) no_disconnects), h.4, h.5, h.6, h.7, h.8, h.9)
+disconnected-bytes reason number udata r n u e h = (h.0, h.1, h.2, All-append ByteDisconnect e.disconnects (new ∷ []) h.3 (All-cons ByteDisconnect new [] (r, n, u) no_disconnects), h.4, h.5, h.6, h.7, h.8, h.9, h.10)
   where
     new : Disconnect
     new = record { reason = reason; number = number; udata = udata }
 
 broken-bytes : (reason : ℕ) (udata : List ℕ) → IsNumber reason → AreBytes udata → Holds (broken reason udata)
-broken-bytes reason udata r u e h = disconnected-bytes reason 0 udata r (omega arith) u (reset e) (h.0, h.1, h.2, no_disconnects, tt, tt, none-symbols, none-symbols, h.8, h.9)
+broken-bytes reason udata r u e h = disconnected-bytes reason 0 udata r (omega arith) u (reset e) (h.0, h.1, h.2, no_disconnects, tt, tt, none-symbols, none-symbols, h.8, h.9, tt)
 
 read-bytes : (p : Providers) (max : ℕ) → Holds (Receive.received p max)
 read-bytes p max e h = choose (some_wait e.expedited) (record e { expedited = rest max e.expedited; mid_expedited = Receive.goes_on p true max e }) (record e { normal = rest max e.normal })
-    (h.0, h.1, h.2, h.3, h.4, h.5, h.6, All-drop IsSymbol _ e.expedited h.7, h.8, h.9)
-    (h.0, h.1, h.2, h.3, h.4, h.5, All-drop IsSymbol _ e.normal h.6, h.7, h.8, h.9)
+    (h.0, h.1, h.2, h.3, h.4, h.5, h.6, All-drop IsSymbol _ e.expedited h.7, h.8, h.9, h.10)
+    (h.0, h.1, h.2, h.3, h.4, h.5, All-drop IsSymbol _ e.normal h.6, h.7, h.8, h.9, h.10)
 
 one : (fd : ℕ) (f : Endpoint → Endpoint) → Holds f → KeepBytes (at_endpoint fd f ∷ [])
 one fd f k z = ((λ j e q. k e q), tt)
@@ -177,7 +178,7 @@ found-number n (x ∷ xs) a h = go (has_number n x) refl h (found-number n xs (A
 
 taken-bytes : (n reason : ℕ) (udata : List ℕ) → IsNumber reason → AreBytes udata → Holds (taken_back n reason udata)
 taken-bytes n reason udata r u e h = choose (is_some (find_number n e.pending)) (record e { pending = without_number n e.pending }) (cond (is_some (find_number n e.outstanding)) (disconnected reason n udata e) e)
-    (h.0, All-without ByteIndication n e.pending h.1, h.2, h.3, h.4, h.5, h.6, h.7, h.8, h.9) (go (is_some (find_number n e.outstanding)) refl)
+    (h.0, All-without ByteIndication n e.pending h.1, h.2, h.3, h.4, h.5, h.6, h.7, h.8, h.9, h.10) (go (is_some (find_number n e.outstanding)) refl)
   where
     go : (b : Bool) → is_some (find_number n e.outstanding) ≡ b → OfBytes (cond b (disconnected reason n udata e) e)
     go true i = disconnected-bytes reason n udata r (found-number n e.outstanding h.2 i) u e h
@@ -204,17 +205,17 @@ turned-bytes : (reason : ℕ) → IsNumber reason → Holds (Connect.turned_away
 turned-bytes reason r e h = disconnected-bytes reason 0 [] r (omega arith) none-bytes e h
 
 listened-bytes : Holds Listen.listened
-listened-bytes e h = (h.0, All-drop ByteIndication 1 e.pending h.1, All-append ByteIndication e.outstanding (Listen.oldest e ∷ []) h.2 (All-cons ByteIndication (Listen.oldest e) [] (oldest-bytes e h) (All-nil ByteIndication)), h.3, h.4, h.5, h.6, h.7, h.8, h.9)
+listened-bytes e h = (h.0, All-drop ByteIndication 1 e.pending h.1, All-append ByteIndication e.outstanding (Listen.oldest e ∷ []) h.2 (All-cons ByteIndication (Listen.oldest e) [] (oldest-bytes e h) (All-nil ByteIndication)), h.3, h.4, h.5, h.6, h.7, h.8, h.9, h.10)
 
 out-bytes : (n : ℕ) → Holds (Listen.taken_out n)
-out-bytes n e h = (h.0, h.1, All-without ByteIndication n e.outstanding h.2, h.3, h.4, h.5, h.6, h.7, h.8, h.9)
+out-bytes n e h = (h.0, h.1, All-without ByteIndication n e.outstanding h.2, h.3, h.4, h.5, h.6, h.7, h.8, h.9, h.10)
 
 accept-bytes : (p : Providers) (fd resfd number : ℕ) (options udata : List ℕ) (e : Endpoint) (o : Option Endpoint) → AreBytes options → AreBytes udata → OfBytes e → Bytes o → PlanBytes (Listen.accept_with p fd resfd number options udata e o)
 accept-bytes p fd resfd number options udata e None a u h k = still _ refl refl refl
 accept-bytes p fd resfd number options udata e (Some r) a u h k = twice (Listen.accept_found fd resfd (find_number number e.outstanding) options udata e r) _ (go (find_number number e.outstanding) refl) refl refl refl
   where
     like : (y : Endpoint) → OfBytes y → OfBytes (Listen.bound_like e y)
-    like y q = choose (is_state (T_UNBND ∷ []) y) (record y { address = Some (address_of e); qlen = 0 }) y (address-bytes e h, q.1, q.2, q.3, q.4, q.5, q.6, q.7, q.8, q.9) q
+    like y q = choose (is_state (T_UNBND ∷ []) y) (record y { address = Some (address_of e); qlen = 0 }) y (address-bytes e h, q.1, q.2, q.3, q.4, q.5, q.6, q.7, q.8, q.9, q.10) q
 
     bind : (d : Bool) → KeepBytes (cond d (at_endpoint resfd (Listen.bound_like e) ∷ at_switch (give_address r.prov (address_of e) resfd false) ∷ []) [])
     bind true z = ((λ j y q. like y q), (tt, tt))
@@ -227,7 +228,7 @@ accept-bytes p fd resfd number options udata e (Some r) a u h k = twice (Listen.
         let address : AreBytes (address_of (Listen.bound_like e r)) = address-bytes (Listen.bound_like e r) (like r k) in (
           (λ j y q. out-bytes i.number y q),
           both (Listen.bind_like e resfd r) (Listen.linking resfd i (address_of (Listen.bound_like e r)) options udata) (bind (is_state (T_UNBND ∷ []) r))
-              (λ z. ((λ j y q. (q.0, q.1, q.2, q.3, b.1, q.5, q.6, q.7, q.8, q.9)), ((λ j y q. (q.0, q.1, q.2, q.3, address, (address, a, u), q.6, q.7, q.8, q.9)), tt))) z,
+              (λ z. ((λ j y q. (q.0, q.1, q.2, q.3, b.1, q.5, q.6, q.7, q.8, q.9, q.10)), ((λ j y q. (q.0, q.1, q.2, q.3, address, (address, a, u), q.6, q.7, q.8, q.9, q.10)), tt))) z,
         )
 
 rejected-bytes : (udata : List ℕ) → AreBytes udata → Holds (Disconnects.rejected udata)
@@ -243,19 +244,25 @@ snddis-bytes fd number udata e u = go (Disconnects.is_asked e) (find_number numb
 
 cut-bytes : Holds Disconnects.received
 cut-bytes e h = choose (Disconnects.is_asked e) (record (Listen.taken_out (Disconnects.oldest e).number e) { disconnects = drop 1 e.disconnects }) (Disconnects.idle e)
-    (h.0, h.1, All-without ByteIndication (Disconnects.oldest e).number e.outstanding h.2, All-drop ByteDisconnect 1 e.disconnects h.3, h.4, h.5, h.6, h.7, h.8, h.9) (idle-bytes e h)
+    (h.0, h.1, All-without ByteIndication (Disconnects.oldest e).number e.outstanding h.2, All-drop ByteDisconnect 1 e.disconnects h.3, h.4, h.5, h.6, h.7, h.8, h.9, h.10) (idle-bytes e h)
 
 sent-bytes : Holds Release.after_send
 sent-bytes e h = choose (is_state (T_DATAXFER ∷ []) e) (record e { state = T_OUTREL }) (Disconnects.idle e) h (idle-bytes e h)
 
+released-bytes : (udata : List ℕ) → AreBytes udata → Holds (Release.released udata)
+released-bytes udata u e h = (h.0, h.1, h.2, h.3, h.4, h.5, h.6, h.7, h.8, h.9, u)
+
 left-bytes : Holds Release.after_receive
-left-bytes e h = choose (is_state (T_DATAXFER ∷ []) e) (record e { release = false; state = T_INREL }) (Disconnects.idle e) h (idle-bytes e h)
+left-bytes e h = choose (is_state (T_DATAXFER ∷ []) e) (record e { release = None; state = T_INREL }) (Disconnects.idle e) (h.0, h.1, h.2, h.3, h.4, h.5, h.6, h.7, h.8, h.9, tt) (idle-bytes e h)
+
+sndrel-bytes : (p : Providers) (w : World) (fd : ℕ) (udata : List ℕ) → AreBytes udata → AllBytes p w → AllBytes p (left_by w (step_of p w (Release.send_plan p w fd udata)))
+sndrel-bytes p w fd udata u h = on-open p w fd _ (λ e b. twice (at_linked fd e.peer (Release.released udata) ++ at_endpoint fd Release.after_send ∷ []) _ (both (at_linked fd e.peer (Release.released udata)) (at_endpoint fd Release.after_send ∷ []) (linked-bytes fd e.peer (Release.released udata) (released-bytes udata u)) (one fd Release.after_send sent-bytes)) refl refl refl) h
 
 -- ---- sends
 
 came-bytes : (b : Bool) (came : List ℕ) → All IsSymbol came → Holds (Send.received b came)
-came-bytes true came a e h = (h.0, h.1, h.2, h.3, h.4, h.5, h.6, All-append IsSymbol e.expedited came h.7 a, h.8, h.9)
-came-bytes false came a e h = (h.0, h.1, h.2, h.3, h.4, h.5, All-append IsSymbol e.normal came h.6 a, h.7, h.8, h.9)
+came-bytes true came a e h = (h.0, h.1, h.2, h.3, h.4, h.5, h.6, All-append IsSymbol e.expedited came h.7 a, h.8, h.9, h.10)
+came-bytes false came a e h = (h.0, h.1, h.2, h.3, h.4, h.5, All-append IsSymbol e.normal came h.6 a, h.7, h.8, h.9, h.10)
 
 flow-bytes : (b on : Bool) → Holds (Send.mark_flow b on)
 flow-bytes true on e h = h
@@ -296,25 +303,25 @@ send-bytes p w fd number bytes flags (go.More n) a h = by (endpoint p w fd)
 -- ---- datagrams
 
 deliver-bytes : (fd : ℕ) (address options bytes : List ℕ) (o : Option ℕ) (e : Endpoint) → AreBytes address → AreBytes options → AreBytes bytes → OfBytes e → KeepBytes (Datagrams.send_changes fd address options bytes o e)
-deliver-bytes fd address options bytes None e a b c h z = ((λ j y q. (q.0, q.1, q.2, q.3, q.4, q.5, q.6, q.7, q.8, All-append ByteError y.datagram_errors (Datagrams.error_to address options ∷ []) q.9 (All-cons ByteError (Datagrams.error_to address options) [] (a, b, omega arith) (All-nil ByteError)))), tt)
+deliver-bytes fd address options bytes None e a b c h z = ((λ j y q. (q.0, q.1, q.2, q.3, q.4, q.5, q.6, q.7, q.8, All-append ByteError y.datagram_errors (Datagrams.error_to address options ∷ []) q.9 (All-cons ByteError (Datagrams.error_to address options) [] (a, b, omega arith) (All-nil ByteError)), q.10)), tt)
 deliver-bytes fd address options bytes (Some to) e a b c h z =
-    ((λ j y q. (q.0, q.1, q.2, q.3, q.4, q.5, q.6, q.7, All-append ByteDatagram y.datagrams (Datagrams.datagram_from e options bytes ∷ []) q.8 (All-cons ByteDatagram (Datagrams.datagram_from e options bytes) [] (address-bytes e h, b, c) (All-nil ByteDatagram)), q.9)), ((λ j y q. q), tt))
+    ((λ j y q. (q.0, q.1, q.2, q.3, q.4, q.5, q.6, q.7, All-append ByteDatagram y.datagrams (Datagrams.datagram_from e options bytes ∷ []) q.8 (All-cons ByteDatagram (Datagrams.datagram_from e options bytes) [] (address-bytes e h, b, c) (All-nil ByteDatagram)), q.9, q.10)), ((λ j y q. q), tt))
 
 sndudata-bytes : (p : Providers) (fd : ℕ) (address options : List ℕ) (number : ℕ) (bytes : List ℕ) (e : Endpoint) (o : Option ℕ) (there : Option Endpoint) → AreBytes address → AreBytes options → AreBytes bytes → OfBytes e → PlanBytes (Datagrams.send_to p fd address options number bytes e o there)
 sndudata-bytes p fd address options number bytes e o there a b c h = record { changes = deliver-bytes fd address options bytes o e a b c h; marks = λ z. ((λ j y q. q), tt); lost = deliver-bytes fd address options bytes o e a b c h }
 
 drop-bytes : Holds Datagrams.dropped
-drop-bytes e h = (h.0, h.1, h.2, h.3, h.4, h.5, h.6, h.7, All-drop ByteDatagram 1 e.datagrams h.8, h.9)
+drop-bytes e h = (h.0, h.1, h.2, h.3, h.4, h.5, h.6, h.7, All-drop ByteDatagram 1 e.datagrams h.8, h.9, h.10)
 
 got-bytes : (max : ℕ) → Holds (Datagrams.received max)
 got-bytes max e h =
     let d = datagram-bytes e h in
     let short : ByteDatagram (Datagrams.shortened max (Datagrams.first_of e)) = (d.0, d.1, All-drop (λ b. b < 256) max (Datagrams.first_of e).bytes d.2) in
     choose (Datagrams.has_rest max (Datagrams.first_of e)) (record e { datagrams = Datagrams.shortened max (Datagrams.first_of e) ∷ drop 1 e.datagrams; begun = true }) (Datagrams.dropped e)
-    (h.0, h.1, h.2, h.3, h.4, h.5, h.6, h.7, All-cons ByteDatagram (Datagrams.shortened max (Datagrams.first_of e)) (drop 1 e.datagrams) short (All-drop ByteDatagram 1 e.datagrams h.8), h.9) (drop-bytes e h)
+    (h.0, h.1, h.2, h.3, h.4, h.5, h.6, h.7, All-cons ByteDatagram (Datagrams.shortened max (Datagrams.first_of e)) (drop 1 e.datagrams) short (All-drop ByteDatagram 1 e.datagrams h.8), h.9, h.10) (drop-bytes e h)
 
 error-bytes : Holds Datagrams.without_error
-error-bytes e h = (h.0, h.1, h.2, h.3, h.4, h.5, h.6, h.7, h.8, All-drop ByteError 1 e.datagram_errors h.9)
+error-bytes e h = (h.0, h.1, h.2, h.3, h.4, h.5, h.6, h.7, h.8, All-drop ByteError 1 e.datagram_errors h.9, h.10)
 
 shown-bytes : (o : Option Event) → Holds (Show.shown o)
 shown-bytes None e h = h
@@ -325,7 +332,7 @@ shown-bytes (Some other) e h = h
 open-bytes : (p : Providers) (s : Switch) (prov : Prov) (nonblock : Bool) (o : Option ℕ) → PlanBytes (Open.plan_where p s prov nonblock o)
 open-bytes p s prov nonblock None = still _ refl refl refl
 open-bytes p s prov nonblock (Some n) = record {
-  changes = λ z. ((λ q. (tt, All-nil ByteIndication, All-nil ByteIndication, no_disconnects, tt, tt, none-symbols, none-symbols, All-nil ByteDatagram, All-nil ByteError)), (tt, tt));
+  changes = λ z. ((λ q. (tt, All-nil ByteIndication, All-nil ByteIndication, no_disconnects, tt, tt, none-symbols, none-symbols, All-nil ByteDatagram, All-nil ByteError, tt)), (tt, tt));
   marks = λ z. tt;
   lost = λ z. tt;
 }
@@ -348,7 +355,7 @@ module _ (p : Providers) (w : World) (s : SoundWorld p w) (h : AllBytes p w) (fd
   bytes-at z y i = subst Bytes i (h z)
 
   asked-bytes : (address options udata : List ℕ) (l : ℕ) (y : Endpoint) → AreBytes address → AreBytes options → AreBytes udata → endpoint p w l ≡ Some y → Connect.is_full y ≡ false → OfBytes (Connect.asked fd address options udata y)
-  asked-bytes address options udata l y a o u i f = (q.0, All-append ByteIndication y.pending (new ∷ []) q.1 (All-cons ByteIndication new [] (small, a, o, u) (All-nil ByteIndication)), q.2, q.3, q.4, q.5, q.6, q.7, q.8, q.9)
+  asked-bytes address options udata l y a o u i f = (q.0, All-append ByteIndication y.pending (new ∷ []) q.1 (All-cons ByteIndication new [] (small, a, o, u) (All-nil ByteIndication)), q.2, q.3, q.4, q.5, q.6, q.7, q.8, q.9, q.10)
     where
       q : OfBytes y
       q = bytes-at l y i
@@ -390,11 +397,11 @@ pub next-bytes : (p : Providers) (w : World) (c : Call) (g : Go) → IsOfBytes c
 unfolding step plan
 next-bytes p w (call.TOpen prov nonblock) g a s h = by-plan p w (Open.plan_where p (the_switch p w) prov nonblock (opening_place p (the_switch p w) prov)) (open-bytes p (the_switch p w) prov nonblock (opening_place p (the_switch p w) prov)) h
 next-bytes p w (call.TClose fd) g a s h = on-open p w fd.0 _ (λ e b. twice (Close.changes p fd.0 e) _ (close-bytes p fd.0 e) refl refl refl) h
-next-bytes p w (call.TBind fd addr qlen amax) g a s h = on-open p w fd.0 (Bind.plan_in (the_switch p w) fd.0 addr qlen amax) (λ e b. twice (Bind.changes fd.0 e.prov (chosen (the_switch p w) e.prov addr) (Bind.queue e.prov qlen)) _ (λ z. ((λ j y q. (chosen-bytes (the_switch p w) e.prov addr (few-bindings p w s.registered.agreement) a, q.1, q.2, q.3, q.4, q.5, q.6, q.7, q.8, q.9)), (tt, tt))) refl refl refl) h
-next-bytes p w (call.TUnbind fd) g a s h = on-open p w fd.0 _ (λ e b. twice (at_endpoint fd.0 Bind.unbound ∷ at_switch (give_up_address fd.0) ∷ []) _ (λ z. ((λ j y q. (tt, q.1, q.2, q.3, q.4, q.5, q.6, q.7, q.8, All-nil ByteError)), (tt, tt))) refl refl refl) h
+next-bytes p w (call.TBind fd addr qlen amax) g a s h = on-open p w fd.0 (Bind.plan_in (the_switch p w) fd.0 addr qlen amax) (λ e b. twice (Bind.changes fd.0 e.prov (chosen (the_switch p w) e.prov addr) (Bind.queue e.prov qlen)) _ (λ z. ((λ j y q. (chosen-bytes (the_switch p w) e.prov addr (few-bindings p w s.registered.agreement) a, q.1, q.2, q.3, q.4, q.5, q.6, q.7, q.8, q.9, q.10)), (tt, tt))) refl refl refl) h
+next-bytes p w (call.TUnbind fd) g a s h = on-open p w fd.0 _ (λ e b. twice (at_endpoint fd.0 Bind.unbound ∷ at_switch (give_up_address fd.0) ∷ []) _ (λ z. ((λ j y q. (tt, q.1, q.2, q.3, q.4, q.5, q.6, q.7, q.8, All-nil ByteError, q.10)), (tt, tt))) refl refl refl) h
 next-bytes p w (call.TConnect fd addr opt udata amax omax umax) go.Begin a s h = connect-bytes p w s h fd.0 addr opt udata a.1 a.2
-next-bytes p w (call.TConnect fd addr opt udata amax omax umax) (go.More n) a s h = on-open p w fd.0 _ (λ e b. own fd.0 Connect.confirmed _ (λ y q. (q.0, q.1, q.2, q.3, q.4, tt, q.6, q.7, q.8, q.9)) refl refl refl) h
-next-bytes p w (call.TRcvConnect fd amax omax umax) g a s h = on-open p w fd.0 _ (λ e b. own fd.0 Connect.confirmed _ (λ y q. (q.0, q.1, q.2, q.3, q.4, tt, q.6, q.7, q.8, q.9)) refl refl refl) h
+next-bytes p w (call.TConnect fd addr opt udata amax omax umax) (go.More n) a s h = on-open p w fd.0 _ (λ e b. own fd.0 Connect.confirmed _ (λ y q. (q.0, q.1, q.2, q.3, q.4, tt, q.6, q.7, q.8, q.9, q.10)) refl refl refl) h
+next-bytes p w (call.TRcvConnect fd amax omax umax) g a s h = on-open p w fd.0 _ (λ e b. own fd.0 Connect.confirmed _ (λ y q. (q.0, q.1, q.2, q.3, q.4, tt, q.6, q.7, q.8, q.9, q.10)) refl refl refl) h
 next-bytes p w (call.TListen fd amax omax umax) g a s h = on-open p w fd.0 _ (λ e b. own fd.0 Listen.listened _ listened-bytes refl refl refl) h
 next-bytes p w (call.TAccept fd resfd seq opt udata) g a s h = on-open p w fd.0 (λ e. Listen.accept_with p fd.0 resfd.0 seq.0 opt udata e (endpoint p w resfd.0)) (λ e b. accept-bytes p fd.0 resfd.0 seq.0 opt udata e (endpoint p w resfd.0) a.0 a.1 b (h resfd.0)) h
 next-bytes p w (call.TSnd fd bytes flags) g a s h = send-bytes p w fd.0 1 bytes flags g a h
@@ -403,8 +410,10 @@ next-bytes p w (call.TRcv fd max) g a s h = on-open p w fd.0 _ (λ e b. own fd.0
 next-bytes p w (call.TRcvV fd sizes) g a s h = on-open p w fd.0 _ (λ e b. own fd.0 (Receive.received p (sum sizes)) _ (read-bytes p (sum sizes)) refl refl refl) h
 next-bytes p w (call.TSndDis fd seq udata) g a s h = on-open p w fd.0 _ (λ e b. twice (Disconnects.send_changes fd.0 seq.0 udata e) _ (snddis-bytes fd.0 seq.0 udata e a) refl refl refl) h
 next-bytes p w (call.TRcvDis fd umax) g a s h = on-open p w fd.0 _ (λ e b. own fd.0 Disconnects.received _ cut-bytes refl refl refl) h
-next-bytes p w (call.TSndRel fd) g a s h = on-open p w fd.0 _ (λ e b. twice (at_linked fd.0 e.peer Release.released ++ at_endpoint fd.0 Release.after_send ∷ []) _ (both (at_linked fd.0 e.peer Release.released) (at_endpoint fd.0 Release.after_send ∷ []) (linked-bytes fd.0 e.peer Release.released (λ y q. q)) (one fd.0 Release.after_send sent-bytes)) refl refl refl) h
+next-bytes p w (call.TSndRel fd) g a s h = sndrel-bytes p w fd.0 [] none-bytes h
 next-bytes p w (call.TRcvRel fd) g a s h = on-open p w fd.0 _ (λ e b. own fd.0 Release.after_receive _ left-bytes refl refl refl) h
+next-bytes p w (call.TSndRelData fd udata) g a s h = sndrel-bytes p w fd.0 udata a h
+next-bytes p w (call.TRcvRelData fd umax) g a s h = on-open p w fd.0 _ (λ e b. own fd.0 Release.after_receive _ left-bytes refl refl refl) h
 next-bytes p w (call.TSndUData fd addr opt bytes) g a s h = on-open p w fd.0 (λ e. Datagrams.send_from p w fd.0 addr opt 1 bytes e (bound (the_switch p w) e.prov addr)) (λ e b. sndudata-bytes p fd.0 addr opt 1 bytes e (bound (the_switch p w) e.prov addr) (option_and_then (endpoint p w) (bound (the_switch p w) e.prov addr)) a.0 a.1 a.2 b) h
 next-bytes p w (call.TSndVUData fd addr opt parts) g a s h = on-open p w fd.0 (λ e. Datagrams.send_from p w fd.0 addr opt (length parts) (concat parts) e (bound (the_switch p w) e.prov addr)) (λ e b. sndudata-bytes p fd.0 addr opt (length parts) (concat parts) e (bound (the_switch p w) e.prov addr) (option_and_then (endpoint p w) (bound (the_switch p w) e.prov addr)) a.0 a.1 a.2 b) h
 next-bytes p w (call.TRcvUData fd max amax omax) g a s h = on-open p w fd.0 (Datagrams.receive_from fd.0 1 max amax omax) (λ e b. record { changes = one fd.0 (Datagrams.received max) (got-bytes max); marks = λ z. tt; lost = one fd.0 Datagrams.dropped drop-bytes }) h

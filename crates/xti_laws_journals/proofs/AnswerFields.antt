@@ -39,6 +39,7 @@ answer-fields verb (Done (reply.Listened seq addr opt udata)) f h = (h.0, (h.1, 
 answer-fields verb (Done (reply.Sent n)) f h = (h, tt)
 answer-fields verb (Done (reply.Got bytes flags)) f h = (h.0, (h.1, tt))
 answer-fields verb (Done (reply.Discon reason seq udata)) f h = (h.0, (h.1, (h.2, tt)))
+answer-fields verb (Done (reply.RelData udata)) f h = (h, tt)
 answer-fields verb (Done (reply.UData addr opt bytes flags)) f h = (h.0, (h.1, (h.2, (h.3, tt))))
 answer-fields verb (Done (reply.UDErr addr opt code)) f h = (h.0, (h.1, (h.2, tt)))
 answer-fields verb (Done (reply.Seen event)) f h = (tt, tt)

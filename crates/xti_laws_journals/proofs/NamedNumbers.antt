@@ -65,6 +65,7 @@ named-of-bytes m (named.TAccept fd resfd seq opt udata) h = h
 named-of-bytes m (named.TSnd fd bytes flags) h = h
 named-of-bytes m (named.TSndV fd parts flags) h = h
 named-of-bytes m (named.TSndDis fd seq udata) h = h
+named-of-bytes m (named.TSndRelData fd udata) h = h
 named-of-bytes m (named.TSndUData fd addr opt bytes) h = h
 named-of-bytes m (named.TSndVUData fd addr opt parts) h = h
 named-of-bytes m (named.TOptMgmt fd action opt omax) h = h

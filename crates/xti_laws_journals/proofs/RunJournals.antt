@@ -13,6 +13,7 @@ use Rattle.xti_model.specs.SentBytes.{HasByteArguments, AllHaveByteArguments}
 use Rattle.xti_model.specs.World.{World, opening}
 use Rattle.xti_verbs.specs.Verbs.{verb_of}
 use Rattle.xti_journal.specs.Grammar.{HasText}
+use Rattle.xti_journal.specs.Releases.{AreWithoutData}
 use Rattle.xti_script_reader.specs.Grammar.{HasText as HasScriptText}
 use Rattle.xti_laws_sound.specs.Given.{OfStep}
 use Rattle.xti_laws_streams.specs.Laws.{IsLegalRun}
@@ -31,6 +32,7 @@ module _
     (s : Script)
     (es : List Entry)
     (v : valid s.providers ≡ true)
+    (w : AreWithoutData s.providers)
     (b : AllHaveByteArguments s.lines)
     (h : HasScriptText s)
     (r : IsLegalRun s es)
@@ -44,6 +46,7 @@ module _
     pub run-text : HasText (journal_of s es)
     run-text = record {
       providers = v;
+      releases = w;
       entries = entries-are s.providers (opening s.providers) es (form s.providers) r.legal (begun-such IsWritableNamed IsWritable s.lines es r.workers_only r.follows (script-writable s h) of_line) answers r.workers_only;
       stalls = stalls-are s.lines es (λ worker l n. of_line l (one-placed IsWritableNamed (placed s.lines worker) (length (begun es worker)) l (placed-such IsWritableNamed [] s.lines worker (script-writable s h)) n));
     }

@@ -26,8 +26,8 @@ fields-send (call.TSndV fd parts flags) h = joined-bytes parts h.1.0
 fields-send other h = tt
 
 act-sends : (o : Option Verb) (a : Act) → IsAct o a → BeginsBytes a
-act-sends None (Begin c) h = fields-send c h
-act-sends (Some v) (Begin c) h = fields-send c h
+act-sends None (Begin c) h = fields-send c h.1
+act-sends (Some v) (Begin c) h = fields-send c h.1
 act-sends o More h = tt
 
 pub entries-send : (past es : List Entry) → AreEntries past es → AllSendBytes es

@@ -24,14 +24,14 @@ use Rattle.xti_script_reader.specs.FieldValue.Value.{Bytes, Number, Parts, Sizes
 use Rattle.xti_script_reader.specs.declared.fields.Key.{Key}
 use Rattle.xti_script_reader.specs.declared.fields.Key.TheVariants as key
 use Rattle.xti_verbs.specs.declared.verb.Verb.{Verb}
-use Rattle.xti_verbs.specs.declared.verb.Verb.TheVariants.{Open, Close, Bind, Unbind, Connect, RcvConnect, Listen, Accept, Snd, SndV, Rcv, RcvV, SndDis, RcvDis, SndRel, RcvRel, SndUData, SndVUData, RcvUData, RcvVUData, RcvUDErr, Look, GetState, Sync, GetInfo, GetProtAddr, OptMgmt, SetMode}
+use Rattle.xti_verbs.specs.declared.verb.Verb.TheVariants.{Open, Close, Bind, Unbind, Connect, RcvConnect, Listen, Accept, Snd, SndV, Rcv, RcvV, SndDis, RcvDis, SndRel, RcvRel, SndRelData, RcvRelData, SndUData, SndVUData, RcvUData, RcvVUData, RcvUDErr, Look, GetState, Sync, GetInfo, GetProtAddr, OptMgmt, SetMode}
 use Rattle.xti_script_reader.specs.Names.{Spot, after, is_defined, can_name}
 use Rattle.xti_script_reader.specs.Values.{named, sequence_or_none, value_in}
 use Rattle.xti_script_reader.specs.Fields.{field, kind_of, usual_value, AreFields}
 use Rattle.xti_script_reader.specs.Calls.{call_with}
 use Rattle.xti_script_reader.specs.Grammar.{IsCall, AreLines, calls_in, HasText}
 use Rattle.xti_journal.specs.Fields.{field as journal_field, AreFields as AreJournalFields}
-use Rattle.xti_verbs.specs.Verbs.{verb_of}
+use Rattle.xti_verbs.specs.Verbs.{is_in_texts, verb_of}
 use Rattle.xti_journal.specs.Calls.{form, call_values}
 use Rattle.xti_laws_bytes.specs.Values.{IsNumber}
 use Rattle.xti_laws_journals.proofs.FollowedCalls.{AllLines}
@@ -168,7 +168,7 @@ AreNumbered m = ((name : List ℕ) → IsNumber (m.fd name).0) × ((name : List 
 
 -- a journal has the call
 abbrev pub IsWritable : Call → Type 0
-IsWritable c = AreJournalFields (form (verb_of c)) (call_values c)
+IsWritable c = (is_in_texts (verb_of c) ≡ true) × AreJournalFields (form (verb_of c)) (call_values c)
 
 -- with such numbers for its names, a journal has the call
 abbrev pub IsWritableNamed : NamedCall → Type 0
@@ -181,40 +181,42 @@ or-none : (m : Meanings) (o : Option (List ℕ)) → AreNumbered m → IsNumber 
 or-none m None k = omega arith
 or-none m (Some name) k = k.1 name
 
-call-fields : (verb : Verb) (values : List Value) (d : NamedCall) → AllValued values → call_with verb values ≡ Some d → IsWritableNamed d
+call-fields : (verb : Verb) (values : List Value) (d : NamedCall) → is_in_texts verb ≡ true → AllValued values → call_with verb values ≡ Some d → IsWritableNamed d
 unfolding call_with form journal_field
-call-fields Open (Name v1 ∷ Provider v2 ∷ Mode v3 ∷ []) d h e = same (call.TOpen v1 v2 v3) d (λ m k. (tt, (tt, tt))) e
-call-fields Close (Name v1 ∷ []) d h e = same (call.TClose v1) d (λ m k. (k.0 v1, tt)) e
-call-fields Bind (Name v1 ∷ Bytes v2 ∷ Number v3 ∷ Number v4 ∷ []) d h e = same (call.TBind v1 v2 v3 v4) d (λ m k. (k.0 v1, h.1)) e
-call-fields Unbind (Name v1 ∷ []) d h e = same (call.TUnbind v1) d (λ m k. (k.0 v1, tt)) e
-call-fields Connect (Name v1 ∷ Bytes v2 ∷ Bytes v3 ∷ Bytes v4 ∷ Number v5 ∷ Number v6 ∷ Number v7 ∷ []) d h e = same (call.TConnect v1 v2 v3 v4 v5 v6 v7) d (λ m k. (k.0 v1, h.1)) e
-call-fields RcvConnect (Name v1 ∷ Number v2 ∷ Number v3 ∷ Number v4 ∷ []) d h e = same (call.TRcvConnect v1 v2 v3 v4) d (λ m k. (k.0 v1, h.1)) e
-call-fields Listen (Name v1 ∷ Name v2 ∷ Number v3 ∷ Number v4 ∷ Number v5 ∷ []) d h e = same (call.TListen v1 v2 v3 v4 v5) d (λ m k. (k.0 v1, h.1.1)) e
-call-fields Accept (Name v1 ∷ Name v2 ∷ Name v3 ∷ Bytes v4 ∷ Bytes v5 ∷ []) d h e = same (call.TAccept v1 v2 v3 v4 v5) d (λ m k. (k.0 v1, (k.0 v2, (k.1 v3, h.1.1.1)))) e
-call-fields Snd (Name v1 ∷ Bytes v2 ∷ Number v3 ∷ []) d h e = same (call.TSnd v1 v2 v3) d (λ m k. (k.0 v1, h.1)) e
-call-fields SndV (Name v1 ∷ Parts v2 ∷ Number v3 ∷ []) d h e = same (call.TSndV v1 v2 v3) d (λ m k. (k.0 v1, h.1)) e
-call-fields Rcv (Name v1 ∷ Number v2 ∷ []) d h e = same (call.TRcv v1 v2) d (λ m k. (k.0 v1, h.1)) e
-call-fields RcvV (Name v1 ∷ Sizes v2 ∷ []) d h e = same (call.TRcvV v1 v2) d (λ m k. (k.0 v1, h.1)) e
-call-fields SndDis (Name v1 ∷ NameOrNone v2 ∷ Bytes v3 ∷ []) d h e = same (call.TSndDis v1 v2 v3) d (λ m k. (k.0 v1, (or-none m v2 k, h.1.1))) e
-call-fields RcvDis (Name v1 ∷ Number v2 ∷ []) d h e = same (call.TRcvDis v1 v2) d (λ m k. (k.0 v1, h.1)) e
-call-fields SndRel (Name v1 ∷ []) d h e = same (call.TSndRel v1) d (λ m k. (k.0 v1, tt)) e
-call-fields RcvRel (Name v1 ∷ []) d h e = same (call.TRcvRel v1) d (λ m k. (k.0 v1, tt)) e
-call-fields SndUData (Name v1 ∷ Bytes v2 ∷ Bytes v3 ∷ Bytes v4 ∷ []) d h e = same (call.TSndUData v1 v2 v3 v4) d (λ m k. (k.0 v1, h.1)) e
-call-fields SndVUData (Name v1 ∷ Bytes v2 ∷ Bytes v3 ∷ Parts v4 ∷ []) d h e = same (call.TSndVUData v1 v2 v3 v4) d (λ m k. (k.0 v1, h.1)) e
-call-fields RcvUData (Name v1 ∷ Number v2 ∷ Number v3 ∷ Number v4 ∷ []) d h e = same (call.TRcvUData v1 v2 v3 v4) d (λ m k. (k.0 v1, h.1)) e
-call-fields RcvVUData (Name v1 ∷ Sizes v2 ∷ Number v3 ∷ Number v4 ∷ []) d h e = same (call.TRcvVUData v1 v2 v3 v4) d (λ m k. (k.0 v1, h.1)) e
-call-fields RcvUDErr (Name v1 ∷ Number v2 ∷ Number v3 ∷ []) d h e = same (call.TRcvUDErr v1 v2 v3) d (λ m k. (k.0 v1, h.1)) e
-call-fields Look (Name v1 ∷ []) d h e = same (call.TLookAt v1) d (λ m k. (k.0 v1, tt)) e
-call-fields GetState (Name v1 ∷ []) d h e = same (call.TGetState v1) d (λ m k. (k.0 v1, tt)) e
-call-fields Sync (Name v1 ∷ []) d h e = same (call.TSync v1) d (λ m k. (k.0 v1, tt)) e
-call-fields GetInfo (Name v1 ∷ []) d h e = same (call.TGetInfo v1) d (λ m k. (k.0 v1, tt)) e
-call-fields GetProtAddr (Name v1 ∷ Number v2 ∷ Number v3 ∷ []) d h e = same (call.TGetProtAddr v1 v2 v3) d (λ m k. (k.0 v1, h.1)) e
-call-fields OptMgmt (Name v1 ∷ Number v2 ∷ Bytes v3 ∷ Number v4 ∷ []) d h e = same (call.TOptMgmt v1 v2 v3 v4) d (λ m k. (k.0 v1, h.1)) e
-call-fields SetMode (Name v1 ∷ Mode v2 ∷ []) d h e = same (call.SetMode v1 v2) d (λ m k. (k.0 v1, (tt, tt))) e
-call-fields verb values d h e = absurd (none-is d e)
+call-fields Open (Name v1 ∷ Provider v2 ∷ Mode v3 ∷ []) d t h e = same (call.TOpen v1 v2 v3) d (λ m k. (refl, (tt, (tt, tt)))) e
+call-fields Close (Name v1 ∷ []) d t h e = same (call.TClose v1) d (λ m k. (refl, (k.0 v1, tt))) e
+call-fields Bind (Name v1 ∷ Bytes v2 ∷ Number v3 ∷ Number v4 ∷ []) d t h e = same (call.TBind v1 v2 v3 v4) d (λ m k. (refl, (k.0 v1, h.1))) e
+call-fields Unbind (Name v1 ∷ []) d t h e = same (call.TUnbind v1) d (λ m k. (refl, (k.0 v1, tt))) e
+call-fields Connect (Name v1 ∷ Bytes v2 ∷ Bytes v3 ∷ Bytes v4 ∷ Number v5 ∷ Number v6 ∷ Number v7 ∷ []) d t h e = same (call.TConnect v1 v2 v3 v4 v5 v6 v7) d (λ m k. (refl, (k.0 v1, h.1))) e
+call-fields RcvConnect (Name v1 ∷ Number v2 ∷ Number v3 ∷ Number v4 ∷ []) d t h e = same (call.TRcvConnect v1 v2 v3 v4) d (λ m k. (refl, (k.0 v1, h.1))) e
+call-fields Listen (Name v1 ∷ Name v2 ∷ Number v3 ∷ Number v4 ∷ Number v5 ∷ []) d t h e = same (call.TListen v1 v2 v3 v4 v5) d (λ m k. (refl, (k.0 v1, h.1.1))) e
+call-fields Accept (Name v1 ∷ Name v2 ∷ Name v3 ∷ Bytes v4 ∷ Bytes v5 ∷ []) d t h e = same (call.TAccept v1 v2 v3 v4 v5) d (λ m k. (refl, (k.0 v1, (k.0 v2, (k.1 v3, h.1.1.1))))) e
+call-fields Snd (Name v1 ∷ Bytes v2 ∷ Number v3 ∷ []) d t h e = same (call.TSnd v1 v2 v3) d (λ m k. (refl, (k.0 v1, h.1))) e
+call-fields SndV (Name v1 ∷ Parts v2 ∷ Number v3 ∷ []) d t h e = same (call.TSndV v1 v2 v3) d (λ m k. (refl, (k.0 v1, h.1))) e
+call-fields Rcv (Name v1 ∷ Number v2 ∷ []) d t h e = same (call.TRcv v1 v2) d (λ m k. (refl, (k.0 v1, h.1))) e
+call-fields RcvV (Name v1 ∷ Sizes v2 ∷ []) d t h e = same (call.TRcvV v1 v2) d (λ m k. (refl, (k.0 v1, h.1))) e
+call-fields SndDis (Name v1 ∷ NameOrNone v2 ∷ Bytes v3 ∷ []) d t h e = same (call.TSndDis v1 v2 v3) d (λ m k. (refl, (k.0 v1, (or-none m v2 k, h.1.1)))) e
+call-fields RcvDis (Name v1 ∷ Number v2 ∷ []) d t h e = same (call.TRcvDis v1 v2) d (λ m k. (refl, (k.0 v1, h.1))) e
+call-fields SndRel (Name v1 ∷ []) d t h e = same (call.TSndRel v1) d (λ m k. (refl, (k.0 v1, tt))) e
+call-fields RcvRel (Name v1 ∷ []) d t h e = same (call.TRcvRel v1) d (λ m k. (refl, (k.0 v1, tt))) e
+call-fields SndRelData values d t h e = absurd cc
+call-fields RcvRelData values d t h e = absurd cc
+call-fields SndUData (Name v1 ∷ Bytes v2 ∷ Bytes v3 ∷ Bytes v4 ∷ []) d t h e = same (call.TSndUData v1 v2 v3 v4) d (λ m k. (refl, (k.0 v1, h.1))) e
+call-fields SndVUData (Name v1 ∷ Bytes v2 ∷ Bytes v3 ∷ Parts v4 ∷ []) d t h e = same (call.TSndVUData v1 v2 v3 v4) d (λ m k. (refl, (k.0 v1, h.1))) e
+call-fields RcvUData (Name v1 ∷ Number v2 ∷ Number v3 ∷ Number v4 ∷ []) d t h e = same (call.TRcvUData v1 v2 v3 v4) d (λ m k. (refl, (k.0 v1, h.1))) e
+call-fields RcvVUData (Name v1 ∷ Sizes v2 ∷ Number v3 ∷ Number v4 ∷ []) d t h e = same (call.TRcvVUData v1 v2 v3 v4) d (λ m k. (refl, (k.0 v1, h.1))) e
+call-fields RcvUDErr (Name v1 ∷ Number v2 ∷ Number v3 ∷ []) d t h e = same (call.TRcvUDErr v1 v2 v3) d (λ m k. (refl, (k.0 v1, h.1))) e
+call-fields Look (Name v1 ∷ []) d t h e = same (call.TLookAt v1) d (λ m k. (refl, (k.0 v1, tt))) e
+call-fields GetState (Name v1 ∷ []) d t h e = same (call.TGetState v1) d (λ m k. (refl, (k.0 v1, tt))) e
+call-fields Sync (Name v1 ∷ []) d t h e = same (call.TSync v1) d (λ m k. (refl, (k.0 v1, tt))) e
+call-fields GetInfo (Name v1 ∷ []) d t h e = same (call.TGetInfo v1) d (λ m k. (refl, (k.0 v1, tt))) e
+call-fields GetProtAddr (Name v1 ∷ Number v2 ∷ Number v3 ∷ []) d t h e = same (call.TGetProtAddr v1 v2 v3) d (λ m k. (refl, (k.0 v1, h.1))) e
+call-fields OptMgmt (Name v1 ∷ Number v2 ∷ Bytes v3 ∷ Number v4 ∷ []) d t h e = same (call.TOptMgmt v1 v2 v3 v4) d (λ m k. (refl, (k.0 v1, h.1))) e
+call-fields SetMode (Name v1 ∷ Mode v2 ∷ []) d t h e = same (call.SetMode v1 v2) d (λ m k. (refl, (k.0 v1, (tt, tt)))) e
+call-fields verb values d t h e = absurd (none-is d e)
 
 writable-call : (s : Spot) (c : NamedCall) (words : List (List ℕ)) → IsCall s c words → IsWritableNamed c
-writable-call s c words h = call-fields h.verb h.values c (field-valued s _ h.values h.fields h.are_fields) h.made
+writable-call s c words h = call-fields h.verb h.values c h.in_texts (field-valued s _ h.values h.fields h.are_fields) h.made
 
 -- ---- scripts
 

@@ -9,6 +9,7 @@ use Rattle.xti_base.specs.declared.kinds.State.TheVariants.{T_UNBND, T_IDLE, T_I
 use Rattle.xti_base.specs.declared.kinds.Event.TheVariants.{T_DISCONNECT}
 use Rattle.xti_model.specs.declared.entry.Go.{Go}
 use Rattle.xti_model.specs.declared.entry.Go.TheVariants as go
+use Rattle.xti_model.specs.declared.entry.Reply.{Reply}
 use Rattle.xti_model.specs.declared.profile.Providers.{Providers}
 use Rattle.xti_model.specs.Provider.{profile}
 use Rattle.xti_model.specs.Endpoint.{Endpoint, Indication, Disconnect, Target, find_number}
@@ -122,8 +123,8 @@ module _ (p : Providers) (w : World) (z : SoundLinks p w) (s : Step) where
   pub rcv-call : (fd sizes max : ℕ) → step_of p w (Receive.plan p w fd sizes max) ≡ Some s → SoundLinks p s.world
   rcv-call fd sizes max = on-open p w fd _ s z (λ e o. plain p w _ refl refl z (λ c. own p w fd (Receive.received p max) e z o (both-read p max e (z.good fd e o) (receiving-connected e.state (un-not (is_state receiving e) c.1.0)).0)))
 
-  pub rcvrel-call : (fd : ℕ) → step_of p w (Release.receive_plan p w fd) ≡ Some s → SoundLinks p s.world
-  rcvrel-call fd = on-open p w fd _ s z (λ e o. plain p w _ refl refl z (λ c. (let q = receiving-connected e.state (un-not (is_state receiving e) c.1.0) in own p w fd Release.after_receive e z o (both-after_receive e (z.good fd e o) q.0 (target-none e (z.good fd e o) q.1)))))
+  pub rcvrel-call : (fd umax : ℕ) (reply : Endpoint → Reply) → step_of p w (Release.taking_plan p w fd umax reply) ≡ Some s → SoundLinks p s.world
+  rcvrel-call fd umax reply = on-open p w fd _ s z (λ e o. plain p w _ refl refl z (λ c. (let q = receiving-connected e.state (un-not (is_state receiving e) c.1.0) in own p w fd Release.after_receive e z o (both-after_receive e (z.good fd e o) q.0 (target-none e (z.good fd e o) q.1)))))
 
   -- the oldest disconnect is received
   rcvdis-both : (e : Endpoint) → SoundRequests e → some_wait e.disconnects ≡ true → Both Disconnect.received e
@@ -179,31 +180,31 @@ module _ (p : Providers) (w : World) (z : SoundLinks p w) (s : Step) where
   SendsStill None = Unit {0}
   SendsStill (Some y) = is_state sending y ≡ true
 
-  released-still : (fd y : ℕ) → (e' : Endpoint) → is_state sending e' ≡ true → is_state sending (if_names fd Release.released e') ≡ true
-  released-still fd y e' h = go (names fd e'.peer)
+  released-still : (udata : List ℕ) (fd y : ℕ) → (e' : Endpoint) → is_state sending e' ≡ true → is_state sending (if_names fd (Release.released udata) e') ≡ true
+  released-still udata fd y e' h = go (names fd e'.peer)
     where
-      go : (b : Bool) → is_state sending (cond b (Release.released e') e') ≡ true
+      go : (b : Bool) → is_state sending (cond b (Release.released udata e') e') ≡ true
       go true = h
       go false = h
 
-  linked-still : (fd : ℕ) (o : Option ℕ) → SendsStill (endpoint p w fd) → SendsStill (endpoint p (changed p w (at_linked fd o Release.released)) fd)
-  linked-still fd None q = q
-  linked-still fd (Some y) q = keeps p SendsStill fd (at_endpoint y (if_names fd Release.released) ∷ []) ((λ j e' r. released-still fd y e' r), tt) w q
+  linked-still : (udata : List ℕ) (fd : ℕ) (o : Option ℕ) → SendsStill (endpoint p w fd) → SendsStill (endpoint p (changed p w (at_linked fd o (Release.released udata))) fd)
+  linked-still udata fd None q = q
+  linked-still udata fd (Some y) q = keeps p SendsStill fd (at_endpoint y (if_names fd (Release.released udata)) ∷ []) ((λ j e' r. released-still udata fd y e' r), tt) w q
 
-  pub sndrel-call : (fd : ℕ) → step_of p w (Release.send_plan p w fd) ≡ Some s → SoundLinks p s.world
-  sndrel-call fd = on-open p w fd _ s z (λ e o. plain p w _ refl refl z (λ c. took e o (un-not (is_state sending e) c.1.0)))
+  pub sndrel-call : (fd : ℕ) (udata : List ℕ) → step_of p w (Release.send_plan p w fd udata) ≡ Some s → SoundLinks p s.world
+  sndrel-call fd udata = on-open p w fd _ s z (λ e o. plain p w _ refl refl z (λ c. took e o (un-not (is_state sending e) c.1.0)))
     where
-      took : (e : Endpoint) → endpoint p w fd ≡ Some e → is_state sending e ≡ true → SoundLinks p (changed p w (at_linked fd e.peer Release.released ++ at_endpoint fd Release.after_send ∷ []))
-      took e o q = subst (λ y. SoundLinks p y) (sym (changed-append p w (at_linked fd e.peer Release.released) (at_endpoint fd Release.after_send ∷ [])))
-          (hush p (changed p w (at_linked fd e.peer Release.released)) fd Release.after_send nobody mid after)
+      took : (e : Endpoint) → endpoint p w fd ≡ Some e → is_state sending e ≡ true → SoundLinks p (changed p w (at_linked fd e.peer (Release.released udata) ++ at_endpoint fd Release.after_send ∷ []))
+      took e o q = subst (λ y. SoundLinks p y) (sym (changed-append p w (at_linked fd e.peer (Release.released udata)) (at_endpoint fd Release.after_send ∷ [])))
+          (hush p (changed p w (at_linked fd e.peer (Release.released udata))) fd Release.after_send nobody mid after)
         where
-          mid : SoundLinks p (changed p w (at_linked fd e.peer Release.released))
-          mid = linked-sound p w nobody fd e.peer Release.released z (λ y g h. both-released fd y g h)
+          mid : SoundLinks p (changed p w (at_linked fd e.peer (Release.released udata)))
+          mid = linked-sound p w nobody fd e.peer (Release.released udata) z (λ y g h. both-released udata fd y g h)
 
-          still : SendsStill (endpoint p (changed p w (at_linked fd e.peer Release.released)) fd)
-          still = linked-still fd e.peer (subst SendsStill (sym o) q)
+          still : SendsStill (endpoint p (changed p w (at_linked fd e.peer (Release.released udata))) fd)
+          still = linked-still udata fd e.peer (subst SendsStill (sym o) q)
 
-          after : (y : Endpoint) → endpoint p (changed p w (at_linked fd e.peer Release.released)) fd ≡ Some y → Both Release.after_send y
+          after : (y : Endpoint) → endpoint p (changed p w (at_linked fd e.peer (Release.released udata))) fd ≡ Some y → Both Release.after_send y
           after y i = (let k = sending-connected y.state (subst SendsStill i still) in both-after_send y (mid.good fd y i) k.0 (target-none y (mid.good fd y i) k.1))
 
   -- the endpoint broke, and idles

@@ -34,7 +34,7 @@ pub record Desk : Type 0 where
   pub confirmation : Option Confirmation
   pub normal : List ℕ
   pub expedited : List ℕ
-  pub release : Bool
+  pub release : Option (List ℕ)
   pub pending : List Indication
   pub outstanding : List Indication
   pub disconnects : List Disconnect
@@ -81,7 +81,7 @@ alike-pending e e' t v p o q = record {
 -- of a state that is not that of a listener with indications
 pub good-plain : (e e' : Endpoint) → SoundRequests e → e'.pending ≡ e.pending → e'.outstanding ≡ e.outstanding → e'.last_number ≡ e.last_number → e.outstanding ≡ [] → is_asked e' ≡ false
     → (is_some e'.target ≡ true → (e'.state ≡ T_OUTCON) × (e'.peer ≡ None) × (e'.disconnects ≡ [])) → (is_connected e'.state ≡ false → e'.peer ≡ None)
-    → (e'.peer ≡ None → (e'.normal ≡ []) × (e'.expedited ≡ []) × (e'.release ≡ false) × (e'.confirmation ≡ None)) → SoundRequests e'
+    → (e'.peer ≡ None → (e'.normal ≡ []) × (e'.expedited ≡ []) × (e'.release ≡ None) × (e'.confirmation ≡ None)) → SoundRequests e'
 good-plain e e' g p o l n a asking unlinked empty = record {
   asking = asking;
   unlinked = unlinked;
@@ -207,7 +207,7 @@ both-read p max e g k = go (some_wait e.expedited)
     o = connected-outstanding e g k
 
     as_both : (e' : Endpoint) → e'.pending ≡ e.pending → e'.outstanding ≡ e.outstanding → e'.last_number ≡ e.last_number → e'.state ≡ e.state → e'.target ≡ e.target → e'.peer ≡ e.peer → e'.prov ≡ e.prov → e'.disconnects ≡ e.disconnects
-        → (e.peer ≡ None → (e'.normal ≡ []) × (e'.expedited ≡ []) × (e'.release ≡ false) × (e'.confirmation ≡ None)) → SoundRequests e' × Alike e e'
+        → (e.peer ≡ None → (e'.normal ≡ []) × (e'.expedited ≡ []) × (e'.release ≡ None) × (e'.confirmation ≡ None)) → SoundRequests e' × Alike e e'
     as_both e' a b c d t y v u n = (
       good-plain e e' g a b c o (ap (λ z. list_any (same_state z) (T_INCON ∷ [])) d ∙ not-asked e.state k)
           (λ q. (let z = g.asking (ap is_some (sym t) ∙ q) in (d ∙ z.0, y ∙ z.1, u ∙ z.2))) (λ q. (y ∙ g.unlinked (ap is_connected (sym d) ∙ q))) (λ q. n (sym y ∙ q)),
@@ -230,10 +230,10 @@ both-idle e g o t = (
   alike-pending e (Disconnect.idle e) (sym t) refl refl o o,
 )
 
-pub both-released : (y : ℕ) (e : Endpoint) → SoundRequests e → e.peer ≡ Some y → Both Release.released e
-both-released y e g h = (let k = peer-connected e y g h in let o = connected-outstanding e g k in (
-  good-plain e (Release.released e) g refl refl refl o (not-asked e.state k) (asks-not e.target (peer-target e y g h)) g.unlinked (λ t. absurd (none-is y (sym t ∙ h))),
-  alike-pending e (Release.released e) refl refl refl o o,
+pub both-released : (udata : List ℕ) (y : ℕ) (e : Endpoint) → SoundRequests e → e.peer ≡ Some y → Both (Release.released udata) e
+both-released udata y e g h = (let k = peer-connected e y g h in let o = connected-outstanding e g k in (
+  good-plain e (Release.released udata e) g refl refl refl o (not-asked e.state k) (asks-not e.target (peer-target e y g h)) g.unlinked (λ t. absurd (none-is y (sym t ∙ h))),
+  alike-pending e (Release.released udata e) refl refl refl o o,
 ))
 
 pub both-after_send : (e : Endpoint) → SoundRequests e → is_connected e.state ≡ true → e.target ≡ None → Both Release.after_send e
@@ -252,8 +252,8 @@ both-after_receive e g k t = go (is_state (T_DATAXFER ∷ []) e)
     o : e.outstanding ≡ []
     o = connected-outstanding e g k
 
-    go : (b : Bool) → SoundRequests (cond b (record e { release = false; state = T_INREL }) (Disconnect.idle e)) × Alike e (cond b (record e { release = false; state = T_INREL }) (Disconnect.idle e))
-    go true = (good-plain e (record e { release = false; state = T_INREL }) g refl refl refl o refl (asks-not e.target t) (λ q. absurd (false≢true (sym q))) (λ q. (let z = g.empty q in (z.0, z.1, refl, z.3))), alike-pending e (record e { release = false; state = T_INREL }) refl refl refl o o)
+    go : (b : Bool) → SoundRequests (cond b (record e { release = None; state = T_INREL }) (Disconnect.idle e)) × Alike e (cond b (record e { release = None; state = T_INREL }) (Disconnect.idle e))
+    go true = (good-plain e (record e { release = None; state = T_INREL }) g refl refl refl o refl (asks-not e.target t) (λ q. absurd (false≢true (sym q))) (λ q. (let z = g.empty q in (z.0, z.1, refl, z.3))), alike-pending e (record e { release = None; state = T_INREL }) refl refl refl o o)
     go false = both-idle e g o t
 
 -- an endpoint that the request names as its peer is connected, and only such a one changes

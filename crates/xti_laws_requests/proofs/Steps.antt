@@ -96,8 +96,10 @@ sound-step p w (call.TRcv fd max) g s z b h = rcv-call p w z s fd.0 1 max h
 sound-step p w (call.TRcvV fd sizes) g s z b h = rcv-call p w z s fd.0 (length sizes) (sum sizes) h
 sound-step p w (call.TSndDis fd seq udata) g s z b h = snddis-call p w z s fd.0 seq.0 udata h
 sound-step p w (call.TRcvDis fd umax) g s z b h = rcvdis-call p w z s fd.0 umax h
-sound-step p w (call.TSndRel fd) g s z b h = sndrel-call p w z s fd.0 h
-sound-step p w (call.TRcvRel fd) g s z b h = rcvrel-call p w z s fd.0 h
+sound-step p w (call.TSndRel fd) g s z b h = sndrel-call p w z s fd.0 [] h
+sound-step p w (call.TRcvRel fd) g s z b h = rcvrel-call p w z s fd.0 0 _ h
+sound-step p w (call.TSndRelData fd udata) g s z b h = sndrel-call p w z s fd.0 udata h
+sound-step p w (call.TRcvRelData fd umax) g s z b h = rcvrel-call p w z s fd.0 umax _ h
 sound-step p w (call.TSndUData fd addr opt bytes) g s z b h = sndudata-call p w z b s fd.0 addr opt 1 bytes h
 sound-step p w (call.TSndVUData fd addr opt parts) g s z b h = sndudata-call p w z b s fd.0 addr opt (length parts) (concat parts) h
 sound-step p w (call.TRcvUData fd max amax omax) g s z b h = rcvudata-call p w z b s fd.0 1 max amax omax h
@@ -148,7 +150,7 @@ after_send-prov : KeepsProv Release.after_send
 after_send-prov e = prov-choice (is_state (T_DATAXFER ∷ []) e) (record e { state = T_OUTREL }) (Disconnect.idle e) e refl refl
 
 after_receive-prov : KeepsProv Release.after_receive
-after_receive-prov e = prov-choice (is_state (T_DATAXFER ∷ []) e) (record e { release = false; state = T_INREL }) (Disconnect.idle e) e refl refl
+after_receive-prov e = prov-choice (is_state (T_DATAXFER ∷ []) e) (record e { release = None; state = T_INREL }) (Disconnect.idle e) e refl refl
 
 append-tidy : (p : Providers) (cs ds : List Change) → AllTidy p cs → AllTidy p ds → AllTidy p (cs ++ ds)
 append-tidy p [] ds h k = k
@@ -288,6 +290,9 @@ module _ (p : Providers) (w : World) (b : BoundToOpen p w) (s : Step) where
       go true (Some i) = (tidy_at fd _ (λ e. refl), (tidy_at i.caller _ (λ e. refl), tt))
       go false o = append-tidy p (break fd e 4 udata) (at_endpoint fd Disconnect.idle ∷ []) (break-tidy p fd e 4 udata) (tidy_at fd Disconnect.idle (λ e. refl), tt)
 
+  sndrel-bound : (fd : ℕ) (udata : List ℕ) → step_of p w (Release.send_plan p w fd udata) ≡ Some s → BoundToOpen p s.world
+  sndrel-bound fd udata = open-tidy p w fd _ s (λ e. twice p (at_linked fd e.peer (Release.released udata) ++ at_endpoint fd Release.after_send ∷ []) (append-tidy p (at_linked fd e.peer (Release.released udata)) (at_endpoint fd Release.after_send ∷ []) (linked-tidy p fd e.peer (Release.released udata) (λ e. refl)) (tidy_at fd _ after_send-prov, tt))) b
+
   sndudata-tidy : (fd : ℕ) (address options : List ℕ) (parts : ℕ) (bytes : List ℕ) (e : Endpoint) (o : Option ℕ) (there : Option Endpoint) → PlanTidy p (Datagrams.send_to p fd address options parts bytes e o there)
   sndudata-tidy fd address options parts bytes e None there = ((tidy_at fd _ (λ e. refl), tt), (tidy_at fd _ (λ e. refl), tt), (tidy_at fd _ (λ e. refl), tt))
   sndudata-tidy fd address options parts bytes e (Some y) there = ((tidy_at y _ (λ e. refl), (tidy_at fd _ (λ e. refl), tt)), (tidy_at fd _ (λ e. refl), tt), (tidy_at y _ (λ e. refl), (tidy_at fd _ (λ e. refl), tt)))
@@ -314,8 +319,10 @@ bound-step p w (call.TRcv fd max) g s b h = open-tidy p w fd.0 _ s (λ e. one-ow
 bound-step p w (call.TRcvV fd sizes) g s b h = open-tidy p w fd.0 _ s (λ e. one-own p fd.0 (Receive.received p (sum sizes)) (read-prov p (sum sizes))) b h
 bound-step p w (call.TSndDis fd seq udata) g s b h = open-tidy p w fd.0 _ s (λ e. twice p (Disconnect.send_changes fd.0 seq.0 udata e) (snddis-tidy p w b s fd.0 seq.0 udata e)) b h
 bound-step p w (call.TRcvDis fd umax) g s b h = open-tidy p w fd.0 _ s (λ e. one-own p fd.0 Disconnect.received rcvdis-prov) b h
-bound-step p w (call.TSndRel fd) g s b h = open-tidy p w fd.0 _ s (λ e. twice p (at_linked fd.0 e.peer Release.released ++ at_endpoint fd.0 Release.after_send ∷ []) (append-tidy p (at_linked fd.0 e.peer Release.released) (at_endpoint fd.0 Release.after_send ∷ []) (linked-tidy p fd.0 e.peer Release.released (λ e. refl)) (tidy_at fd.0 _ after_send-prov, tt))) b h
+bound-step p w (call.TSndRel fd) g s b h = sndrel-bound p w b s fd.0 [] h
 bound-step p w (call.TRcvRel fd) g s b h = open-tidy p w fd.0 _ s (λ e. one-own p fd.0 Release.after_receive after_receive-prov) b h
+bound-step p w (call.TSndRelData fd udata) g s b h = sndrel-bound p w b s fd.0 udata h
+bound-step p w (call.TRcvRelData fd umax) g s b h = open-tidy p w fd.0 _ s (λ e. one-own p fd.0 Release.after_receive after_receive-prov) b h
 bound-step p w (call.TSndUData fd addr opt bytes) g s b h = sndudata-bound p w b s fd.0 addr opt 1 bytes h
 bound-step p w (call.TSndVUData fd addr opt parts) g s b h = sndudata-bound p w b s fd.0 addr opt (length parts) (concat parts) h
 bound-step p w (call.TRcvUData fd max amax omax) g s b h = rcvudata-bound p w b s fd.0 1 max amax omax h

@@ -41,7 +41,7 @@ disconnects_with n (d ∷ ds) = (if is_about n d then 1 else 0) + disconnects_wi
 pub record SoundRequests (e : Endpoint) : Type 0 where
   pub asking : is_some e.target ≡ true → (e.state ≡ T_OUTCON) × (e.peer ≡ None) × (e.disconnects ≡ [])
   pub unlinked : is_connected e.state ≡ false → e.peer ≡ None
-  pub empty : e.peer ≡ None → (e.normal ≡ []) × (e.expedited ≡ []) × (e.release ≡ false) × (e.confirmation ≡ None)
+  pub empty : e.peer ≡ None → (e.normal ≡ []) × (e.expedited ≡ []) × (e.release ≡ None) × (e.confirmation ≡ None)
   pub outstanding : is_asked e ≡ false → e.outstanding ≡ []
   pub once : (n : ℕ) → indications_with n e.pending + indications_with n e.outstanding ≤ 1
   pub below : (n : ℕ) → e.last_number < n → indications_with n e.pending + indications_with n e.outstanding ≡ 0

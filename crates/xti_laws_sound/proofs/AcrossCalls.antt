@@ -1,9 +1,11 @@
 -- The calls that change several endpoints keep a world sound: close, disconnect, release and send.
 use Rattle.std.proofs.Common.{ℕ, Bool, true, false, List, [], ◌∷◌, ◌++◌, ◌≡◌, ◌≤◌, inr, refl, sym, ap, ◌∙◌, subst, eqb, cond, length, map, append_assoc, Option, Some, None, is_some, arith}
+use Rattle.std.specs.Prelude.{nat_lt}
 use Rattle.std.proofs.lemmas.Bool.{not-false, false≢true, eqb-true, ltb-false}
 use Rattle.xti_base.specs.declared.kinds.State.TheVariants.{T_UNBND, T_INCON, T_DATAXFER, T_OUTREL}
 use Rattle.xti_base.specs.declared.kinds.Event.TheVariants as event
 use Rattle.xti_model.specs.declared.profile.Providers.{Providers}
+use Rattle.xti_model.specs.Provider.{has_release_data}
 use Rattle.xti_model.specs.Endpoint.{Endpoint, Indication, Target, find_number, without_number, disconnected, is_target}
 use Rattle.xti_model.specs.World.{World, at_endpoint, closes_endpoint, changed, endpoint}
 use Rattle.xti_model.specs.Links.{names, if_names, at_linked, take_back, taken_back, break, broken}
@@ -166,14 +168,20 @@ module _ (p : Providers) (w : World) (h : SoundWorld p w) (fd : ℕ) where
   after-quiet : Quiet Release.after_send
   after-quiet z e = quiet-cond (is_state (T_DATAXFER ∷ []) e) (record e { state = T_OUTREL }) (Disconnect.idle e) e z refl refl
 
-  pub sndrel-parts : Parts p (left_by w (step_of p w (Release.send_plan p w fd)))
-  sndrel-parts = call-keeps (Parts p) p w fd _ (parts p w h) (λ e i. record { changes = effect e i; lost = effect e i; marks = λ g. parts p w h })
+  -- data that go with a release are few
+  few-released : (b : Bool) (udata : List ℕ) → nat_lt (cond b 64 0) (length udata) ≡ false → length udata ≤ 64
+  few-released true udata k = ltb-false 64 (length udata) k
+  few-released false udata k = (let q = ltb-false 0 (length udata) k in omega arith)
+
+  pub sndrel-parts : (udata : List ℕ) → Parts p (left_by w (step_of p w (Release.send_plan p w fd udata)))
+  sndrel-parts udata = call-keeps (Parts p) p w fd _ (parts p w h) (λ e i. record { changes = effect e i; lost = effect e i; marks = λ g. parts p w h })
     where
-      effect : (e : Endpoint) → endpoint p w fd ≡ Some e → has_effect (first (Release.send_rows e)) ≡ true → Parts p (changed p w (at_linked fd e.peer Release.released ++ at_endpoint fd Release.after_send ∷ []))
+      effect : (e : Endpoint) → endpoint p w fd ≡ Some e → has_effect (first (Release.send_rows p udata e)) ≡ true → Parts p (changed p w (at_linked fd e.peer (Release.released udata) ++ at_endpoint fd Release.after_send ∷ []))
       effect e i g =
-          let c = cleared (Release.send_rows e) g in
+          let c = cleared (Release.send_rows p udata e) g in
           let n = (busy-sending e.state (not-false (is_state sending e) c.1.0)).not_unbound in
-          let a : Parts p (changed p w (at_linked fd e.peer Release.released)) = linked-parts e.peer Release.released (λ z y. refl) (λ y g j s. fit-released y s) in
-          let o : IsBound (endpoint p (changed p w (at_linked fd e.peer Release.released)) fd) = keeps p IsBound fd (at_linked fd e.peer Release.released) (linked-keep IsBound fd fd e.peer Release.released (λ y q. q)) w (subst IsBound (sym i) n) in
-          subst (λ y. Parts p y) (sym (changed-append p w (at_linked fd e.peer Release.released) (at_endpoint fd Release.after_send ∷ [])))
-          (one-parts p (changed p w (at_linked fd e.peer Release.released)) fd Release.after_send after-quiet (λ y j. fit-after_send y (subst IsBound j o) (a.1 fd y j)) a)
+          let l = few-released (has_release_data p e.prov) udata c.1.1.0 in
+          let a : Parts p (changed p w (at_linked fd e.peer (Release.released udata))) = linked-parts e.peer (Release.released udata) (λ z y. refl) (λ y g j s. fit-released udata y l s) in
+          let o : IsBound (endpoint p (changed p w (at_linked fd e.peer (Release.released udata))) fd) = keeps p IsBound fd (at_linked fd e.peer (Release.released udata)) (linked-keep IsBound fd fd e.peer (Release.released udata) (λ y q. q)) w (subst IsBound (sym i) n) in
+          subst (λ y. Parts p y) (sym (changed-append p w (at_linked fd e.peer (Release.released udata)) (at_endpoint fd Release.after_send ∷ [])))
+          (one-parts p (changed p w (at_linked fd e.peer (Release.released udata))) fd Release.after_send after-quiet (λ y j. fit-after_send y (subst IsBound j o) (a.1 fd y j)) a)

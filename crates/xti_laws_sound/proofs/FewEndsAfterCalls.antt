@@ -172,7 +172,7 @@ sent-few : (p : Providers) → Holds p Release.after_send
 sent-few p e h = choice (Few p) (is_state (T_DATAXFER ∷ []) e) (record e { state = T_OUTREL }) (Disconnect.idle e) (same-few p e _ refl refl refl h) (idle-few p e h)
 
 left-few : (p : Providers) → Holds p Release.after_receive
-left-few p e h = choice (Few p) (is_state (T_DATAXFER ∷ []) e) (record e { release = false; state = T_INREL }) (Disconnect.idle e) (same-few p e _ refl refl refl h) (idle-few p e h)
+left-few p e h = choice (Few p) (is_state (T_DATAXFER ∷ []) e) (record e { release = None; state = T_INREL }) (Disconnect.idle e) (same-few p e _ refl refl refl h) (idle-few p e h)
 
 -- A send of bytes.
 bytes-no-ends : (bytes : List ℕ) → AreBytes bytes → ends_waiting bytes ≡ 0
@@ -322,6 +322,9 @@ open-few p s prov nonblock (Some n) = record { changes = λ z. ((λ q. none-few 
 like-it : (p : Providers) → (f : Endpoint → Endpoint) → ((e : Endpoint) → ((f e).prov ≡ e.prov) × ((f e).normal ≡ e.normal) × ((f e).expedited ≡ e.expedited)) → Holds p f
 like-it p f k e h = same-few p e (f e) (k e).0 (k e).1 (k e).2 h
 
+sndrel-few : (p : Providers) (w : World) → AllFew p w → (fd : ℕ) (udata : List ℕ) → AllFew p (left_by w (step_of p w (Release.send_plan p w fd udata)))
+sndrel-few p w h fd udata = on-open p w fd _ (λ e. twice p (at_linked fd e.peer (Release.released udata) ++ at_endpoint fd Release.after_send ∷ []) _ (both-few p (at_linked fd e.peer (Release.released udata)) (at_endpoint fd Release.after_send ∷ []) (linked-few p fd e.peer (Release.released udata) (like-it p (Release.released udata) (λ y. (refl, refl, refl)))) (one p fd Release.after_send (sent-few p))) refl refl refl) h
+
 next-few : (p : Providers) (w : World) (c : Call) (g : Go) → SendsBytes c → Paired p w → AllFew p w → AllFew p (left_by w (step p w c g))
 unfolding step plan
 next-few p w (call.TOpen prov nonblock) g a b h = by-plan p w (Open.plan_where p (the_switch p w) prov nonblock (opening_place p (the_switch p w) prov)) (open-few p (the_switch p w) prov nonblock (opening_place p (the_switch p w) prov)) h
@@ -339,8 +342,10 @@ next-few p w (call.TRcv fd max) g a b h = on-open p w fd.0 _ (λ e. own-few p fd
 next-few p w (call.TRcvV fd sizes) g a b h = on-open p w fd.0 _ (λ e. own-few p fd.0 (Receive.received p (sum sizes)) _ (read-few p (sum sizes)) refl refl refl) h
 next-few p w (call.TSndDis fd seq udata) g a b h = on-open p w fd.0 _ (λ e. twice p (Disconnect.send_changes fd.0 seq.0 udata e) _ (snddis-few p fd.0 seq.0 udata e) refl refl refl) h
 next-few p w (call.TRcvDis fd umax) g a b h = on-open p w fd.0 _ (λ e. own-few p fd.0 Disconnect.received _ (cut-few p) refl refl refl) h
-next-few p w (call.TSndRel fd) g a b h = on-open p w fd.0 _ (λ e. twice p (at_linked fd.0 e.peer Release.released ++ at_endpoint fd.0 Release.after_send ∷ []) _ (both-few p (at_linked fd.0 e.peer Release.released) (at_endpoint fd.0 Release.after_send ∷ []) (linked-few p fd.0 e.peer Release.released (like-it p Release.released (λ y. (refl, refl, refl)))) (one p fd.0 Release.after_send (sent-few p))) refl refl refl) h
+next-few p w (call.TSndRel fd) g a b h = sndrel-few p w h fd.0 []
 next-few p w (call.TRcvRel fd) g a b h = on-open p w fd.0 _ (λ e. own-few p fd.0 Release.after_receive _ (left-few p) refl refl refl) h
+next-few p w (call.TSndRelData fd udata) g a b h = sndrel-few p w h fd.0 udata
+next-few p w (call.TRcvRelData fd umax) g a b h = on-open p w fd.0 _ (λ e. own-few p fd.0 Release.after_receive _ (left-few p) refl refl refl) h
 next-few p w (call.TSndUData fd addr opt bytes) g a b h = on-open p w fd.0 (λ e. Datagrams.send_from p w fd.0 addr opt 1 bytes e (bound (the_switch p w) e.prov addr)) (λ e. sndudata-few p fd.0 addr opt 1 bytes e (bound (the_switch p w) e.prov addr) (option_and_then (endpoint p w) (bound (the_switch p w) e.prov addr))) h
 next-few p w (call.TSndVUData fd addr opt parts) g a b h = on-open p w fd.0 (λ e. Datagrams.send_from p w fd.0 addr opt (length parts) (concat parts) e (bound (the_switch p w) e.prov addr)) (λ e. sndudata-few p fd.0 addr opt (length parts) (concat parts) e (bound (the_switch p w) e.prov addr) (option_and_then (endpoint p w) (bound (the_switch p w) e.prov addr))) h
 next-few p w (call.TRcvUData fd max amax omax) g a b h = on-open p w fd.0 (Datagrams.receive_from fd.0 1 max amax omax) (λ e. record { changes = one p fd.0 (Datagrams.received max) (got-few p max); marks = λ z. tt; lost = one p fd.0 Datagrams.dropped (like-it p Datagrams.dropped (λ y. (refl, refl, refl))) }) h

@@ -13,6 +13,7 @@ use Rattle.xti_model.specs.declared.call.Call.{Call}
 use Rattle.xti_model.specs.declared.call.Call.TheVariants as call
 use Rattle.xti_model.specs.declared.entry.Go.{Go}
 use Rattle.xti_model.specs.declared.entry.Go.TheVariants as go
+use Rattle.xti_model.specs.declared.entry.Reply.{Reply}
 use Rattle.xti_model.specs.declared.profile.Providers.{Providers}
 use Rattle.xti_model.specs.Provider.{profile}
 use Rattle.xti_model.specs.Endpoint.{Endpoint, Indication, Target, find_number, without_number, disconnected, is_target, address_of, opened}
@@ -130,8 +131,8 @@ confirmed-able e d i a b =
     )
 
 -- one end sends its release
-released-able : (e d : Endpoint) → is_state (T_DATAXFER ∷ []) e ≡ true → LinkedWith e d → LinkedWith d e → LinkedWith (record e { state = T_OUTREL }) (Release.released d) × LinkedWith (Release.released d) (record e { state = T_OUTREL })
-released-able e d i a b =
+released-able : (udata : List ℕ) (e d : Endpoint) → is_state (T_DATAXFER ∷ []) e ≡ true → LinkedWith e d → LinkedWith d e → LinkedWith (record e { state = T_OUTREL }) (Release.released udata d) × LinkedWith (Release.released udata d) (record e { state = T_OUTREL })
+released-able udata e d i a b =
     let s : e.state ≡ T_DATAXFER = only e.state T_DATAXFER i in
     let t = data-states d.state (sym (ap (λ v. is_one_of (other_states v) d.state) s) ∙ a.states) in (
       record { states = t.0; release = a.release ∙ ap (λ v. is_one_of (T_OUTREL ∷ []) d.state && not (is_one_of (T_INREL ∷ []) v)) s; confirmation = a.confirmation ∙ ap (is_one_of (T_OUTCON ∷ [])) s; finished = λ x. absurd (false≢true x) },
@@ -142,17 +143,17 @@ released-able e d i a b =
 received-able : (e : Endpoint) → is_here e event.T_ORDREL ≡ true → Able e (Release.after_receive e)
 received-able e i = go (is_state (T_DATAXFER ∷ []) e) refl
   where
-    parts : ((e.release ≡ true) × (not (some_wait e.normal) ≡ true)) × (not (some_wait e.expedited) ≡ true)
+    parts : ((is_some e.release ≡ true) × (not (some_wait e.normal) ≡ true)) × (not (some_wait e.expedited) ≡ true)
     parts =
-        let x = (and_parts (e.release && not (some_wait e.normal) && not (some_wait e.expedited)) (is_state receiving e) i).0 in
-        let y = and_parts (e.release && not (some_wait e.normal)) (not (some_wait e.expedited)) x in
-        (and_parts e.release (not (some_wait e.normal)) y.0, y.1)
+        let x = (and_parts (is_some e.release && not (some_wait e.normal) && not (some_wait e.expedited)) (is_state receiving e) i).0 in
+        let y = and_parts (is_some e.release && not (some_wait e.normal)) (not (some_wait e.expedited)) x in
+        (and_parts (is_some e.release) (not (some_wait e.normal)) y.0, y.1)
 
     nothing-waits : (xs : List ℕ) → not (some_wait xs) ≡ true → xs ≡ []
     nothing-waits [] k = refl
     nothing-waits (x ∷ xs) k = absurd (false≢true k)
 
-    go : (b : Bool) → is_state (T_DATAXFER ∷ []) e ≡ b → Able e (cond b (record e { release = false; state = T_INREL }) (Disconnect.idle e))
+    go : (b : Bool) → is_state (T_DATAXFER ∷ []) e ≡ b → Able e (cond b (record e { release = None; state = T_INREL }) (Disconnect.idle e))
     go false j = inl refl
     go true j = inr (
       refl,
@@ -290,9 +291,9 @@ module _ (p : Providers) (w : World) (z : SoundLinks p w) (q : Paired p w) (h : 
   confirm-matched fd amax omax umax = on-open fd _ (λ e i. when (at_endpoint fd Connect.confirmed ∷ []) (Connect.confirm_rows amax omax umax e) _
       (λ g. own-matched p w fd Connect.confirmed e i q h (inr (refl, λ d a b. confirmed-able e d (not-false (is_state (T_OUTCON ∷ []) e) (cleared (Connect.confirm_rows amax omax umax e) g).1.0) a b))) refl refl refl refl)
 
-  rcvrel-matched : (fd : ℕ) → Matched p (left_by w (step_of p w (Release.receive_plan p w fd)))
-  rcvrel-matched fd = on-open fd _ (λ e i. when (at_endpoint fd Release.after_receive ∷ []) (Release.receive_rows e) _
-      (λ g. own-matched p w fd Release.after_receive e i q h (received-able e (not-false (is_here e event.T_ORDREL) (cleared (Release.receive_rows e) g).1.1.1.0))) refl refl refl refl)
+  rcvrel-matched : (fd umax : ℕ) (reply : Endpoint → Reply) → Matched p (left_by w (step_of p w (Release.taking_plan p w fd umax reply)))
+  rcvrel-matched fd umax reply = on-open fd _ (λ e i. when (at_endpoint fd Release.after_receive ∷ []) (Release.receive_rows umax e) _
+      (λ g. own-matched p w fd Release.after_receive e i q h (received-able e (not-false (is_here e event.T_ORDREL) (cleared (Release.receive_rows umax e) g).1.1.1.0))) refl refl refl refl)
 
   -- A send: the symbols go to an end that has not received a release.
   names-is : (fd : ℕ) (o : Option ℕ) → names fd o ≡ true → o ≡ Some fd
@@ -346,46 +347,46 @@ pub mapped : (f : Endpoint → Endpoint) (o : Option Endpoint) (b : Endpoint) �
 mapped f None b j = absurd (none-is b j)
 mapped f (Some d) b j = (d, refl, some-is (f d) b j)
 
-pub told-peer : (fd : ℕ) (d : Endpoint) → (if_names fd Release.released d).peer ≡ d.peer
-told-peer fd d = go (names fd d.peer)
+pub told-peer : (udata : List ℕ) (fd : ℕ) (d : Endpoint) → (if_names fd (Release.released udata) d).peer ≡ d.peer
+told-peer udata fd d = go (names fd d.peer)
   where
-    go : (c : Bool) → (cond c (Release.released d) d).peer ≡ d.peer
+    go : (c : Bool) → (cond c (Release.released udata d) d).peer ≡ d.peer
     go true = refl
     go false = refl
 
-pub told-is : (fd : ℕ) (d b : Endpoint) (c : Bool) → names fd d.peer ≡ c → if_names fd Release.released d ≡ b → cond c (Release.released d) d ≡ b
-told-is fd d b c k j = ap (λ v. cond v (Release.released d) d) (sym k) ∙ j
+pub told-is : (udata : List ℕ) (fd : ℕ) (d b : Endpoint) (c : Bool) → names fd d.peer ≡ c → if_names fd (Release.released udata) d ≡ b → cond c (Release.released udata d) d ≡ b
+told-is udata fd d b c k j = ap (λ v. cond v (Release.released udata d) d) (sym k) ∙ j
 
 -- A release is sent: it waits at the other end, where there is one.
-module _ (p : Providers) (w : World) (h : Matched p w) (fd y : ℕ) (e : Endpoint) (i : endpoint p w fd ≡ Some e) (n : e.peer ≡ Some y) (apart : eqb y fd ≡ false) where
+module _ (p : Providers) (w : World) (h : Matched p w) (fd : ℕ) (udata : List ℕ) (y : ℕ) (e : Endpoint) (i : endpoint p w fd ≡ Some e) (n : e.peer ≡ Some y) (apart : eqb y fd ≡ false) where
   abbrev pub told : World
-  told = one_world p w y (if_names fd Release.released)
+  told = one_world p w y (if_names fd (Release.released udata))
 
   abbrev after : World
   after = one_world p told fd Release.after_send
 
   still_there : endpoint p told fd ≡ Some e
-  still_there = one-other p w y (if_names fd Release.released) fd (flip y fd apart) ∙ i
+  still_there = one-other p w y (if_names fd (Release.released udata)) fd (flip y fd apart) ∙ i
 
   -- who names another is as it was
   elsewhere : (x t : ℕ) (a : Endpoint) → endpoint p told x ≡ Some a → a.peer ≡ Some t → eqb t fd ≡ false → endpoint p w x ≡ Some a
   elsewhere x t a o k m = go (eqb x y) refl
     where
       go : (b : Bool) → eqb x y ≡ b → endpoint p w x ≡ Some a
-      go false j = sym (one-other p w y (if_names fd Release.released) x j) ∙ o
+      go false j = sym (one-other p w y (if_names fd (Release.released udata)) x j) ∙ o
       go true j =
           let l : x ≡ y = eqb-true x y j in
-          let d = mapped (if_names fd Release.released) (endpoint p w y) a (sym (endpoint-same p y (if_names fd Release.released) w) ∙ (ap (endpoint p told) (sym l) ∙ o)) in
-          let u : d.0.peer ≡ Some t = sym (told-peer fd d.0) ∙ (ap (λ v. v.peer) d.2 ∙ k) in
-          ap (endpoint p w) l ∙ (d.1 ∙ ap Some (told-is fd d.0 a false (ap (names fd) u ∙ m) d.2))
+          let d = mapped (if_names fd (Release.released udata)) (endpoint p w y) a (sym (endpoint-same p y (if_names fd (Release.released udata)) w) ∙ (ap (endpoint p told) (sym l) ∙ o)) in
+          let u : d.0.peer ≡ Some t = sym (told-peer udata fd d.0) ∙ (ap (λ v. v.peer) d.2 ∙ k) in
+          ap (endpoint p w) l ∙ (d.1 ∙ ap Some (told-is udata fd d.0 a false (ap (names fd) u ∙ m) d.2))
 
   -- the other end has the release
   both-able : (b : Endpoint) → is_state (T_DATAXFER ∷ []) e ≡ true → endpoint p told y ≡ Some b → b.peer ≡ Some fd → LinkedWith (record e { state = T_OUTREL }) b × LinkedWith b (record e { state = T_OUTREL })
   both-able b s o k =
-      let d = mapped (if_names fd Release.released) (endpoint p w y) b (sym (endpoint-same p y (if_names fd Release.released) w) ∙ o) in
-      let u : d.0.peer ≡ Some fd = sym (told-peer fd d.0) ∙ (ap (λ v. v.peer) d.2 ∙ k) in
-      let l : Release.released d.0 ≡ b = told-is fd d.0 b true (ap (names fd) u ∙ eq-eqb fd fd refl) d.2 in
-      subst (λ v. LinkedWith (record e { state = T_OUTREL }) v × LinkedWith v (record e { state = T_OUTREL })) l (released-able e d.0 s (h fd y e d.0 i d.1 n u) (h y fd d.0 e d.1 i u n))
+      let d = mapped (if_names fd (Release.released udata)) (endpoint p w y) b (sym (endpoint-same p y (if_names fd (Release.released udata)) w) ∙ o) in
+      let u : d.0.peer ≡ Some fd = sym (told-peer udata fd d.0) ∙ (ap (λ v. v.peer) d.2 ∙ k) in
+      let l : Release.released udata d.0 ≡ b = told-is udata fd d.0 b true (ap (names fd) u ∙ eq-eqb fd fd refl) d.2 in
+      subst (λ v. LinkedWith (record e { state = T_OUTREL }) v × LinkedWith v (record e { state = T_OUTREL })) l (released-able udata e d.0 s (h fd y e d.0 i d.1 n u) (h y fd d.0 e d.1 i u n))
 
   -- the two ends in the next world
   ends : (x t : ℕ) (a b : Endpoint) → x ≡ fd → Release.after_send e ≡ a → a.peer ≡ Some t → endpoint p after t ≡ Some b → b.peer ≡ Some x → LinkedWith a b × LinkedWith b a
@@ -405,8 +406,8 @@ module _ (p : Providers) (w : World) (h : Matched p w) (fd y : ℕ) (e : Endpoin
       (λ l1 l2. h x t a b (elsewhere x t a k2 r l1) (elsewhere t x b l2 m k1) r m))
 
 module _ (p : Providers) (w : World) (z : SoundLinks p w) (q : Paired p w) (h : Matched p w) where
-  sndrel-matched : (fd : ℕ) → Matched p (left_by w (step_of p w (Release.send_plan p w fd)))
-  sndrel-matched fd = on-open p w z q h fd _ (λ e i. when p w z q h (at_linked fd e.peer Release.released ++ at_endpoint fd Release.after_send ∷ []) (Release.send_rows e) _ (λ g. go e i e.peer refl) refl refl refl refl)
+  sndrel-matched : (fd : ℕ) (udata : List ℕ) → Matched p (left_by w (step_of p w (Release.send_plan p w fd udata)))
+  sndrel-matched fd udata = on-open p w z q h fd _ (λ e i. when p w z q h (at_linked fd e.peer (Release.released udata) ++ at_endpoint fd Release.after_send ∷ []) (Release.send_rows p udata e) _ (λ g. go e i e.peer refl) refl refl refl refl)
     where
       alone : (e : Endpoint) → e.peer ≡ None → (Release.after_send e).peer ≡ None
       alone e n = by (is_state (T_DATAXFER ∷ []) e)
@@ -415,9 +416,9 @@ module _ (p : Providers) (w : World) (z : SoundLinks p w) (q : Paired p w) (h : 
           by true = n
           by false = refl
 
-      go : (e : Endpoint) → endpoint p w fd ≡ Some e → (o : Option ℕ) → e.peer ≡ o → Matched p (changed p w (at_linked fd o Release.released ++ at_endpoint fd Release.after_send ∷ []))
+      go : (e : Endpoint) → endpoint p w fd ≡ Some e → (o : Option ℕ) → e.peer ≡ o → Matched p (changed p w (at_linked fd o (Release.released udata) ++ at_endpoint fd Release.after_send ∷ []))
       go e i None n = own-matched p w fd Release.after_send e i q h (inl (alone e n))
-      go e i (Some y) n = release-matched p w h fd y e i n (not-own p w z q h fd y e i n)
+      go e i (Some y) n = release-matched p w h fd udata y e i n (not-own p w z q h fd y e i n)
 
 -- An accept: the two that are linked had no peer.
 module _ (p : Providers) (w : World) (z : SoundLinks p w) (h : Matched p w) (fd resfd number : ℕ) (options udata : List ℕ) (e r : Endpoint) (i : Indication)
@@ -444,11 +445,11 @@ module _ (p : Providers) (w : World) (z : SoundLinks p w) (h : Matched p w) (fd 
   -- what is kept of the two
   abbrev pub Fresh : Option Endpoint → Type 0
   Fresh None = ⊥
-  Fresh (Some y) = (y.peer ≡ None) × (y.release ≡ false) × (y.confirmation ≡ None)
+  Fresh (Some y) = (y.peer ≡ None) × (y.release ≡ None) × (y.confirmation ≡ None)
 
   abbrev pub Calls : Option Endpoint → Type 0
   Calls None = ⊥
-  Calls (Some y) = (y.peer ≡ None) × (y.release ≡ false) × (y.state ≡ T_OUTCON)
+  Calls (Some y) = (y.peer ≡ None) × (y.release ≡ None) × (y.state ≡ T_OUTCON)
 
   keep-fresh : AllKeep Fresh resfd before
   keep-fresh = ((λ j y k. k), by (is_state (T_UNBND ∷ []) r))
@@ -480,8 +481,8 @@ module _ (p : Providers) (w : World) (z : SoundLinks p w) (h : Matched p w) (fd 
       go None j k q l m = absurd k
       go (Some y) j k None l m = absurd m
       go (Some y) j k (Some v) l m = two-matched p mid resfd i.caller (Listen.responding i) (Listen.accepted resfd address options udata) y v j l apart refl refl
-          (record { states = ap (is_one_of (other_states T_DATAXFER)) m.2; release = k.1 ∙ sym (ap (λ s. is_one_of (T_OUTREL ∷ []) s && true) m.2); confirmation = ap is_some k.2; finished = λ t. absurd (false≢true t) })
-          (record { states = ap (λ s. is_one_of (other_states s) T_DATAXFER) m.2; release = m.1; confirmation = sym (ap (is_one_of (T_OUTCON ∷ [])) m.2); finished = λ t. absurd (false≢true (sym (ap (is_one_of (T_INREL ∷ [])) m.2) ∙ t)) })
+          (record { states = ap (is_one_of (other_states T_DATAXFER)) m.2; release = ap is_some k.1 ∙ sym (ap (λ s. is_one_of (T_OUTREL ∷ []) s && true) m.2); confirmation = ap is_some k.2; finished = λ t. absurd (false≢true t) })
+          (record { states = ap (λ s. is_one_of (other_states s) T_DATAXFER) m.2; release = ap is_some m.1; confirmation = sym (ap (is_one_of (T_OUTCON ∷ [])) m.2); finished = λ t. absurd (false≢true (sym (ap (is_one_of (T_INREL ∷ [])) m.2) ∙ t)) })
           (mild-matched p w before before-mild h)
 
   accepts-matched : Matched p (changed p w (Listen.accept_changes fd resfd i options udata e r))
@@ -553,8 +554,10 @@ module _ (p : Providers) (w : World) (z : SoundLinks p w) (q : Paired p w) (h : 
   next-matched (call.TRcvV fd sizes) g = on-open p w z q h fd.0 _ (λ e i. own p w z q h fd.0 (Receive.received p (sum sizes)) _ (read-easy p (sum sizes)) refl refl refl)
   next-matched (call.TSndDis fd seq udata) g = on-open p w z q h fd.0 _ (λ e i. mild p w z q h (Disconnect.send_changes fd.0 seq.0 udata e) _ (snddis-mild p w z fd.0 seq.0 udata e i) refl refl refl)
   next-matched (call.TRcvDis fd umax) g = on-open p w z q h fd.0 _ (λ e i. mild p w z q h (at_endpoint fd.0 Disconnect.received ∷ []) _ (cut-mild p w z fd.0 e i) refl refl refl)
-  next-matched (call.TSndRel fd) g = sndrel-matched p w z q h fd.0
-  next-matched (call.TRcvRel fd) g = rcvrel-matched p w z q h fd.0
+  next-matched (call.TSndRel fd) g = sndrel-matched p w z q h fd.0 []
+  next-matched (call.TRcvRel fd) g = rcvrel-matched p w z q h fd.0 0 _
+  next-matched (call.TSndRelData fd udata) g = sndrel-matched p w z q h fd.0 udata
+  next-matched (call.TRcvRelData fd umax) g = rcvrel-matched p w z q h fd.0 umax _
   next-matched (call.TSndUData fd addr opt bytes) g = sndudata-matched fd.0 addr opt 1 bytes
   next-matched (call.TSndVUData fd addr opt parts) g = sndudata-matched fd.0 addr opt (length parts) (concat parts)
   next-matched (call.TRcvUData fd max amax omax) g = rcvudata-matched fd.0 1 max amax omax

@@ -35,7 +35,7 @@ like-trans e d f a b = record {
 like-linked : (e d e' d' : Endpoint) → Like e e' → Like d d' → LinkedWith e d → LinkedWith e' d'
 like-linked e d e' d' l m a = record {
   states = ap (λ s. is_one_of (other_states s) d'.state) l.state ∙ (ap (is_one_of (other_states e.state)) m.state ∙ a.states);
-  release = l.release ∙ (a.release ∙ sym (ap (λ s. is_one_of (T_OUTREL ∷ []) d'.state && not (is_one_of (T_INREL ∷ []) s)) l.state ∙ ap (λ s. is_one_of (T_OUTREL ∷ []) s && not (is_one_of (T_INREL ∷ []) e.state)) m.state));
+  release = ap is_some l.release ∙ (a.release ∙ sym (ap (λ s. is_one_of (T_OUTREL ∷ []) d'.state && not (is_one_of (T_INREL ∷ []) s)) l.state ∙ ap (λ s. is_one_of (T_OUTREL ∷ []) s && not (is_one_of (T_INREL ∷ []) e.state)) m.state));
   confirmation = ap is_some l.confirmation ∙ (a.confirmation ∙ sym (ap (is_one_of (T_OUTCON ∷ [])) l.state));
   finished = λ t. (let k : is_one_of (T_INREL ∷ []) e.state ≡ true = sym (ap (is_one_of (T_INREL ∷ [])) l.state) ∙ t in let f = a.finished k in (l.normal k f.0, l.expedited k f.1));
 }

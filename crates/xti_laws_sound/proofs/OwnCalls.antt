@@ -7,6 +7,7 @@ use Rattle.xti_base.specs.declared.kinds.Prov.{Prov}
 use Rattle.xti_base.specs.declared.kinds.Prov.TheVariants.{Ticlts}
 use Rattle.xti_base.specs.declared.kinds.State.TheVariants.{T_UNBND, T_IDLE, T_INCON, T_OUTCON, T_DATAXFER, T_INREL}
 use Rattle.xti_base.specs.declared.kinds.Event.TheVariants as event
+use Rattle.xti_model.specs.declared.entry.Reply.{Reply}
 use Rattle.xti_model.specs.declared.profile.Providers.{Providers}
 use Rattle.xti_model.specs.Provider.{has_datagrams}
 use Rattle.xti_model.specs.Endpoint.{Endpoint, Target, address_of}
@@ -227,8 +228,8 @@ module _ (p : Providers) (w : World) (h : SoundWorld p w) (fd : ℕ) where
       (λ g. (let c = cleared (Disconnect.receive_rows umax e) g in fit-cut_received e (asking-bound e.state (not-false (is_state connected_or_asking e) c.1.0)) (h.links.good fd e i) (h.endpoints fd e i))) refl refl refl refl)
 
   after-quiet : Quiet Release.after_receive
-  after-quiet z e = quiet-cond (is_state (T_DATAXFER ∷ []) e) (record e { release = false; state = T_INREL }) (Disconnect.idle e) e z refl refl
+  after-quiet z e = quiet-cond (is_state (T_DATAXFER ∷ []) e) (record e { release = None; state = T_INREL }) (Disconnect.idle e) e z refl refl
 
-  pub rcvrel-parts : Parts p (left_by w (step_of p w (Release.receive_plan p w fd)))
-  rcvrel-parts = call-keeps (Parts p) p w fd _ (parts p w h) (λ e i. own-call Release.after_receive e i (Release.receive_rows e) _ after-quiet
-      (λ g. (let c = cleared (Release.receive_rows e) g in fit-after_receive e (busy-receiving e.state (not-false (is_state receiving e) c.1.0)).not_unbound (h.endpoints fd e i))) refl refl refl refl)
+  pub rcvrel-parts : (umax : ℕ) (reply : Endpoint → Reply) → Parts p (left_by w (step_of p w (Release.taking_plan p w fd umax reply)))
+  rcvrel-parts umax reply = call-keeps (Parts p) p w fd _ (parts p w h) (λ e i. own-call Release.after_receive e i (Release.receive_rows umax e) _ after-quiet
+      (λ g. (let c = cleared (Release.receive_rows umax e) g in fit-after_receive e (busy-receiving e.state (not-false (is_state receiving e) c.1.0)).not_unbound (h.endpoints fd e i))) refl refl refl refl)

@@ -179,7 +179,7 @@ after_send-tame : Tame Release.after_send
 after_send-tame e = either (is_state (T_DATAXFER ∷ []) e) e (record e { state = T_OUTREL }) (Disconnect.idle e) (refl, inr refl) (idle-tame e)
 
 after_receive-tame : Tame Release.after_receive
-after_receive-tame e = either (is_state (T_DATAXFER ∷ []) e) e (record e { release = false; state = T_INREL }) (Disconnect.idle e) (refl, inr refl) (idle-tame e)
+after_receive-tame e = either (is_state (T_DATAXFER ∷ []) e) e (record e { release = None; state = T_INREL }) (Disconnect.idle e) (refl, inr refl) (idle-tame e)
 
 symbols-tame : (b : Bool) (symbols : List ℕ) → Tame (Send.received b symbols)
 symbols-tame true symbols e = (refl, inr refl)
@@ -359,6 +359,9 @@ module _ (p : Providers) (w : World) (P : World → Type 0) (h : P w) (k : (cs :
       by None = by-plan (later_plan n (if_open fd None (λ e. Send.plan_to p fd number bytes flags n e (linked p w fd e)))) (record { changes = tt; marks = tt; lost = tt })
       by (Some e) = (let t = send-tame p fd number bytes flags n _ (linked p w fd e) e in by-plan (later_plan n (Send.plan_to p fd number bytes flags n e (linked p w fd e))) (record { changes = t.changes; marks = tt; lost = t.lost }))
 
+  releases-by : (fd : ℕ) (udata : List ℕ) → P (left_by w (step_of p w (Release.send_plan p w fd udata)))
+  releases-by fd udata = on-open fd _ (λ e. twice (at_linked fd e.peer (Release.released udata) ++ at_endpoint fd Release.after_send ∷ []) _ (both-tame (at_linked fd e.peer (Release.released udata)) (at_endpoint fd Release.after_send ∷ []) (linked-tame fd e.peer (Release.released udata) (λ y. (refl, inr refl))) (tame_at fd Release.after_send after_send-tame, tt)) refl refl refl)
+
   pub next-by : (c : Call) (g : Go) → ((fd resfd number : ℕ) (options udata : List ℕ) → P (left_by w (step_of p w (Listen.accept_plan p w fd resfd number options udata)))) → ((prov : Prov) (nonblock : Bool) → c ≡ call.TOpen prov nonblock → P (left_by w (step_of p w (Open.plan p w prov nonblock)))) → P (left_by w (step p w c g))
   unfolding step plan
   next-by (call.TOpen prov nonblock) g acc op = op prov nonblock refl
@@ -376,8 +379,10 @@ module _ (p : Providers) (w : World) (P : World → Type 0) (h : P w) (k : (cs :
   next-by (call.TRcvV fd sizes) g acc op = on-open fd.0 _ (λ e. own-tame fd.0 (Receive.received p (sum sizes)) _ (read-tame p (sum sizes)) refl refl refl)
   next-by (call.TSndDis fd seq udata) g acc op = on-open fd.0 _ (λ e. twice (Disconnect.send_changes fd.0 seq.0 udata e) _ (snddis-tame fd.0 seq.0 udata e) refl refl refl)
   next-by (call.TRcvDis fd umax) g acc op = on-open fd.0 _ (λ e. own-tame fd.0 Disconnect.received _ cut-tame refl refl refl)
-  next-by (call.TSndRel fd) g acc op = on-open fd.0 _ (λ e. twice (at_linked fd.0 e.peer Release.released ++ at_endpoint fd.0 Release.after_send ∷ []) _ (both-tame (at_linked fd.0 e.peer Release.released) (at_endpoint fd.0 Release.after_send ∷ []) (linked-tame fd.0 e.peer Release.released (λ y. (refl, inr refl))) (tame_at fd.0 Release.after_send after_send-tame, tt)) refl refl refl)
+  next-by (call.TSndRel fd) g acc op = releases-by fd.0 []
   next-by (call.TRcvRel fd) g acc op = on-open fd.0 _ (λ e. own-tame fd.0 Release.after_receive _ after_receive-tame refl refl refl)
+  next-by (call.TSndRelData fd udata) g acc op = releases-by fd.0 udata
+  next-by (call.TRcvRelData fd umax) g acc op = on-open fd.0 _ (λ e. own-tame fd.0 Release.after_receive _ after_receive-tame refl refl refl)
   next-by (call.TSndUData fd addr opt bytes) g acc op = on-open fd.0 (λ e. Datagrams.send_from p w fd.0 addr opt 1 bytes e (bound (the_switch p w) e.prov addr)) (λ e. sndudata-tame p fd.0 addr opt 1 bytes e (bound (the_switch p w) e.prov addr) (option_and_then (endpoint p w) (bound (the_switch p w) e.prov addr)))
   next-by (call.TSndVUData fd addr opt parts) g acc op = on-open fd.0 (λ e. Datagrams.send_from p w fd.0 addr opt (length parts) (concat parts) e (bound (the_switch p w) e.prov addr)) (λ e. sndudata-tame p fd.0 addr opt (length parts) (concat parts) e (bound (the_switch p w) e.prov addr) (option_and_then (endpoint p w) (bound (the_switch p w) e.prov addr)))
   next-by (call.TRcvUData fd max amax omax) g acc op = on-open fd.0 (Datagrams.receive_from fd.0 1 max amax omax) (λ e. record { changes = (tame_at fd.0 (Datagrams.received max) (got-tame max), tt); marks = tt; lost = (tame_at fd.0 Datagrams.dropped (λ y. (refl, inr refl)), tt) })

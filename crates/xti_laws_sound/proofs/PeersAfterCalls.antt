@@ -12,6 +12,7 @@ use Rattle.xti_model.specs.declared.call.Call.{Call}
 use Rattle.xti_model.specs.declared.call.Call.TheVariants as call
 use Rattle.xti_model.specs.declared.entry.Go.{Go}
 use Rattle.xti_model.specs.declared.entry.Go.TheVariants as go
+use Rattle.xti_model.specs.declared.entry.Reply.{Reply}
 use Rattle.xti_model.specs.declared.profile.Providers.{Providers}
 use Rattle.xti_model.specs.Provider.{profile}
 use Rattle.xti_model.specs.Endpoint.{Endpoint, Indication, Target, find_number, without_number, disconnected, is_target, address_of, opened}
@@ -153,7 +154,7 @@ module _ (p : Providers) (w : World) (s : SoundWorld p w) where
       (λ g. own-peers p w fd Connect.confirmed e i (inl (refl, λ r. absurd (not-out e T_OUTCON (only e.state T_OUTCON (not-false (is_state (T_OUTCON ∷ []) e) (cleared (Connect.confirm_rows amax omax umax e) g).1.0)) refl r))) s.there) refl refl refl refl)
 
   -- the release is received: the other end has sent it, and this one has too where it leaves
-  released-end : (fd : ℕ) (e : Endpoint) → endpoint p w fd ≡ Some e → is_state (T_OUTREL ∷ []) e ≡ true → e.release ≡ true → (x : ℕ) (d : Endpoint) → endpoint p w x ≡ Some d → d.peer ≡ Some fd → e.peer ≡ Some x → IsReleased d
+  released-end : (fd : ℕ) (e : Endpoint) → endpoint p w fd ≡ Some e → is_state (T_OUTREL ∷ []) e ≡ true → is_some e.release ≡ true → (x : ℕ) (d : Endpoint) → endpoint p w x ≡ Some d → d.peer ≡ Some fd → e.peer ≡ Some x → IsReleased d
   released-end fd e i o r x d j b a =
       let l = s.matched fd x e d i j a b in
       let k = s.matched x fd d e j i b a in
@@ -162,9 +163,9 @@ module _ (p : Providers) (w : World) (s : SoundWorld p w) where
       let v : e.state ≡ T_OUTREL = only e.state T_OUTREL o in
       (u, k.release ∙ (ap (λ q. is_one_of (T_OUTREL ∷ []) q && not (is_one_of (T_INREL ∷ []) d.state)) v ∙ ap (λ q. not (is_one_of (T_INREL ∷ []) q)) u))
 
-  rcvrel-there : (fd : ℕ) → PeersThere p (left_by w (step_of p w (Release.receive_plan p w fd)))
-  rcvrel-there fd = on-open fd _ (λ e i. when (at_endpoint fd Release.after_receive ∷ []) (Release.receive_rows e) _
-      (λ g. (let c = cleared (Release.receive_rows e) g in own-peers p w fd Release.after_receive e i (stays e i (not-false (is_here e event.T_ORDREL) c.1.1.1.0) (not-false (is_state receiving e) c.1.0) (is_state (T_DATAXFER ∷ []) e) refl) s.there)) refl refl refl refl)
+  rcvrel-there : (fd umax : ℕ) (reply : Endpoint → Reply) → PeersThere p (left_by w (step_of p w (Release.taking_plan p w fd umax reply)))
+  rcvrel-there fd umax reply = on-open fd _ (λ e i. when (at_endpoint fd Release.after_receive ∷ []) (Release.receive_rows umax e) _
+      (λ g. (let c = cleared (Release.receive_rows umax e) g in own-peers p w fd Release.after_receive e i (stays e i (not-false (is_here e event.T_ORDREL) c.1.1.1.0) (not-false (is_state receiving e) c.1.0) (is_state (T_DATAXFER ∷ []) e) refl) s.there)) refl refl refl refl)
     where
       other : (t : State) → is_one_of receiving t ≡ true → is_one_of (T_DATAXFER ∷ []) t ≡ false → is_one_of (T_OUTREL ∷ []) t ≡ true
       other T_OUTREL h k = refl
@@ -175,9 +176,9 @@ module _ (p : Providers) (w : World) (s : SoundWorld p w) where
       waits true b c d h = refl
       waits false b c d h = absurd (false≢true h)
 
-      stays : (e : Endpoint) → endpoint p w fd ≡ Some e → is_here e event.T_ORDREL ≡ true → is_state receiving e ≡ true → (b : Bool) → is_state (T_DATAXFER ∷ []) e ≡ b → Stays p w fd e (cond b (record e { release = false; state = T_INREL }) (Disconnect.idle e))
+      stays : (e : Endpoint) → endpoint p w fd ≡ Some e → is_here e event.T_ORDREL ≡ true → is_state receiving e ≡ true → (b : Bool) → is_state (T_DATAXFER ∷ []) e ≡ b → Stays p w fd e (cond b (record e { release = None; state = T_INREL }) (Disconnect.idle e))
       stays e i h k true j = inl (refl, λ r. absurd (not-out e T_DATAXFER (only e.state T_DATAXFER j) refl r))
-      stays e i h k false j = inr (refl, λ x d a b c. released-end fd e i (other e.state k j) (waits e.release _ _ _ h) x d a b c)
+      stays e i h k false j = inr (refl, λ x d a b c. released-end fd e i (other e.state k j) (waits (is_some e.release) _ _ _ h) x d a b c)
 
   -- a disconnect waits at no endpoint with a peer
   cut-alone : (e : Endpoint) (fd : ℕ) → endpoint p w fd ≡ Some e → some_wait e.disconnects ≡ true → e.peer ≡ None
@@ -196,9 +197,9 @@ module _ (p : Providers) (w : World) (s : SoundWorld p w) where
       stays e n false = inr (refl, λ x d a b c. absurd (none-is x (sym n ∙ c)))
 
   -- the release is sent: the other end has it, and leaves nobody but that end where this one has received it
-  sndrel-there : (fd : ℕ) → PeersThere p (left_by w (step_of p w (Release.send_plan p w fd)))
-  sndrel-there fd = on-open fd _ (λ e i. when (at_linked fd e.peer Release.released ++ at_endpoint fd Release.after_send ∷ []) (Release.send_rows e) _
-      (λ g. go e i (not-false (is_state sending e) (cleared (Release.send_rows e) g).1.0) e.peer refl) refl refl refl refl)
+  sndrel-there : (fd : ℕ) (udata : List ℕ) → PeersThere p (left_by w (step_of p w (Release.send_plan p w fd udata)))
+  sndrel-there fd udata = on-open fd _ (λ e i. when (at_linked fd e.peer (Release.released udata) ++ at_endpoint fd Release.after_send ∷ []) (Release.send_rows p udata e) _
+      (λ g. go e i (not-false (is_state sending e) (cleared (Release.send_rows p udata e) g).1.0) e.peer refl) refl refl refl refl)
     where
       received : (t : State) → is_one_of sending t ≡ true → is_one_of (T_DATAXFER ∷ []) t ≡ false → t ≡ T_INREL
       received T_INREL h k = refl
@@ -209,28 +210,28 @@ module _ (p : Providers) (w : World) (s : SoundWorld p w) where
       alone e n true = inr (n, λ x d a b c. absurd (none-is x (sym n ∙ c)))
       alone e n false = inr (refl, λ x d a b c. absurd (none-is x (sym n ∙ c)))
 
-      soft : (y : ℕ) → PeersThere p (one_world p w y (if_names fd Release.released))
-      soft y = soft-peers p w y (if_names fd Release.released) (M.told-peer fd) (λ e r. kept e r (names fd e.peer)) s.there
+      soft : (y : ℕ) → PeersThere p (one_world p w y (if_names fd (Release.released udata)))
+      soft y = soft-peers p w y (if_names fd (Release.released udata)) (M.told-peer udata fd) (λ e r. kept e r (names fd e.peer)) s.there
         where
-          kept : (e : Endpoint) → IsReleased e → (b : Bool) → IsReleased (cond b (Release.released e) e)
+          kept : (e : Endpoint) → IsReleased e → (b : Bool) → IsReleased (cond b (Release.released udata e) e)
           kept e r true = (r.0, refl)
           kept e r false = r
 
       -- the end that is told
-      told-end : (y : ℕ) (e : Endpoint) → endpoint p w fd ≡ Some e → e.peer ≡ Some y → e.state ≡ T_INREL → (x : ℕ) (d : Endpoint) → endpoint p (one_world p w y (if_names fd Release.released)) x ≡ Some d → d.peer ≡ Some fd → e.peer ≡ Some x → IsReleased d
+      told-end : (y : ℕ) (e : Endpoint) → endpoint p w fd ≡ Some e → e.peer ≡ Some y → e.state ≡ T_INREL → (x : ℕ) (d : Endpoint) → endpoint p (one_world p w y (if_names fd (Release.released udata))) x ≡ Some d → d.peer ≡ Some fd → e.peer ≡ Some x → IsReleased d
       told-end y e i n t x d j b a =
           let k : x ≡ y = some-is x y (sym a ∙ n) in
-          let m = M.mapped (if_names fd Release.released) (endpoint p w y) d (sym (endpoint-same p y (if_names fd Release.released) w) ∙ (ap (endpoint p (one_world p w y (if_names fd Release.released))) (sym k) ∙ j)) in
-          let u : m.0.peer ≡ Some fd = sym (M.told-peer fd m.0) ∙ (ap (λ v. v.peer) m.2 ∙ b) in
-          let l : Release.released m.0 ≡ d = M.told-is fd m.0 d true (ap (names fd) u ∙ eq-eqb fd fd refl) m.2 in
+          let m = M.mapped (if_names fd (Release.released udata)) (endpoint p w y) d (sym (endpoint-same p y (if_names fd (Release.released udata)) w) ∙ (ap (endpoint p (one_world p w y (if_names fd (Release.released udata)))) (sym k) ∙ j)) in
+          let u : m.0.peer ≡ Some fd = sym (M.told-peer udata fd m.0) ∙ (ap (λ v. v.peer) m.2 ∙ b) in
+          let l : Release.released udata m.0 ≡ d = M.told-is udata fd m.0 d true (ap (names fd) u ∙ eq-eqb fd fd refl) m.2 in
           let q : is_one_of (T_OUTREL ∷ []) m.0.state ≡ true = sym (ap (λ v. is_one_of (other_states v) m.0.state) t) ∙ (s.matched fd y e m.0 i m.1 n u).states in
           subst IsReleased l (only m.0.state T_OUTREL q, refl)
 
-      go : (e : Endpoint) → endpoint p w fd ≡ Some e → is_state sending e ≡ true → (o : Option ℕ) → e.peer ≡ o → PeersThere p (changed p w (at_linked fd o Release.released ++ at_endpoint fd Release.after_send ∷ []))
+      go : (e : Endpoint) → endpoint p w fd ≡ Some e → is_state sending e ≡ true → (o : Option ℕ) → e.peer ≡ o → PeersThere p (changed p w (at_linked fd o (Release.released udata) ++ at_endpoint fd Release.after_send ∷ []))
       go e i t None n = own-peers p w fd Release.after_send e i (alone e n (is_state (T_DATAXFER ∷ []) e)) s.there
-      go e i t (Some y) n = own-peers p (one_world p w y (if_names fd Release.released)) fd Release.after_send e (one-other p w y (if_names fd Release.released) fd (flip y fd (M.not-own p w s.links s.pairs s.matched fd y e i n)) ∙ i) (stays (is_state (T_DATAXFER ∷ []) e) refl) (soft y)
+      go e i t (Some y) n = own-peers p (one_world p w y (if_names fd (Release.released udata))) fd Release.after_send e (one-other p w y (if_names fd (Release.released udata)) fd (flip y fd (M.not-own p w s.links s.pairs s.matched fd y e i n)) ∙ i) (stays (is_state (T_DATAXFER ∷ []) e) refl) (soft y)
         where
-          stays : (b : Bool) → is_state (T_DATAXFER ∷ []) e ≡ b → Stays p (one_world p w y (if_names fd Release.released)) fd e (cond b (record e { state = T_OUTREL }) (Disconnect.idle e))
+          stays : (b : Bool) → is_state (T_DATAXFER ∷ []) e ≡ b → Stays p (one_world p w y (if_names fd (Release.released udata))) fd e (cond b (record e { state = T_OUTREL }) (Disconnect.idle e))
           stays true j = inl (refl, λ r. absurd (not-out e T_DATAXFER (only e.state T_DATAXFER j) refl r))
           stays false j = inr (refl, told-end y e i n (received e.state t j))
 
@@ -382,8 +383,10 @@ module _ (p : Providers) (w : World) (s : SoundWorld p w) where
   next-there (call.TRcvV fd sizes) g = on-open fd.0 _ (λ e i. own fd.0 (Receive.received p (sum sizes)) _ (M.read-easy p (sum sizes)) (read-steady p (sum sizes)) refl refl refl)
   next-there (call.TSndDis fd seq udata) g = snddis-there fd.0 seq.0 udata
   next-there (call.TRcvDis fd umax) g = rcvdis-there fd.0 umax
-  next-there (call.TSndRel fd) g = sndrel-there fd.0
-  next-there (call.TRcvRel fd) g = rcvrel-there fd.0
+  next-there (call.TSndRel fd) g = sndrel-there fd.0 []
+  next-there (call.TRcvRel fd) g = rcvrel-there fd.0 0 _
+  next-there (call.TSndRelData fd udata) g = sndrel-there fd.0 udata
+  next-there (call.TRcvRelData fd umax) g = rcvrel-there fd.0 umax _
   next-there (call.TSndUData fd addr opt bytes) g = sndudata-there fd.0 addr opt 1 bytes
   next-there (call.TSndVUData fd addr opt parts) g = sndudata-there fd.0 addr opt (length parts) (concat parts)
   next-there (call.TRcvUData fd max amax omax) g = rcvudata-there fd.0 1 max amax omax

@@ -1,5 +1,5 @@
 -- The peer of an endpoint names it back, or both have sent their releases.
-use Rattle.std.proofs.Common.{ℕ, Bool, true, false, List, [], ◌∷◌, ◌≡◌, ◌⊎◌, inl, inr, refl, sym, ap, ◌∙◌, subst, eqb, cond, Option, Some, None}
+use Rattle.std.proofs.Common.{ℕ, Bool, true, false, List, [], ◌∷◌, ◌≡◌, ◌⊎◌, inl, inr, refl, sym, ap, ◌∙◌, subst, eqb, cond, Option, Some, None, is_some}
 use Rattle.std.specs.Prelude.{option_map}
 use Rattle.std.proofs.lemmas.Bool.{eqb-true, eq-eqb}
 use Rattle.xti_model.specs.declared.profile.Providers.{Providers}
@@ -50,7 +50,7 @@ module _ (p : Providers) (w : World) where
         where
           by : (NamesBack x (endpoint p w y) × (t y ≡ false)) ⊎ IsReleased s.e → (NamesBack x (endpoint p (changed p w cs) y) × (t y ≡ false)) ⊎ IsReleased e
           by (inl k) = inl (keeps p (NamesBack x) y cs (b x y) w k.0, k.1)
-          by (inr k) = inr (s.like.state ∙ k.0, s.like.release ∙ k.1)
+          by (inr k) = inr (s.like.state ∙ k.0, ap is_some s.like.release ∙ k.1)
 
   -- a change of every endpoint that keeps its peer, and the release that it has
   pub soft-peers : (z : ℕ) (f : Endpoint → Endpoint) → ((e : Endpoint) → (f e).peer ≡ e.peer) → ((e : Endpoint) → IsReleased e → IsReleased (f e)) → PeersThere p w → PeersThere p (one_world p w z f)

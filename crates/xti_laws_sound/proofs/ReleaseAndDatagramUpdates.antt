@@ -42,8 +42,8 @@ fit-after_send e n h = go (is_state (T_DATAXFER ∷ []) e) refl
 pub fit-after_receive : (e : Endpoint) → is_one_of (T_UNBND ∷ []) e.state ≡ false → SoundEndpoint e → SoundEndpoint (Release.after_receive e)
 fit-after_receive e n h = go (is_state (T_DATAXFER ∷ []) e) refl
   where
-    go : (b : Bool) → is_state (T_DATAXFER ∷ []) e ≡ b → SoundEndpoint (cond b (record e { release = false; state = T_INREL }) (Disconnect.idle e))
-    go true i = (let m = fit-moved T_INREL e (busy-data e.state i) (busy-sending T_INREL refl) (not-asking e h (ap (is_one_of (T_OUTCON ∷ [])) (only e.state T_DATAXFER i))) h in record { listening = m.listening; disconnecting = m.disconnecting; request_fields = m.request_fields; stream_data = m.stream_data; datagrams = m.datagrams; buffers = m.buffers; unconnected = m.unconnected; of_provider = m.of_provider })
+    go : (b : Bool) → is_state (T_DATAXFER ∷ []) e ≡ b → SoundEndpoint (cond b (record e { release = None; state = T_INREL }) (Disconnect.idle e))
+    go true i = (let m = fit-moved T_INREL e (busy-data e.state i) (busy-sending T_INREL refl) (not-asking e h (ap (is_one_of (T_OUTCON ∷ [])) (only e.state T_DATAXFER i))) h in record { listening = m.listening; disconnecting = m.disconnecting; request_fields = m.request_fields; released = tt; stream_data = m.stream_data; datagrams = m.datagrams; buffers = m.buffers; unconnected = m.unconnected; of_provider = m.of_provider })
     go false i = fit-idle e n h
 
 drop-one : (ds : List Disconnect) → length ds ≤ 1 → drop 1 ds ≡ []
@@ -78,6 +78,7 @@ holding-fit datagrams begun errors mark nonblock e d r m k h = record {
   listening = h.listening;
   disconnecting = h.disconnecting;
   request_fields = h.request_fields;
+  released = h.released;
   stream_data = h.stream_data;
   datagrams = record { few = d.0; short = d.1; begins = d.2; one_error = r.0; errors_short = r.1; mark = m };
   buffers = h.buffers;
@@ -141,7 +142,7 @@ pub fit-mode : (nonblock : Bool) (e : Endpoint) → SoundEndpoint e → SoundEnd
 fit-mode nonblock e h = holding-fit e.datagrams e.begun e.datagram_errors e.flow_datagram nonblock e (few-held e h) (few-errors e h) h.datagrams.mark h.of_provider h
 
 unmarked : (normal expedited : Bool) (mark : Option (List ℕ)) (e : Endpoint) → ShortAddress mark → (is_one_of (T_UNBND ∷ T_IDLE ∷ T_INCON ∷ []) e.state ≡ true → (normal ≡ false) × (expedited ≡ false)) → (has_datagrams e.prov ≡ false → mark ≡ None) → SoundEndpoint e → SoundEndpoint (record e { flow_normal = normal; flow_expedited = expedited; flow_datagram = mark })
-unmarked normal expedited mark e m n k h = (let q = fit-marked mark e m k h in record { listening = q.listening; disconnecting = q.disconnecting; request_fields = q.request_fields; stream_data = q.stream_data; datagrams = q.datagrams; buffers = q.buffers; unconnected = record { no_address = h.unconnected.no_address; not_mid = h.unconnected.not_mid; finished = h.unconnected.finished; unmarked = n }; of_provider = q.of_provider })
+unmarked normal expedited mark e m n k h = (let q = fit-marked mark e m k h in record { listening = q.listening; disconnecting = q.disconnecting; request_fields = q.request_fields; released = q.released; stream_data = q.stream_data; datagrams = q.datagrams; buffers = q.buffers; unconnected = record { no_address = h.unconnected.no_address; not_mid = h.unconnected.not_mid; finished = h.unconnected.finished; unmarked = n }; of_provider = q.of_provider })
 
 pub fit-shown : (o : Option Event) (e : Endpoint) → SoundEndpoint e → SoundEndpoint (Show.shown o e)
 fit-shown None e h = h
@@ -212,4 +213,4 @@ negotiated-sizes n action (o ∷ os) h = negotiated-sizes (negotiate_one n o (an
 pub fit-settings : (p : Providers) (action : ℕ) (options : List ℕ) (e x : Endpoint) → SoundEndpoint e → SoundEndpoint x → SoundEndpoint (Show.with_settings (Show.negotiated p action options e).settings x)
 fit-settings p action options e x h k =
     let q : HasSizes (Show.negotiated p action options e).settings = negotiated-sizes (record { settings = Show.settings (profile p e.prov) e; options = []; result = t_success }) action (the_options options) (h.buffers.send, h.buffers.receive) in
-    record { listening = k.listening; disconnecting = k.disconnecting; request_fields = k.request_fields; stream_data = k.stream_data; datagrams = k.datagrams; buffers = record { send = q.0; receive = q.1 }; unconnected = k.unconnected; of_provider = k.of_provider }
+    record { listening = k.listening; disconnecting = k.disconnecting; request_fields = k.request_fields; released = k.released; stream_data = k.stream_data; datagrams = k.datagrams; buffers = record { send = q.0; receive = q.1 }; unconnected = k.unconnected; of_provider = k.of_provider }

@@ -34,12 +34,13 @@ use Rattle.xti_model.specs.Calls.Listen as Listen
 use Rattle.xti_model.specs.Calls.Send as Send
 use Rattle.xti_model.specs.Calls.Receive as Receive
 use Rattle.xti_model.specs.Calls.Disconnect as Disconnect
+use Rattle.xti_model.specs.Calls.Release as Release
 use Rattle.xti_model.specs.Calls.Datagrams as Datagrams
 use Rattle.xti_model.specs.Calls.Show as Show
 use Rattle.xti_base.specs.declared.kinds.State.TheVariants.{T_OUTCON, T_DATAXFER, T_OUTREL, T_INREL}
 use Rattle.xti_base.specs.declared.errno.Errno.TheVariants.{TNODATA}
 use Rattle.xti_laws_requests.proofs.StepWays.{is_denial, all_deny}
-use Rattle.xti_laws_sound.specs.Endpoints.{SoundEndpoint, ShortIndication, ShortDisconnect, ShortConfirmation, ShortDatagram, ShortError}
+use Rattle.xti_laws_sound.specs.Endpoints.{SoundEndpoint, ShortIndication, ShortDisconnect, ShortConfirmation, ShortRelease, ShortDatagram, ShortError}
 use Rattle.xti_laws_sound.specs.Invariant.{SoundWorld}
 use Rattle.xti_laws_sound.proofs.CountingBindings.{few-bindings, chosen-short}
 use Rattle.xti_laws_sound.proofs.OwnCalls.{short-address}
@@ -208,6 +209,10 @@ confirmation-short : (o : Option Confirmation) → ShortConfirmation o → Short
 confirmation-short None h = (omega arith, omega arith, omega arith)
 confirmation-short (Some c) h = h
 
+release-short : (o : Option (List ℕ)) → ShortRelease o → length (unwrap_or o []) ≤ 64
+release-short None h = omega arith
+release-short (Some udata) h = h
+
 peer-short : (e : Endpoint) → SoundEndpoint e → length (Show.shown_peer e) ≤ 64
 peer-short e h = go (is_state (T_OUTCON ∷ T_DATAXFER ∷ T_OUTREL ∷ T_INREL ∷ []) e)
   where
@@ -289,6 +294,13 @@ module _ (p : Providers) (w : World) (h : SoundWorld p w) where
         fits (Disconnect.oldest e).udata umax 64 (one-fits (field (Disconnect.oldest e).udata umax) c.1.1.1.0) d),
   ))
 
+  releases : (fd umax : ℕ) → StepTells (IsShortOutcome (lengths (min umax 64) 0 0)) (step_of p w (Release.receive_data_plan p w fd umax))
+  releases fd umax = short _ p w fd _ (λ e i. (
+    refl,
+    λ c.
+        fits (Release.release_data e) umax 64 (one-fits (field (Release.release_data e) umax) c.1.1.1.1.0) (release-short e.release (h.endpoints fd e i).released),
+  ))
+
   datagrams : (fd sizes max amax omax : ℕ) → StepTells (IsShortOutcome (lengths (min amax 64) (min omax 256) (min max 65536))) (step_of p w (Datagrams.receive_plan p w fd sizes max amax omax))
   datagrams fd sizes max amax omax = short _ p w fd (Datagrams.receive_from fd sizes max amax omax) (λ e i. (
     refl,
@@ -349,6 +361,8 @@ module _ (p : Providers) (w : World) (h : SoundWorld p w) where
   replies-short (call.TRcvDis fd umax) g s = told (IsShortOutcome _) _ s (disconnects fd.0 umax)
   replies-short (call.TSndRel fd) g s = told (IsShortOutcome _) _ s (short (lengths 0 0 0) p w fd.0 _ (λ e i. (refl, λ c. tt)))
   replies-short (call.TRcvRel fd) g s = told (IsShortOutcome _) _ s (short (lengths 0 0 0) p w fd.0 _ (λ e i. (refl, λ c. tt)))
+  replies-short (call.TSndRelData fd udata) g s = told (IsShortOutcome _) _ s (short (lengths 0 0 0) p w fd.0 _ (λ e i. (refl, λ c. tt)))
+  replies-short (call.TRcvRelData fd umax) g s = told (IsShortOutcome _) _ s (releases fd.0 umax)
   replies-short (call.TSndUData fd addr opt bytes) g s = told (IsShortOutcome _) _ s (short (lengths 0 0 0) p w fd.0 _ (λ e i. (refl, λ c. tt)))
   replies-short (call.TSndVUData fd addr opt parts) g s = told (IsShortOutcome _) _ s (short (lengths 0 0 0) p w fd.0 _ (λ e i. (refl, λ c. tt)))
   replies-short (call.TRcvUData fd max amax omax) g s = told (IsShortOutcome _) _ s (datagrams fd.0 1 max amax omax)

@@ -95,6 +95,7 @@ fit-opened profile prov nonblock h = (let q = and_parts (is_size profile.sndbuf)
   listening = record { queue = omega arith; short = tt; bound = refl; few = omega arith; heard = λ t. refl; unbound = λ t. refl; held = λ t. absurd (false≢true t) };
   disconnecting = record { asking = λ t. absurd (false≢true t); rest = λ t. refl; none = λ t. refl; with_peer = λ t. absurd (false≢true t); one = λ t. omega arith; broken = λ t a b. absurd (false≢true t); short = All-nil ShortDisconnect };
   request_fields = record { pending_short = All-nil ShortIndication; outstanding_short = All-nil ShortIndication; numbered = omega arith; peer = tt; confirmed = tt };
+  released = tt;
   stream_data = record { normal_few = omega arith; expedited_few = omega arith; unfinished = omega arith; expedited_unfinished = omega arith };
   datagrams = record { few = omega arith; short = All-nil ShortDatagram; begins = λ t. absurd (false≢true t); one_error = omega arith; errors_short = All-nil ShortError; mark = tt };
   buffers = record { send = q.0; receive = q.1 };
@@ -111,6 +112,7 @@ fit-bound address qlen e u o q k l h =
       listening = record { queue = q; short = l; bound = refl; few = subst (λ z. length z + length e.outstanding ≤ qlen) (sym n) (subst (λ z. 0 + length z ≤ qlen) (sym o) (omega arith)); heard = λ t. impossible t; unbound = λ t. absurd (false≢true t); held = λ t. absurd (false≢true t) };
       disconnecting = record { asking = λ t. absurd (not-both (is_one_of (T_OUTCON ∷ []) e.state) (ap (is_one_of (T_OUTCON ∷ [])) s) (h.disconnecting.asking t)); rest = λ t. h.disconnecting.rest (ap (is_one_of (T_UNBND ∷ T_IDLE ∷ [])) s); none = h.disconnecting.none; with_peer = h.disconnecting.with_peer; one = λ t. h.disconnecting.one (ap (is_one_of (T_INCON ∷ [])) s); broken = λ t a b. absurd (false≢true t); short = h.disconnecting.short };
       request_fields = h.request_fields;
+      released = h.released;
       stream_data = h.stream_data;
       datagrams = h.datagrams;
       buffers = h.buffers;
@@ -123,6 +125,7 @@ fit-unbound e i n o h = (let s : e.state ≡ T_IDLE = only e.state T_IDLE i in r
   listening = record { queue = omega arith; short = tt; bound = refl; few = subst (λ z. length z + length e.outstanding ≤ 0) (sym n) (subst (λ z. 0 + length z ≤ 0) (sym o) (omega arith)); heard = λ t. n; unbound = λ t. refl; held = λ t. absurd (false≢true t) };
   disconnecting = record { asking = λ t. absurd (not-both (is_one_of (T_OUTCON ∷ []) e.state) (ap (is_one_of (T_OUTCON ∷ [])) s) (h.disconnecting.asking t)); rest = λ t. h.disconnecting.rest (ap (is_one_of (T_UNBND ∷ T_IDLE ∷ [])) s); none = h.disconnecting.none; with_peer = h.disconnecting.with_peer; one = λ t. h.disconnecting.one (ap (is_one_of (T_INCON ∷ [])) s); broken = λ t a b. absurd (false≢true t); short = h.disconnecting.short };
   request_fields = h.request_fields;
+  released = h.released;
   stream_data = h.stream_data;
   datagrams = record { few = h.datagrams.few; short = h.datagrams.short; begins = h.datagrams.begins; one_error = omega arith; errors_short = All-nil ShortError; mark = tt };
   buffers = h.buffers;
@@ -136,6 +139,7 @@ fit-turned_away reason e c i n t m d h = (let s : e.state ≡ T_IDLE = only e.st
   listening = record { queue = h.listening.queue; short = h.listening.short; bound = h.listening.bound ∙ ap (is_one_of (T_UNBND ∷ [])) s; few = h.listening.few; heard = λ t. n; unbound = λ t. absurd (false≢true t); held = λ t. absurd (false≢true t) };
   disconnecting = record { asking = λ y. refl; rest = λ y. absurd (false≢true y); none = λ y. absurd (false≢true (sym (ap is_some t) ∙ y)); with_peer = no-peer e.peer m; one = λ y. subst (λ z. length (z ++ record { reason = reason; number = 0; udata = [] } ∷ []) ≤ 1) (sym d) (omega arith); broken = λ t a b. longer e.disconnects (record { reason = reason; number = 0; udata = [] }); short = subst (λ z. All ShortDisconnect (z ++ record { reason = reason; number = 0; udata = [] } ∷ [])) (sym d) (one-disconnect reason 0 [] (omega arith)) };
   request_fields = h.request_fields;
+  released = h.released;
   stream_data = h.stream_data;
   datagrams = h.datagrams;
   buffers = h.buffers;
@@ -148,6 +152,7 @@ fit-asked caller address options udata l i f a o u h = record {
   listening = record { queue = h.listening.queue; short = h.listening.short; bound = h.listening.bound; few = few; heard = λ t. absurd (not-both _ t i); unbound = h.listening.unbound; held = h.listening.held };
   disconnecting = h.disconnecting;
   request_fields = record { pending_short = All-append ShortIndication l.pending (new ∷ []) h.request_fields.pending_short (All-cons ShortIndication new [] (a, o, u) (All-nil ShortIndication)); outstanding_short = h.request_fields.outstanding_short; numbered = numbered; peer = h.request_fields.peer; confirmed = h.request_fields.confirmed };
+  released = h.released;
   stream_data = h.stream_data;
   datagrams = h.datagrams;
   buffers = h.buffers;
@@ -172,6 +177,7 @@ fit-asking l n e c i p m d h = (let s : e.state ≡ T_IDLE = only e.state T_IDLE
   listening = record { queue = h.listening.queue; short = h.listening.short; bound = h.listening.bound ∙ ap (is_one_of (T_UNBND ∷ [])) s; few = h.listening.few; heard = λ t. p; unbound = λ t. absurd (false≢true t); held = λ t. absurd (false≢true t) };
   disconnecting = record { asking = λ y. refl; rest = λ y. d; none = λ y. d; with_peer = no-peer e.peer m; one = λ y. subst (λ z. length z ≤ 1) (sym d) (omega arith); broken = λ t a b. absurd (none-is (record { listener = l; number = n }) (sym a)); short = h.disconnecting.short };
   request_fields = h.request_fields;
+  released = h.released;
   stream_data = h.stream_data;
   datagrams = h.datagrams;
   buffers = h.buffers;
@@ -185,6 +191,7 @@ fit-moved s e b c t h = record {
   listening = record { queue = h.listening.queue; short = h.listening.short; bound = h.listening.bound ∙ (b.not_unbound ∙ sym c.not_unbound); few = h.listening.few; heard = λ z. h.listening.heard b.not_heard; unbound = λ z. absurd (not-both (is_one_of (T_UNBND ∷ []) s) c.not_unbound z); held = λ z. absurd (not-both (is_one_of (T_INCON ∷ []) s) c.not_asked z) };
   disconnecting = record { asking = no-target e.target t; rest = λ y. absurd (not-both (is_one_of (T_UNBND ∷ T_IDLE ∷ []) s) c.not_resting y); none = h.disconnecting.none; with_peer = h.disconnecting.with_peer; one = λ y. h.disconnecting.one b.not_asked; broken = λ t a m. h.disconnecting.broken b.connected a m; short = h.disconnecting.short };
   request_fields = h.request_fields;
+  released = h.released;
   stream_data = h.stream_data;
   datagrams = h.datagrams;
   buffers = h.buffers;
@@ -197,6 +204,7 @@ fit-confirmed e b t h = (let m = fit-moved T_DATAXFER e b (busy-data T_DATAXFER 
   listening = m.listening;
   disconnecting = m.disconnecting;
   request_fields = record { pending_short = h.request_fields.pending_short; outstanding_short = h.request_fields.outstanding_short; numbered = h.request_fields.numbered; peer = h.request_fields.peer; confirmed = tt };
+  released = h.released;
   stream_data = h.stream_data;
   datagrams = h.datagrams;
   buffers = h.buffers;
@@ -210,6 +218,7 @@ fit-listened e c i w h = record {
   listening = record { queue = h.listening.queue; short = h.listening.short; bound = h.listening.bound ∙ listening-bound e.state i; few = few e.pending w h.listening.few; heard = λ t. impossible t; unbound = λ t. absurd (false≢true t); held = λ t. simp (length-append e.outstanding (Listen.oldest e ∷ [])) (omega arith) };
   disconnecting = record { asking = no-target e.target (not-asking e h (listening-bare e.state i).1); rest = λ y. absurd (false≢true y); none = h.disconnecting.none; with_peer = h.disconnecting.with_peer; one = λ y. impossible y; broken = λ t a b. absurd (false≢true t); short = h.disconnecting.short };
   request_fields = record { pending_short = All-drop ShortIndication 1 e.pending h.request_fields.pending_short; outstanding_short = All-append ShortIndication e.outstanding (Listen.oldest e ∷ []) h.request_fields.outstanding_short (All-cons ShortIndication (Listen.oldest e) [] (oldest e.pending w h.request_fields.pending_short) (All-nil ShortIndication)); numbered = h.request_fields.numbered; peer = h.request_fields.peer; confirmed = h.request_fields.confirmed };
+  released = h.released;
   stream_data = h.stream_data;
   datagrams = h.datagrams;
   buffers = h.buffers;
@@ -231,6 +240,7 @@ fit-taken_out n ds e i t m k a h = record {
   listening = record { queue = h.listening.queue; short = h.listening.short; bound = bound (eqb (ocnt e) 1); few = (let q = h.listening.few in let r = without-shorter n e.outstanding in omega arith); heard = heard (eqb (ocnt e) 1); unbound = unbound (eqb (ocnt e) 1); held = held (eqb (ocnt e) 1) refl };
   disconnecting = record { asking = no-target e.target t; rest = rest (eqb (ocnt e) 1) refl; none = λ y. absurd (false≢true (sym (ap is_some t) ∙ y)); with_peer = no-peer e.peer m; one = one (eqb (ocnt e) 1) refl; broken = λ y q b. absurd (apart (eqb (ocnt e) 1) y); short = a };
   request_fields = record { pending_short = h.request_fields.pending_short; outstanding_short = All-without ShortIndication n e.outstanding h.request_fields.outstanding_short; numbered = h.request_fields.numbered; peer = h.request_fields.peer; confirmed = h.request_fields.confirmed };
+  released = h.released;
   stream_data = h.stream_data;
   datagrams = h.datagrams;
   buffers = h.buffers;
@@ -275,6 +285,7 @@ fit-responding i r c t b n d l h = record {
   listening = record { queue = h.listening.queue; short = h.listening.short; bound = b; few = h.listening.few; heard = λ z. n; unbound = λ t. absurd (false≢true t); held = λ t. absurd (false≢true t) };
   disconnecting = record { asking = no-target r.target t; rest = λ y. absurd (false≢true y); none = h.disconnecting.none; with_peer = λ z. (t, d); one = λ z. subst (λ q. length q ≤ 1) (sym d) (omega arith); broken = λ t a b. absurd (none-is i.caller (sym b)); short = h.disconnecting.short };
   request_fields = record { pending_short = h.request_fields.pending_short; outstanding_short = h.request_fields.outstanding_short; numbered = h.request_fields.numbered; peer = l; confirmed = h.request_fields.confirmed };
+  released = h.released;
   stream_data = h.stream_data;
   datagrams = h.datagrams;
   buffers = h.buffers;
@@ -288,6 +299,7 @@ fit-joining i address r c u n o a l h = (let s : r.state ≡ T_UNBND = only r.st
   listening = record { queue = omega arith; short = a; bound = refl; few = subst (λ z. length z + length r.outstanding ≤ 0) (sym n) (subst (λ z. 0 + length z ≤ 0) (sym o) (omega arith)); heard = λ t. n; unbound = λ t. absurd (false≢true t); held = λ t. absurd (false≢true t) };
   disconnecting = record { asking = no-target r.target (not-asking r h (ap (is_one_of (T_OUTCON ∷ [])) s)); rest = λ y. absurd (false≢true y); none = h.disconnecting.none; with_peer = λ y. (not-asking r h (ap (is_one_of (T_OUTCON ∷ [])) s), h.disconnecting.rest (ap (is_one_of (T_UNBND ∷ T_IDLE ∷ [])) s)); one = λ t. h.disconnecting.one (ap (is_one_of (T_INCON ∷ [])) s); broken = λ t a b. absurd (none-is i.caller (sym b)); short = h.disconnecting.short };
   request_fields = record { pending_short = h.request_fields.pending_short; outstanding_short = h.request_fields.outstanding_short; numbered = h.request_fields.numbered; peer = l; confirmed = h.request_fields.confirmed };
+  released = h.released;
   stream_data = h.stream_data;
   datagrams = h.datagrams;
   buffers = h.buffers;
@@ -300,6 +312,7 @@ fit-accepted resfd address options udata c t a o u h = record {
   listening = h.listening;
   disconnecting = record { asking = λ z. absurd (false≢true z); rest = h.disconnecting.rest; none = λ z. absurd (false≢true z); with_peer = λ z. (refl, h.disconnecting.none t); one = h.disconnecting.one; broken = λ t a b. absurd (none-is resfd (sym b)); short = h.disconnecting.short };
   request_fields = record { pending_short = h.request_fields.pending_short; outstanding_short = h.request_fields.outstanding_short; numbered = h.request_fields.numbered; peer = a; confirmed = (a, o, u) };
+  released = h.released;
   stream_data = h.stream_data;
   datagrams = h.datagrams;
   buffers = h.buffers;
@@ -319,6 +332,7 @@ fit-symbols true symbols e l h = record {
   listening = h.listening;
   disconnecting = h.disconnecting;
   request_fields = h.request_fields;
+  released = h.released;
   stream_data = record { normal_few = h.stream_data.normal_few; expedited_few = (let k : bytes_waiting (e.expedited ++ symbols) ≡ bytes_waiting e.expedited + bytes_waiting symbols = counted-append _ e.expedited symbols in omega arith); unfinished = h.stream_data.unfinished; expedited_unfinished = h.stream_data.expedited_unfinished };
   datagrams = h.datagrams;
   buffers = h.buffers;
@@ -329,6 +343,7 @@ fit-symbols false symbols e l h = record {
   listening = h.listening;
   disconnecting = h.disconnecting;
   request_fields = h.request_fields;
+  released = h.released;
   stream_data = record { normal_few = (let k : bytes_waiting (e.normal ++ symbols) ≡ bytes_waiting e.normal + bytes_waiting symbols = counted-append _ e.normal symbols in omega arith); expedited_few = h.stream_data.expedited_few; unfinished = h.stream_data.unfinished; expedited_unfinished = h.stream_data.expedited_unfinished };
   datagrams = h.datagrams;
   buffers = h.buffers;
@@ -337,8 +352,8 @@ fit-symbols false symbols e l h = record {
 }
 
 pub fit-flow : (b on : Bool) (e : Endpoint) → Busy e.state → SoundEndpoint e → SoundEndpoint (Send.mark_flow b on e)
-fit-flow true on e b h = record { listening = h.listening; disconnecting = h.disconnecting; request_fields = h.request_fields; stream_data = h.stream_data; datagrams = h.datagrams; buffers = h.buffers; unconnected = not-bare e.state e.peer_address e.mid_expedited e.unfinished_normal e.unfinished_expedited e.flow_normal on b.not_bare; of_provider = h.of_provider }
-fit-flow false on e b h = record { listening = h.listening; disconnecting = h.disconnecting; request_fields = h.request_fields; stream_data = h.stream_data; datagrams = h.datagrams; buffers = h.buffers; unconnected = not-bare e.state e.peer_address e.mid_expedited e.unfinished_normal e.unfinished_expedited on e.flow_expedited b.not_bare; of_provider = h.of_provider }
+fit-flow true on e b h = record { listening = h.listening; disconnecting = h.disconnecting; request_fields = h.request_fields; released = h.released; stream_data = h.stream_data; datagrams = h.datagrams; buffers = h.buffers; unconnected = not-bare e.state e.peer_address e.mid_expedited e.unfinished_normal e.unfinished_expedited e.flow_normal on b.not_bare; of_provider = h.of_provider }
+fit-flow false on e b h = record { listening = h.listening; disconnecting = h.disconnecting; request_fields = h.request_fields; released = h.released; stream_data = h.stream_data; datagrams = h.datagrams; buffers = h.buffers; unconnected = not-bare e.state e.peer_address e.mid_expedited e.unfinished_normal e.unfinished_expedited on e.flow_expedited b.not_bare; of_provider = h.of_provider }
 
 -- the number of bytes that an unfinished message has after a send
 abbrev pub unfinished_after : Providers → Bool → Bool → ℕ → Endpoint → ℕ
@@ -346,15 +361,15 @@ unfinished_after p true ends now e = (Send.sent p true ends now e).unfinished_ex
 unfinished_after p false ends now e = (Send.sent p false ends now e).unfinished_normal
 
 pub fit-sent : (p : Providers) (b ends : Bool) (now : ℕ) (e : Endpoint) → Busy e.state → unfinished_after p b ends now e ≤ most_unfinished b → SoundEndpoint e → SoundEndpoint (Send.sent p b ends now e)
-fit-sent p true ends now e b l h = record { listening = h.listening; disconnecting = h.disconnecting; request_fields = h.request_fields; stream_data = record { normal_few = h.stream_data.normal_few; expedited_few = h.stream_data.expedited_few; unfinished = h.stream_data.unfinished; expedited_unfinished = l }; datagrams = h.datagrams; buffers = h.buffers; unconnected = not-bare e.state e.peer_address e.mid_expedited e.unfinished_normal (unfinished_after p true ends now e) e.flow_normal false b.not_bare; of_provider = h.of_provider }
-fit-sent p false ends now e b l h = record { listening = h.listening; disconnecting = h.disconnecting; request_fields = h.request_fields; stream_data = record { normal_few = h.stream_data.normal_few; expedited_few = h.stream_data.expedited_few; unfinished = l; expedited_unfinished = h.stream_data.expedited_unfinished }; datagrams = h.datagrams; buffers = h.buffers; unconnected = not-bare e.state e.peer_address e.mid_expedited (unfinished_after p false ends now e) e.unfinished_expedited false e.flow_expedited b.not_bare; of_provider = h.of_provider }
+fit-sent p true ends now e b l h = record { listening = h.listening; disconnecting = h.disconnecting; request_fields = h.request_fields; released = h.released; stream_data = record { normal_few = h.stream_data.normal_few; expedited_few = h.stream_data.expedited_few; unfinished = h.stream_data.unfinished; expedited_unfinished = l }; datagrams = h.datagrams; buffers = h.buffers; unconnected = not-bare e.state e.peer_address e.mid_expedited e.unfinished_normal (unfinished_after p true ends now e) e.flow_normal false b.not_bare; of_provider = h.of_provider }
+fit-sent p false ends now e b l h = record { listening = h.listening; disconnecting = h.disconnecting; request_fields = h.request_fields; released = h.released; stream_data = record { normal_few = h.stream_data.normal_few; expedited_few = h.stream_data.expedited_few; unfinished = l; expedited_unfinished = h.stream_data.expedited_unfinished }; datagrams = h.datagrams; buffers = h.buffers; unconnected = not-bare e.state e.peer_address e.mid_expedited (unfinished_after p false ends now e) e.unfinished_expedited false e.flow_expedited b.not_bare; of_provider = h.of_provider }
 
 pub fit-read : (p : Providers) (max : ℕ) (e : Endpoint) → Busy e.state → SoundEndpoint e → SoundEndpoint (Receive.received p max e)
 fit-read p max e b h = go (some_wait e.expedited)
   where
     go : (b : Bool) → SoundEndpoint (cond b (record e { expedited = rest max e.expedited; mid_expedited = Receive.goes_on p true max e }) (record e { normal = rest max e.normal }))
-    go true = record { listening = h.listening; disconnecting = h.disconnecting; request_fields = h.request_fields; stream_data = record { normal_few = h.stream_data.normal_few; expedited_few = (let k = rest-fewer max e.expedited in let q = h.stream_data.expedited_few in omega arith); unfinished = h.stream_data.unfinished; expedited_unfinished = h.stream_data.expedited_unfinished }; datagrams = h.datagrams; buffers = h.buffers; unconnected = not-bare e.state e.peer_address (Receive.goes_on p true max e) e.unfinished_normal e.unfinished_expedited e.flow_normal e.flow_expedited b.not_bare; of_provider = h.of_provider }
-    go false = record { listening = h.listening; disconnecting = h.disconnecting; request_fields = h.request_fields; stream_data = record { normal_few = (let k = rest-fewer max e.normal in let q = h.stream_data.normal_few in omega arith); expedited_few = h.stream_data.expedited_few; unfinished = h.stream_data.unfinished; expedited_unfinished = h.stream_data.expedited_unfinished }; datagrams = h.datagrams; buffers = h.buffers; unconnected = not-bare e.state e.peer_address e.mid_expedited e.unfinished_normal e.unfinished_expedited e.flow_normal e.flow_expedited b.not_bare; of_provider = h.of_provider }
+    go true = record { listening = h.listening; disconnecting = h.disconnecting; request_fields = h.request_fields; released = h.released; stream_data = record { normal_few = h.stream_data.normal_few; expedited_few = (let k = rest-fewer max e.expedited in let q = h.stream_data.expedited_few in omega arith); unfinished = h.stream_data.unfinished; expedited_unfinished = h.stream_data.expedited_unfinished }; datagrams = h.datagrams; buffers = h.buffers; unconnected = not-bare e.state e.peer_address (Receive.goes_on p true max e) e.unfinished_normal e.unfinished_expedited e.flow_normal e.flow_expedited b.not_bare; of_provider = h.of_provider }
+    go false = record { listening = h.listening; disconnecting = h.disconnecting; request_fields = h.request_fields; released = h.released; stream_data = record { normal_few = (let k = rest-fewer max e.normal in let q = h.stream_data.normal_few in omega arith); expedited_few = h.stream_data.expedited_few; unfinished = h.stream_data.unfinished; expedited_unfinished = h.stream_data.expedited_unfinished }; datagrams = h.datagrams; buffers = h.buffers; unconnected = not-bare e.state e.peer_address e.mid_expedited e.unfinished_normal e.unfinished_expedited e.flow_normal e.flow_expedited b.not_bare; of_provider = h.of_provider }
 
 -- The end of a connection.
 pub fit-idle : (e : Endpoint) → is_one_of (T_UNBND ∷ []) e.state ≡ false → SoundEndpoint e → SoundEndpoint (Disconnect.idle e)
@@ -362,6 +377,7 @@ fit-idle e n h = record {
   listening = record { queue = h.listening.queue; short = h.listening.short; bound = h.listening.bound ∙ n; few = h.listening.few; heard = λ t. impossible t; unbound = λ t. absurd (false≢true t); held = λ t. absurd (false≢true t) };
   disconnecting = record { asking = λ y. absurd (false≢true y); rest = λ y. refl; none = λ y. refl; with_peer = λ y. absurd (false≢true y); one = λ y. omega arith; broken = λ t a b. absurd (false≢true t); short = All-nil ShortDisconnect };
   request_fields = record { pending_short = h.request_fields.pending_short; outstanding_short = h.request_fields.outstanding_short; numbered = h.request_fields.numbered; peer = tt; confirmed = tt };
+  released = tt;
   stream_data = record { normal_few = omega arith; expedited_few = omega arith; unfinished = omega arith; expedited_unfinished = omega arith };
   datagrams = record { few = h.datagrams.few; short = h.datagrams.short; begins = h.datagrams.begins; one_error = h.datagrams.one_error; errors_short = h.datagrams.errors_short; mark = tt };
   buffers = h.buffers;
@@ -374,6 +390,7 @@ fit-broken reason udata e l n h = record {
   listening = h.listening;
   disconnecting = record { asking = λ y. absurd (false≢true y); rest = λ y. absurd (not-both (is_one_of (T_UNBND ∷ T_IDLE ∷ []) e.state) n y); none = λ y. absurd (false≢true y); with_peer = λ y. absurd (false≢true y); one = λ y. omega arith; broken = λ t a b. omega arith; short = one-disconnect reason 0 udata l };
   request_fields = record { pending_short = h.request_fields.pending_short; outstanding_short = h.request_fields.outstanding_short; numbered = h.request_fields.numbered; peer = tt; confirmed = tt };
+  released = tt;
   stream_data = record { normal_few = omega arith; expedited_few = omega arith; unfinished = omega arith; expedited_unfinished = omega arith };
   datagrams = record { few = h.datagrams.few; short = h.datagrams.short; begins = h.datagrams.begins; one_error = h.datagrams.one_error; errors_short = h.datagrams.errors_short; mark = tt };
   buffers = h.buffers;
@@ -387,6 +404,7 @@ fit-cut reason number udata t e n m l r k h = record {
   listening = h.listening;
   disconnecting = record { asking = no-target t n; rest = λ y. absurd (not-both (is_one_of (T_UNBND ∷ T_IDLE ∷ []) e.state) r y); none = λ y. absurd (false≢true (sym (ap is_some n) ∙ y)); with_peer = no-peer e.peer m; one = λ y. subst (λ z. length (z ++ record { reason = reason; number = number; udata = udata } ∷ []) ≤ 1) (sym (k y)) (omega arith); broken = λ t a b. longer e.disconnects (record { reason = reason; number = number; udata = udata }); short = All-append ShortDisconnect e.disconnects _ h.disconnecting.short (one-disconnect reason number udata l) };
   request_fields = h.request_fields;
+  released = h.released;
   stream_data = h.stream_data;
   datagrams = h.datagrams;
   buffers = h.buffers;
@@ -425,6 +443,7 @@ fit-taken_back number reason udata e l g h = go (is_some (find_number number e.p
       listening = record { queue = h.listening.queue; short = h.listening.short; bound = h.listening.bound; few = (let q = h.listening.few in let r = without-shorter number e.pending in omega arith); heard = λ t. ap (without_number number) (h.listening.heard t); unbound = h.listening.unbound; held = h.listening.held };
       disconnecting = h.disconnecting;
       request_fields = record { pending_short = All-without ShortIndication number e.pending h.request_fields.pending_short; outstanding_short = h.request_fields.outstanding_short; numbered = h.request_fields.numbered; peer = h.request_fields.peer; confirmed = h.request_fields.confirmed };
+      released = h.released;
       stream_data = h.stream_data;
       datagrams = h.datagrams;
       buffers = h.buffers;
@@ -445,5 +464,5 @@ fit-named fd f e h k = go e.peer refl
         by true j = k (i ∙ ap Some (eqb-true y fd j))
         by false j = h
 
-pub fit-released : (e : Endpoint) → SoundEndpoint e → SoundEndpoint (Release.released e)
-fit-released e h = record { listening = h.listening; disconnecting = h.disconnecting; request_fields = h.request_fields; stream_data = h.stream_data; datagrams = h.datagrams; buffers = h.buffers; unconnected = h.unconnected; of_provider = h.of_provider }
+pub fit-released : (udata : List ℕ) (e : Endpoint) → length udata ≤ 64 → SoundEndpoint e → SoundEndpoint (Release.released udata e)
+fit-released udata e l h = record { listening = h.listening; disconnecting = h.disconnecting; request_fields = h.request_fields; released = l; stream_data = h.stream_data; datagrams = h.datagrams; buffers = h.buffers; unconnected = h.unconnected; of_provider = h.of_provider }

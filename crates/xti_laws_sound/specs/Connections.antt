@@ -19,7 +19,7 @@ other_states other = []
 -- an end of a connection, and the other: a release waits where the other end has sent it and this one has not received it; a confirmation waits in T_OUTCON alone; and no data wait where the release was received
 pub record LinkedWith (e other : Endpoint) : Type 0 where
   pub states : is_one_of (other_states e.state) other.state ≡ true
-  pub release : e.release ≡ (is_one_of (T_OUTREL ∷ []) other.state && not (is_one_of (T_INREL ∷ []) e.state))
+  pub release : is_some e.release ≡ (is_one_of (T_OUTREL ∷ []) other.state && not (is_one_of (T_INREL ∷ []) e.state))
   pub confirmation : is_some e.confirmation ≡ is_one_of (T_OUTCON ∷ []) e.state
   pub finished : is_one_of (T_INREL ∷ []) e.state ≡ true → (e.normal ≡ []) × (e.expedited ≡ [])
 
@@ -34,7 +34,7 @@ NamesBack fd (Some other) = other.peer ≡ Some fd
 
 -- it has sent its release, and the other end's waits
 abbrev pub IsReleased : Endpoint → Type 0
-IsReleased e = (e.state ≡ T_OUTREL) × (e.release ≡ true)
+IsReleased e = (e.state ≡ T_OUTREL) × (is_some e.release ≡ true)
 
 -- the peer of an endpoint names it back, but where both releases were sent: then it may have left
 abbrev pub PeersThere : Providers → World → Type 0

@@ -27,6 +27,10 @@ abbrev pub ShortConfirmation : Option Confirmation → Type 0
 ShortConfirmation None = Unit
 ShortConfirmation (Some c) = (length c.address ≤ MOST_ADDRESS) × (length c.options ≤ MOST_OPTIONS) × (length c.udata ≤ MOST_CONNECT_DATA)
 
+abbrev pub ShortRelease : Option (List ℕ) → Type 0
+ShortRelease None = Unit
+ShortRelease (Some udata) = length udata ≤ MOST_CONNECT_DATA
+
 abbrev pub ShortDatagram : Datagram → Type 0
 ShortDatagram d = (length d.source ≤ MOST_ADDRESS) × (length d.options ≤ MOST_OPTIONS) × (length d.bytes ≤ MOST_SIZE)
 
@@ -104,6 +108,7 @@ pub record SoundEndpoint (e : Endpoint) : Type 0 where
   pub listening : Listening e.state e.address e.qlen e.pending e.outstanding
   pub disconnecting : Disconnecting e.state e.target e.peer e.disconnects
   pub request_fields : RequestFields e.pending e.outstanding e.last_number e.peer_address e.confirmation
+  pub released : ShortRelease e.release
   pub stream_data : StreamData e.normal e.expedited e.unfinished_normal e.unfinished_expedited
   pub datagrams : WaitingDatagrams e.datagrams e.begun e.datagram_errors e.flow_datagram
   pub buffers : Buffers e.sndbuf e.rcvbuf

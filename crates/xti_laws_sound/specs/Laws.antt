@@ -54,7 +54,7 @@ OfAllProviders fact = (p : Providers) (entries : List Entry) → Legal p entries
 pub record DatagramsAlone (e : Endpoint) : Type 0 where
   pub state : is_one_of (T_UNBND ∷ T_IDLE ∷ []) e.state ≡ true
   pub no_requests : (e.qlen ≡ 0) × (e.pending ≡ []) × (e.outstanding ≡ []) × (e.target ≡ None)
-  pub no_peer : (e.peer ≡ None) × (e.peer_address ≡ None) × (e.confirmation ≡ None) × (e.disconnects ≡ []) × (e.release ≡ false)
+  pub no_peer : (e.peer ≡ None) × (e.peer_address ≡ None) × (e.confirmation ≡ None) × (e.disconnects ≡ []) × (e.release ≡ None)
   pub no_data : (e.normal ≡ []) × (e.expedited ≡ []) × (e.mid_expedited ≡ false) × (e.unfinished_normal ≡ 0) × (e.unfinished_expedited ≡ 0) × (e.flow_normal ≡ false) × (e.flow_expedited ≡ false)
 
 -- the numbers of requests have 32 bits

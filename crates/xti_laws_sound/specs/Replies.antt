@@ -7,7 +7,7 @@ use Rattle.xti_model.specs.declared.entry.Outcome.{Outcome}
 use Rattle.xti_model.specs.declared.entry.Outcome.TheVariants.{Done, Part}
 use Rattle.xti_model.specs.declared.entry.Reply.{Reply}
 use Rattle.xti_laws_sound.specs.Endpoints.{two_buffers}
-use Rattle.xti_model.specs.declared.entry.Reply.TheVariants.{Bound, Connected, Listened, Got, Discon, UData, UDErr, Addresses, Options}
+use Rattle.xti_model.specs.declared.entry.Reply.TheVariants.{Bound, Connected, Listened, Got, Discon, RelData, UData, UDErr, Addresses, Options}
 
 -- the most bytes of a reply's fields of bytes, in their order
 pub record Lengths : Type 0 where
@@ -51,6 +51,7 @@ lengths_of (call.TListen fd amax omax umax) = news_lengths amax omax umax
 lengths_of (call.TRcv fd max) = lengths (min max two_buffers) 0 0
 lengths_of (call.TRcvV fd sizes) = lengths (min (sum sizes) two_buffers) 0 0
 lengths_of (call.TRcvDis fd umax) = lengths (min umax MOST_CONNECT_DATA) 0 0
+lengths_of (call.TRcvRelData fd umax) = lengths (min umax MOST_CONNECT_DATA) 0 0
 lengths_of (call.TRcvUData fd max amax omax) = lengths (min amax MOST_ADDRESS) (min omax MOST_OPTIONS) (min max MOST_SIZE)
 lengths_of (call.TRcvVUData fd sizes amax omax) = lengths (min amax MOST_ADDRESS) (min omax MOST_OPTIONS) (min (sum sizes) MOST_SIZE)
 lengths_of (call.TRcvUDErr fd amax omax) = lengths (min amax MOST_ADDRESS) (min omax MOST_OPTIONS) 0
@@ -65,6 +66,7 @@ IsShort n (Connected addr opt udata) = (length addr ≤ n.first) × (length opt 
 IsShort n (Listened seq addr opt udata) = (length addr ≤ n.first) × (length opt ≤ n.second) × (length udata ≤ n.third)
 IsShort n (Got bytes flags) = length bytes ≤ n.first
 IsShort n (Discon reason seq udata) = length udata ≤ n.first
+IsShort n (RelData udata) = length udata ≤ n.first
 IsShort n (UData addr opt bytes flags) = (length addr ≤ n.first) × (length opt ≤ n.second) × (length bytes ≤ n.third)
 IsShort n (UDErr addr opt code) = (length addr ≤ n.first) × (length opt ≤ n.second)
 IsShort n (Addresses local peer) = (length local ≤ n.first) × (length peer ≤ n.second)

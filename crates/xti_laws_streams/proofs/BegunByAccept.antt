@@ -164,11 +164,11 @@ module _ (p : Providers) (w : World) (f : SoundLinks p w) (fd resfd number : ℕ
         x_end = new-linked p made between resfd i.caller (responding_view i.caller (view r)) (accepted_view resfd (view asking.e))
             (responder-view p w fd resfd i options udata e r at_resfd (flip i.caller resfd other_resfd))
             (record { in_connection = refl; without_target = target-none r r_sound (responder-state r.state idle).1; ends = same_ends r.prov (same-prov e.prov r.prov (un-not (same_prov e.prov r.prov) clear.1.1.0)); stream = λ j. subst (All (λ s. s < 256)) (sym r_empty.0) (All-nil (λ s. s < 256)) })
-            refl r_empty.0 r_empty.1 r_empty.2;
+            refl r_empty.0 r_empty.1 (ap is_some r_empty.2);
         y_end = new-linked p made between i.caller resfd (accepted_view resfd (view asking.e)) (responding_view i.caller (view r))
             (caller-view p w fd resfd i options udata e r asking.e asking.is_open other_fd other_resfd)
             (record { in_connection = ap is_connected c_asking.0; without_target = refl; ends = same_ends asking.e.prov (sym asking.same_provider); stream = λ j. subst (All (λ s. s < 256)) (sym c_empty.0) (All-nil (λ s. s < 256)) })
-            refl c_empty.0 c_empty.1 c_empty.2;
+            refl c_empty.0 c_empty.1 (ap is_some c_empty.2);
       }
 
 -- the connection of an accept that answered Ok, before its ends make any step

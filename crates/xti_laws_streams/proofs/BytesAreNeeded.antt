@@ -20,7 +20,7 @@ use Rattle.xti_laws.proofs.LinkedHistory.{linked}
 use Rattle.xti_laws_streams.specs.Laws.{Prefix, PrefixLaw, WaitingLaw, ReleaseLaw, got_at, sent_to, has_ended, received_release, is_unbroken}
 
 providers : Providers
-providers = record { ticots = record { tsdu = At 65536; sendzero = true; same_addr = false; sndbuf = 16384; rcvbuf = 16384 }; ticotsord = record { tsdu = At 0; sendzero = false; same_addr = false; sndbuf = 16384; rcvbuf = 16384 }; ticlts = record { tsdu = At 8192; sendzero = true; same_addr = false; sndbuf = 16384; rcvbuf = 16384 } }
+providers = record { ticots = record { tsdu = At 65536; sendzero = true; same_addr = false; sndbuf = 16384; rcvbuf = 16384; reldata = false }; ticotsord = record { tsdu = At 0; sendzero = false; same_addr = false; sndbuf = 16384; rcvbuf = 16384; reldata = false }; ticlts = record { tsdu = At 8192; sendzero = true; same_addr = false; sndbuf = 16384; rcvbuf = 16384; reldata = false } }
 
 entries : List Entry
 entries =

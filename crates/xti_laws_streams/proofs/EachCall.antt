@@ -1,5 +1,5 @@
 -- What each call of an end whose life lasts does to its connection.
-use Rattle.std.proofs.Common.{ℕ, true, ◌≡◌, refl, subst, length, sum, Option, Some, None}
+use Rattle.std.proofs.Common.{ℕ, true, [], ◌≡◌, refl, subst, length, sum, Option, Some, None}
 use Rattle.std.proofs.lemmas.Bool.{false≢true, eqb-true}
 use Rattle.std.specs.Prelude.{is_some}
 use Rattle.std.specs.List.{concat}
@@ -53,8 +53,10 @@ effect-at p w c e (call.TRcv fd max) g s i a b m h = rcv-effect p w c fd.0 e (re
 effect-at p w c e (call.TRcvV fd sizes) g s i a b m h = rcv-effect p w c fd.0 e (record { call = call.TRcvV fd sizes; so_far = g }) a refl (λ o. refl) (length sizes) (sum sizes) s h
 effect-at p w c e (call.TSndDis fd seq udata) g s i a b m h = snddis-effect p w c fd.0 e (record { call = call.TSndDis fd seq udata; so_far = g }) a refl (λ o. refl) seq.0 udata s h
 effect-at p w c e (call.TRcvDis fd umax) g s i a b m h = rcvdis-effect p w c fd.0 e (record { call = call.TRcvDis fd umax; so_far = g }) a refl (λ o. refl) umax s h
-effect-at p w c e (call.TSndRel fd) g s i a b m h = sndrel-effect p w c fd.0 e (record { call = call.TSndRel fd; so_far = g }) a refl (λ o. refl) s h
-effect-at p w c e (call.TRcvRel fd) g s i a b m h = rcvrel-effect p w c fd.0 e (record { call = call.TRcvRel fd; so_far = g }) a refl s h
+effect-at p w c e (call.TSndRel fd) g s i a b m h = sndrel-effect p w c fd.0 e (record { call = call.TSndRel fd; so_far = g }) a refl [] (λ o. refl) s h
+effect-at p w c e (call.TRcvRel fd) g s i a b m h = rcvrel-effect p w c fd.0 e (record { call = call.TRcvRel fd; so_far = g }) a refl 0 _ (λ k. refl) s h
+effect-at p w c e (call.TSndRelData fd udata) g s i a b m h = sndrel-effect p w c fd.0 e (record { call = call.TSndRelData fd udata; so_far = g }) a refl udata (λ o. refl) s h
+effect-at p w c e (call.TRcvRelData fd umax) g s i a b m h = rcvrel-effect p w c fd.0 e (record { call = call.TRcvRelData fd umax; so_far = g }) a refl umax _ (λ k. refl) s h
 effect-at p w c e (call.TSndUData fd addr opt bytes) g s i a b m h = own-sndudata p w c fd.0 e a g s (call.TSndUData fd addr opt bytes) addr opt 1 bytes refl (λ o. refl) h
 effect-at p w c e (call.TSndVUData fd addr opt parts) g s i a b m h = own-sndudata p w c fd.0 e a g s (call.TSndVUData fd addr opt parts) addr opt (length parts) (concat parts) refl (λ o. refl) h
 effect-at p w c e (call.TRcvUData fd max amax omax) g s i a b m h = own-rcvudata p w c fd.0 e a g s (call.TRcvUData fd max amax omax) 1 max amax omax refl (λ o. refl) h

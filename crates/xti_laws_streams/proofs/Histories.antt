@@ -166,7 +166,7 @@ waiting-held p w c x y true h k e i q = of_gone h.peer_gone
 
     of_gone : PeerGone x y h.v → x.got k ++ waiting_of k e ≡ y.sent k
     of_gone (rest_left n r) = ap (λ z. x.got k ++ z) (waits-as k e h.v like) ∙ r k
-    of_gone (was_broken n d a b r) = absurd (false≢true (sym (neither (is_linked p w x.fd e) e.release (unlinked-none p w x.fd e (ap (λ u. u.peer) like ∙ n)) (ap (λ u. u.release) like ∙ d)) ∙ q))
+    of_gone (was_broken n d a b r) = absurd (false≢true (sym (neither (is_linked p w x.fd e) (is_some e.release) (unlinked-none p w x.fd e (ap (λ u. u.peer) like ∙ n)) (ap (λ u. u.release) like ∙ d)) ∙ q))
       where
         neither : (a b : Bool) → a ≡ false → b ≡ false → (a || b) ≡ false
         neither true b m n = m

@@ -1,5 +1,5 @@
 -- What holds of a connection, in each direction, after any legal entries.
-use Rattle.std.specs.Prelude.{ℕ, ◌≡◌, ◌<◌, not, Bool, true, false, List, [], ◌++◌, All, Option, Some, None, if◌then◌else◌}
+use Rattle.std.specs.Prelude.{ℕ, ◌≡◌, ◌<◌, not, Bool, true, false, List, [], ◌++◌, All, Option, Some, None, is_some, if◌then◌else◌}
 use Rattle.xti_base.specs.declared.kinds.Prov.{Prov}
 use Rattle.xti_base.specs.declared.kinds.State.{State}
 use Rattle.xti_base.specs.declared.kinds.State.TheVariants.{T_OUTREL, T_INREL}
@@ -13,7 +13,7 @@ use Rattle.xti_laws_requests.specs.Requests.{is_connected}
 use Rattle.xti_laws_streams.specs.Laws.{Prefix}
 use Rattle.xti_laws_streams.proofs.ConnectionEnds.{End}
 
--- the parts of an endpoint that matter to a connection
+-- the parts of an endpoint that matter to a connection: of the release, whether it waits
 pub record View : Type 0 where
   pub prov : Prov
   pub state : State
@@ -24,7 +24,7 @@ pub record View : Type 0 where
   pub release : Bool
 
 abbrev pub view : Endpoint → View
-view e = record { prov = e.prov; state = e.state; target = e.target; peer = e.peer; normal = e.normal; expedited = e.expedited; release = e.release }
+view e = record { prov = e.prov; state = e.state; target = e.target; peer = e.peer; normal = e.normal; expedited = e.expedited; release = is_some e.release }
 
 -- what waits, expedited or normal
 abbrev pub waiting_in : Bool → View → List ℕ

@@ -79,7 +79,7 @@ peer-choice false z x y h k = k
 
 -- what is unseen by the facts on requests keeps the view
 pub unseen-keeps_view : (f : Endpoint → Endpoint) → Unseen f → KeepsView f
-unseen-keeps_view f h e = ap (λ (d : Desk). record { prov = d.prov; state = d.state; target = d.target; peer = d.peer; normal = d.normal; expedited = d.expedited; release = d.release }) (h e)
+unseen-keeps_view f h e = ap (λ (d : Desk). record { prov = d.prov; state = d.state; target = d.target; peer = d.peer; normal = d.normal; expedited = d.expedited; release = is_some d.release }) (h e)
 
 pub mark_flow-keeps_view : (expedited on : Bool) → KeepsView (Send.mark_flow expedited on)
 mark_flow-keeps_view expedited on = unseen-keeps_view (Send.mark_flow expedited on) (mark_flow-unseen expedited on)
@@ -117,7 +117,7 @@ after_send-names : NamesNobodyNew Release.after_send
 after_send-names x e h = peer-choice (is_state (T_DATAXFER ∷ []) e) x (record e { state = _ }) (Disconnect.idle e) h refl
 
 after_receive-names : NamesNobodyNew Release.after_receive
-after_receive-names x e h = peer-choice (is_state (T_DATAXFER ∷ []) e) x (record e { release = false; state = _ }) (Disconnect.idle e) h refl
+after_receive-names x e h = peer-choice (is_state (T_DATAXFER ∷ []) e) x (record e { release = None; state = _ }) (Disconnect.idle e) h refl
 
 received-names : (p : Providers) (max : ℕ) → NamesNobodyNew (Receive.received p max)
 received-names p max x e h = peer-choice (some_wait e.expedited) x (record e { expedited = rest max e.expedited; mid_expedited = Receive.goes_on p true max e }) (record e { normal = rest max e.normal }) h h
@@ -224,6 +224,8 @@ call_fd (call.TSndDis fd seq udata) = fd.0
 call_fd (call.TRcvDis fd umax) = fd.0
 call_fd (call.TSndRel fd) = fd.0
 call_fd (call.TRcvRel fd) = fd.0
+call_fd (call.TSndRelData fd udata) = fd.0
+call_fd (call.TRcvRelData fd umax) = fd.0
 call_fd (call.TSndUData fd addr opt bytes) = fd.0
 call_fd (call.TSndVUData fd addr opt parts) = fd.0
 call_fd (call.TRcvUData fd max amax omax) = fd.0
@@ -259,6 +261,7 @@ is_quiet (call.TSnd fd bytes flags) = false
 is_quiet (call.TSndV fd parts flags) = false
 is_quiet (call.TSndDis fd seq udata) = false
 is_quiet (call.TSndRel fd) = false
+is_quiet (call.TSndRelData fd udata) = false
 is_quiet other = true
 
 connect-quiet : (p : Providers) (w : World) (fd : ℕ) (to : Option ℕ) (addr opt udata : List ℕ) (amax omax umax : ℕ) (g : Go) → PlanNonLinking fd to (connect p w fd addr opt udata amax omax umax g)
@@ -283,6 +286,8 @@ quiet-non_linking p w (call.TSndDis fd seq udata) g to q = absurd (false≢true 
 quiet-non_linking p w (call.TRcvDis fd umax) g to q = on_open-quiet p w fd.0 to _ (λ e. one-own fd.0 to Disconnect.received disconnect-names)
 quiet-non_linking p w (call.TSndRel fd) g to q = absurd (false≢true q)
 quiet-non_linking p w (call.TRcvRel fd) g to q = on_open-quiet p w fd.0 to _ (λ e. one-own fd.0 to Release.after_receive after_receive-names)
+quiet-non_linking p w (call.TSndRelData fd udata) g to q = absurd (false≢true q)
+quiet-non_linking p w (call.TRcvRelData fd umax) g to q = on_open-quiet p w fd.0 to _ (λ e. one-own fd.0 to Release.after_receive after_receive-names)
 quiet-non_linking p w (call.TSndUData fd addr opt bytes) g to q = on_open-quiet p w fd.0 to _ (λ e. datagram-non_linking p fd.0 to addr opt 1 bytes e (bound (the_switch p w) e.prov addr) (option_and_then (endpoint p w) (bound (the_switch p w) e.prov addr)))
 quiet-non_linking p w (call.TSndVUData fd addr opt parts) g to q = on_open-quiet p w fd.0 to _ (λ e. datagram-non_linking p fd.0 to addr opt (length parts) (concat parts) e (bound (the_switch p w) e.prov addr) (option_and_then (endpoint p w) (bound (the_switch p w) e.prov addr)))
 quiet-non_linking p w (call.TRcvUData fd max amax omax) g to q = on_open-quiet p w fd.0 to _ (λ e. ((keeps_view fd.0 _ (datagram-keeps_view max), tt), tt, (keeps_view fd.0 _ (λ e. refl), tt)))
@@ -305,12 +310,16 @@ is_accept (call.TAccept fd resfd seq opt udata) = true
 is_accept other = false
 
 -- every call but an accept
+sndrel-non_linking : (p : Providers) (w : World) (fd : ℕ) (udata : List ℕ) → PlanNonLinking fd (peer_at (endpoint p w fd)) (Release.send_plan p w fd udata)
+sndrel-non_linking p w fd udata = on_open-non_linking p w fd _ (λ e. both-lists fd e.peer (at_linked fd e.peer (Release.released udata) ++ at_endpoint fd Release.after_send ∷ []) (append-non_linking fd e.peer (at_linked fd e.peer (Release.released udata)) (at_endpoint fd Release.after_send ∷ []) (linked-non_linking fd e.peer (Release.released udata) (λ x e h. h)) (of_own Release.after_send after_send-names, tt)))
+
 pub plan-non_linking : (p : Providers) (w : World) (c : Call) (g : Go) → is_accept c ≡ false → PlanNonLinking (call_fd c) (peer_at (endpoint p w (call_fd c))) (plan p w c g)
 unfolding plan
 plan-non_linking p w (call.TClose fd) g a = on_open-non_linking p w fd.0 _ (λ e. both-lists fd.0 e.peer (Close.changes p fd.0 e) (close-non_linking p fd.0 e))
 plan-non_linking p w (call.TSnd fd bytes flags) g a = send-non_linking p w fd.0 1 bytes flags g
 plan-non_linking p w (call.TSndV fd parts flags) g a = send-non_linking p w fd.0 (length parts) (concat parts) flags g
 plan-non_linking p w (call.TSndDis fd seq udata) g a = on_open-non_linking p w fd.0 _ (λ e. both-lists fd.0 e.peer (Disconnect.send_changes fd.0 seq.0 udata e) (snddis-non_linking fd.0 seq.0 udata e))
-plan-non_linking p w (call.TSndRel fd) g a = on_open-non_linking p w fd.0 _ (λ e. both-lists fd.0 e.peer (at_linked fd.0 e.peer Release.released ++ at_endpoint fd.0 Release.after_send ∷ []) (append-non_linking fd.0 e.peer (at_linked fd.0 e.peer Release.released) (at_endpoint fd.0 Release.after_send ∷ []) (linked-non_linking fd.0 e.peer Release.released (λ x e h. h)) (of_own Release.after_send after_send-names, tt)))
+plan-non_linking p w (call.TSndRel fd) g a = sndrel-non_linking p w fd.0 []
+plan-non_linking p w (call.TSndRelData fd udata) g a = sndrel-non_linking p w fd.0 udata
 plan-non_linking p w (call.TAccept fd resfd seq opt udata) g a = absurd (false≢true (sym a))
 plan-non_linking p w other g a = quiet-non_linking p w other g (peer_at (endpoint p w (call_fd other))) refl

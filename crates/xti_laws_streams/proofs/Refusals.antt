@@ -30,6 +30,9 @@ denial-gives c k other h = refl
 pub denial-releases : (c : Call) (r : Reply) → is_denial r ≡ true → is_release_receipt c (Done r) ≡ false
 denial-releases (call.TRcvRel fd) reply.Plain h = absurd (false≢true h)
 denial-releases (call.TRcvRel fd) other h = refl
+denial-releases (call.TRcvRelData fd umax) (reply.RelData udata) h = absurd (false≢true h)
+denial-releases (call.TRcvRelData fd umax) (reply.Overflow seq) h = absurd (false≢true h)
+denial-releases (call.TRcvRelData fd umax) other h = refl
 denial-releases other r h = refl
 
 -- Views and states.

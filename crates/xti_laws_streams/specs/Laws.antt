@@ -1,12 +1,12 @@
 -- The laws of connections: of each kind of data, what an end received against what the other end sent.
-use Rattle.std.specs.Prelude.{ℕ, ◌≡◌, ◌||◌, not, Bool, true, false, List, ◌++◌, Some, if◌then◌else◌}
+use Rattle.std.specs.Prelude.{ℕ, ◌≡◌, ◌||◌, not, Bool, true, false, List, ◌++◌, Some, is_some, if◌then◌else◌}
 use Rattle.std.specs.List.{list_any, list_all}
 use Rattle.xti_model.specs.declared.call.Call.{Call}
 use Rattle.xti_model.specs.declared.call.Call.TheVariants as call
 use Rattle.xti_model.specs.declared.entry.Entry.{Entry}
 use Rattle.xti_model.specs.declared.entry.Outcome.{Outcome}
 use Rattle.xti_model.specs.declared.entry.Outcome.TheVariants.{Done}
-use Rattle.xti_model.specs.declared.entry.Reply.TheVariants.{Plain}
+use Rattle.xti_model.specs.declared.entry.Reply.TheVariants.{Plain, RelData, Overflow}
 use Rattle.xti_model.specs.declared.profile.Providers.{Providers}
 use Rattle.xti_model.specs.declared.script.Script.{Script}
 use Rattle.xti_model.specs.Complete.{Follows, Each, workers, is_worker}
@@ -58,9 +58,11 @@ sent_to entries place c responds expedited = sent entries place c (end_of c (not
 abbrev pub has_ended : List Entry → ℕ → ℕ → Bool
 has_ended entries place fd = list_any (λ m. is_over m.after) (life entries place fd)
 
--- a t_rcvrel that answered Ok
+-- a release was taken: a t_rcvrel or t_rcvreldata that answered Ok, or one whose data were lost as they were too long
 abbrev pub is_release_receipt : Call → Outcome → Bool
 is_release_receipt (call.TRcvRel fd) (Done Plain) = true
+is_release_receipt (call.TRcvRelData fd umax) (Done (RelData udata)) = true
+is_release_receipt (call.TRcvRelData fd umax) (Done (Overflow seq)) = true
 is_release_receipt other outcome = false
 
 abbrev pub receives_release : Made → Bool
@@ -76,7 +78,7 @@ PrefixLaw p entries = (place : ℕ) (c : Connection) (responds expedited : Bool)
 
 -- the connection is not broken at this end: it is linked, or the release waits there
 abbrev pub is_unbroken : Providers → World → ℕ → Endpoint → Bool
-is_unbroken p w fd e = is_linked p w fd e || e.release
+is_unbroken p w fd e = is_linked p w fd e || is_some e.release
 
 -- while the life of an end lasts, and the connection is not broken there, what waits is the rest of what was sent
 abbrev pub WaitingLaw : Providers → List Entry → Type 0
