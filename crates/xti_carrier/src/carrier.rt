@@ -9,7 +9,7 @@ use std::alloc::{AllocError, Global};
 use xti_base::{Fd, Octets, let_go};
 use xti_core::World;
 use xti_gbn::Carrier;
-use xti_model::{Providers, usual_is_valid};
+use xti_model::Providers;
 
 /// The address of the sender's endpoint.
 const SENDER: &[u8] = b"sender";
@@ -69,7 +69,6 @@ impl DatagramCarrier {
     pub fn new(alloc: Global) -> Result<DatagramCarrier, AllocError>
         ensures { IfOk result (λ carrier. IsReady carrier) }
     {
-        usual_is_valid();
         let mut world = World::fresh(alloc, &Providers::usual())?;
         match open_both(alloc, &mut world) {
             Ok((sender, receiver)) => Ok(DatagramCarrier {

@@ -80,6 +80,7 @@ others-cells p w (call.TAccept fd resfd seq opt udata) k = (switch-cell p, (fd-c
 others-cells p w (call.TSnd fd bytes flags) k = of-cells p (endpoint p w fd.0) (peer_cell p) (λ e. fd-cells p e.peer)
 others-cells p w (call.TSndV fd parts flags) k = of-cells p (endpoint p w fd.0) (peer_cell p) (λ e. fd-cells p e.peer)
 others-cells p w (call.TSndRel fd) k = of-cells p (endpoint p w fd.0) (peer_cell p) (λ e. fd-cells p e.peer)
+others-cells p w (call.TSndRelData fd udata) k = of-cells p (endpoint p w fd.0) (peer_cell p) (λ e. fd-cells p e.peer)
 others-cells p w (call.TSndDis fd seq udata) k = of-cells p (endpoint p w fd.0) _ (λ e. asked-cells p e seq.0)
 others-cells p w (call.TSndUData fd addr opt bytes) k = (switch-cell p, of-cells p (endpoint p w fd.0) (bound_cell p w addr) (λ e. fd-cells p (bound (the_switch p w) e.prov addr)))
 others-cells p w (call.TSndVUData fd addr opt parts) k = (switch-cell p, of-cells p (endpoint p w fd.0) (bound_cell p w addr) (λ e. fd-cells p (bound (the_switch p w) e.prov addr)))

@@ -67,6 +67,7 @@ reads p w n (call.TRcv fd max) g h = record { named = (own n (place_of p fd.0) h
 reads p w n (call.TRcvV fd sizes) g h = record { named = (own n (place_of p fd.0) h, tt); told = own n _ (ap (place_of p) (told-fd p w (call.TRcvV fd sizes) g) ∙ h) }
 reads p w n (call.TRcvDis fd umax) g h = record { named = (own n (place_of p fd.0) h, tt); told = own n _ (ap (place_of p) (told-fd p w (call.TRcvDis fd umax) g) ∙ h) }
 reads p w n (call.TRcvRel fd) g h = record { named = (own n (place_of p fd.0) h, tt); told = own n _ (ap (place_of p) (told-fd p w (call.TRcvRel fd) g) ∙ h) }
+reads p w n (call.TRcvRelData fd umax) g h = record { named = (own n (place_of p fd.0) h, tt); told = own n _ (ap (place_of p) (told-fd p w (call.TRcvRelData fd umax) g) ∙ h) }
 reads p w n (call.TGetInfo fd) g h = record { named = (own n (place_of p fd.0) h, tt); told = own n _ (ap (place_of p) (told-fd p w (call.TGetInfo fd) g) ∙ h) }
 reads p w n (call.TGetProtAddr fd amax pmax) g h = record { named = (own n (place_of p fd.0) h, tt); told = own n _ (ap (place_of p) (told-fd p w (call.TGetProtAddr fd amax pmax) g) ∙ h) }
 reads p w n (call.TOptMgmt fd action opt omax) g h = record { named = (own n (place_of p fd.0) h, tt); told = own n _ (ap (place_of p) (told-fd p w (call.TOptMgmt fd action opt omax) g) ∙ h) }
@@ -137,6 +138,7 @@ takes-alike p v w n (call.TRcv fd max) g i = refl
 takes-alike p v w n (call.TRcvV fd sizes) g i = refl
 takes-alike p v w n (call.TRcvDis fd umax) g i = refl
 takes-alike p v w n (call.TRcvRel fd) g i = refl
+takes-alike p v w n (call.TRcvRelData fd umax) g i = refl
 takes-alike p v w n (call.TGetInfo fd) g i = refl
 takes-alike p v w n (call.TGetProtAddr fd amax pmax) g i = refl
 takes-alike p v w n (call.TOptMgmt fd action opt omax) g i = refl

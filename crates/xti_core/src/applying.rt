@@ -189,9 +189,10 @@ macro_rules! by_family {
             | Call::TUnbind { .. }
             | Call::TAccept { .. }
             | Call::TSndDis { .. } => $switch($lent, $call $(, $place)*),
-            Call::TSnd { .. } | Call::TSndV { .. } | Call::TSndRel { .. } => {
-                $data($lent, $call, $go $(, $place)*)
-            }
+            Call::TSnd { .. }
+            | Call::TSndV { .. }
+            | Call::TSndRel { .. }
+            | Call::TSndRelData { .. } => $data($lent, $call, $go $(, $place)*),
             Call::TSndUData { .. } | Call::TSndVUData { .. } => $dgram($lent, $call $(, $place)*),
             Call::TLookAt { fd } => $seen($lent, *fd $(, $place)*),
             _ => $local($lent, $call, fd, $go $(, $place)*),

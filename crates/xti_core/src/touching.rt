@@ -256,9 +256,10 @@ pub fn touch(call: &Call, lent: &Lent) -> Cells
             switch_cells(lent, *fd, listening_place(lent, *fd, addr.as_slice()))
         }
         Call::TAccept { fd, resfd, seq, .. } => accepting_cells(lent, *fd, *resfd, *seq),
-        Call::TSnd { fd, .. } | Call::TSndV { fd, .. } | Call::TSndRel { fd } => {
-            own_cells(lent, *fd, peer_place(lent, *fd))
-        }
+        Call::TSnd { fd, .. }
+        | Call::TSndV { fd, .. }
+        | Call::TSndRel { fd }
+        | Call::TSndRelData { fd, .. } => own_cells(lent, *fd, peer_place(lent, *fd)),
         Call::TSndDis { fd, seq, .. } => disconnecting_cells(lent, *fd, *seq),
         Call::TSndUData { fd, addr, .. } | Call::TSndVUData { fd, addr, .. } => {
             switch_cells(lent, *fd, bound_place(lent, *fd, addr.as_slice()))

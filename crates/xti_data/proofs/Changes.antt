@@ -1,7 +1,8 @@
 -- What changes of an endpoint leave.
-use Rattle.std.proofs.Common.{◌≡◌, ℕ, Bool, true, false, not, cond, eqb, List, [], ◌∷◌, ◌++◌, Option, Some, None, refl, sym, ap, ◌∙◌, append-nil}
+use Rattle.std.proofs.Common.{◌≡◌, ℕ, Bool, true, false, not, cond, eqb, List, [], ◌∷◌, ◌++◌, Option, Some, None, refl, sym, ap, ◌∙◌, subst, append-nil}
 use Rattle.std.specs.Prelude.{IfSome, option_and_then}
 use Rattle.xti_model.specs.declared.profile.Providers.{Providers}
+use Rattle.xti_model.specs.Calls.Release as Release
 use Rattle.xti_model.specs.Calls.Send as Send
 use Rattle.xti_model.specs.Endpoint.{Endpoint}
 use Rattle.xti_model.specs.Links.{at_linked, if_names, names}
@@ -16,6 +17,7 @@ use Rattle.xti_model.specs.declared.entry.Outcome.{Outcome}
 use Rattle.xti_model.specs.Step.{made}
 use Rattle.xti_end.specs.Taken.{taken}
 use Rattle.xti_data.specs.Portions.{bytes_of, piece_of, IsWithin}
+use Rattle.xti_data.specs.Sends.{telling, told_of_release}
 
 -- one change after another
 pub changed-append : (p : Providers) (w : World) (cs ds : List Change) → changed p w (cs ++ ds) ≡ changed p (changed p w cs) ds
@@ -119,3 +121,19 @@ pub made-after : (old new : Lending) (fd : ℕ) (cs : List Change) (outcome : Ou
     → taken a (cells new) ≡ Some (made old.providers fd outcome (changed old.providers (cells old) cs))
 made-after old new fd cs outcome a s c m =
     m ∙ ap (λ (p : Providers). Some (made p fd outcome (cells new))) s.providers ∙ ap (λ (w : World). Some (made old.providers fd outcome w)) c
+
+-- a sender that sends no more, among these lent cells
+abbrev Releases : ℕ → Lending → Lending → Type 0
+Releases fd = Changed (at_endpoint fd Release.after_send ∷ [])
+
+pub sender-released : (fd : ℕ) (a b new : Lending) → a ≡ b → Releases fd a new → Releases fd b new
+sender-released fd a b new e r = subst (λ (l : Lending). Releases fd l new) e r
+
+-- its peer was told of the release before
+pub peer-told : (old mid new : Lending) (fd peer : ℕ) (udata read : List ℕ) → read ≡ udata → SameCells old mid → Changed (told_of_release peer fd read) old mid → Releases fd mid new
+    → Changed (telling fd (Some peer) udata) old new
+peer-told old mid new fd peer udata read e s t r =
+    let p = old.providers in
+    let last = at_endpoint fd Release.after_send ∷ [] in
+    r ∙ ap (λ (q : Providers). changed q (cells mid) last) s.providers ∙ ap (λ (w : World). changed p w last) t
+    ∙ ap (λ (d : List ℕ). changed p (changed p (cells old) (told_of_release peer fd d)) last) e

@@ -20,6 +20,7 @@ use Rattle.xti_model.specs.World.{World, endpoint, changed}
 use Rattle.xti_model.specs.Plan.{Row, Refusal, answers, waits, Plan, first, later, later_row, later_plan, if_open, has_effect}
 use Rattle.xti_model.specs.Step.{step_of, step_by, made, send}
 use Rattle.xti_model.specs.Calls.Send as Send
+use Rattle.xti_end.proofs.Rows.{first-kept, first-last}
 use Rattle.xti_data.specs.declared.portions.Portion.{Portion}
 use Rattle.xti_data.specs.Portions.{giving, portion_of, IsWithin}
 use Rattle.xti_data.specs.Sends.{told, flow_marks}
@@ -27,24 +28,6 @@ use Rattle.xti_model.specs.History.{taken_before}
 
 abbrev row : Bool → Refusal → Row
 row b r = record { holds = b; refusal = r }
-
--- a row before the last one refuses
-first-kept : (rows : List Row) (b : Bool) (r q : Refusal) → first rows ≡ Some q → first (rows ++ row b r ∷ []) ≡ Some q
-first-kept [] b r q e = cc
-first-kept (x ∷ xs) b r q e = kept x.holds x.refusal (first xs) (first (xs ++ row b r ∷ [])) e (first-kept xs b r q)
-  where
-    kept : (t : Bool) (y : Refusal) (o n : Option Refusal) → cond t (Some y) o ≡ Some q → (o ≡ Some q → n ≡ Some q) → cond t (Some y) n ≡ Some q
-    kept true y o n e k = e
-    kept false y o n e k = k e
-
--- only the last row may refuse
-first-last : (rows : List Row) (b : Bool) (r : Refusal) → first rows ≡ None → first (rows ++ row b r ∷ []) ≡ cond b (Some r) None
-first-last [] b r e = refl
-first-last (x ∷ xs) b r e = last x.holds x.refusal (first xs) (first (xs ++ row b r ∷ [])) (cond b (Some r) None) e (first-last xs b r)
-  where
-    last : (t : Bool) (y : Refusal) (o n m : Option Refusal) → cond t (Some y) o ≡ None → (o ≡ None → n ≡ m) → cond t (Some y) n ≡ m
-    last true y o n m e k = cc
-    last false y o n m e k = k e
 
 abbrev Passes : Row → Type 0
 Passes r = r.holds ≡ false
@@ -107,11 +90,11 @@ pub send-refused : (p : Providers) (w : World) (fd n : ℕ) (bytes : List ℕ) (
 send-refused p w fd n bytes flags go.Begin e reply o r =
     opened p w fd n bytes flags go.Begin e o
     ∙ ap (λ (x : Option Refusal). step_by p w (plan_at p w fd n bytes flags 0 e) (option_map (λ y. y) x))
-    (first-kept (early p n bytes flags 0 e) (not (ready_for (is_expedited flags) e (linked p w fd e))) (waits (Refused TFLOW)) (answers reply) r)
+    (first-kept (early p n bytes flags 0 e) (row (not (ready_for (is_expedited flags) e (linked p w fd e))) (waits (Refused TFLOW))) (answers reply) r)
 send-refused p w fd n bytes flags (go.More m) e reply o r =
     opened p w fd n bytes flags (go.More m) e o
     ∙ ap (λ (x : Option Refusal). step_by p w (later_plan m (plan_at p w fd n bytes flags m e)) (option_map (later m) x))
-    (first-kept (early p n bytes flags m e) (not (ready_for (is_expedited flags) e (linked p w fd e))) (waits (Refused TFLOW)) (answers reply) r)
+    (first-kept (early p n bytes flags m e) (row (not (ready_for (is_expedited flags) e (linked p w fd e))) (waits (Refused TFLOW))) (answers reply) r)
 
 -- what the rows before the last one let through
 abbrev pub Unrefused : Providers → ℕ → List ℕ → ℕ → ℕ → Endpoint → Type 0
@@ -142,7 +125,7 @@ last-row : (p : Providers) (w : World) (fd n : ℕ) (bytes : List ℕ) (flags : 
 last-row p w fd n bytes flags g e b o r t =
     opened p w fd n bytes flags g e o
     ∙ ap (λ (x : Option Refusal). step_by p w (going g (plan_at p w fd n bytes flags (taken_before g) e)) (option_map (refused_as g) x))
-    (first-last (early p n bytes flags (taken_before g) e) (not (ready_for (is_expedited flags) e (linked p w fd e))) (waits (Refused TFLOW)) r
+    (first-last (early p n bytes flags (taken_before g) e) (row (not (ready_for (is_expedited flags) e (linked p w fd e))) (waits (Refused TFLOW))) r
     ∙ ap (λ (x : Bool). cond (not x) (Some (waits (Refused TFLOW))) None) t)
 
 -- what is taken of the parts where they are linked so
@@ -183,5 +166,5 @@ pub has-room : (p : Providers) (w : World) (fd n : ℕ) (bytes : List ℕ) (flag
     → has_effect (first (plan_in p w fd n bytes flags g).rows) ≡ true
 has-room p w fd n bytes flags g e o r t =
     ap has_effect (first-going p w fd n bytes flags g e o
-    ∙ ap (option_map (refused_as g)) (first-last (early p n bytes flags (taken_before g) e) (not (ready_for (is_expedited flags) e (linked p w fd e))) (waits (Refused TFLOW)) r
+    ∙ ap (option_map (refused_as g)) (first-last (early p n bytes flags (taken_before g) e) (row (not (ready_for (is_expedited flags) e (linked p w fd e))) (waits (Refused TFLOW))) r
     ∙ ap (λ (x : Bool). cond (not x) (Some (waits (Refused TFLOW))) None) t))

@@ -28,6 +28,7 @@ abbrev pub IsData : Call → Type 0
 IsData (call.TSnd fd bytes flags) = Unit {0}
 IsData (call.TSndV fd parts flags) = Unit {0}
 IsData (call.TSndRel fd) = Unit {0}
+IsData (call.TSndRelData fd udata) = Unit {0}
 IsData _ = ⊥
 
 -- the endpoint that is open with the descriptor among lent cells
@@ -68,18 +69,22 @@ are_bad_parts p parts expedited taken e = Send.is_bad_data p (concat parts) expe
 abbrev pub refusal_of : Providers → List (List ℕ) → ℕ → ℕ → Held → Option Refusal
 refusal_of p parts flags taken h = first (take 6 (Send.rows p (length parts) (concat parts) flags taken None (parts_of h.body)))
 
--- how a release is sent
-abbrev pub releasing : Lending → ℕ → Plan
-releasing l fd = Release.send_plan l.providers (cells l) fd
+-- how a release is sent with these data
+abbrev pub releasing : Lending → ℕ → List ℕ → Plan
+releasing l fd udata = Release.send_plan l.providers (cells l) fd udata
 
 -- what refuses it at the open endpoint
-abbrev pub release_refusal : Held → Option Refusal
-release_refusal h = first (Release.send_rows (parts_of h.body))
+abbrev pub release_refusal : Providers → List ℕ → Held → Option Refusal
+release_refusal p udata h = first (Release.send_rows p udata (parts_of h.body))
 
--- an endpoint is told of the release of this one, where it names that as its peer
-abbrev pub told_of_release : ℕ → ℕ → List Change
-told_of_release fd from = at_endpoint fd (if_names from Release.released) ∷ []
+-- an endpoint is told of the release of its peer and of the data that go with it; one that doesn't name this as its peer stays
+abbrev pub released_by : ℕ → List ℕ → Endpoint → Endpoint
+released_by from udata = if_names from (Release.released udata)
 
--- the linked peer is told of the release, and the sender sends no more
-abbrev pub telling : ℕ → Option ℕ → List Change
-telling fd peer = at_linked fd peer Release.released ++ at_endpoint fd Release.after_send ∷ []
+-- so the endpoint with a descriptor changes
+abbrev pub told_of_release : ℕ → ℕ → List ℕ → List Change
+told_of_release fd from udata = at_endpoint fd (released_by from udata) ∷ []
+
+-- the linked peer is told of the release and of the data that go with it, and the sender sends no more
+abbrev pub telling : ℕ → Option ℕ → List ℕ → List Change
+telling fd peer udata = at_linked fd peer (Release.released udata) ++ at_endpoint fd Release.after_send ∷ []

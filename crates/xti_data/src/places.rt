@@ -6,10 +6,12 @@ ghost use Rattle.tpi_prim.specs.Fields.{kind_in};
 ghost use Rattle.tpi_prim.specs.Indication.{kind_for};
 ghost use Rattle.xti_model.specs.Calls.Release as Release;
 ghost use Rattle.xti_model.specs.Calls.Send as Send;
-ghost use Rattle.xti_model.specs.Links.{if_names, names};
+ghost use Rattle.xti_model.specs.Links.{names};
+ghost use Rattle.xti_end.specs.Frames.{release_in};
 ghost use Rattle.xti_end.specs.Held.{is_open, is_open_as, parts, peer_at, with_parts};
 ghost use Rattle.xti_lent.specs.Lends.{ChangesAt, IsPlaceOf};
 ghost use Rattle.xti_data.specs.Portions.{counted, open_in, IsWithin, TakesData};
+ghost use Rattle.xti_data.specs.Sends.{released_by};
 
 use crate::limits::count_more;
 use crate::portions::Portion;
@@ -30,11 +32,12 @@ fn names(at: &Endpoint, p: &Providers, fd: Fd, from: Fd) -> bool
         }
 }
 
-/// The endpoint with this descriptor is told of a release, where it is open and names `from` as its peer. Takes no memory.
+/// The endpoint with this descriptor is told of a release and of its data, where it is open and names `from` as its peer. Takes no
+/// memory.
 pub(crate) fn tell_release(at: &mut Endpoint, p: &Providers, fd: Fd, from: Fd, frame: Frame)
     requires place { IsPlaceOf p.now fd.0 at.old }
     requires kind { kind_in frame ≡ T_ORDREL_IND }
-    ensures cell { ChangesAt p.now fd.0 (if_names from.0 Release.released) at.old at.new }
+    ensures cell { ChangesAt p.now fd.0 (released_by from.0 (release_in frame)) at.old at.new }
     ensures place { at.new.place ≡ at.old.place }
 {
     if names(at, p, fd, from) {

@@ -6,7 +6,7 @@ ghost use Rattle.xti_base.specs.declared.limits.TheConstants.{MOST_SEND};
 ghost use Rattle.xti_model.specs.Arguments as Arguments;
 ghost use Rattle.xti_model.specs.Calls.Send as Send;
 ghost use Rattle.xti_end.specs.Held as Held;
-ghost use Rattle.xti_lent.specs.Answers.{answered};
+ghost use Rattle.xti_end.specs.Taken.{answered};
 ghost use Rattle.xti_data.specs.Sends.{are_bad_parts, refusal_of};
 
 use crate::limits::{is_expedited, is_over};

@@ -14,7 +14,7 @@ use std::slice;
 use xti_lent::Lent;
 use xti_model::{Applied, Call, Go};
 
-/// One step of t_snd, t_sndv or t_sndrel: what it answers, and the state of its endpoint afterwards. The cells of the call must be
+/// One step of t_snd, t_sndv, t_sndrel or t_sndreldata: what it answers, and the state of its endpoint afterwards. The cells of the call must be
 /// lent. Where it is blocked, and where memory runs out, all is as before.
 #[inline(always)]
 #[tactic(auto, unfolding(xti_model::specs::Step::step, xti_model::specs::Step::plan))]
@@ -31,7 +31,8 @@ pub fn data_step(lent: &mut Lent, call: &Call, go: Go) -> Result<Applied, AllocE
     match call {
         Call::TSnd { fd, bytes, flags } => send(lent, *fd, slice::from_ref(bytes), *flags, go),
         Call::TSndV { fd, parts, flags } => send(lent, *fd, parts.as_slice(), *flags, go),
-        Call::TSndRel { fd } => sndrel(lent, *fd),
+        Call::TSndRel { fd } => sndrel(lent, *fd, &[]),
+        Call::TSndRelData { fd, udata } => sndrel(lent, *fd, udata.as_slice()),
         _ => unreachable!(),
     }
 }

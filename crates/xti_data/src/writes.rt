@@ -6,6 +6,7 @@ ghost use Rattle.tpi_prim.specs.Fields.{kind_in};
 ghost use Rattle.tpi_prim.specs.Indication.{kind_for};
 ghost use Rattle.xti_model.specs.Calls.Release as Release;
 ghost use Rattle.xti_model.specs.World.{at_endpoint};
+ghost use Rattle.xti_end.specs.Frames.{release_in};
 ghost use Rattle.xti_lent.specs.Answers.{Changed};
 ghost use Rattle.xti_lent.specs.Fit.{AtOwnPlaces, SameCells};
 ghost use Rattle.xti_lent.specs.Lends.{IsHeld};
@@ -19,12 +20,12 @@ use tpi_prim::Frame;
 use xti_base::Fd;
 use xti_lent::Lent;
 
-/// An endpoint is told of a release, where it is open and names `from` as its peer. Takes no memory.
+/// An endpoint is told of a release and of its data, where it is open and names `from` as its peer. Takes no memory.
 pub(crate) fn tell_release(lent: &mut Lent, fd: Fd, from: Fd, frame: Frame)
     requires own { AtOwnPlaces lent.old }
     requires there { IsHeld lent.old fd.0 }
     requires kind { kind_in frame ≡ T_ORDREL_IND }
-    ensures cells { Changed (told_of_release fd.0 from.0) lent.old lent.new }
+    ensures cells { Changed (told_of_release fd.0 from.0 (release_in frame)) lent.old lent.new }
     ensures kept { SameCells lent.old lent.new }
 {
     let p = *lent.providers();

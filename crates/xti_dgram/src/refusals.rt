@@ -4,7 +4,7 @@ ghost use Rattle.std.specs.Prelude.{◌≡◌, ◌^◌, ◌-◌, ℕ, true, min}
 ghost use Rattle.std.specs.List.{concat};
 ghost use Rattle.xti_model.specs.Calls.Datagrams.{is_over, is_bad_datagram};
 ghost use Rattle.xti_end.specs.Held as Held;
-ghost use Rattle.xti_lent.specs.Answers.{answered};
+ghost use Rattle.xti_end.specs.Taken.{answered};
 ghost use Rattle.xti_dgram.specs.Sends.{refusal_of};
 
 use xti_base::limits::MOST_PARTS;

@@ -7,6 +7,7 @@ use Rattle.tpi_grammar.specs.declared.kind.Kind.TheVariants as kind
 use Rattle.tpi_prim.specs.declared.primitive.Prim.{Prim}
 use Rattle.tpi_prim.specs.declared.primitive.Prim.TheVariants as prim
 use Rattle.tpi_prim.specs.Fields.{kind_in, primitive_in}
+use Rattle.tpi_prim.specs.Primitive.{user_of}
 use Rattle.xti_model.specs.Endpoint.{Indication, Disconnect, Confirmation, Datagram, DatagramError}
 use Rattle.xti_queue.specs.Indications.{symbols_of}
 use Rattle.xti_end.specs.declared.indications.Ind.{Ind}
@@ -73,6 +74,10 @@ confirmation_in f = confirmation_of (primitive_in f)
 
 abbrev pub disconnect_in : List ℕ → Disconnect
 disconnect_in f = disconnect_of (primitive_in f)
+
+-- the user data of a T_ORDREL_IND
+abbrev pub release_in : List ℕ → List ℕ
+release_in f = user_of (primitive_in f)
 
 -- the symbols of a T_DATA_IND or a T_EXDATA_IND: its bytes, and an end where MORE_flag is 0
 abbrev pub symbols_in : List ℕ → List ℕ

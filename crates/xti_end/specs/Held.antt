@@ -16,7 +16,7 @@ use Rattle.xti_model.specs.World.{World, Cell, endpoint_cell, generation_of, pla
 use Rattle.xti_queue.specs.Queue.{frames, symbols}
 use Rattle.xti_end.specs.declared.parts.Parts.{Parts}
 use Rattle.xti_end.specs.declared.parts.Waiting.{Waiting}
-use Rattle.xti_end.specs.Frames.{datagram_of, error_in, indication_of, disconnect_in, confirmation_in}
+use Rattle.xti_end.specs.Frames.{datagram_of, error_in, indication_of, disconnect_in, confirmation_in, release_in}
 
 -- the place and how often it was closed; the endpoint that is open there; and how many more members its lists take with no memory
 pub record Held : Type 0 where
@@ -125,7 +125,7 @@ endpoint_of e w = record {
   normal = symbols w.normal;
   expedited = symbols w.expedited;
   mid_expedited = e.connection.mid_expedited;
-  release = is_some e.connection.release;
+  release = option_map release_in e.connection.release;
   datagrams = map datagram_of (frames w.datagrams);
   begun = e.begun;
   datagram_errors = map error_in w.datagram_errors.items;
@@ -145,7 +145,7 @@ body_of o w = option_map (λ (e : Parts). endpoint_of e w) o
 abbrev pub IsMadeOf : Held → Parts → Type 0
 IsMadeOf h parts = (w : Waiting) × (h.body ≡ Some (endpoint_of parts w))
 
--- another datagram flow mark, listener that is asked, other side or confirmation
+-- another datagram flow mark, listener that is asked, other side, confirmation or release
 abbrev pub with_mark : Option (List ℕ) → Endpoint → Endpoint
 with_mark mark e = record e { flow_datagram = mark }
 
@@ -157,6 +157,9 @@ with_peer peer e = record e { peer = peer }
 
 abbrev pub with_confirmation : Confirmation → Endpoint → Endpoint
 with_confirmation confirmation e = record e { confirmation = Some confirmation }
+
+abbrev pub with_release : Option (List ℕ) → Endpoint → Endpoint
+with_release release e = record e { release = release }
 
 -- one more indication, disconnect or run of symbols after the others
 abbrev pub with_pending : Indication → Endpoint → Endpoint

@@ -1,5 +1,5 @@
 -- What a step answered, and the world that it left.
-use Rattle.std.specs.Prelude.{◌≡◌, ℕ, Bool, false, List, [], ◌∷◌, length, sum, take, Option, Some, None, Result, IfOk, IsOk}
+use Rattle.std.specs.Prelude.{◌≡◌, ℕ, Bool, false, List, [], ◌∷◌, length, sum, take, Option, Some, None, option_map, Result, IfOk, IsOk}
 use Rattle.std.specs.List.{list_any}
 use Rattle.xti_model.specs.declared.call.Call.{Call}
 use Rattle.xti_model.specs.declared.call.Call.TheVariants as call
@@ -10,10 +10,11 @@ use Rattle.xti_model.specs.declared.entry.Go.TheVariants as go
 use Rattle.xti_model.specs.declared.entry.Applied.TheVariants as applied
 use Rattle.xti_model.specs.declared.entry.Outcome.TheVariants.{Done}
 use Rattle.xti_model.specs.declared.entry.Reply.{Reply}
+use Rattle.xti_model.specs.declared.entry.Reply.TheVariants.{RelData}
 use Rattle.xti_model.specs.Events.{some_wait}
 use Rattle.xti_model.specs.World.{World, place_of, at_endpoint}
 use Rattle.xti_model.specs.Endpoint.{Endpoint, Confirmation}
-use Rattle.xti_model.specs.Plan.{Plan, Field, field, first, has_effect, is_too_long, overflows, plan_of}
+use Rattle.xti_model.specs.Plan.{Plan, Field, answers, field, first, has_effect, is_too_long, overflows, plan_of, trimmed, Refusal}
 use Rattle.xti_model.specs.Step.{Step, made, step_by, step_of}
 use Rattle.xti_model.specs.Calls.Datagrams as Datagrams
 use Rattle.xti_model.specs.Calls.Connect as Connect
@@ -29,6 +30,10 @@ abbrev pub taken : Applied → World → Option Step
 taken (applied.Step outcome after) w = Some (record { outcome = outcome; after = after; world = w })
 taken applied.Blocked w = None
 
+-- what refuses a call, where its reply is this one
+abbrev pub answered : Option Reply → Option Refusal
+answered reply = option_map (λ r. answers r) reply
+
 -- the answer is this reply, and the cell is as it is
 abbrev pub Replies : Providers → ℕ → Reply → Held → Applied → Type 0
 Replies p fd reply h a = taken a (alone h) ≡ Some (made p fd (Done reply) (alone h))
@@ -41,6 +46,7 @@ IsAt p place (call.TRcv fd max) go = place_of p fd.0 ≡ place
 IsAt p place (call.TRcvV fd sizes) go = place_of p fd.0 ≡ place
 IsAt p place (call.TRcvDis fd umax) go = place_of p fd.0 ≡ place
 IsAt p place (call.TRcvRel fd) go = place_of p fd.0 ≡ place
+IsAt p place (call.TRcvRelData fd umax) go = place_of p fd.0 ≡ place
 IsAt p place (call.TRcvUData fd max amax omax) go = place_of p fd.0 ≡ place
 IsAt p place (call.TRcvVUData fd sizes amax omax) go = place_of p fd.0 ≡ place
 IsAt p place (call.TRcvUDErr fd amax omax) go = place_of p fd.0 ≡ place
@@ -111,6 +117,16 @@ disconnect_step p w fd umax e =
     step_by p w (plan_of fd e (Disconnect.receive_rows umax e) (at_endpoint fd Disconnect.received ∷ []) (Done (told_disconnect umax e)))
     (first (overflows (field (Disconnect.oldest e).udata umax ∷ []) ∷ []))
 
+-- what is told of the data of the release that waits
+abbrev pub told_release : ℕ → Endpoint → Reply
+told_release umax e = RelData (trimmed (Release.release_data e) umax)
+
+-- a release is to be told: it is taken with its data, or without them where they are too long
+abbrev pub release_step : Providers → World → ℕ → ℕ → Endpoint → Option Step
+release_step p w fd umax e =
+    step_by p w (plan_of fd e (Release.receive_rows umax e) (at_endpoint fd Release.after_receive ∷ []) (Done (told_release umax e)))
+    (first (overflows (field (Release.release_data e) umax ∷ []) ∷ []))
+
 -- the answer, and the cell that is left, are those of the plan's step
 abbrev pub AnswersBy : Providers → (Providers → Held → Plan) → Held → Held → Applied → Type 0
 AnswersBy p plan old new a = taken a (alone new) ≡ step_of p (alone old) (plan p old)
@@ -168,6 +184,10 @@ receiving_disconnect fd umax p h = Disconnect.receive_plan p (alone h) fd umax
 abbrev pub receiving_release : ℕ → Providers → Held → Plan
 receiving_release fd p h = Release.receive_plan p (alone h) fd
 
+-- the same with its data
+abbrev pub receiving_release_data : ℕ → ℕ → Providers → Held → Plan
+receiving_release_data fd umax p h = Release.receive_data_plan p (alone h) fd umax
+
 -- how the mode is set
 abbrev pub setting_mode : ℕ → Bool → Providers → Held → Plan
 setting_mode fd nonblock p h = Show.mode_plan p (alone h) fd nonblock
@@ -204,6 +224,10 @@ TellsConfirmation p fd amax omax umax old new r = Makes (confirmation_step p (al
 -- the oldest disconnect was told, or taken without its data
 abbrev pub TellsDisconnect : {E : Type 0} → Providers → ℕ → ℕ → Held → Held → Result Applied E → Type 0
 TellsDisconnect p fd umax old new r = Makes (disconnect_step p (alone old) fd umax (parts old)) new r
+
+-- the release was taken with its data, or without them
+abbrev pub TellsRelease : {E : Type 0} → Providers → ℕ → ℕ → Held → Held → Result Applied E → Type 0
+TellsRelease p fd umax old new r = Makes (release_step p (alone old) fd umax (parts old)) new r
 
 -- the first error was told or lost
 abbrev pub TellsError : {E : Type 0} → Providers → ℕ → ℕ → ℕ → Held → Held → Result Applied E → Type 0

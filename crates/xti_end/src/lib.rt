@@ -67,5 +67,8 @@ pub use endpoint::Endpoint;
 pub use fields::{is_too_long, trimmed, trimmed_copy};
 pub use indications::Ind;
 pub use listening::{caller_address, is_listening};
-pub use providers::{has_connections, has_datagrams, has_release, is_stream, profile};
+pub use providers::{
+    has_connections, has_datagrams, has_release, has_release_data, is_stream, profile,
+    release_limit,
+};
 pub use receiving_disconnects::is_connected_or_asking;

@@ -49,6 +49,7 @@ impl Endpoint {
             Call::TRcvV { fd, sizes } => return self.rcvv(p, *fd, sizes.as_slice()),
             Call::TRcvDis { fd, umax } => return self.rcvdis(p, *fd, *umax),
             Call::TRcvRel { fd } => self.rcvrel(p, *fd),
+            Call::TRcvRelData { fd, umax } => return self.rcvreldata(p, *fd, *umax),
             Call::TRcvUData {
                 fd,
                 max,

@@ -36,7 +36,7 @@ pub(crate) struct Connection {
     /// A T_CONN_CON.
     pub(crate) confirmation: Option<Frame>,
     pub(crate) mid_expedited: bool,
-    /// A T_ORDREL_IND.
+    /// A T_ORDREL_IND, whose user data go with the release.
     pub(crate) release: Option<Frame>,
     pub(crate) unfinished_normal: u32,
     pub(crate) unfinished_expedited: u32,

@@ -1,10 +1,11 @@
 //! What a provider offers.
 
-ghost use Rattle.std.specs.Prelude.{◌≡◌, if◌then◌else◌};
-ghost use Rattle.xti_model.specs.Provider.{has_connections, has_datagrams, has_release, info, is_stream, profile, service};
+ghost use Rattle.std.specs.Prelude.{◌≡◌, ◌≤◌, if◌then◌else◌};
+ghost use Rattle.xti_base.specs.declared.limits.TheConstants.{MOST_CONNECT_DATA};
+ghost use Rattle.xti_model.specs.Provider.{flags, has_connections, has_datagrams, has_release, has_release_data, info, is_stream, profile, release_limit, service};
 
 use xti_base::limits::{MOST_ADDRESS, MOST_CONNECT_DATA, MOST_EXPEDITED_MESSAGE, MOST_OPTIONS};
-use xti_base::{Info, Limit, Prov, ServType};
+use xti_base::{Info, Limit, Prov, ServType, T_ORDRELDATA, T_SENDZERO};
 use xti_model::{Profile, Providers};
 
 /// The provider's values.
@@ -45,6 +46,25 @@ pub fn has_release(prov: Prov) -> bool
     }
 }
 
+/// Whether data may go with an orderly release of the provider (T_ORDRELDATA).
+pub fn has_release_data(p: &Providers, prov: Prov) -> bool
+    ensures { result ≡ has_release_data p.now prov }
+{
+    has_release(prov) && profile(p, prov).reldata
+}
+
+/// The most bytes of data that go with an orderly release of the provider.
+pub fn release_limit(p: &Providers, prov: Prov) -> usize
+    ensures limit { result ≡ release_limit p.now prov }
+    ensures most { result ≤ MOST_CONNECT_DATA }
+{
+    if has_release_data(p, prov) {
+        MOST_CONNECT_DATA
+    } else {
+        0
+    }
+}
+
 /// Whether normal data are a stream of bytes, without ends.
 pub fn is_stream(p: &Providers, prov: Prov) -> bool
     ensures { result ≡ is_stream p.now prov }
@@ -76,6 +96,23 @@ fn with_connections(prov: Prov, most: u32) -> Limit
     }
 }
 
+/// The flags of a provider: T_SENDZERO and T_ORDRELDATA, of what it has.
+fn flags(p: &Providers, prov: Prov) -> u32
+    ensures { result ≡ flags p.now prov }
+{
+    let empty_messages = if profile(p, prov).sendzero {
+        T_SENDZERO
+    } else {
+        0
+    };
+    let release_data = if has_release_data(p, prov) {
+        T_ORDRELDATA
+    } else {
+        0
+    };
+    empty_messages + release_data
+}
+
 /// What t_getinfo tells of a provider.
 pub(crate) fn info(p: &Providers, prov: Prov) -> Info
     ensures { result ≡ info p.now prov }
@@ -90,6 +127,6 @@ pub(crate) fn info(p: &Providers, prov: Prov) -> Info
         connect: data,
         discon: data,
         servtype: service(prov),
-        flags: u32::from(profile.sendzero),
+        flags: flags(p, prov),
     }
 }

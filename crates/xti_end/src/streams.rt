@@ -1,12 +1,12 @@
 //! The data of a connection that wait at an endpoint, and its release.
 
-ghost use Rattle.std.specs.Prelude.{◌≡◌, ◌≤◌, ◌+◌, [], true, false, max, is_some, IfSome, OnOk, OnErr};
+ghost use Rattle.std.specs.Prelude.{◌≡◌, ◌≤◌, ◌+◌, [], true, max, Some, None, IfSome, OnOk, OnErr};
 ghost use Rattle.tpi_grammar.specs.declared.kind.Kind.TheVariants.{T_DATA_IND, T_EXDATA_IND, T_ORDREL_IND};
 ghost use Rattle.tpi_prim.specs.Fields.{kind_in};
 ghost use Rattle.xti_model.specs.Events.{some_wait};
 ghost use Rattle.xti_queue.specs.Queue.{symbols};
-ghost use Rattle.xti_end.specs.Frames.{symbols_in};
-ghost use Rattle.xti_end.specs.Held.{is_open, parts, with_parts, normal_at, expedited_at, AddsNormal, AddsExpedited};
+ghost use Rattle.xti_end.specs.Frames.{release_in, seen_as, symbols_in};
+ghost use Rattle.xti_end.specs.Held.{is_open, parts, with_parts, with_release, normal_at, expedited_at, AddsNormal, AddsExpedited};
 
 use crate::endpoint::Endpoint;
 use std::alloc::AllocError;
@@ -89,30 +89,31 @@ impl Endpoint {
         self.waiting.expedited.push(frame);
     }
 
-    /// The release of the other side, a T_ORDREL_IND; `None` exactly where the release mark isn't set. Takes no memory.
+    /// The release of the other side, a T_ORDREL_IND whose user data go with the release; `None` exactly where there is none. Takes
+    /// no memory.
     pub fn release(&self) -> Option<&Frame>
         requires { is_open self.now ≡ true }
-        ensures release { is_some result ≡ (parts self.now).release }
+        ensures release { seen_as release_in result ≡ (parts self.now).release }
         ensures kind { IfSome result (λ frame. kind_in frame.now ≡ T_ORDREL_IND) }
     {
         self.open_parts().connection.release.as_ref()
     }
 
-    /// Sets the release mark of the open endpoint, by a T_ORDREL_IND. Takes no memory.
+    /// Sets the release of the open endpoint: a T_ORDREL_IND, with its user data. Takes no memory.
     pub fn set_release(&mut self, frame: Frame)
         requires open { is_open self.old ≡ true }
         requires kind { kind_in frame ≡ T_ORDREL_IND }
-        ensures { self.new ≡ with_parts (λ e. record e { release = true }) self.old }
+        ensures { self.new ≡ with_parts (with_release (Some (release_in frame))) self.old }
     {
         if let Some(parts) = &mut self.body {
             write_over(&mut parts.connection.release, Some(frame));
         }
     }
 
-    /// Clears the release mark of the open endpoint. Takes no memory.
+    /// Takes the release out of the open endpoint, if there is one. Takes no memory.
     pub fn clear_release(&mut self)
         requires { is_open self.old ≡ true }
-        ensures { self.new ≡ with_parts (λ e. record e { release = false }) self.old }
+        ensures { self.new ≡ with_parts (with_release None) self.old }
     {
         if let Some(parts) = &mut self.body {
             write_over(&mut parts.connection.release, None);

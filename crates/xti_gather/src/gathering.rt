@@ -33,6 +33,7 @@ fn own_place(call: &Call, lent: &Lent) -> Option<u32>
         | Call::TSnd { .. }
         | Call::TSndV { .. }
         | Call::TSndRel { .. }
+        | Call::TSndRelData { .. }
         | Call::TSndDis { .. }
         | Call::TSndUData { .. }
         | Call::TSndVUData { .. }

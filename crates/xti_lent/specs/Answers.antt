@@ -1,5 +1,5 @@
 -- What a step on lent cells answers, and what it leaves of them.
-use Rattle.std.specs.Prelude.{◌≡◌, ℕ, false, List, Option, Some, None, option_map, Result, IfOk, IsOk}
+use Rattle.std.specs.Prelude.{◌≡◌, ℕ, false, List, Option, Some, None, Result, IfOk, IsOk}
 use Rattle.xti_model.specs.declared.call.Call.{Call}
 use Rattle.xti_model.specs.declared.entry.Applied.{Applied}
 use Rattle.xti_model.specs.declared.entry.Go.{Go}
@@ -7,15 +7,11 @@ use Rattle.xti_model.specs.declared.entry.Outcome.{Outcome}
 use Rattle.xti_model.specs.declared.entry.Outcome.TheVariants.{Done}
 use Rattle.xti_model.specs.declared.entry.Reply.{Reply}
 use Rattle.xti_model.specs.Memory.{may_run_out}
-use Rattle.xti_model.specs.Plan.{Plan, Refusal, answers, first, has_effect}
+use Rattle.xti_model.specs.Plan.{Plan, first, has_effect}
 use Rattle.xti_model.specs.Step.{Step, step, step_of, made}
 use Rattle.xti_model.specs.World.{Change, changed}
 use Rattle.xti_end.specs.Taken.{taken}
 use Rattle.xti_lent.specs.Lending.{Lending, cells}
-
--- what refuses a call, where its reply is this one
-abbrev pub answered : Option Reply → Option Refusal
-answered reply = option_map (λ r. answers r) reply
 
 -- the step has this outcome, and the lent cells are as they were
 abbrev pub IsMade : Lending → ℕ → Outcome → Applied → Type 0

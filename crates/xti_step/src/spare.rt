@@ -179,7 +179,7 @@ impl Spare {
             Call::TRcvV { sizes, .. } => {
                 Spare::with(alloc, sum_up_to(sizes.as_slice(), TWO_BUFFERS), 0, 0)
             }
-            Call::TRcvDis { umax, .. } => {
+            Call::TRcvDis { umax, .. } | Call::TRcvRelData { umax, .. } => {
                 Spare::with(alloc, up_to(*umax, MOST_CONNECT_DATA), 0, 0)
             }
             Call::TRcvUData {
@@ -292,6 +292,9 @@ impl Spare {
                 seq: *seq,
                 udata: self.one(udata),
             },
+            Reply::RelData { udata } => Reply::RelData {
+                udata: self.one(udata),
+            },
             _ => unreachable!(),
         }
     }
@@ -351,9 +354,10 @@ impl Spare {
                 result: *result,
                 opt: self.one(opt),
             },
-            Reply::Connected { .. } | Reply::Listened { .. } | Reply::Discon { .. } => {
-                self.connection_news(reply)
-            }
+            Reply::Connected { .. }
+            | Reply::Listened { .. }
+            | Reply::Discon { .. }
+            | Reply::RelData { .. } => self.connection_news(reply),
             Reply::Got { .. } | Reply::UData { .. } | Reply::UDErr { .. } => self.received(reply),
             Reply::Plain
             | Reply::Opened { .. }

@@ -15,7 +15,8 @@ use Rattle.xti_model.specs.World.{Change, at_endpoint, at_switch}
 use Rattle.xti_model.specs.Calls.Listen as Listen
 use Rattle.xti_registry.specs.Known.{Known}
 use Rattle.xti_end.specs.Frames.{confirmation_in}
-use Rattle.xti_lent.specs.Answers.{answered, MakesBy}
+use Rattle.xti_end.specs.Taken.{answered}
+use Rattle.xti_lent.specs.Answers.{MakesBy}
 use Rattle.xti_lent.specs.Lending.{Lending, cells}
 use Rattle.xti_switch.specs.declared.accept.Acceptance.{Acceptance}
 use Rattle.xti_switch.specs.declared.links.Given.{Given}

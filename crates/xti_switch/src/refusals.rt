@@ -7,7 +7,7 @@ ghost use Rattle.xti_model.specs.Plan.{first, looks};
 ghost use Rattle.xti_model.specs.Calls.Connect as Connect;
 ghost use Rattle.xti_model.specs.Calls.Listen as Listen;
 ghost use Rattle.xti_end.specs.Held.{is_open, parts};
-ghost use Rattle.xti_lent.specs.Answers.{answered};
+ghost use Rattle.xti_end.specs.Taken.{answered};
 ghost use Rattle.xti_switch.specs.Accepts.{is_at_bad_address, is_engaged, RefusesAccept};
 
 use xti_base::{Errno, Event, Seq, State};

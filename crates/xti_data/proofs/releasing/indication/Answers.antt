@@ -1,7 +1,17 @@
-use Rattle.std.proofs.Common.{sym, ap, ◌∙◌}
-use Rattle.tpi_prim.specs.Primitive.{kind_of}
+use Rattle.std.proofs.Common.{◌≡◌, List, ℕ, sym, ap, ◌∙◌}
+use Rattle.std.proofs.lemmas.Result.{IfOk-weaker, IfOk-at_ok}
+use Rattle.tpi_prim.specs.Primitive.{kind_of, user_of}
+use Rattle.tpi_prim.specs.Fields.{primitive_in}
+use Rattle.tpi_prim.specs.declared.primitive.Prim.TheVariants as prim
 use Rattle.tpi_prim.proofs.FrameReads.{kind_of-primitive_in}
 use Rattle.xti_data.proofs.releasing.indication.Goals as goal
 
-pub returns-in-Ok : goal.returns-in-Ok
-returns-in-Ok c = sym (kind_of-primitive_in c.in-Ok.frame) ∙ ap kind_of c.in-Ok.ensures.read
+pub returns-clause-kind : goal.returns-clause-kind
+returns-clause-kind c =
+    let read = λ (bs : List ℕ). primitive_in bs ≡ prim.T_ORDREL_IND c.args.udata.now in
+    IfOk-weaker c.unless_too_big.result _ _ (λ frame h. sym (kind_of-primitive_in frame) ∙ ap kind_of (IfOk-at_ok read h c.encode_ordrel_ind.ensures.read)) c.unless_too_big.ensures
+
+pub returns-clause-release : goal.returns-clause-release
+returns-clause-release c =
+    let read = λ (bs : List ℕ). primitive_in bs ≡ prim.T_ORDREL_IND c.args.udata.now in
+    IfOk-weaker c.unless_too_big.result _ _ (λ frame h. ap user_of (IfOk-at_ok read h c.encode_ordrel_ind.ensures.read)) c.unless_too_big.ensures

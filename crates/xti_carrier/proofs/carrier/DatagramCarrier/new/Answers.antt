@@ -7,4 +7,4 @@ use Rattle.xti_carrier.proofs.carrier.DatagramCarrier.new.Goals as goal
 
 pub open_both-requires : goal.open_both-requires
 unfolding start
-open_both-requires c = c.in_ok-world.ensures ∙ ap (λ (p : Providers). let s : Standing = record { providers = p; cells = opening p } in s) c.usual.ensures
+open_both-requires c = c.in_ok-world.ensures ∙ ap (λ (p : Providers). let s : Standing = record { providers = p; cells = opening p } in s) c.usual.ensures.values
