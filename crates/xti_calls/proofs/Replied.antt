@@ -38,6 +38,7 @@ may-be verb (reply.Listened seq addr opt udata) h = h
 may-be verb (reply.Sent n) h = h
 may-be verb (reply.Got bytes flags) h = h
 may-be verb (reply.Discon reason seq udata) h = h
+may-be verb (reply.RelData udata) h = h
 may-be verb (reply.UData addr opt bytes flags) h = h
 may-be verb (reply.UDErr addr opt code) h = h
 may-be verb (reply.Seen event) h = h

@@ -88,6 +88,9 @@ AreGot sizes (parts, flags) r = (parts ≡ split_by sizes (concat parts)) × (r 
 abbrev pub IsDisconnect : ℕ × Seq × List ℕ → Reply → Type 0
 IsDisconnect (reason, seq, udata) r = r ≡ reply.Discon reason seq udata
 
+abbrev pub IsReleaseData : List ℕ → Reply → Type 0
+IsReleaseData udata r = r ≡ reply.RelData udata
+
 abbrev pub IsDatagram : TCall × ℕ → Reply → Type 0
 IsDatagram (c, flags) r = (c.seq.0 ≡ no_seq) × (r ≡ reply.UData c.addr c.opt c.udata flags)
 

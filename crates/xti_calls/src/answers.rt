@@ -3,7 +3,7 @@
 ghost use Rattle.std.specs.Prelude.{◌≡◌, min, sum, IfOk, MatchResult};
 ghost use Rattle.xti_verbs.specs.declared.answer.Answer.TheVariants as answer;
 ghost use Rattle.xti_calls.specs.Typed.{MayBe, Told, IsError, SaysError, HasAtMost};
-ghost use Rattle.xti_calls.specs.Typed.{IsDone, IsOpened, IsBound, IsConnected, IsListened, IsSent, IsGot, AreGot, IsDisconnect, IsDatagram, IsDatagramInParts, IsDatagramError, IsSeen, IsState, IsInfo, AreAddresses, IsNegotiated};
+ghost use Rattle.xti_calls.specs.Typed.{IsDone, IsOpened, IsBound, IsConnected, IsListened, IsSent, IsGot, AreGot, IsDisconnect, IsReleaseData, IsDatagram, IsDatagramInParts, IsDatagramError, IsSeen, IsState, IsInfo, AreAddresses, IsNegotiated};
 
 use crate::buffers::Buffers;
 use crate::calling::Halt;
@@ -280,6 +280,17 @@ pub(crate) fn disconnected(reply: Result<Reply, Fail>) -> Result<(u32, Seq, Octe
 {
     match reply {
         Ok(Reply::Discon { reason, seq, udata }) => Ok((reason, seq, udata)),
+        other => Err(failed(other)),
+    }
+}
+
+/// The data of a release.
+pub(crate) fn release_data(reply: Result<Reply, Fail>) -> Result<Octets, Fail>
+    requires { IfOk reply (MayBe answer.RelData) }
+    ensures { Told IsReleaseData reply result }
+{
+    match reply {
+        Ok(Reply::RelData { udata }) => Ok(udata),
         other => Err(failed(other)),
     }
 }

@@ -5,6 +5,3 @@ pub const T_MORE: u32 = 1;
 
 /// Of sends and receives: the data are expedited.
 pub const T_EXPEDITED: u32 = 2;
-
-/// Of `Info`: the provider takes sends of no bytes.
-pub const T_SENDZERO: u32 = 1;

@@ -26,19 +26,18 @@ mod shared;
 pub use answers::{Fail, Max, TCall};
 pub use caller::Caller;
 pub use calling::{Halt, call, resume};
-pub use flags::{T_EXPEDITED, T_MORE, T_SENDZERO};
+pub use flags::{T_EXPEDITED, T_MORE};
 pub use library::{Ended, Seat};
 pub use shared::Xti;
 pub use xti_base::{
-    Errno, Event, Fd, Info, Limit, Octets, Parts, Prov, Seq, ServType, Sizes, State,
+    Errno, Event, Fd, Info, Limit, Octets, Parts, Prov, Seq, ServType, Sizes, State, T_ORDRELDATA,
+    T_SENDZERO,
 };
 pub use xti_data::SendParts;
 pub use xti_gather::Cell;
 pub use xti_glance::Glance;
 pub use xti_hall::{NoSeat, Stall};
-pub use xti_model::{
-    Act, Call, Entries, Entry, Outcome, Profile, Providers, Reply, usual_is_valid,
-};
+pub use xti_model::{Act, Call, Entries, Entry, Outcome, Profile, Providers, Reply, WrongValues};
 pub use xti_opt::{
     T_CHECK, T_CURRENT, T_DEFAULT, T_FAILURE, T_NEGOTIATE, T_NOTSUPPORT, T_PARTSUCCESS, T_READONLY,
     T_SUCCESS,

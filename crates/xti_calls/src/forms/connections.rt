@@ -3,10 +3,10 @@
 ghost use Rattle.std.specs.Prelude.{◌≡◌};
 ghost use Rattle.xti_model.specs.declared.call.Call.TheVariants as call;
 ghost use Rattle.xti_calls.specs.Forms.{Accepts, Confirms, Connects, Listens, Makes};
-ghost use Rattle.xti_calls.specs.Typed.{IsDisconnect, IsDone};
+ghost use Rattle.xti_calls.specs.Typed.{IsDisconnect, IsDone, IsReleaseData};
 ghost use Rattle.xti_calls.specs.Library.{GoesOn};
 
-use crate::answers::{Fail, Max, TCall, connected, disconnected, done, listened};
+use crate::answers::{Fail, Max, TCall, connected, disconnected, done, listened, release_data};
 use crate::caller::Caller;
 use crate::forms::{three_copies, two_copies};
 use std::sync::Wait;
@@ -257,5 +257,49 @@ impl<'a, R: Wait + Sync> Caller<'a, R> {
         ensures made { Makes (call.TRcvRel fd) IsDone self.old self.new result }
     {
         done(self.reply(Call::TRcvRel { fd }))
+    }
+
+    /// Releases a connection in one direction, with data (XNS, t_sndreldata; XNS's `reason` isn't carried).
+    ///
+    /// It is `t_sndrel`, but that `udata` go with the release; the other end takes them by `t_rcvreldata`, while `t_rcvrel`
+    /// drops them. `udata` are at most 64 bytes where the provider has T_ORDRELDATA among the flags of `t_getinfo`, and else
+    /// none. The call doesn't wait.
+    ///
+    /// # Errors
+    ///
+    /// XTI ([`Fail`]) answers the first that holds; nothing has changed then:
+    /// - TBADF: no endpoint is open with `fd`.
+    /// - TNOTSUPPORT: the provider isn't `ticotsord`.
+    /// - TOUTSTATE: the state is neither T_DATAXFER nor T_INREL.
+    /// - TBADDATA: `udata` are more than 64 bytes, or any without T_ORDRELDATA.
+    /// - TLOOK with T_DISCONNECT: a disconnect waits (`t_rcvdis`).
+    pub fn t_sndreldata(&mut self, fd: Fd, udata: &[u8]) -> Result<(), Fail>
+        ensures seat { GoesOn self.old self.new }
+        ensures made { Makes (call.TSndRelData fd udata.now) IsDone self.old self.new result }
+    {
+        let udata = made_or_fail!(self, Octets::copy_of(self.alloc, udata));
+        done(self.reply(Call::TSndRelData { fd, udata }))
+    }
+
+    /// Takes the other end's release of a connection, and answers the data that go with it (XNS, t_rcvreldata).
+    ///
+    /// It is `t_rcvrel`, but that the data are answered: at most 64 bytes, and none where the other end released by `t_sndrel`
+    /// or without data. `umax` is how many of them the caller takes at most, and with 0 none are answered. The call never
+    /// waits.
+    ///
+    /// # Errors
+    ///
+    /// XTI ([`Fail`]) answers the first that holds; nothing has changed but after TBUFOVFLW:
+    /// - TBADF: no endpoint is open with `fd`.
+    /// - TNOTSUPPORT: the provider isn't `ticotsord`.
+    /// - TOUTSTATE: the state is neither T_DATAXFER nor T_OUTREL.
+    /// - TLOOK with T_DISCONNECT: a disconnect waits (`t_rcvdis`).
+    /// - TNOREL: the other end hasn't released, or not all its data were received.
+    /// - TBUFOVFLW: the data are longer than `umax`, which isn't 0. The release is taken all the same, and its data are lost.
+    pub fn t_rcvreldata(&mut self, fd: Fd, umax: u32) -> Result<Octets, Fail>
+        ensures seat { GoesOn self.old self.new }
+        ensures made { Makes (call.TRcvRelData fd umax) IsReleaseData self.old self.new result }
+    {
+        release_data(self.reply(Call::TRcvRelData { fd, umax }))
     }
 }

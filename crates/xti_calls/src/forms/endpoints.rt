@@ -169,7 +169,8 @@ impl<'a, R: Wait + Sync> Caller<'a, R> {
     /// Limits are in bytes; `Limit::Infinite` is T_INFINITE, and `Limit::Invalid` is T_INVALID: the provider doesn't have this.
     /// At each provider an address has at most 64 bytes, and options 256. At `ticots` and `ticotsord` an expedited message has
     /// at most 128 bytes, and data that go with a request, its answer or a disconnect 64; `ticlts` has none of them. `tsdu`,
-    /// and T_SENDZERO (1) in `flags`, are those of the `Providers` that the library was made with; the usual `tsdu` is 65,536
+    /// and T_SENDZERO (1) and T_ORDRELDATA (2) in `flags`, are those of the `Providers` that the library was made with: data may
+    /// go with an orderly release of `ticotsord` where it has `reldata`, which it hasn't by default; the usual `tsdu` is 65,536
     /// at `ticots`, 0 (a stream of bytes) at `ticotsord` and 8,192 at `ticlts`. The answer is the same in every state. The call
     /// changes nothing and doesn't wait.
     ///
