@@ -46,6 +46,7 @@ are_numbers (Done (reply.Listened seq addr opt udata)) h = h.listened seq addr o
 are_numbers (Done (reply.Sent n)) h = h.sent n refl
 are_numbers (Done (reply.Got bytes flags)) h = h.got bytes flags refl
 are_numbers (Done (reply.Discon reason seq udata)) h = (h.reason reason seq udata refl, h.disconnected reason seq udata refl)
+are_numbers (Done (reply.RelData udata)) h = tt
 are_numbers (Done (reply.UData addr opt bytes flags)) h = h.datagram addr opt bytes flags refl
 are_numbers (Done (reply.UDErr addr opt code)) h = h.code addr opt code refl
 are_numbers (Done (reply.Seen event)) h = tt

@@ -81,6 +81,9 @@ fn same_connection_news(reply: &Reply, other: &Reply) -> bool
                 udata: other_udata,
             },
         ) => reason == other_reason && seq == other_seq && same_bytes(udata, other_udata),
+        (Reply::RelData { udata }, Reply::RelData { udata: other_udata }) => {
+            same_bytes(udata, other_udata)
+        }
         _ => false,
     }
 }
@@ -172,9 +175,13 @@ fn same_reply(reply: &Reply, other: &Reply) -> bool
                 opt: other_opt,
             },
         ) => result == other_result && same_bytes(opt, other_opt),
-        (Reply::Connected { .. } | Reply::Listened { .. } | Reply::Discon { .. }, _) => {
-            same_connection_news(reply, other)
-        }
+        (
+            Reply::Connected { .. }
+            | Reply::Listened { .. }
+            | Reply::Discon { .. }
+            | Reply::RelData { .. },
+            _,
+        ) => same_connection_news(reply, other),
         (Reply::Got { .. } | Reply::UData { .. } | Reply::UDErr { .. }, _) => {
             same_received(reply, other)
         }

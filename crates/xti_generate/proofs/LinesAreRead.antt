@@ -63,6 +63,7 @@ module _ (earlier : List Line) (worker : ℕ) (small : worker ≤ LAST_WORKER) w
   unfolding written_call form field
   opening_reads name prov h w = record {
     is_worker = small;
+    in_texts = refl;
     call = (name_reads (after earlier worker) kind.NewEndpoint name refl h w.spaceless w.endless, (provider_reads (after earlier worker) prov, (mode_reads (after earlier worker) false, tt)));
   }
 
@@ -70,6 +71,7 @@ module _ (earlier : List Line) (worker : ℕ) (small : worker ≤ LAST_WORKER) w
   unfolding written_call form field
   binding_reads name addr qlen h w b q = record {
     is_worker = small;
+    in_texts = refl;
     call = (known_reads (after earlier worker) name h w, (bytes_reads (after earlier worker) addr b, (number_reads (after earlier worker) qlen q, (number_reads (after earlier worker) MOST_ADDRESS (omega arith), tt))));
   }
 
@@ -77,6 +79,7 @@ module _ (earlier : List Line) (worker : ℕ) (small : worker ≤ LAST_WORKER) w
   unfolding written_call form field
   listening_reads name seq h w i v = record {
     is_worker = small;
+    in_texts = refl;
     call = (
       known_reads (after earlier worker) name h w,
       (
@@ -91,6 +94,7 @@ module _ (earlier : List Line) (worker : ℕ) (small : worker ≤ LAST_WORKER) w
   unfolding written_call form field
   accepting_reads name resfd seq h w i v j u = record {
     is_worker = small;
+    in_texts = refl;
     call = (
       known_reads (after earlier worker) name h w,
       (
@@ -107,6 +111,7 @@ module _ (earlier : List Line) (worker : ℕ) (small : worker ≤ LAST_WORKER) w
   unfolding written_call form field
   connecting_reads name addr h w b = record {
     is_worker = small;
+    in_texts = refl;
     call = (
       known_reads (after earlier worker) name h w,
       (
@@ -126,6 +131,7 @@ module _ (earlier : List Line) (worker : ℕ) (small : worker ≤ LAST_WORKER) w
   unfolding written_call form field
   sending_reads name bytes h w b = record {
     is_worker = small;
+    in_texts = refl;
     call = (known_reads (after earlier worker) name h w, (bytes_reads (after earlier worker) bytes b, (number_reads (after earlier worker) 0 (omega arith), tt)));
   }
 
@@ -133,6 +139,7 @@ module _ (earlier : List Line) (worker : ℕ) (small : worker ≤ LAST_WORKER) w
   unfolding written_call form field
   sending_to_reads name addr bytes h w a b = record {
     is_worker = small;
+    in_texts = refl;
     call = (known_reads (after earlier worker) name h w, (bytes_reads (after earlier worker) addr a, (options_reads (after earlier worker) [] no_bytes, (bytes_reads (after earlier worker) bytes b, tt))));
   }
 
@@ -140,6 +147,7 @@ module _ (earlier : List Line) (worker : ℕ) (small : worker ≤ LAST_WORKER) w
   unfolding written_call form field
   receiving_reads name h w = record {
     is_worker = small;
+    in_texts = refl;
     call = (known_reads (after earlier worker) name h w, (number_reads (after earlier worker) MOST_SENT (omega arith), tt));
   }
 
@@ -147,16 +155,17 @@ module _ (earlier : List Line) (worker : ℕ) (small : worker ≤ LAST_WORKER) w
   unfolding written_call form field
   receiving_datagram_reads name h w = record {
     is_worker = small;
+    in_texts = refl;
     call = (known_reads (after earlier worker) name h w, (number_reads (after earlier worker) MOST_SENT (omega arith), (number_reads (after earlier worker) MOST_ADDRESS (omega arith), (number_reads (after earlier worker) MOST_OPTIONS (omega arith), tt))));
   }
 
   releasing_reads : (name : List ℕ) → is_defined opens (after earlier worker) name ≡ true → IsWord name → LineReads earlier (line worker (call.TSndRel name))
   unfolding written_call form field
-  releasing_reads name h w = record { is_worker = small; call = (known_reads (after earlier worker) name h w, tt) }
+  releasing_reads name h w = record { is_worker = small; in_texts = refl; call = (known_reads (after earlier worker) name h w, tt) }
 
   taking_release_reads : (name : List ℕ) → is_defined opens (after earlier worker) name ≡ true → IsWord name → LineReads earlier (line worker (call.TRcvRel name))
   unfolding written_call form field
-  taking_release_reads name h w = record { is_worker = small; call = (known_reads (after earlier worker) name h w, tt) }
+  taking_release_reads name h w = record { is_worker = small; in_texts = refl; call = (known_reads (after earlier worker) name h w, tt) }
 
 -- ---- rounds
 

@@ -1,4 +1,5 @@
 pub mod Keys
 pub mod Ascii
+pub mod Releases
 pub mod Valid
 pub mod Worked

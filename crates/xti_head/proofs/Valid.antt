@@ -16,7 +16,7 @@ valid_set : (o : Option Providers) (p : Providers) → option_and_then valid_onl
 valid_set None p e = absurd cc
 valid_set (Some q) p e = valid_one (valid q) q p refl e
 
-tested : (b : Bool) (o : Option Providers) (p : Providers) → cond b o None ≡ Some p → o ≡ Some p
+pub tested : {A : Type 0} (b : Bool) (o : Option A) (p : A) → cond b o None ≡ Some p → o ≡ Some p
 tested true o p e = e
 tested false o p e = absurd cc
 

@@ -3,8 +3,6 @@ use Rattle.std.proofs.Common.{◌≡◌, refl, true, Some, None, codes}
 use Rattle.toml.proofs.OnLiterals.{toml_on_literals}
 use Rattle.xti_base.specs.declared.limit.Limit.TheVariants.{At, Infinite}
 use Rattle.xti_model.specs.Profile.{usual}
-use Rattle.xti_model.specs.declared.profile.Profile.{Profile}
-use Rattle.xti_model.specs.declared.profile.Providers.{Providers}
 use Rattle.xti_head.specs.Head.{head_of, providers_of, profile_of}
 
 nothing_set : head_of (codes "") ≡ Some usual

@@ -69,10 +69,11 @@ limit_at usual members = or_usual (λ value. as_integer value >>= limit_of) usua
 
 -- ---- providers
 
+-- no head sets whether data may go with an orderly release
 abbrev pub profile_with : Option Limit → Option Bool → Option Bool → Option ℕ → Option ℕ → Option Profile
 profile_with tsdu sendzero same_addr sndbuf rcvbuf =
     tsdu >>= (λ t. sendzero >>= (λ z. same_addr >>= (λ a. sndbuf >>= (λ s. rcvbuf >>= (λ r.
-    Some (record { tsdu = t; sendzero = z; same_addr = a; sndbuf = s; rcvbuf = r }))))))
+    Some (record { tsdu = t; sendzero = z; same_addr = a; sndbuf = s; rcvbuf = r; reldata = false }))))))
 
 abbrev pub profile_in : Prov → Profile → Members → Option Profile
 profile_in prov usual members =

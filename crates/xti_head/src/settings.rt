@@ -111,6 +111,7 @@ fn profile_with(
         same_addr: same_addr?,
         sndbuf: sndbuf?,
         rcvbuf: rcvbuf?,
+        reldata: false,
     })
 }
 

@@ -13,7 +13,7 @@ use Rattle.xti_model.specs.declared.entry.Outcome.TheVariants.{Done, Part}
 use Rattle.xti_model.specs.declared.entry.Reply.TheVariants as reply
 use Rattle.xti_journal_text.specs.JournalText.{call_text, outcome_text, parts_word, sizes_word, limit_word, most_words}
 use Rattle.xti_verbs.specs.declared.verb.Verb.{Verb}
-use Rattle.xti_verbs.specs.declared.verb.Verb.TheVariants.{Open, Close, Bind, Unbind, Connect, RcvConnect, Listen, Accept, Snd, SndV, Rcv, RcvV, SndDis, RcvDis, SndRel, RcvRel, SndUData, SndVUData, RcvUData, RcvVUData, RcvUDErr, Look, GetState, Sync, GetInfo, GetProtAddr, OptMgmt, SetMode}
+use Rattle.xti_verbs.specs.declared.verb.Verb.TheVariants.{Open, Close, Bind, Unbind, Connect, RcvConnect, Listen, Accept, Snd, SndV, Rcv, RcvV, SndDis, RcvDis, SndRel, RcvRel, SndRelData, RcvRelData, SndUData, SndVUData, RcvUData, RcvVUData, RcvUDErr, Look, GetState, Sync, GetInfo, GetProtAddr, OptMgmt, SetMode}
 use Rattle.xti_verbs.specs.declared.answer.Answer.{Answer}
 use Rattle.xti_verbs.specs.declared.answer.Answer.TheVariants as answer
 use Rattle.xti_journal.specs.Fields.{field}
@@ -99,6 +99,8 @@ call_is (call.TSndDis fd seq udata) = n3 (number_word (codes "snddis ") fd.0) (n
 call_is (call.TRcvDis fd umax) = refl
 call_is (call.TSndRel fd) = refl
 call_is (call.TRcvRel fd) = refl
+call_is (call.TSndRelData fd udata) = refl
+call_is (call.TRcvRelData fd umax) = refl
 call_is (call.TSndUData fd addr opt bytes) = n4 (number_word (codes "sndudata ") fd.0) (octets_word (codes " addr=") addr) (octets_word (codes " opt=") opt) (octets_word (codes " data=") bytes)
 call_is (call.TSndVUData fd addr opt parts) = ap (λ (l : List ℕ). number_word (codes "sndvudata ") fd.0 ++ octets_word (codes " addr=") addr ++ octets_word (codes " opt=") opt ++ l) (behind_parts (codes " parts=") parts ∙ ap (λ (l : List ℕ). codes " parts=" ++ l) (parts_are parts)) ∙ n4 (number_word (codes "sndvudata ") fd.0) (octets_word (codes " addr=") addr) (octets_word (codes " opt=") opt) (codes " parts=" ++ members_text octets_text parts)
 call_is (call.TRcvUData fd max amax omax) = n4 (number_word (codes "rcvudata ") fd.0) (number_word (codes " max=") max) (number_word (codes " amax=") amax) (number_word (codes " omax=") omax)
@@ -125,6 +127,7 @@ outcome_is (Done (reply.Listened seq addr opt udata)) = n4 (number_word (codes "
 outcome_is (Done (reply.Sent n)) = refl
 outcome_is (Done (reply.Got bytes flags)) = refl
 outcome_is (Done (reply.Discon reason seq udata)) = n3 (number_word (codes "ok ") reason) (number_word (codes " ") seq.0) (octets_word (codes " ") udata)
+outcome_is (Done (reply.RelData udata)) = refl
 outcome_is (Done (reply.UData addr opt bytes flags)) = n4 (octets_word (codes "ok ") addr) (octets_word (codes " ") opt) (octets_word (codes " ") bytes) (number_word (codes " ") flags)
 outcome_is (Done (reply.UDErr addr opt code)) = n3 (octets_word (codes "ok ") addr) (octets_word (codes " ") opt) (number_word (codes " ") code)
 outcome_is (Done (reply.Seen (Some event))) = refl
@@ -157,6 +160,8 @@ verb_above SndDis = refl
 verb_above RcvDis = refl
 verb_above SndRel = refl
 verb_above RcvRel = refl
+verb_above SndRelData = refl
+verb_above RcvRelData = refl
 verb_above SndUData = refl
 verb_above SndVUData = refl
 verb_above RcvUData = refl
@@ -189,6 +194,7 @@ answer_above answer.Listened = ok_above
 answer_above answer.Sent = ok_above
 answer_above answer.Got = ok_above
 answer_above answer.Discon = ok_above
+answer_above answer.RelData = ok_above
 answer_above answer.UData = ok_above
 answer_above answer.UDErr = ok_above
 answer_above answer.Seen = ok_above

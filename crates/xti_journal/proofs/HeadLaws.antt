@@ -12,6 +12,7 @@ use Rattle.xti_base.specs.declared.limits.TheConstants.{MOST_SIZE}
 use Rattle.xti_model.specs.declared.profile.Profile.{Profile}
 use Rattle.xti_model.specs.declared.profile.Providers.{Providers}
 use Rattle.xti_model.specs.Profile.{is_size, has_limit, has_messages, is_stream_limit, has_buffers, valid_connections, valid_orderly, valid_datagrams, valid}
+use Rattle.xti_journal.specs.Releases.{AreWithoutData, without_data, ticots_head, ticotsord_head, ticlts_head, valid_head}
 use Rattle.xti_journal_text.specs.JournalText.{limit_word, bit_word, profile_text, provider_text, first_line, head_text}
 use Rattle.xti_words.specs.Texts.{words_of}
 use Rattle.xti_journal.specs.Kinds.{Kind as kind}
@@ -52,7 +53,7 @@ provider_text_is name p = provider_shape name (profile_text p) ∙ ap with_lf (s
 pub provider_is_line : (name : List ℕ) (p : Profile) → Above 32 name → FitsProfile p → Line (provider_words name p) (provider_text name p)
 provider_is_line name p n h =
     let w : Above 32 (codes "provider") = known (codes "provider") refl in
-    let ws : All (Above 32) (name ∷ texts profile_keys (profile_values p)) = All-cons (Above 32) name (texts profile_keys (profile_values p)) n (texts_above profile_keys (profile_values p) h) in
+    let ws : All (Above 32) (name ∷ texts profile_keys (profile_values p)) = All-cons (Above 32) name (texts profile_keys (profile_values p)) n (texts_above profile_keys (profile_values p) h.1) in
     record {
       line = join_with_byte 32 (provider_words name p);
       is_line = words_line (provider_words name p) (All-cons (Above 32) (codes "provider") (name ∷ texts profile_keys (profile_values p)) w ws);
@@ -64,7 +65,7 @@ pub profile_full : (name : List ℕ) (p : Profile) → FitsProfile p → profile
 unfolding profile_in
 profile_full name p h =
     let f : fields_of profile_keys (texts profile_keys (profile_values p)) ≡ Some (profile_values p, []) =
-    ap (fields_of profile_keys) (sym (append-nil (texts profile_keys (profile_values p)))) ∙ fields_full profile_keys (profile_values p) [] h in
+    ap (fields_of profile_keys) (sym (append-nil (texts profile_keys (profile_values p)))) ∙ fields_full profile_keys (profile_values p) [] h.1 in
     rw (is_same name) (ap alone f)
 
 alone_is : (o : Found (List Value)) (values : List Value) → alone o ≡ Some values → o ≡ Some (values, [])
@@ -80,26 +81,26 @@ record ProfileRead (name : List ℕ) (words : List (List ℕ)) (p : Profile) : T
   pub written : words ≡ provider_words name p
   pub fits : FitsProfile p
 
-profile_exact : (name : List ℕ) (words : List (List ℕ)) (p : Profile) → profile_in name words ≡ Some (profile_values p) → ProfileRead name words p
+profile_exact : (name : List ℕ) (words : List (List ℕ)) (p : Profile) → p.reldata ≡ false → profile_in name words ≡ Some (profile_values p) → ProfileRead name words p
 unfolding profile_in
-profile_exact name [] p e = none_is (profile_values p) e
-profile_exact name (word ∷ []) p e = none_is (profile_values p) e
-profile_exact name (word ∷ named ∷ words) p e = go (bytes_eq word (codes "provider")) refl (bytes_eq named name) refl e
+profile_exact name [] p z e = none_is (profile_values p) e
+profile_exact name (word ∷ []) p z e = none_is (profile_values p) e
+profile_exact name (word ∷ named ∷ words) p z e = go (bytes_eq word (codes "provider")) refl (bytes_eq named name) refl e
   where
     go : (a : Bool) → bytes_eq word (codes "provider") ≡ a → (b : Bool) → bytes_eq named name ≡ b → cond (a && b) (alone (fields_of profile_keys words)) None ≡ Some (profile_values p) → ProfileRead name (word ∷ named ∷ words) p
     go true q true r e =
         let f = fields_exact profile_keys words (profile_values p) [] (alone_is (fields_of profile_keys words) (profile_values p) e) in
         record {
           written = ap (λ (l : List ℕ). l ∷ named ∷ words) (is_word word (codes "provider") q) ∙ ap (λ (l : List ℕ). codes "provider" ∷ l ∷ words) (is_word named name r) ∙ ap (λ (ls : List (List ℕ)). codes "provider" ∷ name ∷ ls) (f.written ∙ append-nil (texts profile_keys (profile_values p)));
-          fits = f.are;
+          fits = (z, f.are);
         }
     go true q false r e = none_is (profile_values p) e
     go false q b r e = none_is (profile_values p) e
 
 -- a line that is read
-pub provider_found : (name line rest text : List ℕ) (p : Profile) → text ≡ ended line ++ rest → profile_in name (words_of line) ≡ Some (profile_values p) → FitsProfile p × (text ≡ provider_text name p ++ rest)
-provider_found name line rest text p t e =
-    let r = profile_exact name (words_of line) p e in
+pub provider_found : (name line rest text : List ℕ) (p : Profile) → p.reldata ≡ false → text ≡ ended line ++ rest → profile_in name (words_of line) ≡ Some (profile_values p) → FitsProfile p × (text ≡ provider_text name p ++ rest)
+provider_found name line rest text p z t e =
+    let r = profile_exact name (words_of line) p z e in
     let w : line ≡ join_with_byte 32 (provider_words name p) = sym (joined_again line) ∙ ap (join_with_byte 32) r.written in
     (r.fits, t ∙ ap (λ (l : List ℕ). l ++ rest) (ap with_lf w ∙ sym (provider_text_is name p)))
 
@@ -128,20 +129,32 @@ limit_fits limit.Invalid h = tt
 buffers_fit : (p : Profile) → has_buffers p ≡ true → (p.sndbuf < 4294967296) × (p.rcvbuf < 4294967296)
 buffers_fit p h = let b = and_parts (is_size p.sndbuf) (is_size p.rcvbuf) h in (size_fits p.sndbuf b.0, size_fits p.rcvbuf b.1)
 
-profile_fits : (p : Profile) → has_buffers p ≡ true → (has_messages p.tsdu || is_stream_limit p.tsdu) ≡ true → FitsProfile p
+profile_fits : (p : Profile) → p.reldata ≡ false → has_buffers p ≡ true → (has_messages p.tsdu || is_stream_limit p.tsdu) ≡ true → FitsProfile p
 unfolding field
-profile_fits p b l = let s = buffers_fit p b in (limit_fits p.tsdu l, (tt, (tt, (s.0, (s.1, tt)))))
+profile_fits p z b l = let s = buffers_fit p b in (z, (limit_fits p.tsdu l, (tt, (tt, (s.0, (s.1, tt))))))
+
+-- the values are within their bounds, and no data may go with a release
+pub parted : (is_valid : Profile → Bool) (p : Profile) → without_data is_valid p ≡ true → (is_valid p ≡ true) × (p.reldata ≡ false)
+parted is_valid p h = let q = and_parts (is_valid p) (not p.reldata) h in (q.0, lacks p.reldata q.1)
+  where
+    lacks : (b : Bool) → not b ≡ true → b ≡ false
+    lacks true e = absurd cc
+    lacks false e = refl
+
+both : (is_valid : Profile → Bool) (p : Profile) → is_valid p ≡ true → p.reldata ≡ false → without_data is_valid p ≡ true
+both is_valid p v z = rw (v, z) refl
 
 or_first : (a b : Bool) → a ≡ true → (a || b) ≡ true
 or_first a b h = rw h refl
 
-pub connections_fit : (p : Profile) → valid_connections p ≡ true → FitsProfile p
-connections_fit p h = let q = and_parts (has_buffers p) (has_messages p.tsdu) h in profile_fits p q.0 (or_first (has_messages p.tsdu) (is_stream_limit p.tsdu) q.1)
+pub connections_fit : (p : Profile) → ticots_head p ≡ true → FitsProfile p
+connections_fit p h = let w = parted valid_connections p h in let q = and_parts (has_buffers p) (has_messages p.tsdu) w.0 in profile_fits p w.1 q.0 (or_first (has_messages p.tsdu) (is_stream_limit p.tsdu) q.1)
 
-pub orderly_fit : (p : Profile) → valid_orderly p ≡ true → FitsProfile p
+pub orderly_fit : (p : Profile) → ticotsord_head p ≡ true → FitsProfile p
 orderly_fit p h =
-    let q = and_parts (has_buffers p) (has_messages p.tsdu || (is_stream_limit p.tsdu && not p.sendzero)) h in
-    profile_fits p q.0 (go (has_messages p.tsdu) (is_stream_limit p.tsdu) (not p.sendzero) q.1)
+    let w = parted valid_orderly p h in
+    let q = and_parts (has_buffers p) (has_messages p.tsdu || (is_stream_limit p.tsdu && not p.sendzero)) w.0 in
+    profile_fits p w.1 q.0 (go (has_messages p.tsdu) (is_stream_limit p.tsdu) (not p.sendzero) q.1)
   where
     go : (a b c : Bool) → (a || (b && c)) ≡ true → (a || b) ≡ true
     go true b c h = refl
@@ -152,11 +165,12 @@ limited (limit.At n) h = h
 limited limit.Infinite h = refl
 limited limit.Invalid h = h
 
-pub datagrams_fit : (p : Profile) → valid_datagrams p ≡ true → FitsProfile p
+pub datagrams_fit : (p : Profile) → ticlts_head p ≡ true → FitsProfile p
 datagrams_fit p h =
-    let q = and_parts (has_buffers p && has_limit p.tsdu) (not p.same_addr) h in
+    let w = parted valid_datagrams p h in
+    let q = and_parts (has_buffers p && has_limit p.tsdu) (not p.same_addr) w.0 in
     let r = and_parts (has_buffers p) (has_limit p.tsdu) q.0 in
-    profile_fits p r.0 (or_first (has_messages p.tsdu) (is_stream_limit p.tsdu) (limited p.tsdu r.1))
+    profile_fits p w.1 r.0 (or_first (has_messages p.tsdu) (is_stream_limit p.tsdu) (limited p.tsdu r.1))
 
 -- ---- one line of a provider
 
@@ -168,23 +182,40 @@ pub two_profiles : (name : List ℕ) (p q : Profile) (a b : List ℕ) → Above 
 two_profiles name p q a b n h k t =
     let c = same_line _ _ _ _ a b (provider_is_line name p n h) (provider_is_line name q n k) t in
     let r : Some (profile_values p) ≡ Some (profile_values q) = sym (profile_full name p h) ∙ ap (profile_in name) c.words_same ∙ profile_full name q k in
-    record { one = one_profile p q (some_is (profile_values p) (profile_values q) r); rest = c.rest }
+    record { one = one_profile p q (h.0 ∙ sym k.0) (some_is (profile_values p) (profile_values q) r); rest = c.rest }
 
 -- ---- the lines of a head
 
 pub record Valid (p : Providers) : Type 0 where
-  pub ticots : valid_connections p.ticots ≡ true
-  pub ticotsord : valid_orderly p.ticotsord ≡ true
-  pub ticlts : valid_datagrams p.ticlts ≡ true
+  pub ticots : ticots_head p.ticots ≡ true
+  pub ticotsord : ticotsord_head p.ticotsord ≡ true
+  pub ticlts : ticlts_head p.ticlts ≡ true
 
-pub valid_is : (p : Providers) → valid p ≡ true → Valid p
+pub valid_is : (p : Providers) → valid_head p ≡ true → Valid p
 valid_is p h =
-    let q = and_parts (valid_connections p.ticots && valid_orderly p.ticotsord) (valid_datagrams p.ticlts) h in
-    let r = and_parts (valid_connections p.ticots) (valid_orderly p.ticotsord) q.0 in
+    let q = and_parts (ticots_head p.ticots && ticotsord_head p.ticotsord) (ticlts_head p.ticlts) h in
+    let r = and_parts (ticots_head p.ticots) (ticotsord_head p.ticotsord) q.0 in
     record { ticots = r.0; ticotsord = r.1; ticlts = q.1 }
 
-pub is_valid : (p : Providers) → Valid p → valid p ≡ true
+pub is_valid : (p : Providers) → Valid p → valid_head p ≡ true
 is_valid p v = rw (v.ticots, v.ticotsord) v.ticlts
+
+-- what a head says of its providers
+pub head_within : (p : Providers) → valid_head p ≡ true → valid p ≡ true
+head_within p h =
+    let v = valid_is p h in
+    rw ((parted valid_connections p.ticots v.ticots).0, (parted valid_orderly p.ticotsord v.ticotsord).0) (parted valid_datagrams p.ticlts v.ticlts).0
+
+pub head_without : (p : Providers) → valid_head p ≡ true → AreWithoutData p
+head_without p h =
+    let v = valid_is p h in
+    record { ticots = (parted valid_connections p.ticots v.ticots).1; ticotsord = (parted valid_orderly p.ticotsord v.ticotsord).1; ticlts = (parted valid_datagrams p.ticlts v.ticlts).1 }
+
+pub in_head : (p : Providers) → valid p ≡ true → AreWithoutData p → valid_head p ≡ true
+in_head p h w =
+    let q = and_parts (valid_connections p.ticots && valid_orderly p.ticotsord) (valid_datagrams p.ticlts) h in
+    let r = and_parts (valid_connections p.ticots) (valid_orderly p.ticotsord) q.0 in
+    is_valid p (record { ticots = both valid_connections p.ticots r.0 w.ticots; ticotsord = both valid_orderly p.ticotsord r.1 w.ticotsord; ticlts = both valid_datagrams p.ticlts q.1 w.ticlts })
 
 pub ticots_name : Above 32 (codes "ticots")
 ticots_name = known (codes "ticots") refl
@@ -202,13 +233,13 @@ first_is_line = record { line = codes "xti-journal 1"; is_line = (refl, (refl, (
 pub first_ruled : Ruled first_line 1
 first_ruled = ruled_one _ _ first_is_line
 
-pub ticots_ruled : (p : Profile) → valid_connections p ≡ true → Ruled (provider_text (codes "ticots") p) 1
+pub ticots_ruled : (p : Profile) → ticots_head p ≡ true → Ruled (provider_text (codes "ticots") p) 1
 ticots_ruled p h = ruled_one _ _ (provider_is_line (codes "ticots") p ticots_name (connections_fit p h))
 
-pub ticotsord_ruled : (p : Profile) → valid_orderly p ≡ true → Ruled (provider_text (codes "ticotsord") p) 1
+pub ticotsord_ruled : (p : Profile) → ticotsord_head p ≡ true → Ruled (provider_text (codes "ticotsord") p) 1
 ticotsord_ruled p h = ruled_one _ _ (provider_is_line (codes "ticotsord") p ticotsord_name (orderly_fit p h))
 
-pub ticlts_ruled : (p : Profile) → valid_datagrams p ≡ true → Ruled (provider_text (codes "ticlts") p) 1
+pub ticlts_ruled : (p : Profile) → ticlts_head p ≡ true → Ruled (provider_text (codes "ticlts") p) 1
 ticlts_ruled p h = ruled_one _ _ (provider_is_line (codes "ticlts") p ticlts_name (datagrams_fit p h))
 
 pub head_ruled : (p : Providers) → Valid p → Ruled (head_text p) 4
@@ -259,13 +290,16 @@ pub provider_fails : (name line rest text : List ℕ) (fail : FieldFail) → Abo
 provider_fails name line rest text Wrong n h t e = provider_not_found name line rest text n h t e
 provider_fails name line rest text OutOfMemory n h t e = tt
 
-pub wrong_line : (is_valid : Profile → Bool) (name text : List ℕ) (fail : FieldFail) → ((p : Profile) → is_valid p ≡ true → FitsProfile p) → ReadsProfile name text (Err fail) → ReadsProvider is_valid name text (Err fail)
+pub wrong_line : (is_valid : Profile → Bool) (name text : List ℕ) (fail : FieldFail) → ((p : Profile) → without_data is_valid p ≡ true → FitsProfile p) → ReadsProfile name text (Err fail) → ReadsProvider is_valid name text (Err fail)
 wrong_line is_valid name text Wrong fit h = λ p rest v w. h p rest (fit p v) w
 wrong_line is_valid name text OutOfMemory fit h = tt
 
-pub invalid_line : (is_valid : Profile → Bool) (name text rest : List ℕ) (p : Profile) (b : Bool) → Above 32 name → ((q : Profile) → is_valid q ≡ true → FitsProfile q) → FitsProfile p × (text ≡ provider_text name p ++ rest) → b ≡ is_valid p → b ≡ false → (q : Profile) (left : List ℕ) → is_valid q ≡ true → text ≡ provider_text name q ++ left → ⊥
+pub invalid_line : (is_valid : Profile → Bool) (name text rest : List ℕ) (p : Profile) (b : Bool) → Above 32 name → ((q : Profile) → without_data is_valid q ≡ true → FitsProfile q) → FitsProfile p × (text ≡ provider_text name p ++ rest) → b ≡ is_valid p → b ≡ false → (q : Profile) (left : List ℕ) → without_data is_valid q ≡ true → text ≡ provider_text name q ++ left → ⊥
 invalid_line is_valid name text rest p b n fit h e f q left v w =
     let two = two_profiles name p q rest left n h.0 (fit q v) (sym h.1 ∙ w) in
-    let t : is_valid p ≡ true = ap is_valid two.one ∙ v in
+    let t : is_valid p ≡ true = ap is_valid two.one ∙ (parted is_valid q v).0 in
     let c : true ≡ false = sym t ∙ sym e ∙ f in
     cc
+
+pub valid_line : (is_valid : Profile → Bool) (name text rest : List ℕ) (p : Profile) (b : Bool) → FitsProfile p × (text ≡ provider_text name p ++ rest) → b ≡ is_valid p → b ≡ true → (without_data is_valid p ≡ true) × (text ≡ provider_text name p ++ rest)
+valid_line is_valid name text rest p b h e f = (both is_valid p (sym e ∙ f) h.0.0, h.1)

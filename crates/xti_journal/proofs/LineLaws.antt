@@ -27,13 +27,13 @@ use Rattle.xti_journal.specs.FieldValue.{Value}
 use Rattle.xti_journal.specs.FieldValue.{Value as value}
 use Rattle.xti_journal.specs.declared.fields.Key.TheVariants as key
 use Rattle.xti_verbs.specs.declared.verb.Verb.{Verb}
-use Rattle.xti_verbs.specs.declared.verb.Verb.TheVariants.{Open, Close, Bind, Unbind, Connect, RcvConnect, Listen, Accept, Snd, SndV, Rcv, RcvV, SndDis, RcvDis, SndRel, RcvRel, SndUData, SndVUData, RcvUData, RcvVUData, RcvUDErr, Look, GetState, Sync, GetInfo, GetProtAddr, OptMgmt, SetMode}
+use Rattle.xti_verbs.specs.declared.verb.Verb.TheVariants.{Open, Close, Bind, Unbind, Connect, RcvConnect, Listen, Accept, Snd, SndV, Rcv, RcvV, SndDis, RcvDis, SndRel, RcvRel, SndRelData, RcvRelData, SndUData, SndVUData, RcvUData, RcvVUData, RcvUDErr, Look, GetState, Sync, GetInfo, GetProtAddr, OptMgmt, SetMode}
 use Rattle.xti_verbs.specs.declared.answer.Answer.{Answer}
 use Rattle.xti_verbs.specs.declared.answer.Answer.TheVariants as answer
 use Rattle.xti_journal.specs.Kinds.{Kind as kind}
 use Rattle.xti_journal.specs.Fields.{field, AreFields, IsOfKind}
-use Rattle.xti_verbs.specs.Verbs.{row_of, verb_word, answer_of, verb_of, answer_to, MayAnswer, verb_in}
-use Rattle.xti_verbs.proofs.WordLaws.{verb_is, is_verb}
+use Rattle.xti_verbs.specs.Verbs.{is_in_texts, row_of, verb_word, answer_of, verb_of, answer_to, MayAnswer, verb_in}
+use Rattle.xti_verbs.proofs.WordLaws.{verb_is, is_known, is_verb}
 use Rattle.xti_journal.specs.Calls.{form, call_values, answer_form, answer_values}
 use Rattle.xti_journal.specs.Grammar.{verb_after, last_verb, IsAct, IsAnswer, IsEntry, IsStall}
 use Rattle.xti_journal.specs.declared.fields.FieldFail.{FieldFail}
@@ -58,9 +58,9 @@ abbrev pub act_words : Act → List (List ℕ)
 act_words (Begin c) = call_words c
 act_words More = codes "more" ∷ []
 
--- the values of a call are of their kinds
+-- journals have the call, and its values are of their kinds
 abbrev pub Fits : Act → Type 0
-Fits (Begin c) = AreFields (form (verb_of c)) (call_values c)
+Fits (Begin c) = (is_in_texts (verb_of c) ≡ true) × AreFields (form (verb_of c)) (call_values c)
 Fits More = Unit {0}
 
 pub act_fits : (before : Option Verb) (act : Act) → IsAct before act → Fits act
@@ -100,6 +100,8 @@ not_more SndDis = refl
 not_more RcvDis = refl
 not_more SndRel = refl
 not_more RcvRel = refl
+not_more SndRelData = refl
+not_more RcvRelData = refl
 not_more SndUData = refl
 not_more SndVUData = refl
 not_more RcvUData = refl
@@ -117,8 +119,8 @@ act_full : (act : Act) (rest : List (List ℕ)) → Fits act → act_in (act_wor
 unfolding act_in
 act_full (Begin c) rest h =
     let v : Verb = verb_of c in
-    let f : fields_of (form v) (texts (form v) (call_values c) ++ rest) ≡ Some (call_values c, rest) = fields_full (form v) (call_values c) rest h in
-    rw (not_more v) (rw (is_verb v) (ap (begun v) f))
+    let f : fields_of (form v) (texts (form v) (call_values c) ++ rest) ≡ Some (call_values c, rest) = fields_full (form v) (call_values c) rest h.1 in
+    rw (not_more v) (rw (is_verb v h.0) (ap (begun v) f))
 act_full More rest h = refl
 
 record BegunIs (verb : Verb) (words : List (List ℕ)) (act : ActRead) (rest : List (List ℕ)) : Type 0 where
@@ -149,7 +151,7 @@ act_by_verb word words (Some verb) (Begin c) rest p e =
     let f : fields_of (form (verb_of c)) words ≡ Some (call_values c, rest) = subst (λ (w : Verb). fields_of (form w) words ≡ Some (call_values c, rest)) v (b.found ∙ ap (λ (l : List Value). Some (l, rest)) vs) in
     let r = fields_exact (form (verb_of c)) words (call_values c) rest f in
     let w : word ≡ verb_word (verb_of c) = verb_is word verb p ∙ ap verb_word v in
-    (ap (λ (l : List ℕ). l ∷ words) w ∙ ap (λ (ls : List (List ℕ)). verb_word (verb_of c) ∷ ls) r.written, r.are)
+    (ap (λ (l : List ℕ). l ∷ words) w ∙ ap (λ (ls : List (List ℕ)). verb_word (verb_of c) ∷ ls) r.written, (subst (λ (w : Verb). is_in_texts w ≡ true) v (is_known word verb p), r.are))
 act_by_verb word words (Some verb) More rest p e =
     let b = begun_is verb (fields_of (form verb) words) words (act_read More) rest refl e in
     none_is verb (sym (ap goes_verb b.same))
@@ -167,7 +169,7 @@ act_exact (word ∷ words) act rest e = go (bytes_eq word (codes "more")) refl a
     go false t act e = act_by_verb word words (verb_in word) act rest refl e
 
 act_above : (act : Act) → Fits act → All (Above 32) (act_words act)
-act_above (Begin c) h = All-cons (Above 32) (verb_word (verb_of c)) (texts (form (verb_of c)) (call_values c)) (verb_word_above (verb_of c)) (texts_above (form (verb_of c)) (call_values c) h)
+act_above (Begin c) h = All-cons (Above 32) (verb_word (verb_of c)) (texts (form (verb_of c)) (call_values c)) (verb_word_above (verb_of c)) (texts_above (form (verb_of c)) (call_values c) h.1)
 act_above More h = All-cons (Above 32) (codes "more") [] (known (codes "more") refl) (All-nil (Above 32))
 
 -- ---- answers
@@ -238,6 +240,7 @@ outcome_full v (Done (reply.Listened seq addr opt udata)) rest h = done_full v a
 outcome_full v (Done (reply.Sent n)) rest h = done_full v answer.Sent (answer_values (Done (reply.Sent n))) rest h.0 h.1
 outcome_full v (Done (reply.Got bytes flags)) rest h = done_full v answer.Got (answer_values (Done (reply.Got bytes flags))) rest h.0 h.1
 outcome_full v (Done (reply.Discon reason seq udata)) rest h = done_full v answer.Discon (answer_values (Done (reply.Discon reason seq udata))) rest h.0 h.1
+outcome_full v (Done (reply.RelData udata)) rest h = done_full v answer.RelData (answer_values (Done (reply.RelData udata))) rest h.0 h.1
 outcome_full v (Done (reply.UData addr opt bytes flags)) rest h = done_full v answer.UData (answer_values (Done (reply.UData addr opt bytes flags))) rest h.0 h.1
 outcome_full v (Done (reply.UDErr addr opt code)) rest h = done_full v answer.UDErr (answer_values (Done (reply.UDErr addr opt code))) rest h.0 h.1
 outcome_full v (Done (reply.Seen event)) rest h = done_full v answer.Seen (answer_values (Done (reply.Seen event))) rest h.0 h.1
@@ -270,6 +273,8 @@ ok_words SndDis = refl
 ok_words RcvDis = refl
 ok_words SndRel = refl
 ok_words RcvRel = refl
+ok_words SndRelData = refl
+ok_words RcvRelData = refl
 ok_words SndUData = refl
 ok_words SndVUData = refl
 ok_words RcvUData = refl
@@ -301,6 +306,8 @@ may_answer SndDis = refl
 may_answer RcvDis = refl
 may_answer SndRel = refl
 may_answer RcvRel = refl
+may_answer SndRelData = refl
+may_answer RcvRelData = refl
 may_answer SndUData = refl
 may_answer SndVUData = refl
 may_answer RcvUData = refl
@@ -610,6 +617,7 @@ after_arrow o = go (answer_to o) (texts (answer_form (answer_to o)) (answer_valu
     go answer.Sent ts = refl
     go answer.Got ts = refl
     go answer.Discon ts = refl
+    go answer.RelData ts = refl
     go answer.UData ts = refl
     go answer.UDErr ts = refl
     go answer.Seen ts = refl

@@ -1,5 +1,5 @@
 -- What is read is of one entry, and of one stall line.
-use Rattle.std.proofs.Common.{◌≡◌, ℕ, List, [], ◌∷◌, Option, Some, None, refl, sym, ap, ◌∙◌}
+use Rattle.std.proofs.Common.{◌≡◌, ℕ, Bool, List, [], ◌∷◌, Option, Some, None, refl, sym, ap, ◌∙◌}
 use Rattle.xti_base.specs.declared.kinds.State.{State as StateOf}
 use Rattle.xti_model.specs.declared.call.Call.{Call}
 use Rattle.xti_model.specs.declared.call.Call.TheVariants as call
@@ -14,7 +14,7 @@ use Rattle.xti_model.specs.declared.script.StallLine.{StallLine}
 use Rattle.xti_journal.specs.FieldValue.{Value}
 use Rattle.xti_journal.specs.FieldValue.Value.{Number, Bytes, Parts, Sizes, Truth, Provider, Mode, Limit, Service, State, Event, EventOrNone, Errno}
 use Rattle.xti_verbs.specs.declared.verb.Verb.{Verb}
-use Rattle.xti_verbs.specs.declared.verb.Verb.TheVariants.{Open, Close, Bind, Unbind, Connect, RcvConnect, Listen, Accept, Snd, SndV, Rcv, RcvV, SndDis, RcvDis, SndRel, RcvRel, SndUData, SndVUData, RcvUData, RcvVUData, RcvUDErr, Look, GetState, Sync, GetInfo, GetProtAddr, OptMgmt, SetMode}
+use Rattle.xti_verbs.specs.declared.verb.Verb.TheVariants.{Open, Close, Bind, Unbind, Connect, RcvConnect, Listen, Accept, Snd, SndV, Rcv, RcvV, SndDis, RcvDis, SndRel, RcvRel, SndRelData, RcvRelData, SndUData, SndVUData, RcvUData, RcvVUData, RcvUDErr, Look, GetState, Sync, GetInfo, GetProtAddr, OptMgmt, SetMode}
 use Rattle.xti_verbs.specs.declared.answer.Answer.{Answer}
 use Rattle.xti_verbs.specs.declared.answer.Answer.TheVariants as answer
 use Rattle.xti_verbs.specs.Verbs.{verb_of, answer_to}
@@ -39,6 +39,8 @@ call_with SndDis (Number fd ∷ Number seq ∷ Bytes udata ∷ []) = Some (call.
 call_with RcvDis (Number fd ∷ Number umax ∷ []) = Some (call.TRcvDis (record { 0 = fd }) umax)
 call_with SndRel (Number fd ∷ []) = Some (call.TSndRel (record { 0 = fd }))
 call_with RcvRel (Number fd ∷ []) = Some (call.TRcvRel (record { 0 = fd }))
+call_with SndRelData (Number fd ∷ Bytes udata ∷ []) = Some (call.TSndRelData (record { 0 = fd }) udata)
+call_with RcvRelData (Number fd ∷ Number umax ∷ []) = Some (call.TRcvRelData (record { 0 = fd }) umax)
 call_with SndUData (Number fd ∷ Bytes addr ∷ Bytes opt ∷ Bytes bytes ∷ []) = Some (call.TSndUData (record { 0 = fd }) addr opt bytes)
 call_with SndVUData (Number fd ∷ Bytes addr ∷ Bytes opt ∷ Parts parts ∷ []) = Some (call.TSndVUData (record { 0 = fd }) addr opt parts)
 call_with RcvUData (Number fd ∷ Number max ∷ Number amax ∷ Number omax ∷ []) = Some (call.TRcvUData (record { 0 = fd }) max amax omax)
@@ -70,6 +72,8 @@ call_back (call.TSndDis fd seq udata) = refl
 call_back (call.TRcvDis fd umax) = refl
 call_back (call.TSndRel fd) = refl
 call_back (call.TRcvRel fd) = refl
+call_back (call.TSndRelData fd udata) = refl
+call_back (call.TRcvRelData fd umax) = refl
 call_back (call.TSndUData fd addr opt bytes) = refl
 call_back (call.TSndVUData fd addr opt parts) = refl
 call_back (call.TRcvUData fd max amax omax) = refl
@@ -94,6 +98,7 @@ outcome_with answer.Listened (Number seq ∷ Bytes addr ∷ Bytes opt ∷ Bytes 
 outcome_with answer.Sent (Number n ∷ []) = Some (outcome.Done (reply.Sent n))
 outcome_with answer.Got (Bytes bytes ∷ Number flags ∷ []) = Some (outcome.Done (reply.Got bytes flags))
 outcome_with answer.Discon (Number reason ∷ Number seq ∷ Bytes udata ∷ []) = Some (outcome.Done (reply.Discon reason (record { 0 = seq }) udata))
+outcome_with answer.RelData (Bytes udata ∷ []) = Some (outcome.Done (reply.RelData udata))
 outcome_with answer.UData (Bytes addr ∷ Bytes opt ∷ Bytes bytes ∷ Number flags ∷ []) = Some (outcome.Done (reply.UData addr opt bytes flags))
 outcome_with answer.UDErr (Bytes addr ∷ Bytes opt ∷ Number code ∷ []) = Some (outcome.Done (reply.UDErr addr opt code))
 outcome_with answer.Seen (EventOrNone event ∷ []) = Some (outcome.Done (reply.Seen event))
@@ -116,6 +121,7 @@ outcome_back (outcome.Done (reply.Listened seq addr opt udata)) = refl
 outcome_back (outcome.Done (reply.Sent n)) = refl
 outcome_back (outcome.Done (reply.Got bytes flags)) = refl
 outcome_back (outcome.Done (reply.Discon reason seq udata)) = refl
+outcome_back (outcome.Done (reply.RelData udata)) = refl
 outcome_back (outcome.Done (reply.UData addr opt bytes flags)) = refl
 outcome_back (outcome.Done (reply.UDErr addr opt code)) = refl
 outcome_back (outcome.Done (reply.Seen event)) = refl
@@ -165,9 +171,9 @@ one_stall s t h =
     let a : s.act ≡ t.act = one_act s.act t.act (ap (λ (r : StepRead). r.act) h) in
     ap (λ (x : ℕ). record { worker = x; act = s.act }) w ∙ ap (λ (x : Act). record { worker = t.worker; act = x }) a
 
-abbrev profile_with : List Value → Option Profile
-profile_with (Limit tsdu ∷ Truth sendzero ∷ Truth same_addr ∷ Number sndbuf ∷ Number rcvbuf ∷ []) = Some (record { tsdu = tsdu; sendzero = sendzero; same_addr = same_addr; sndbuf = sndbuf; rcvbuf = rcvbuf })
-profile_with values = None
+abbrev profile_with : Bool → List Value → Option Profile
+profile_with r (Limit tsdu ∷ Truth sendzero ∷ Truth same_addr ∷ Number sndbuf ∷ Number rcvbuf ∷ []) = Some (record { tsdu = tsdu; sendzero = sendzero; same_addr = same_addr; sndbuf = sndbuf; rcvbuf = rcvbuf; reldata = r })
+profile_with r values = None
 
-pub one_profile : (p q : Profile) → profile_values p ≡ profile_values q → p ≡ q
-one_profile p q h = some_is p q (ap profile_with h)
+pub one_profile : (p q : Profile) → p.reldata ≡ q.reldata → profile_values p ≡ profile_values q → p ≡ q
+one_profile p q r h = some_is p q (ap (λ (d : Bool). profile_with d (profile_values p)) r ∙ ap (profile_with q.reldata) h)

@@ -9,7 +9,8 @@ use Rattle.xti_model.specs.declared.profile.Profile.{Profile}
 use Rattle.xti_model.specs.declared.profile.Providers.{Providers}
 use Rattle.xti_model.specs.declared.script.Journal.{Journal}
 use Rattle.xti_model.specs.declared.script.StallLine.{StallLine}
-use Rattle.xti_model.specs.Profile.{usual, valid, valid_connections, valid_orderly, valid_datagrams}
+use Rattle.xti_model.specs.Profile.{usual, valid_connections, valid_orderly, valid_datagrams}
+use Rattle.xti_journal.specs.Releases.{ticots_head, ticotsord_head, ticlts_head, valid_head}
 use Rattle.xti_journal_text.specs.JournalText.{first_line, provider_text, head_text, entry_text, entries_text, stall_text, end_text, journal_text}
 use Rattle.xti_words.specs.Texts.{words_of}
 use Rattle.xti_journal.specs.Grammar.{IsEntry, AreEntries, IsStall, AreStallsAfter, AreStalls, HasText, IsJournal}
@@ -27,7 +28,7 @@ use Rattle.xti_journal.proofs.TextLines.{ended, text_of, same_first, first_of, f
 use Rattle.xti_journal.proofs.LineLaws.{entry_words, entry_text_is}
 use Rattle.xti_journal.proofs.BodyLaws.{with_lf, Line, end_is_line, entry_line, stall_line, end_line}
 use Rattle.xti_journal.proofs.Ruled.{Ruled, ruled_append, entries_ruled, stalls_ruled, begin_same, Each, each, stalls_same, NextOf, AnEntry, AStall, TheEnd, next_of, end_no_entry, ruled_one, ruled_none, none_next, none_unended, tail_no_entry, end_no_stall}
-use Rattle.xti_journal.proofs.HeadLaws.{valid_is, is_valid, head_ruled, two_heads, two_profiles, head_parts, first_ruled, first_is_line, ticots_ruled, ticotsord_ruled, ticots_name, ticotsord_name, ticlts_name, connections_fit, orderly_fit, datagrams_fit, provider_is_line}
+use Rattle.xti_journal.proofs.HeadLaws.{valid_is, is_valid, head_within, head_without, in_head, head_ruled, two_heads, two_profiles, head_parts, first_ruled, first_is_line, ticots_ruled, ticotsord_ruled, ticots_name, ticotsord_name, ticlts_name, connections_fit, orderly_fit, datagrams_fit, provider_is_line}
 
 -- ---- what is read so far
 
@@ -105,31 +106,31 @@ front_text p es ss = head_text p ++ (entries_text 1 es ++ flat_map stall_text ss
 front_then : (p : Providers) (es : List Entry) (ss : List StallLine) (rest : List ℕ) → head_text p ++ (entries_text 1 es ++ (flat_map stall_text ss ++ rest)) ≡ front_text p es ss ++ rest
 front_then p es ss rest = simp append_assoc refl
 
-has_text : (p : Providers) (es : List Entry) (ss : List StallLine) (text rest : List ℕ) → valid p ≡ true → SoFar es ss text rest → HasText (journal_of p es ss)
-has_text p es ss text rest v s = record { providers = v; entries = s.entries; stalls = s.stalls }
+has_text : (p : Providers) (es : List Entry) (ss : List StallLine) (text rest : List ℕ) → valid_head p ≡ true → SoFar es ss text rest → HasText (journal_of p es ss)
+has_text p es ss text rest v s = record { providers = head_within p v; releases = head_without p v; entries = s.entries; stalls = s.stalls }
 
-pub body_ends : (p : Providers) (es : List Entry) (ss : List StallLine) (text rest behind line : List ℕ) → valid p ≡ true → SoFar es ss text rest → rest ≡ ended line ++ behind → behind ≡ [] → with_lf line ≡ end_text (length es) → IsJournal (journal_of p es ss) (head_text p ++ text)
+pub body_ends : (p : Providers) (es : List Entry) (ss : List StallLine) (text rest behind line : List ℕ) → valid_head p ≡ true → SoFar es ss text rest → rest ≡ ended line ++ behind → behind ≡ [] → with_lf line ≡ end_text (length es) → IsJournal (journal_of p es ss) (head_text p ++ text)
 body_ends p es ss text rest behind line v s cut none w = record {
   has_text = has_text p es ss text rest v s;
   written = ap (λ (l : List ℕ). head_text p ++ l) (s.front ∙ ap (λ (l : List ℕ). entries_text 1 es ++ (flat_map stall_text ss ++ l)) (cut ∙ ap (λ (l : List ℕ). ended line ++ l) none ∙ append-nil (ended line) ∙ w)) ∙ sym (journal_parts (journal_of p es ss));
 }
 
-front_ruled : (p : Providers) (es : List Entry) (ss : List StallLine) (text rest : List ℕ) → valid p ≡ true → SoFar es ss text rest → length es + 2 < 2 ^ 64 → Ruled (front_text p es ss) (4 + (length es + length ss))
+front_ruled : (p : Providers) (es : List Entry) (ss : List StallLine) (text rest : List ℕ) → valid_head p ≡ true → SoFar es ss text rest → length es + 2 < 2 ^ 64 → Ruled (front_text p es ss) (4 + (length es + length ss))
 front_ruled p es ss text rest v s small =
     ruled_append (head_text p) (entries_text 1 es ++ flat_map stall_text ss) 4 (length es + length ss) (head_ruled p (valid_is p v))
     (ruled_append (entries_text 1 es) (flat_map stall_text ss) (length es) (length ss) (entries_ruled 1 [] es refl (omega arith) s.entries) (stalls_ruled es ss s.stalls))
 
 -- a text that begins with these lines, and a journal that has them and the next one
-later_of : (p : Providers) (es : List Entry) (ss : List StallLine) (text rest other : List ℕ) (j : Journal) (r : Ruled (front_text p es ss) (4 + (length es + length ss))) (rest' : List ℕ) → valid p ≡ true → SoFar es ss text rest → length es + 2 < 2 ^ 64 → IsJournal j other
+later_of : (p : Providers) (es : List Entry) (ss : List StallLine) (text rest other : List ℕ) (j : Journal) (r : Ruled (front_text p es ss) (4 + (length es + length ss))) (rest' : List ℕ) → valid_head p ≡ true → SoFar es ss text rest → length es + 2 < 2 ^ 64 → IsJournal j other
     → other ≡ text_of r.lines ++ rest' → NextOf es ss rest'
 later_of p es ss text rest other j r rest' v s small h w =
     let t : head_text p ++ (entries_text 1 es ++ (flat_map stall_text ss ++ rest')) ≡ head_text j.providers ++ (entries_text 1 j.entries ++ (flat_map stall_text j.stalls ++ end_text (length j.entries))) =
     front_then p es ss rest' ∙ ap (λ (l : List ℕ). l ++ rest') r.whole ∙ sym w ∙ h.written ∙ journal_parts j in
-    let two = two_heads p j.providers _ _ (valid_is p v) (valid_is j.providers h.has_text.providers) t in
+    let two = two_heads p j.providers _ _ (valid_is p v) (valid_is j.providers (in_head j.providers h.has_text.providers h.has_text.releases)) t in
     next_of es j.entries ss j.stalls rest' small s.entries s.stalls h.has_text.entries h.has_text.stalls two.rest
 
 -- what comes in every journal after these lines tells where it is refused
-refused_by : (p : Providers) (es : List Entry) (ss : List StallLine) (text rest : List ℕ) (n : ℕ) → valid p ≡ true → SoFar es ss text rest → length es + 2 < 2 ^ 64 → n ≡ 5 + (length es + length ss)
+refused_by : (p : Providers) (es : List Entry) (ss : List StallLine) (text rest : List ℕ) (n : ℕ) → valid_head p ≡ true → SoFar es ss text rest → length es + 2 < 2 ^ 64 → n ≡ 5 + (length es + length ss)
     → ((rest' : List ℕ) → first_left rest' ≡ first_left rest → NextOf es ss rest' → ⊥) → IsRefusedAt (head_text p ++ text) n
 refused_by p es ss text rest n v s small place never =
     let r = front_ruled p es ss text rest v s small in
@@ -151,11 +152,11 @@ refused_by p es ss text rest n v s small place never =
       };
     }
 
-pub body_refused : (p : Providers) (es : List Entry) (ss : List StallLine) (text rest behind line : List ℕ) (n : ℕ) → valid p ≡ true → SoFar es ss text rest → length es + 2 < 2 ^ 64 → n ≡ 5 + (length es + length ss) → IsLine line → rest ≡ ended line ++ behind → line_in es ss (words_of line) ≡ None → IsRefusedAt (head_text p ++ text) n
+pub body_refused : (p : Providers) (es : List Entry) (ss : List StallLine) (text rest behind line : List ℕ) (n : ℕ) → valid_head p ≡ true → SoFar es ss text rest → length es + 2 < 2 ^ 64 → n ≡ 5 + (length es + length ss) → IsLine line → rest ≡ ended line ++ behind → line_in es ss (words_of line) ≡ None → IsRefusedAt (head_text p ++ text) n
 body_refused p es ss text rest behind line n v s small place h cut never_so =
     refused_by p es ss text rest n v s small place (λ rest' f next. none_next es ss rest' line small never_so h (f ∙ ap first_left cut ∙ first_is line behind h) next)
 
-pub body_unended : (p : Providers) (es : List Entry) (ss : List StallLine) (text rest : List ℕ) (n : ℕ) → valid p ≡ true → SoFar es ss text rest → length es + 2 < 2 ^ 64 → n ≡ 5 + (length es + length ss) → IsLine rest → IsRefusedAt (head_text p ++ text) n
+pub body_unended : (p : Providers) (es : List Entry) (ss : List StallLine) (text rest : List ℕ) (n : ℕ) → valid_head p ≡ true → SoFar es ss text rest → length es + 2 < 2 ^ 64 → n ≡ 5 + (length es + length ss) → IsLine rest → IsRefusedAt (head_text p ++ text) n
 body_unended p es ss text rest n v s small place h =
     refused_by p es ss text rest n v s small place (λ rest' f next. none_unended es ss rest' rest small h f next)
 
@@ -181,7 +182,7 @@ some_first c cs e = go (eqb c 10) (lines_of cs) e
     go false [] e = cc
     go false (l ∷ ls) e = cc
 
-pub body_extra : (p : Providers) (es : List Entry) (ss : List StallLine) (text rest behind line : List ℕ) (n : ℕ) → valid p ≡ true → SoFar es ss text rest → length es + 2 < 2 ^ 64 → n ≡ 5 + (length es + length ss) → rest ≡ ended line ++ behind → (behind ≡ [] → ⊥) → with_lf line ≡ end_text (length es) → IsRefusedAt (head_text p ++ text) (n + 1)
+pub body_extra : (p : Providers) (es : List Entry) (ss : List StallLine) (text rest behind line : List ℕ) (n : ℕ) → valid_head p ≡ true → SoFar es ss text rest → length es + 2 < 2 ^ 64 → n ≡ 5 + (length es + length ss) → rest ≡ ended line ++ behind → (behind ≡ [] → ⊥) → with_lf line ≡ end_text (length es) → IsRefusedAt (head_text p ++ text) (n + 1)
 body_extra p es ss text rest behind line n v s small place cut more w =
     let r = front_ruled p es ss text rest v s small in
     let last : Ruled (end_text (length es)) 1 = ruled_one _ _ (end_is_line (length es) (omega arith)) in
@@ -219,7 +220,7 @@ body_extra p es ss text rest behind line n v s small place cut more w =
 pub one_journal : (text : List ℕ) (j k : Journal) → length j.entries + 2 < 2 ^ 64 → IsJournal j text → IsJournal k text → j ≡ k
 one_journal text j k small h g =
     let t : head_text j.providers ++ (entries_text 1 j.entries ++ (flat_map stall_text j.stalls ++ end_text (length j.entries))) ≡ head_text k.providers ++ (entries_text 1 k.entries ++ (flat_map stall_text k.stalls ++ end_text (length k.entries))) = sym (journal_parts j) ∙ sym h.written ∙ g.written ∙ journal_parts k in
-    let two = two_heads j.providers k.providers _ _ (valid_is j.providers h.has_text.providers) (valid_is k.providers g.has_text.providers) t in
+    let two = two_heads j.providers k.providers _ _ (valid_is j.providers (in_head j.providers h.has_text.providers h.has_text.releases)) (valid_is k.providers (in_head k.providers g.has_text.providers g.has_text.releases)) t in
     let never_so = tail_no_entry k.entries k.stalls (length k.entries) (each k.entries k.stalls g.has_text.stalls) in
     let b = begin_same 1 [] j.entries k.entries (flat_map stall_text j.stalls ++ end_text (length j.entries)) (flat_map stall_text k.stalls ++ end_text (length k.entries)) refl (omega arith) h.has_text.entries g.has_text.entries never_so two.rest in
     by_entries two.one b.more b.whole b.rest b.are
@@ -251,11 +252,11 @@ one_journal text j k small h g =
 abbrev empty_text : Providers → List ℕ
 empty_text p = journal_text (journal_of p [] [])
 
-empty_is : (p : Providers) → valid p ≡ true → IsJournal (journal_of p [] []) (empty_text p)
-empty_is p v = record { has_text = record { providers = v; entries = tt; stalls = tt }; written = refl }
+empty_is : (p : Providers) → valid_head p ≡ true → IsJournal (journal_of p [] []) (empty_text p)
+empty_is p v = record { has_text = record { providers = head_within p v; releases = head_without p v; entries = tt; stalls = tt }; written = refl }
 
 -- a text that begins with the first lines of a journal, and with none that a journal has after them
-head_refused : (front rest text : List ℕ) (k n : ℕ) (p : Providers) (back : List ℕ) → Ruled front k → text ≡ front ++ rest → n ≡ k + 1 → valid p ≡ true → empty_text p ≡ front ++ back
+head_refused : (front rest text : List ℕ) (k n : ℕ) (p : Providers) (back : List ℕ) → Ruled front k → text ≡ front ++ rest → n ≡ k + 1 → valid_head p ≡ true → empty_text p ≡ front ++ back
     → ((rest' : List ℕ) → first_left rest' ≡ first_left rest → (j : Journal) → HasText j → journal_text j ≡ front ++ rest' → ⊥) → IsRefusedAt text n
 head_refused front rest text k n p back r w place v b never =
     let whole : text ≡ text_of r.lines ++ rest = w ∙ ap (λ (l : List ℕ). l ++ rest) r.whole in
@@ -311,31 +312,31 @@ first_refused text never_so = head_refused [] text text 0 1 usual (empty_text us
     let b = begins_text _ first_line text rest' _ l (sym w ∙ journal_parts j ∙ head_parts j.providers (body_text j)) f in
     never_so b.0 b.1))
 
-pub ticots_refused : (text rest : List ℕ) → text ≡ first_line ++ rest → ((p : Profile) (left : List ℕ) → valid_connections p ≡ true → rest ≡ provider_text (codes "ticots") p ++ left → ⊥) → IsRefusedAt text 2
+pub ticots_refused : (text rest : List ℕ) → text ≡ first_line ++ rest → ((p : Profile) (left : List ℕ) → ticots_head p ≡ true → rest ≡ provider_text (codes "ticots") p ++ left → ⊥) → IsRefusedAt text 2
 ticots_refused text rest w never_so = head_refused first_line rest text 1 2 usual _ first_ruled w refl refl (journal_parts (journal_of usual [] []) ∙ head_parts usual (body_text (journal_of usual [] []))) (λ rest' f j h e.
-    (let v = valid_is j.providers h.providers in
+    (let v = valid_is j.providers (in_head j.providers h.providers h.releases) in
     let r : rest' ≡ provider_text (codes "ticots") j.providers.ticots ++ _ = first_cancel _ _ (sym e ∙ journal_parts j ∙ head_parts j.providers (body_text j)) in
     let b = begins_text _ (provider_text (codes "ticots") j.providers.ticots) rest rest' _ (provider_is_line (codes "ticots") j.providers.ticots ticots_name (connections_fit j.providers.ticots v.ticots)) r f in
     never_so j.providers.ticots b.0 v.ticots b.1))
 
-pub ticotsord_refused : (text rest : List ℕ) (p : Profile) → text ≡ first_line ++ (provider_text (codes "ticots") p ++ rest) → valid_connections p ≡ true → ((q : Profile) (left : List ℕ) → valid_orderly q ≡ true → rest ≡ provider_text (codes "ticotsord") q ++ left → ⊥) → IsRefusedAt text 3
+pub ticotsord_refused : (text rest : List ℕ) (p : Profile) → text ≡ first_line ++ (provider_text (codes "ticots") p ++ rest) → ticots_head p ≡ true → ((q : Profile) (left : List ℕ) → ticotsord_head q ≡ true → rest ≡ provider_text (codes "ticotsord") q ++ left → ⊥) → IsRefusedAt text 3
 ticotsord_refused text rest p w vp never_so =
     let ps : Providers = record { ticots = p; ticotsord = usual.ticotsord; ticlts = usual.ticlts } in
     let parts : (a : List ℕ) → first_line ++ (provider_text (codes "ticots") p ++ a) ≡ (first_line ++ provider_text (codes "ticots") p) ++ a = λ a. sym (append_assoc first_line (provider_text (codes "ticots") p) a) in
     head_refused (first_line ++ provider_text (codes "ticots") p) rest text 2 3 ps _ (ruled_append first_line _ 1 1 first_ruled (ticots_ruled p vp)) (w ∙ parts rest) refl (is_valid ps (record { ticots = vp; ticotsord = refl; ticlts = refl })) (journal_parts (journal_of ps [] []) ∙ head_parts ps (body_text (journal_of ps [] [])) ∙ parts (provider_text (codes "ticotsord") ps.ticotsord ++ (provider_text (codes "ticlts") ps.ticlts ++ body_text (journal_of ps [] [])))) (λ rest' f j h e.
-    (let v = valid_is j.providers h.providers in
+    (let v = valid_is j.providers (in_head j.providers h.providers h.releases) in
     let r = first_cancel _ _ (parts rest' ∙ sym e ∙ journal_parts j ∙ head_parts j.providers (body_text j)) in
     let two = two_profiles (codes "ticots") p j.providers.ticots rest' _ ticots_name (connections_fit p vp) (connections_fit j.providers.ticots v.ticots) r in
     let b = begins_text _ (provider_text (codes "ticotsord") j.providers.ticotsord) rest rest' _ (provider_is_line (codes "ticotsord") j.providers.ticotsord ticotsord_name (orderly_fit j.providers.ticotsord v.ticotsord)) two.rest f in
     never_so j.providers.ticotsord b.0 v.ticotsord b.1))
 
-pub ticlts_refused : (text rest : List ℕ) (p q : Profile) → text ≡ first_line ++ (provider_text (codes "ticots") p ++ (provider_text (codes "ticotsord") q ++ rest)) → valid_connections p ≡ true → valid_orderly q ≡ true → ((d : Profile) (left : List ℕ) → valid_datagrams d ≡ true → rest ≡ provider_text (codes "ticlts") d ++ left → ⊥) → IsRefusedAt text 4
+pub ticlts_refused : (text rest : List ℕ) (p q : Profile) → text ≡ first_line ++ (provider_text (codes "ticots") p ++ (provider_text (codes "ticotsord") q ++ rest)) → ticots_head p ≡ true → ticotsord_head q ≡ true → ((d : Profile) (left : List ℕ) → ticlts_head d ≡ true → rest ≡ provider_text (codes "ticlts") d ++ left → ⊥) → IsRefusedAt text 4
 ticlts_refused text rest p q w vp vq never_so =
     let ps : Providers = record { ticots = p; ticotsord = q; ticlts = usual.ticlts } in
     let front : List ℕ = first_line ++ (provider_text (codes "ticots") p ++ provider_text (codes "ticotsord") q) in
     let parts : (a : List ℕ) → first_line ++ (provider_text (codes "ticots") p ++ (provider_text (codes "ticotsord") q ++ a)) ≡ front ++ a = λ a. regroup first_line (provider_text (codes "ticots") p) (provider_text (codes "ticotsord") q) a in
     head_refused front rest text 3 4 ps _ (ruled_append first_line _ 1 2 first_ruled (ruled_append (provider_text (codes "ticots") p) _ 1 1 (ticots_ruled p vp) (ticotsord_ruled q vq))) (w ∙ parts rest) refl (is_valid ps (record { ticots = vp; ticotsord = vq; ticlts = refl })) (journal_parts (journal_of ps [] []) ∙ head_parts ps (body_text (journal_of ps [] [])) ∙ parts (provider_text (codes "ticlts") ps.ticlts ++ body_text (journal_of ps [] []))) (λ rest' f j h e.
-    (let v = valid_is j.providers h.providers in
+    (let v = valid_is j.providers (in_head j.providers h.providers h.releases) in
     let r = first_cancel _ _ (parts rest' ∙ sym e ∙ journal_parts j ∙ head_parts j.providers (body_text j)) in
     let two = two_profiles (codes "ticots") p j.providers.ticots _ _ ticots_name (connections_fit p vp) (connections_fit j.providers.ticots v.ticots) r in
     let three = two_profiles (codes "ticotsord") q j.providers.ticotsord rest' _ ticotsord_name (orderly_fit q vq) (orderly_fit j.providers.ticotsord v.ticotsord) two.rest in
@@ -361,18 +362,18 @@ pub at_ticots : (text rest : List ℕ) (fail : FieldFail) (r : JournalFail) → 
 at_ticots text rest field.Wrong r e w h = subst (FailsHead text) (sym e) (ticots_refused text rest w h)
 at_ticots text rest field.OutOfMemory r e w h = subst (FailsHead text) (sym e) tt
 
-pub at_ticotsord : (text rest left : List ℕ) (p : Profile) (fail : FieldFail) (r : JournalFail) → r ≡ fail_at 3 fail → text ≡ first_line ++ rest → valid_connections p ≡ true → rest ≡ provider_text (codes "ticots") p ++ left → ReadsProvider valid_orderly (codes "ticotsord") left (Err fail) → ReadsHead text (Err r)
+pub at_ticotsord : (text rest left : List ℕ) (p : Profile) (fail : FieldFail) (r : JournalFail) → r ≡ fail_at 3 fail → text ≡ first_line ++ rest → ticots_head p ≡ true → rest ≡ provider_text (codes "ticots") p ++ left → ReadsProvider valid_orderly (codes "ticotsord") left (Err fail) → ReadsHead text (Err r)
 at_ticotsord text rest left p field.Wrong r e w v x h = subst (FailsHead text) (sym e) (ticotsord_refused text left p (w ∙ ap (λ (l : List ℕ). first_line ++ l) x) v h)
 at_ticotsord text rest left p field.OutOfMemory r e w v x h = subst (FailsHead text) (sym e) tt
 
-pub at_ticlts : (text rest left behind : List ℕ) (p q : Profile) (fail : FieldFail) (r : JournalFail) → r ≡ fail_at 4 fail → text ≡ first_line ++ rest → valid_connections p ≡ true → rest ≡ provider_text (codes "ticots") p ++ left → valid_orderly q ≡ true → left ≡ provider_text (codes "ticotsord") q ++ behind → ReadsProvider valid_datagrams (codes "ticlts") behind (Err fail)
+pub at_ticlts : (text rest left behind : List ℕ) (p q : Profile) (fail : FieldFail) (r : JournalFail) → r ≡ fail_at 4 fail → text ≡ first_line ++ rest → ticots_head p ≡ true → rest ≡ provider_text (codes "ticots") p ++ left → ticotsord_head q ≡ true → left ≡ provider_text (codes "ticotsord") q ++ behind → ReadsProvider valid_datagrams (codes "ticlts") behind (Err fail)
     → ReadsHead text (Err r)
 at_ticlts text rest left behind p q field.Wrong r e w v x u y h =
     subst (FailsHead text) (sym e) (ticlts_refused text behind p q (w ∙ ap (λ (l : List ℕ). first_line ++ l) (x ∙ ap (λ (l : List ℕ). provider_text (codes "ticots") p ++ l) y)) v u h)
 at_ticlts text rest left behind p q field.OutOfMemory r e w v x u y h = subst (FailsHead text) (sym e) tt
 
-pub whole_head : (text rest left behind last : List ℕ) (p q d : Profile) → text ≡ first_line ++ rest → valid_connections p ≡ true → rest ≡ provider_text (codes "ticots") p ++ left → valid_orderly q ≡ true → left ≡ provider_text (codes "ticotsord") q ++ behind → valid_datagrams d ≡ true → behind ≡ provider_text (codes "ticlts") d ++ last
-    → (valid (record { ticots = p; ticotsord = q; ticlts = d }) ≡ true) × (text ≡ head_text (record { ticots = p; ticotsord = q; ticlts = d }) ++ last)
+pub whole_head : (text rest left behind last : List ℕ) (p q d : Profile) → text ≡ first_line ++ rest → ticots_head p ≡ true → rest ≡ provider_text (codes "ticots") p ++ left → ticotsord_head q ≡ true → left ≡ provider_text (codes "ticotsord") q ++ behind → ticlts_head d ≡ true → behind ≡ provider_text (codes "ticlts") d ++ last
+    → (valid_head (record { ticots = p; ticotsord = q; ticlts = d }) ≡ true) × (text ≡ head_text (record { ticots = p; ticotsord = q; ticlts = d }) ++ last)
 whole_head text rest left behind last p q d w v x u y t z = (
   is_valid (record { ticots = p; ticotsord = q; ticlts = d }) (record { ticots = v; ticotsord = u; ticlts = t }),
   head_is text p q d last (w ∙ ap (λ (l : List ℕ). first_line ++ l) (x ∙ ap (λ (l : List ℕ). provider_text (codes "ticots") p ++ l) (y ∙ ap (λ (l : List ℕ). provider_text (codes "ticotsord") q ++ l) z))),
@@ -455,26 +456,26 @@ entry_worker es ss line e r = (entry_line es ss line e r).is_entry.worker
 pub number_fits : (p q : Providers) (es : List Entry) (ss : List StallLine) (text rest behind line : List ℕ) (n : ℕ) → Loop p q es ss text rest n → rest ≡ ended line ++ behind → n + 1 ≤ 5 + length text
 number_fits p q es ss text rest behind line n l cut = let s = shorter rest line behind cut in omega (arith, l.room, s)
 
-pub loop_ends : (p : Providers) (draft done : Journal) (text rest behind line : List ℕ) (n : ℕ) → valid p ≡ true → Loop p draft.providers draft.entries draft.stalls text rest n → rest ≡ ended line ++ behind → (length behind == 0) ≡ true → line_in draft.entries draft.stalls (words_of line) ≡ Some Ended → done ≡ draft → IsJournal done (head_text p ++ text)
+pub loop_ends : (p : Providers) (draft done : Journal) (text rest behind line : List ℕ) (n : ℕ) → valid_head p ≡ true → Loop p draft.providers draft.entries draft.stalls text rest n → rest ≡ ended line ++ behind → (length behind == 0) ≡ true → line_in draft.entries draft.stalls (words_of line) ≡ Some Ended → done ≡ draft → IsJournal done (head_text p ++ text)
 loop_ends p draft done text rest behind line n v l cut none r d =
     let z : behind ≡ [] = nil_from_length behind (eqb-true (length behind) 0 none) in
     let j = body_ends p draft.entries draft.stalls text rest behind line v l.so_far cut z (end_line draft.entries draft.stalls line r) in
     rw d (subst (λ (q : Providers). IsJournal (journal_of q draft.entries draft.stalls) (head_text p ++ text)) (sym l.same) j)
 
-pub loop_extra : (p q : Providers) (es : List Entry) (ss : List StallLine) (text rest behind line : List ℕ) (n : ℕ) → valid p ≡ true → length text + 2 < 2 ^ 64 → Loop p q es ss text rest n → rest ≡ ended line ++ behind → (length behind == 0) ≡ false → line_in es ss (words_of line) ≡ Some Ended → IsRefusedAt (head_text p ++ text) (n + 1)
+pub loop_extra : (p q : Providers) (es : List Entry) (ss : List StallLine) (text rest behind line : List ℕ) (n : ℕ) → valid_head p ≡ true → length text + 2 < 2 ^ 64 → Loop p q es ss text rest n → rest ≡ ended line ++ behind → (length behind == 0) ≡ false → line_in es ss (words_of line) ≡ Some Ended → IsRefusedAt (head_text p ++ text) (n + 1)
 loop_extra p q es ss text rest behind line n v few l cut more r =
     body_extra p es ss text rest behind line n v l.so_far (omega (arith, l.place, l.room)) l.place cut (λ z. (let t : (length behind == 0) ≡ true = rw z refl in let c : true ≡ false = sym t ∙ more in cc)) (end_line es ss line r)
 
-pub loop_wrong : (p q : Providers) (es : List Entry) (ss : List StallLine) (text rest behind line : List ℕ) (n : ℕ) → valid p ≡ true → length text + 2 < 2 ^ 64 → Loop p q es ss text rest n → IsLine line → rest ≡ ended line ++ behind → line_in es ss (words_of line) ≡ None → IsRefusedAt (head_text p ++ text) n
+pub loop_wrong : (p q : Providers) (es : List Entry) (ss : List StallLine) (text rest behind line : List ℕ) (n : ℕ) → valid_head p ≡ true → length text + 2 < 2 ^ 64 → Loop p q es ss text rest n → IsLine line → rest ≡ ended line ++ behind → line_in es ss (words_of line) ≡ None → IsRefusedAt (head_text p ++ text) n
 loop_wrong p q es ss text rest behind line n v few l h cut r =
     let s = shorter rest line behind cut in
     body_refused p es ss text rest behind line n v l.so_far (omega (arith, l.place, l.room, s)) l.place h cut r
 
 -- a step more of room is needed where no line is taken
-pub loop_unended : (p q : Providers) (es : List Entry) (ss : List StallLine) (text rest : List ℕ) (n : ℕ) → valid p ≡ true → length text + 2 < 2 ^ 64 → Loop p q es ss text rest n → IsLine rest → IsRefusedAt (head_text p ++ text) n
+pub loop_unended : (p q : Providers) (es : List Entry) (ss : List StallLine) (text rest : List ℕ) (n : ℕ) → valid_head p ≡ true → length text + 2 < 2 ^ 64 → Loop p q es ss text rest n → IsLine rest → IsRefusedAt (head_text p ++ text) n
 loop_unended p q es ss text rest n v few l h = body_unended p es ss text rest n v l.so_far (omega (arith, l.place, l.room)) l.place h
 
-pub loop_out : (p q : Providers) (es : List Entry) (ss : List StallLine) (text rest : List ℕ) (n : ℕ) (b : Bool) → valid p ≡ true → length text + 2 < 2 ^ 64 → Loop p q es ss text rest n → b ≡ true → b ≡ (length rest == 0) → IsRefusedAt (head_text p ++ text) n
+pub loop_out : (p q : Providers) (es : List Entry) (ss : List StallLine) (text rest : List ℕ) (n : ℕ) (b : Bool) → valid_head p ≡ true → length text + 2 < 2 ^ 64 → Loop p q es ss text rest n → b ≡ true → b ≡ (length rest == 0) → IsRefusedAt (head_text p ++ text) n
 loop_out p q es ss text rest n b v few l t e =
     let z : rest ≡ [] = nil_from_length rest (eqb-true (length rest) 0 (sym e ∙ t)) in
     loop_unended p q es ss text rest n v few l (subst IsLine (sym z) tt)
@@ -483,23 +484,23 @@ pub loop_on : (p : Providers) (old new : Journal) (text rest behind line : List 
 loop_on p old new text rest behind line n l cut (inl (e, r, w)) = loop_entry p old new text rest behind line n e l cut r w
 loop_on p old new text rest behind line n l cut (inr (s, r, w)) = loop_stall p old new text rest behind line n s l cut r w
 
-pub loop_fails : (p : Providers) (old new : Journal) (text rest behind line : List ℕ) (n : ℕ) (fail : FieldFail) (r : JournalFail) → valid p ≡ true → length text + 2 < 2 ^ 64 → Loop p old.providers old.entries old.stalls text rest n → IsLine line → rest ≡ ended line ++ behind → ReadsNext old (words_of line) new (Err fail) → r ≡ fail_at n fail
+pub loop_fails : (p : Providers) (old new : Journal) (text rest behind line : List ℕ) (n : ℕ) (fail : FieldFail) (r : JournalFail) → valid_head p ≡ true → length text + 2 < 2 ^ 64 → Loop p old.providers old.entries old.stalls text rest n → IsLine line → rest ≡ ended line ++ behind → ReadsNext old (words_of line) new (Err fail) → r ≡ fail_at n fail
     → ReadsText (head_text p ++ text) (Err r)
 loop_fails p old new text rest behind line n field.Wrong r v few l h cut x e = subst (λ (y : JournalFail). ReadsText (head_text p ++ text) (Err y)) (sym e) (loop_wrong p old.providers old.entries old.stalls text rest behind line n v few l h cut x)
 loop_fails p old new text rest behind line n field.OutOfMemory r v few l h cut x e = subst (λ (y : JournalFail). ReadsText (head_text p ++ text) (Err y)) (sym e) tt
 
-pub loop_done : (p : Providers) (old new done : Journal) (text rest behind line : List ℕ) (n : ℕ) → valid p ≡ true → Loop p old.providers old.entries old.stalls text rest n → rest ≡ ended line ++ behind → (length behind == 0) ≡ true → ReadsNext old (words_of line) new (Ok false) → done ≡ new → IsJournal done (head_text p ++ text)
+pub loop_done : (p : Providers) (old new done : Journal) (text rest behind line : List ℕ) (n : ℕ) → valid_head p ≡ true → Loop p old.providers old.entries old.stalls text rest n → rest ≡ ended line ++ behind → (length behind == 0) ≡ true → ReadsNext old (words_of line) new (Ok false) → done ≡ new → IsJournal done (head_text p ++ text)
 loop_done p old new done text rest behind line n v l cut none r d = loop_ends p old done text rest behind line n v l cut none r.0 (d ∙ r.1)
 
 pub goes : (p : Providers) (old new : Journal) (text rest behind line : List ℕ) (n : ℕ) (b : Bool) → Loop p old.providers old.entries old.stalls text rest n → rest ≡ ended line ++ behind → ReadsNext old (words_of line) new (Ok b) → b ≡ true → Loop p new.providers new.entries new.stalls text behind (n + 1)
 goes p old new text rest behind line n true l cut r t = loop_on p old new text rest behind line n l cut r
 goes p old new text rest behind line n false l cut r t = absurd cc
 
-pub done : (p : Providers) (old new finished : Journal) (text rest behind line : List ℕ) (n : ℕ) (b e : Bool) → valid p ≡ true → Loop p old.providers old.entries old.stalls text rest n → rest ≡ ended line ++ behind → e ≡ (length behind == 0) → e ≡ true → ReadsNext old (words_of line) new (Ok b) → b ≡ false → finished ≡ new → IsJournal finished (head_text p ++ text)
+pub done : (p : Providers) (old new finished : Journal) (text rest behind line : List ℕ) (n : ℕ) (b e : Bool) → valid_head p ≡ true → Loop p old.providers old.entries old.stalls text rest n → rest ≡ ended line ++ behind → e ≡ (length behind == 0) → e ≡ true → ReadsNext old (words_of line) new (Ok b) → b ≡ false → finished ≡ new → IsJournal finished (head_text p ++ text)
 done p old new finished text rest behind line n true e v l cut q t r f d = absurd cc
 done p old new finished text rest behind line n false e v l cut q t r f d = loop_done p old new finished text rest behind line n v l cut (sym q ∙ t) r d
 
-pub extra : (p : Providers) (old new : Journal) (text rest behind line : List ℕ) (n : ℕ) (b e : Bool) → valid p ≡ true → length text + 2 < 2 ^ 64 → Loop p old.providers old.entries old.stalls text rest n → rest ≡ ended line ++ behind → e ≡ (length behind == 0) → e ≡ false → ReadsNext old (words_of line) new (Ok b) → b ≡ false → IsRefusedAt (head_text p ++ text) (n + 1)
+pub extra : (p : Providers) (old new : Journal) (text rest behind line : List ℕ) (n : ℕ) (b e : Bool) → valid_head p ≡ true → length text + 2 < 2 ^ 64 → Loop p old.providers old.entries old.stalls text rest n → rest ≡ ended line ++ behind → e ≡ (length behind == 0) → e ≡ false → ReadsNext old (words_of line) new (Ok b) → b ≡ false → IsRefusedAt (head_text p ++ text) (n + 1)
 extra p old new text rest behind line n true e v few l cut q t r f = absurd cc
 extra p old new text rest behind line n false e v few l cut q t r f = loop_extra p old.providers old.entries old.stalls text rest behind line n v few l cut (sym q ∙ t) r.0
 

@@ -11,7 +11,7 @@ use Rattle.xti_journal.specs.FieldValue.Value.{Number, Bytes, Parts, Sizes, Prov
 use Rattle.xti_journal.specs.declared.fields.Key.{Key}
 use Rattle.xti_journal.specs.declared.fields.Key.TheVariants as key
 use Rattle.xti_verbs.specs.declared.verb.Verb.{Verb}
-use Rattle.xti_verbs.specs.declared.verb.Verb.TheVariants.{Open, Bind, Connect, RcvConnect, Listen, Accept, Snd, SndV, Rcv, RcvV, SndDis, RcvDis, SndUData, SndVUData, RcvUData, RcvVUData, RcvUDErr, GetProtAddr, OptMgmt, SetMode}
+use Rattle.xti_verbs.specs.declared.verb.Verb.TheVariants.{Open, Bind, Connect, RcvConnect, Listen, Accept, Snd, SndV, Rcv, RcvV, SndDis, RcvDis, SndRelData, RcvRelData, SndUData, SndVUData, RcvUData, RcvVUData, RcvUDErr, GetProtAddr, OptMgmt, SetMode}
 use Rattle.xti_verbs.specs.declared.answer.Answer.{Answer}
 use Rattle.xti_verbs.specs.declared.answer.Answer.TheVariants as answer
 
@@ -29,6 +29,8 @@ form Rcv = key.Number ∷ key.Max ∷ []
 form RcvV = key.Number ∷ key.Sizes ∷ []
 form SndDis = key.Number ∷ key.Number ∷ key.UData ∷ []
 form RcvDis = key.Number ∷ key.Umax ∷ []
+form SndRelData = key.Number ∷ key.UData ∷ []
+form RcvRelData = key.Number ∷ key.Umax ∷ []
 form SndUData = key.Number ∷ key.Addr ∷ key.Opt ∷ key.Data ∷ []
 form SndVUData = key.Number ∷ key.Addr ∷ key.Opt ∷ key.Parts ∷ []
 form RcvUData = key.Number ∷ key.Max ∷ key.Amax ∷ key.Omax ∷ []
@@ -53,6 +55,8 @@ call_values (call.TRcv fd max) = Number fd.0 ∷ Number max ∷ []
 call_values (call.TRcvV fd sizes) = Number fd.0 ∷ Sizes sizes ∷ []
 call_values (call.TSndDis fd seq udata) = Number fd.0 ∷ Number seq.0 ∷ Bytes udata ∷ []
 call_values (call.TRcvDis fd umax) = Number fd.0 ∷ Number umax ∷ []
+call_values (call.TSndRelData fd udata) = Number fd.0 ∷ Bytes udata ∷ []
+call_values (call.TRcvRelData fd umax) = Number fd.0 ∷ Number umax ∷ []
 call_values (call.TSndUData fd addr opt bytes) = Number fd.0 ∷ Bytes addr ∷ Bytes opt ∷ Bytes bytes ∷ []
 call_values (call.TSndVUData fd addr opt parts) = Number fd.0 ∷ Bytes addr ∷ Bytes opt ∷ Parts parts ∷ []
 call_values (call.TRcvUData fd max amax omax) = Number fd.0 ∷ Number max ∷ Number amax ∷ Number omax ∷ []
@@ -73,6 +77,7 @@ answer_form answer.Listened = key.Number ∷ key.Bytes ∷ key.Bytes ∷ key.Byt
 answer_form answer.Sent = key.Number ∷ []
 answer_form answer.Got = key.Bytes ∷ key.Number ∷ []
 answer_form answer.Discon = key.Number ∷ key.Number ∷ key.Bytes ∷ []
+answer_form answer.RelData = key.Bytes ∷ []
 answer_form answer.UData = key.Bytes ∷ key.Bytes ∷ key.Bytes ∷ key.Number ∷ []
 answer_form answer.UDErr = key.Bytes ∷ key.Bytes ∷ key.Number ∷ []
 answer_form answer.Seen = key.EventOrNone ∷ []
@@ -96,6 +101,7 @@ answer_values (Done (reply.Listened seq addr opt udata)) = Number seq.0 ∷ Byte
 answer_values (Done (reply.Sent n)) = Number n ∷ []
 answer_values (Done (reply.Got bytes flags)) = Bytes bytes ∷ Number flags ∷ []
 answer_values (Done (reply.Discon reason seq udata)) = Number reason ∷ Number seq.0 ∷ Bytes udata ∷ []
+answer_values (Done (reply.RelData udata)) = Bytes udata ∷ []
 answer_values (Done (reply.UData addr opt bytes flags)) = Bytes addr ∷ Bytes opt ∷ Bytes bytes ∷ Number flags ∷ []
 answer_values (Done (reply.UDErr addr opt code)) = Bytes addr ∷ Bytes opt ∷ Number code ∷ []
 answer_values (Done (reply.Seen event)) = EventOrNone event ∷ []

@@ -8,10 +8,11 @@ use Rattle.xti_model.specs.declared.entry.Entry.{Entry}
 use Rattle.xti_model.specs.declared.script.Journal.{Journal}
 use Rattle.xti_model.specs.declared.script.StallLine.{StallLine}
 use Rattle.xti_model.specs.Profile.{valid}
+use Rattle.xti_journal.specs.Releases.{AreWithoutData}
 use Rattle.xti_journal_text.specs.JournalText.{journal_text}
 use Rattle.xti_verbs.specs.declared.verb.Verb.{Verb}
 use Rattle.xti_journal.specs.Fields.{AreFields}
-use Rattle.xti_verbs.specs.Verbs.{verb_of, answer_to, MayAnswer}
+use Rattle.xti_verbs.specs.Verbs.{is_in_texts, verb_of, answer_to, MayAnswer}
 use Rattle.xti_journal.specs.Calls.{form, call_values, answer_form, answer_values}
 
 -- ---- the last call that a worker began
@@ -30,9 +31,9 @@ last_verb past worker = verb_from None worker past
 
 -- ---- entries
 
--- a call with its values, or `more` after a call
+-- a call that journals have, with its values; or `more` after a call
 abbrev pub IsAct : Option Verb → Act → Type 0
-IsAct before (Begin call) = AreFields (form (verb_of call)) (call_values call)
+IsAct before (Begin call) = (is_in_texts (verb_of call) ≡ true) × AreFields (form (verb_of call)) (call_values call)
 IsAct None More = ⊥
 IsAct (Some verb) More = Unit {0}
 
@@ -67,9 +68,10 @@ AreStalls entries (s ∷ stalls) = IsStall entries s × AreStallsAfter entries s
 
 -- ---- journals
 
--- a journal that has a text: its values are within their bounds, each call is answered in its form, and each call that goes on was begun
+-- a journal that has a text: its values are within their bounds and can be said, each call is answered in its form, and each call that goes on was begun
 pub record HasText (j : Journal) : Type 0 where
   pub providers : valid j.providers ≡ true
+  pub releases : AreWithoutData j.providers
   pub entries : AreEntries [] j.entries
   pub stalls : AreStalls j.entries j.stalls
 

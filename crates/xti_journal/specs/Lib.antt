@@ -2,6 +2,7 @@ pub mod Kinds
 pub mod FieldValue
 pub mod Fields
 pub mod Calls
+pub mod Releases
 pub mod Grammar
 pub mod Refused
 pub mod Values

@@ -98,6 +98,9 @@ fn read_news(answer: Answer, fields: &mut Fields, outcome: &mut Outcome) -> Resu
             seq = fields.seq(),
             udata: fields.bytes(),
         }),
+        Answer::RelData => build_or_drop!(Reply::RelData {
+            udata: fields.bytes(),
+        }),
         Answer::UData => build_or_drop!(Reply::UData {
             addr: fields.bytes(),
             opt: fields.bytes(),
@@ -170,6 +173,7 @@ pub(crate) fn read_answer(
         | Answer::Sent
         | Answer::Got
         | Answer::Discon
+        | Answer::RelData
         | Answer::UData
         | Answer::UDErr => read_news(answer, fields, outcome),
         Answer::Refused | Answer::Look | Answer::Overflow => read_error(answer, fields, outcome),

@@ -1,6 +1,6 @@
 //! Reading the lines after the head.
 
-ghost use Rattle.std.specs.Prelude.{◌≡◌};
+ghost use Rattle.std.specs.Prelude.{◌≡◌, false, IfOk};
 ghost use Rattle.xti_words.specs.Texts.{words_of};
 ghost use Rattle.xti_journal.specs.Reading.{stall_after, stalled_read, ended, Ended, may_follow, line_read, line_after, profile_values, profile_in};
 ghost use Rattle.xti_journal.specs.Unread.{IsRead};
@@ -99,7 +99,8 @@ pub(crate) fn read_line(
 /// The values of the provider with this name.
 #[tactic(auto, unfolding(crate::specs::Reading::profile_in, crate::specs::Fields::field))]
 pub(crate) fn read_profile(alloc: Global, name: &str, text: &[u8]) -> Result<Profile, FieldFail>
-    ensures { IsRead profile_values (profile_in name.now (words_of text.now)) result }
+    ensures read { IsRead profile_values (profile_in name.now (words_of text.now)) result }
+    ensures without { IfOk result (λ profile. profile.reldata ≡ false) }
 {
     let mut fields = Fields::of(alloc, text);
     if fields.word() != Some(b"provider".as_slice()) || fields.word() != Some(name.as_bytes()) {
@@ -118,6 +119,7 @@ pub(crate) fn read_profile(alloc: Global, name: &str, text: &[u8]) -> Result<Pro
         same_addr: fields.truth()?,
         sndbuf: fields.number()?,
         rcvbuf: fields.number()?,
+        reldata: false,
     };
     if fields.are_read() {
         Ok(profile)

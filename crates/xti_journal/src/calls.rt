@@ -62,7 +62,7 @@ fn read_local(verb: Verb, fields: &mut Fields, act: &mut Act) -> Result<(), Fiel
     Ok(())
 }
 
-/// Writes a call that makes a connection or breaks it.
+/// Writes a call that makes a connection, breaks it or has data with its release.
 #[tactic(auto, unfolding(crate::specs::Fields::field, crate::specs::Calls::form))]
 fn read_connecting(verb: Verb, fields: &mut Fields, act: &mut Act) -> Result<(), FieldFail>
     requires family { is_connecting verb ≡ true }
@@ -105,6 +105,14 @@ fn read_connecting(verb: Verb, fields: &mut Fields, act: &mut Act) -> Result<(),
             udata: fields.bytes(),
         }),
         Verb::RcvDis => build_or_drop!(Call::TRcvDis {
+            fd;
+            umax = fields.number(),
+        }),
+        Verb::SndRelData => build_or_drop!(Call::TSndRelData {
+            fd;
+            udata: fields.bytes(),
+        }),
+        Verb::RcvRelData => build_or_drop!(Call::TRcvRelData {
             fd;
             umax = fields.number(),
         }),
@@ -205,7 +213,9 @@ pub(crate) fn read_call(verb: Verb, fields: &mut Fields, act: &mut Act) -> Resul
         | Verb::Listen
         | Verb::Accept
         | Verb::SndDis
-        | Verb::RcvDis => read_connecting(verb, fields, act),
+        | Verb::RcvDis
+        | Verb::SndRelData
+        | Verb::RcvRelData => read_connecting(verb, fields, act),
         Verb::Snd | Verb::SndV | Verb::Rcv | Verb::RcvV => read_data(verb, fields, act),
         Verb::SndUData | Verb::SndVUData | Verb::RcvUData | Verb::RcvVUData | Verb::RcvUDErr =>
             read_datagram(verb, fields, act),

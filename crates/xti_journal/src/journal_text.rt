@@ -2,7 +2,8 @@
 
 ghost use Rattle.std.specs.Prelude.{◌≡◌, All, ◌++◌, ◌<◌, true, codes, length, IfOk, IfErr, IfSome, IfNone};
 ghost use Rattle.xti_journal_text.specs.JournalText.{head_text};
-ghost use Rattle.xti_model.specs.Profile.{valid, valid_connections, valid_orderly, valid_datagrams};
+ghost use Rattle.xti_journal.specs.Releases.{valid_head};
+ghost use Rattle.xti_model.specs.Profile.{valid_connections, valid_orderly, valid_datagrams};
 ghost use Rattle.xti_model.specs.declared.script.Journal.{Journal};
 ghost use Rattle.xti_journal.specs.declared.journal_text.JournalFail.TheVariants.{OutOfMemory};
 ghost use Rattle.xti_journal.specs.Grammar.{IsJournal};
@@ -91,7 +92,7 @@ fn read_next(
 
 /// Reads the lines after the head.
 fn read_body(alloc: Global, providers: Providers, text: &[u8]) -> Result<Journal, JournalFail>
-    requires { valid providers ≡ true }
+    requires { valid_head providers ≡ true }
     ensures { ReadsText (head_text providers ++ text.now) result }
 {
     let mut draft = Draft::new(alloc, providers);

@@ -14,7 +14,7 @@ use Rattle.xti_base.specs.Limit.{limit_number}
 use Rattle.xti_model.specs.declared.profile.Profile.{Profile}
 use Rattle.xti_model.specs.declared.profile.Providers.{Providers}
 use Rattle.xti_model.specs.declared.call.Call.{Call}
-use Rattle.xti_model.specs.declared.call.Call.TheVariants.{TOpen, TBind, TConnect, TRcvConnect, TListen, TAccept, TSnd, TSndV, TRcv, TRcvV, TSndDis, TRcvDis, TSndUData, TSndVUData, TRcvUData, TRcvVUData, TRcvUDErr, TGetProtAddr, TOptMgmt, SetMode}
+use Rattle.xti_model.specs.declared.call.Call.TheVariants.{TOpen, TBind, TConnect, TRcvConnect, TListen, TAccept, TSnd, TSndV, TRcv, TRcvV, TSndDis, TRcvDis, TSndRelData, TRcvRelData, TSndUData, TSndVUData, TRcvUData, TRcvVUData, TRcvUDErr, TGetProtAddr, TOptMgmt, SetMode}
 use Rattle.xti_model.specs.Touched.{fd_of}
 use Rattle.xti_model.specs.declared.entry.Entry.{Entry}
 use Rattle.xti_model.specs.declared.entry.Act.{Act}
@@ -22,7 +22,7 @@ use Rattle.xti_model.specs.declared.entry.Act.TheVariants.{Begin, More}
 use Rattle.xti_model.specs.declared.entry.Outcome.{Outcome}
 use Rattle.xti_model.specs.declared.entry.Outcome.TheVariants.{Done, Part}
 use Rattle.xti_model.specs.declared.entry.Reply.{Reply}
-use Rattle.xti_model.specs.declared.entry.Reply.TheVariants.{Plain, Opened, Bound, Connected, Listened, Sent, Got, Discon, UData, UDErr, Seen, Stands, Limits, Addresses, Options, Refused, Look, Overflow}
+use Rattle.xti_model.specs.declared.entry.Reply.TheVariants.{Plain, Opened, Bound, Connected, Listened, Sent, Got, Discon, RelData, UData, UDErr, Seen, Stands, Limits, Addresses, Options, Refused, Look, Overflow}
 use Rattle.xti_model.specs.declared.script.Journal.{Journal}
 use Rattle.xti_model.specs.declared.script.StallLine.{StallLine}
 use Rattle.xti_verbs.specs.Verbs.{verb_of, verb_word}
@@ -92,6 +92,8 @@ call_text (TRcv fd max) = number_word (codes "rcv ") fd.0 ++ number_word (codes 
 call_text (TRcvV fd sizes) = number_word (codes "rcvv ") fd.0 ++ sizes_field sizes
 call_text (TSndDis fd seq udata) = number_word (codes "snddis ") fd.0 ++ number_word (codes " ") seq.0 ++ octets_word (codes " udata=") udata
 call_text (TRcvDis fd umax) = number_word (codes "rcvdis ") fd.0 ++ number_word (codes " umax=") umax
+call_text (TSndRelData fd udata) = number_word (codes "sndreldata ") fd.0 ++ octets_word (codes " udata=") udata
+call_text (TRcvRelData fd umax) = number_word (codes "rcvreldata ") fd.0 ++ number_word (codes " umax=") umax
 call_text (TSndUData fd addr opt bytes) = number_word (codes "sndudata ") fd.0 ++ octets_word (codes " addr=") addr ++ octets_word (codes " opt=") opt ++ octets_word (codes " data=") bytes
 call_text (TSndVUData fd addr opt parts) = number_word (codes "sndvudata ") fd.0 ++ octets_word (codes " addr=") addr ++ octets_word (codes " opt=") opt ++ parts_field parts
 call_text (TRcvUData fd max amax omax) = number_word (codes "rcvudata ") fd.0 ++ number_word (codes " max=") max ++ number_word (codes " amax=") amax ++ number_word (codes " omax=") omax
@@ -133,6 +135,7 @@ reply_text (Listened seq addr opt udata) = number_word (codes "ok ") seq.0 ++ oc
 reply_text (Sent n) = number_word (codes "ok ") n
 reply_text (Got bytes flags) = octets_word (codes "ok ") bytes ++ number_word (codes " ") flags
 reply_text (Discon reason seq udata) = number_word (codes "ok ") reason ++ number_word (codes " ") seq.0 ++ octets_word (codes " ") udata
+reply_text (RelData udata) = octets_word (codes "ok ") udata
 reply_text (UData addr opt bytes flags) = octets_word (codes "ok ") addr ++ octets_word (codes " ") opt ++ octets_word (codes " ") bytes ++ number_word (codes " ") flags
 reply_text (UDErr addr opt code) = octets_word (codes "ok ") addr ++ octets_word (codes " ") opt ++ number_word (codes " ") code
 reply_text (Seen event) = codes "ok " ++ event_text event
@@ -154,6 +157,7 @@ arrow_text outcome = codes " => " ++ outcome_text outcome
 
 -- lines
 
+-- whether data may go with an orderly release isn't written
 abbrev pub profile_text : Profile → List ℕ
 profile_text p = limit_word (codes " tsdu=") p.tsdu ++ bit_word (codes " sendzero=") p.sendzero ++ bit_word (codes " same_addr=") p.same_addr ++ number_word (codes " sndbuf=") p.sndbuf ++ number_word (codes " rcvbuf=") p.rcvbuf
 

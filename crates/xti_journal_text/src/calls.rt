@@ -50,7 +50,7 @@ fn put_address_or_options(out: &mut Vec<u8>, call: &Call) -> Result<(), AllocErr
     }
 }
 
-// A call that asks for a connection, takes one or ends one.
+// A call that asks for a connection, takes one, ends one or sends data with its release.
 fn put_connection_request(out: &mut Vec<u8>, call: &Call) -> Result<(), AllocError>
     requires { IsTrue (is_connection_request call.now) }
     ensures { OnOk result (out.new.items ≡ out.old.items ++ codes " " ++ call_text call.now) }
@@ -88,6 +88,10 @@ fn put_connection_request(out: &mut Vec<u8>, call: &Call) -> Result<(), AllocErr
             put_number(out, " ", seq.0 as u64)?;
             put_pairs(out, " udata=x:", udata)
         }
+        Call::TSndRelData { fd, udata } => {
+            put_number(out, " sndreldata ", fd.0 as u64)?;
+            put_pairs(out, " udata=x:", udata)
+        }
         _ => unreachable!(),
     }
 }
@@ -119,6 +123,10 @@ fn put_connection_receipt(out: &mut Vec<u8>, call: &Call) -> Result<(), AllocErr
         }
         Call::TRcvDis { fd, umax } => {
             put_number(out, " rcvdis ", fd.0 as u64)?;
+            put_number(out, " umax=", *umax as u64)
+        }
+        Call::TRcvRelData { fd, umax } => {
+            put_number(out, " rcvreldata ", fd.0 as u64)?;
             put_number(out, " umax=", *umax as u64)
         }
         _ => unreachable!(),
@@ -237,12 +245,14 @@ pub(crate) fn put_call(out: &mut Vec<u8>, call: &Call) -> Result<(), AllocError>
         Call::TBind { .. } | Call::TGetProtAddr { .. } | Call::TOptMgmt { .. } => {
             put_address_or_options(out, call)
         }
-        Call::TConnect { .. } | Call::TAccept { .. } | Call::TSndDis { .. } => {
-            put_connection_request(out, call)
-        }
-        Call::TRcvConnect { .. } | Call::TListen { .. } | Call::TRcvDis { .. } => {
-            put_connection_receipt(out, call)
-        }
+        Call::TConnect { .. }
+        | Call::TAccept { .. }
+        | Call::TSndDis { .. }
+        | Call::TSndRelData { .. } => put_connection_request(out, call),
+        Call::TRcvConnect { .. }
+        | Call::TListen { .. }
+        | Call::TRcvDis { .. }
+        | Call::TRcvRelData { .. } => put_connection_receipt(out, call),
         Call::TSnd { .. } | Call::TSndV { .. } | Call::TSndUData { .. } | Call::TSndVUData { .. } =>
             put_send(out, call),
         Call::TRcv { .. }

@@ -65,6 +65,7 @@ fn put_connection_news(out: &mut Vec<u8>, reply: &Reply) -> Result<(), AllocErro
             put_number(out, " ", seq.0 as u64)?;
             put_pairs(out, " x:", udata)
         }
+        Reply::RelData { udata } => put_pairs(out, " => ok x:", udata),
         _ => unreachable!(),
     }
 }
@@ -158,9 +159,10 @@ fn put_reply(out: &mut Vec<u8>, reply: &Reply) -> Result<(), AllocError>
             put_number(out, " => ok ", *result as u64)?;
             put_pairs(out, " x:", opt)
         }
-        Reply::Connected { .. } | Reply::Listened { .. } | Reply::Discon { .. } => {
-            put_connection_news(out, reply)
-        }
+        Reply::Connected { .. }
+        | Reply::Listened { .. }
+        | Reply::Discon { .. }
+        | Reply::RelData { .. } => put_connection_news(out, reply),
         Reply::Got { .. } | Reply::UData { .. } | Reply::UDErr { .. } => put_received(out, reply),
         Reply::Refused { .. } | Reply::Look { .. } | Reply::Overflow { .. } => {
             put_error(out, reply)

@@ -27,6 +27,7 @@ pub(crate) fn answer_values(answer: Answer) -> &'static [Value] {
         ],
         Answer::Addresses => &[Value::Octets, Value::Octets],
         Answer::Options => &[Value::Number, Value::Octets],
+        Answer::RelData => &[Value::Octets],
         Answer::Plain | Answer::Refused | Answer::Look | Answer::Overflow | Answer::Part => &[],
     }
 }

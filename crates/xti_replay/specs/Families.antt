@@ -15,10 +15,11 @@ abbrev pub is_connect : NamedCall → Bool
 is_connect (named.TConnect fd addr opt udata amax omax umax) = true
 is_connect other = false
 
--- accepts a connection, refuses or breaks one
+-- accepts a connection, refuses or breaks one, or sends data with its release
 abbrev pub is_connection_answer : NamedCall → Bool
 is_connection_answer (named.TAccept fd resfd seq opt udata) = true
 is_connection_answer (named.TSndDis fd seq udata) = true
+is_connection_answer (named.TSndRelData fd udata) = true
 is_connection_answer other = false
 
 -- takes what the other side asked or answered about a connection
@@ -26,6 +27,7 @@ abbrev pub is_connection_receipt : NamedCall → Bool
 is_connection_receipt (named.TRcvConnect fd amax omax umax) = true
 is_connection_receipt (named.TListen fd name amax omax umax) = true
 is_connection_receipt (named.TRcvDis fd umax) = true
+is_connection_receipt (named.TRcvRelData fd umax) = true
 is_connection_receipt other = false
 
 -- sends or receives data on a connection

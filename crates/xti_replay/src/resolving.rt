@@ -140,7 +140,7 @@ impl<'a> Scope<'a> {
             TConnect { fd: endpoint, amax: same, omax: same, umax: same; addr, opt, udata })
     }
 
-    /// The call that accepts a connection, refuses or breaks one.
+    /// The call that accepts a connection, refuses or breaks one, or sends data with its release.
     #[inline(never)]
     fn connection_answer(&self, call: &NamedCall, act: &mut Act) -> Result<(), AllocError>
         requires kind { IsTrue (is_connection_answer call.now) }
@@ -149,7 +149,8 @@ impl<'a> Scope<'a> {
     {
         begin!(self, call, act, Ok(());
             TAccept { fd: endpoint, resfd: endpoint, seq: indication; opt, udata },
-            TSndDis { fd: endpoint, seq: indication_or_none; udata })
+            TSndDis { fd: endpoint, seq: indication_or_none; udata },
+            TSndRelData { fd: endpoint; udata })
     }
 
     /// The call that takes what the other side asked or answered about a connection.
@@ -162,7 +163,8 @@ impl<'a> Scope<'a> {
         begin!(self, call, act, ();
             TRcvConnect { fd: endpoint, amax: same, omax: same, umax: same; },
             TListen { fd: endpoint, amax: same, omax: same, umax: same; },
-            TRcvDis { fd: endpoint, umax: same; })
+            TRcvDis { fd: endpoint, umax: same; },
+            TRcvRelData { fd: endpoint, umax: same; })
     }
 
     /// The call that sends or receives data on a connection.
@@ -234,14 +236,15 @@ impl<'a> Scope<'a> {
             NamedCall::TBind { .. } | NamedCall::TGetProtAddr { .. } | NamedCall::TOptMgmt { .. } =>
                 self.address_or_options(call, act),
             NamedCall::TConnect { .. } => self.connect(call, act),
-            NamedCall::TAccept { .. } | NamedCall::TSndDis { .. } => self.connection_answer(
-                call, act,
-            ),
-            NamedCall::TRcvConnect { .. } | NamedCall::TListen { .. } | NamedCall::TRcvDis { .. } =>
-                {
-                    self.connection_receipt(call, act);
-                    Ok(())
-                }
+            NamedCall::TAccept { .. } | NamedCall::TSndDis { .. } | NamedCall::TSndRelData { .. } =>
+                self.connection_answer(call, act),
+            NamedCall::TRcvConnect { .. }
+            | NamedCall::TListen { .. }
+            | NamedCall::TRcvDis { .. }
+            | NamedCall::TRcvRelData { .. } => {
+                self.connection_receipt(call, act);
+                Ok(())
+            }
             NamedCall::TSnd { .. }
             | NamedCall::TSndV { .. }
             | NamedCall::TRcv { .. }

@@ -11,9 +11,9 @@ use Rattle.xti_words.proofs.WordBytes.{some-is, none-is}
 use Rattle.xti_script_reader.specs.FieldValue.{Value}
 use Rattle.xti_script_reader.specs.FieldValue.Value.{Bytes, Number, Parts, Sizes, Name, NameOrNone, Provider, Mode}
 use Rattle.xti_verbs.specs.declared.verb.Verb.{Verb}
-use Rattle.xti_verbs.specs.declared.verb.Verb.TheVariants.{Open, Close, Bind, Unbind, Connect, RcvConnect, Listen, Accept, Snd, SndV, Rcv, RcvV, SndDis, RcvDis, SndRel, RcvRel, SndUData, SndVUData, RcvUData, RcvVUData, RcvUDErr, Look, GetState, Sync, GetInfo, GetProtAddr, OptMgmt, SetMode}
+use Rattle.xti_verbs.specs.declared.verb.Verb.TheVariants.{Open, Close, Bind, Unbind, Connect, RcvConnect, Listen, Accept, Snd, SndV, Rcv, RcvV, SndDis, RcvDis, SndRel, RcvRel, SndRelData, RcvRelData, SndUData, SndVUData, RcvUData, RcvVUData, RcvUDErr, Look, GetState, Sync, GetInfo, GetProtAddr, OptMgmt, SetMode}
 use Rattle.xti_script_reader.specs.Names.{Spot, after}
-use Rattle.xti_verbs.specs.Verbs.{row_of, verb_word}
+use Rattle.xti_verbs.specs.Verbs.{is_in_texts, row_of, verb_word}
 use Rattle.xti_script_reader.specs.Calls.{form, call_with}
 use Rattle.xti_script_reader.specs.Grammar.{IsCall, IsLine}
 use Rattle.xti_script.specs.Canonical.{Written, written, written_call, call_text, line_text}
@@ -48,6 +48,8 @@ word_fits SndDis = fits_by SndDis refl refl
 word_fits RcvDis = fits_by RcvDis refl refl
 word_fits SndRel = fits_by SndRel refl refl
 word_fits RcvRel = fits_by RcvRel refl refl
+word_fits SndRelData = fits_by SndRelData refl refl
+word_fits RcvRelData = fits_by RcvRelData refl refl
 word_fits SndUData = fits_by SndUData refl refl
 word_fits SndVUData = fits_by SndVUData refl refl
 word_fits RcvUData = fits_by RcvUData refl refl
@@ -82,6 +84,8 @@ written_is SndDis (Name v1 ∷ NameOrNone v2 ∷ Bytes v3 ∷ []) d e = ap writt
 written_is RcvDis (Name v1 ∷ Number v2 ∷ []) d e = ap written_call (sym (some-is (call.TRcvDis v1 v2) d e))
 written_is SndRel (Name v1 ∷ []) d e = ap written_call (sym (some-is (call.TSndRel v1) d e))
 written_is RcvRel (Name v1 ∷ []) d e = ap written_call (sym (some-is (call.TRcvRel v1) d e))
+written_is SndRelData (Name v1 ∷ Bytes v2 ∷ []) d e = ap written_call (sym (some-is (call.TSndRelData v1 v2) d e))
+written_is RcvRelData (Name v1 ∷ Number v2 ∷ []) d e = ap written_call (sym (some-is (call.TRcvRelData v1 v2) d e))
 written_is SndUData (Name v1 ∷ Bytes v2 ∷ Bytes v3 ∷ Bytes v4 ∷ []) d e = ap written_call (sym (some-is (call.TSndUData v1 v2 v3 v4) d e))
 written_is SndVUData (Name v1 ∷ Bytes v2 ∷ Bytes v3 ∷ Parts v4 ∷ []) d e = ap written_call (sym (some-is (call.TSndVUData v1 v2 v3 v4) d e))
 written_is RcvUData (Name v1 ∷ Number v2 ∷ Number v3 ∷ Number v4 ∷ []) d e = ap written_call (sym (some-is (call.TRcvUData v1 v2 v3 v4) d e))
@@ -115,6 +119,8 @@ made (call.TSndDis fd seq udata) = refl
 made (call.TRcvDis fd umax) = refl
 made (call.TSndRel fd) = refl
 made (call.TRcvRel fd) = refl
+made (call.TSndRelData fd udata) = refl
+made (call.TRcvRelData fd umax) = refl
 made (call.TSndUData fd addr opt bytes) = refl
 made (call.TSndVUData fd addr opt parts) = refl
 made (call.TRcvUData fd max amax omax) = refl
@@ -127,6 +133,10 @@ made (call.TGetInfo fd) = refl
 made (call.TGetProtAddr fd amax pmax) = refl
 made (call.TOptMgmt fd action opt omax) = refl
 made (call.SetMode fd nonblock) = refl
+
+-- scripts have the call
+abbrev pub IsInTexts : NamedCall → Type 0
+IsInTexts call = is_in_texts (written_call call).verb ≡ true
 
 -- the text of each of the call's values is read there as this value
 abbrev pub CallReads : Spot → NamedCall → Type 0
@@ -141,15 +151,15 @@ pub record CallWritten (s : Spot) (call : NamedCall) : Type 0 where
   pub spaceless : AllLack 32 (first ∷ others)
   pub endless : AllLack 10 (first ∷ others)
 
-pub call_written : (s : Spot) (call : NamedCall) → CallReads s call → CallWritten s call
-call_written s call h =
+pub call_written : (s : Spot) (call : NamedCall) → IsInTexts call → CallReads s call → CallWritten s call
+call_written s call t h =
     let w = written_call call in
     let f = fields_written s (form w.verb) w.values h in
     record {
       first = verb_word w.verb;
       others = field_words (form w.verb) w.values;
       text_is = ap (λ t. verb_word w.verb ++ t) (words_are_text (form w.verb) w.values);
-      is_call = record { verb = w.verb; fields = field_words (form w.verb) w.values; values = w.values; spelled = refl; are_fields = f.are_fields; made = made call };
+      is_call = record { verb = w.verb; fields = field_words (form w.verb) w.values; values = w.values; in_texts = t; spelled = refl; are_fields = f.are_fields; made = made call };
       spaceless = ((word_fits w.verb).spaceless, f.spaceless);
       endless = ((word_fits w.verb).endless, f.endless);
     }
@@ -158,6 +168,9 @@ call_read : (s : Spot) (call : NamedCall) (words : List (List ℕ)) → AllLack 
 call_read s call words space line h =
     subst (λ (w : Written). AllReads s (form w.verb) w.values) (sym (written_is h.verb h.values call h.made))
     (fields_read s (form h.verb) h.values h.fields (subst (AllLack 32) h.spelled space).1 (subst (AllLack 10) h.spelled line).1 h.are_fields)
+
+call_in_texts : (s : Spot) (call : NamedCall) (words : List (List ℕ)) → IsCall s call words → IsInTexts call
+call_in_texts s call words h = subst (λ (w : Written). is_in_texts w.verb ≡ true) (sym (written_is h.verb h.values call h.made)) h.in_texts
 
 -- ---- lines
 
@@ -172,9 +185,10 @@ joined_lacks : (byte : ℕ) (texts : List (List ℕ)) → eqb 32 byte ≡ false 
 joined_lacks byte [] e h = All-nil (λ c. eqb c byte ≡ false)
 joined_lacks byte (text ∷ texts) e h = All-cons (λ c. eqb c byte ≡ false) 32 (text ++ after_each 32 texts) e (lacks_both byte text (after_each 32 texts) h.0 (joined_lacks byte texts e h.1))
 
--- the worker is one, and the text of each of its call's values is read there as this value
+-- the worker is one, scripts have the call, and the text of each of its values is read there as this value
 pub record LineReads (earlier : List Line) (line : Line) : Type 0 where
   pub is_worker : line.worker ≤ LAST_WORKER
+  pub in_texts : IsInTexts line.call
   pub call : CallReads (after earlier line.worker) line.call
 
 -- a line that is written whole
@@ -184,7 +198,7 @@ pub record LineWritten (earlier : List Line) (line : Line) : Type 0 where
 
 pub line_written : (earlier : List Line) (line : Line) → LineReads earlier line → LineWritten earlier line
 line_written earlier line h =
-    let c = call_written (after earlier line.worker) line.call h.call in
+    let c = call_written (after earlier line.worker) line.call h.in_texts h.call in
     let small : line.worker < 4294967296 = let most = h.is_worker in omega arith in
     let bare : bare_line line ≡ decimal line.worker ++ after_each 32 (c.first ∷ c.others) =
     append_assoc (decimal line.worker) (codes " ") (call_text line.call) ∙ ap (λ t. decimal line.worker ++ 32 ∷ t) c.text_is in
@@ -199,4 +213,4 @@ pub line_read : (earlier : List Line) (line : Line) (text : List ℕ) → Lacks 
 line_read earlier line text endless h =
     let space : AllLack 32 (h.number ∷ h.words) = subst (AllLack 32) h.split (pieces_lack_separator 32 text) in
     let end : AllLack 10 (h.number ∷ h.words) = subst (AllLack 10) h.split (pieces_lack 32 10 text endless) in
-    record { is_worker = h.is_worker; call = call_read (after earlier line.worker) line.call h.words space.1 end.1 h.call }
+    record { is_worker = h.is_worker; in_texts = call_in_texts (after earlier line.worker) line.call h.words h.call; call = call_read (after earlier line.worker) line.call h.words space.1 end.1 h.call }

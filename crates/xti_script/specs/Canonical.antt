@@ -12,7 +12,7 @@ use Rattle.xti_script_reader.specs.FieldValue.{Value}
 use Rattle.xti_script_reader.specs.FieldValue.Value.{Bytes, Number, Parts, Sizes, Name, NameOrNone, Provider, Mode}
 use Rattle.xti_script_reader.specs.declared.fields.Key.{Key}
 use Rattle.xti_verbs.specs.declared.verb.Verb.{Verb}
-use Rattle.xti_verbs.specs.declared.verb.Verb.TheVariants.{Open, Bind, Connect, RcvConnect, Listen, Accept, Snd, SndV, Rcv, RcvV, SndDis, RcvDis, SndUData, SndVUData, RcvUData, RcvVUData, RcvUDErr, GetProtAddr, OptMgmt, SetMode}
+use Rattle.xti_verbs.specs.declared.verb.Verb.TheVariants.{Open, Bind, Connect, RcvConnect, Listen, Accept, Snd, SndV, Rcv, RcvV, SndDis, RcvDis, SndRelData, RcvRelData, SndUData, SndVUData, RcvUData, RcvVUData, RcvUDErr, GetProtAddr, OptMgmt, SetMode}
 use Rattle.xti_script_reader.specs.Fields.{key_word}
 use Rattle.xti_verbs.specs.Verbs.{plain_name, verb_of_named, verb_word}
 use Rattle.xti_script_reader.specs.Calls.{form}
@@ -105,6 +105,8 @@ written_call (call.TRcv fd max) = written Rcv (Name fd ∷ Number max ∷ [])
 written_call (call.TRcvV fd sizes) = written RcvV (Name fd ∷ Sizes sizes ∷ [])
 written_call (call.TSndDis fd seq udata) = written SndDis (Name fd ∷ NameOrNone seq ∷ Bytes udata ∷ [])
 written_call (call.TRcvDis fd umax) = written RcvDis (Name fd ∷ Number umax ∷ [])
+written_call (call.TSndRelData fd udata) = written SndRelData (Name fd ∷ Bytes udata ∷ [])
+written_call (call.TRcvRelData fd umax) = written RcvRelData (Name fd ∷ Number umax ∷ [])
 written_call (call.TSndUData fd addr opt bytes) = written SndUData (Name fd ∷ Bytes addr ∷ Bytes opt ∷ Bytes bytes ∷ [])
 written_call (call.TSndVUData fd addr opt parts) = written SndVUData (Name fd ∷ Bytes addr ∷ Bytes opt ∷ Parts parts ∷ [])
 written_call (call.TRcvUData fd max amax omax) = written RcvUData (Name fd ∷ Number max ∷ Number amax ∷ Number omax ∷ [])

@@ -108,7 +108,7 @@ fn put_address_or_options(out: &mut Vec<u8>, call: &NamedCall) -> Result<(), All
     }
 }
 
-// A call that asks for a connection, takes one or ends one.
+// A call that asks for a connection, takes one, ends one or sends data with its release.
 #[tactic(auto, unfolding(crate::specs::Canonical::written_call, xti_script_reader::specs::Calls::form, xti_verbs::specs::Verbs::row_of, xti_script_reader::specs::Fields::field))]
 fn put_connection_request(out: &mut Vec<u8>, call: &NamedCall) -> Result<(), AllocError>
     requires { IsTrue (is_connection_request call.now) }
@@ -141,6 +141,10 @@ fn put_connection_request(out: &mut Vec<u8>, call: &NamedCall) -> Result<(), All
         NamedCall::TSndDis { fd, seq, udata } => {
             put_name(out, "snddis ", fd)?;
             put_name_or_none(out, " ", seq)?;
+            put_bytes(out, " udata=", udata)
+        }
+        NamedCall::TSndRelData { fd, udata } => {
+            put_name(out, "sndreldata ", fd)?;
             put_bytes(out, " udata=", udata)
         }
         _ => unreachable!(),
@@ -176,6 +180,10 @@ fn put_connection_receipt(out: &mut Vec<u8>, call: &NamedCall) -> Result<(), All
         }
         NamedCall::TRcvDis { fd, umax } => {
             put_name(out, "rcvdis ", fd)?;
+            put_number(out, " umax=", *umax as u64)
+        }
+        NamedCall::TRcvRelData { fd, umax } => {
+            put_name(out, "rcvreldata ", fd)?;
             put_number(out, " umax=", *umax as u64)
         }
         _ => unreachable!(),
@@ -301,12 +309,14 @@ pub(crate) fn put_call(out: &mut Vec<u8>, call: &NamedCall) -> Result<(), AllocE
         NamedCall::TBind { .. } | NamedCall::TGetProtAddr { .. } | NamedCall::TOptMgmt { .. } => {
             put_address_or_options(out, call)
         }
-        NamedCall::TConnect { .. } | NamedCall::TAccept { .. } | NamedCall::TSndDis { .. } => {
-            put_connection_request(out, call)
-        }
-        NamedCall::TRcvConnect { .. } | NamedCall::TListen { .. } | NamedCall::TRcvDis { .. } => {
-            put_connection_receipt(out, call)
-        }
+        NamedCall::TConnect { .. }
+        | NamedCall::TAccept { .. }
+        | NamedCall::TSndDis { .. }
+        | NamedCall::TSndRelData { .. } => put_connection_request(out, call),
+        NamedCall::TRcvConnect { .. }
+        | NamedCall::TListen { .. }
+        | NamedCall::TRcvDis { .. }
+        | NamedCall::TRcvRelData { .. } => put_connection_receipt(out, call),
         NamedCall::TSnd { .. }
         | NamedCall::TSndV { .. }
         | NamedCall::TSndUData { .. }

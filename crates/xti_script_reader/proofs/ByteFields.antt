@@ -18,7 +18,7 @@ use Rattle.xti_script_reader.specs.FieldValue.Value.{Bytes, Number, Parts, Sizes
 use Rattle.xti_script_reader.specs.declared.fields.Key.{Key}
 use Rattle.xti_script_reader.specs.declared.fields.Key.TheVariants as key
 use Rattle.xti_verbs.specs.declared.verb.Verb.{Verb}
-use Rattle.xti_verbs.specs.declared.verb.Verb.TheVariants.{Open, Close, Bind, Unbind, Connect, RcvConnect, Listen, Accept, Snd, SndV, Rcv, RcvV, SndDis, RcvDis, SndRel, RcvRel, SndUData, SndVUData, RcvUData, RcvVUData, RcvUDErr, Look, GetState, Sync, GetInfo, GetProtAddr, OptMgmt, SetMode}
+use Rattle.xti_verbs.specs.declared.verb.Verb.TheVariants.{Open, Close, Bind, Unbind, Connect, RcvConnect, Listen, Accept, Snd, SndV, Rcv, RcvV, SndDis, RcvDis, SndRel, RcvRel, SndRelData, RcvRelData, SndUData, SndVUData, RcvUData, RcvVUData, RcvUDErr, Look, GetState, Sync, GetInfo, GetProtAddr, OptMgmt, SetMode}
 use Rattle.xti_words.proofs.WordBytes.{some-is, none-is, word-bytes, option-bytes, part-bytes}
 use Rattle.xti_script_reader.specs.Names.{Spot, after, is_defined, can_name}
 use Rattle.xti_words.specs.Values.{number_in, bytes_in, list_in, options_in, provider_in, mode_in, action_in}
@@ -125,6 +125,8 @@ call-bytes SndDis (Name v1 ∷ NameOrNone v2 ∷ Bytes v3 ∷ []) d h e = same (
 call-bytes RcvDis (Name v1 ∷ Number v2 ∷ []) d h e = same (call.TRcvDis v1 v2) d tt e
 call-bytes SndRel (Name v1 ∷ []) d h e = same (call.TSndRel v1) d tt e
 call-bytes RcvRel (Name v1 ∷ []) d h e = same (call.TRcvRel v1) d tt e
+call-bytes SndRelData (Name v1 ∷ Bytes v2 ∷ []) d h e = same (call.TSndRelData v1 v2) d h.1.0 e
+call-bytes RcvRelData (Name v1 ∷ Number v2 ∷ []) d h e = same (call.TRcvRelData v1 v2) d tt e
 call-bytes SndUData (Name v1 ∷ Bytes v2 ∷ Bytes v3 ∷ Bytes v4 ∷ []) d h e = same (call.TSndUData v1 v2 v3 v4) d (h.1.0, h.1.1.0, h.1.1.1.0) e
 call-bytes SndVUData (Name v1 ∷ Bytes v2 ∷ Bytes v3 ∷ Parts v4 ∷ []) d h e = same (call.TSndVUData v1 v2 v3 v4) d (h.1.0, h.1.1.0, h.1.1.1.0) e
 call-bytes RcvUData (Name v1 ∷ Number v2 ∷ Number v3 ∷ Number v4 ∷ []) d h e = same (call.TRcvUData v1 v2 v3 v4) d tt e

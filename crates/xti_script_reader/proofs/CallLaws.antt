@@ -11,8 +11,8 @@ use Rattle.xti_verbs.specs.declared.verb.Verb.{Verb}
 use Rattle.xti_script_reader.specs.Names.{Spot, after}
 use Rattle.xti_words.specs.Texts.{words_of}
 use Rattle.xti_words.specs.Values.{number_in}
-use Rattle.xti_verbs.specs.Verbs.{verb_word, verb_in}
-use Rattle.xti_verbs.proofs.WordLaws.{verb_is, is_verb}
+use Rattle.xti_verbs.specs.Verbs.{is_in_texts, verb_word, verb_in}
+use Rattle.xti_verbs.proofs.WordLaws.{verb_is, is_known, is_verb}
 use Rattle.xti_script_reader.specs.Calls.{form}
 use Rattle.xti_base.specs.declared.limits.TheConstants.{LAST_WORKER}
 use Rattle.xti_script_reader.specs.Grammar.{IsCall, IsLine}
@@ -24,12 +24,13 @@ is_word xs ys e = (bytes_eq-Decides xs ys).0 e
 
 -- ---- any call
 
-values_are : (s : Spot) (word : List ℕ) (fields : List (List ℕ)) (verb : Verb) (c : NamedCall) (o : Option (List Value)) → word ≡ verb_word verb → fields_of s (form verb) fields ≡ o → with_values verb o ≡ Some c → IsCall s c (word ∷ fields)
-values_are s word fields verb c None w q e = absurd cc
-values_are s word fields verb c (Some values) w q e = record {
+values_are : (s : Spot) (word : List ℕ) (fields : List (List ℕ)) (verb : Verb) (c : NamedCall) (o : Option (List Value)) → is_in_texts verb ≡ true → word ≡ verb_word verb → fields_of s (form verb) fields ≡ o → with_values verb o ≡ Some c → IsCall s c (word ∷ fields)
+values_are s word fields verb c None t w q e = absurd cc
+values_are s word fields verb c (Some values) t w q e = record {
   verb = verb;
   fields = fields;
   values = values;
+  in_texts = t;
   spelled = ap (λ (x : List ℕ). x ∷ fields) w;
   are_fields = fields_are s (form verb) fields values q;
   made = e;
@@ -37,7 +38,7 @@ values_are s word fields verb c (Some values) w q e = record {
 
 verb_call_is : (s : Spot) (word : List ℕ) (words : List (List ℕ)) (o : Option Verb) (c : NamedCall) → verb_in word ≡ o → call_by_verb s o words ≡ Some c → IsCall s c (word ∷ words)
 verb_call_is s word words None c q e = absurd cc
-verb_call_is s word words (Some verb) c q e = values_are s word words verb c (fields_of s (form verb) words) (verb_is word verb q) refl e
+verb_call_is s word words (Some verb) c q e = values_are s word words verb c (fields_of s (form verb) words) (is_known word verb q) (verb_is word verb q) refl e
 
 call_is : (s : Spot) (words : List (List ℕ)) (c : NamedCall) → call_of s words ≡ Some c → IsCall s c words
 unfolding call_of
@@ -48,7 +49,7 @@ is_call : (s : Spot) (c : NamedCall) (words : List (List ℕ)) → IsCall s c wo
 unfolding call_of
 is_call s c words h =
     let read : fields_of s (form h.verb) h.fields ≡ Some h.values = are_fields s (form h.verb) h.values h.fields (forms_are_apart h.verb) h.are_fields in
-    rw h.spelled (rw (is_verb h.verb) (rw read h.made))
+    rw h.spelled (rw (is_verb h.verb h.in_texts) (rw read h.made))
 
 -- ---- lines
 

@@ -9,7 +9,7 @@ use Rattle.std.proofs.lemmas.Slice.Eq.{starts_is}
 use Rattle.xti_script_reader.specs.FieldValue.{Value}
 use Rattle.xti_script_reader.specs.declared.fields.Key.{Key}
 use Rattle.xti_verbs.specs.declared.verb.Verb.{Verb}
-use Rattle.xti_verbs.specs.declared.verb.Verb.TheVariants.{Open, Close, Bind, Unbind, Connect, RcvConnect, Listen, Accept, Snd, SndV, Rcv, RcvV, SndDis, RcvDis, SndRel, RcvRel, SndUData, SndVUData, RcvUData, RcvVUData, RcvUDErr, Look, GetState, Sync, GetInfo, GetProtAddr, OptMgmt, SetMode}
+use Rattle.xti_verbs.specs.declared.verb.Verb.TheVariants.{Open, Close, Bind, Unbind, Connect, RcvConnect, Listen, Accept, Snd, SndV, Rcv, RcvV, SndDis, RcvDis, SndRel, RcvRel, SndRelData, RcvRelData, SndUData, SndVUData, RcvUData, RcvVUData, RcvUDErr, Look, GetState, Sync, GetInfo, GetProtAddr, OptMgmt, SetMode}
 use Rattle.xti_script_reader.specs.Names.{Spot}
 use Rattle.xti_words.specs.Values.{onto}
 use Rattle.xti_script_reader.specs.Values.{value_in}
@@ -55,6 +55,8 @@ forms_are_apart SndDis = refl
 forms_are_apart RcvDis = refl
 forms_are_apart SndRel = refl
 forms_are_apart RcvRel = refl
+forms_are_apart SndRelData = refl
+forms_are_apart RcvRelData = refl
 forms_are_apart SndUData = refl
 forms_are_apart SndVUData = refl
 forms_are_apart RcvUData = refl

@@ -1,12 +1,12 @@
 -- What each script that has a text is made of.
-use Rattle.std.proofs.Common.{◌≡◌, ℕ, ◌+◌, ◌≤◌, ◌⊎◌, inl, inr, Bool, true, leb, List, [], ◌∷◌, ◌++◌, length, Some, refl, arith}
+use Rattle.std.proofs.Common.{◌≡◌, ℕ, ◌+◌, ◌≤◌, ◌⊎◌, inl, inr, Bool, true, leb, List, [], ◌∷◌, ◌++◌, length, Some, refl, sym, subst, arith}
 use Rattle.std.specs.List.{list_all}
 use Rattle.std.proofs.lemmas.Bool.{le-leb}
 use Rattle.xti_model.specs.declared.script.Line.{Line}
 use Rattle.xti_model.specs.declared.script.Script.{Script}
 use Rattle.xti_model.specs.Robin.{most_steps}
 use Rattle.xti_model.specs.declared.profile.Providers.{Providers}
-use Rattle.xti_model.specs.Profile.{usual, valid}
+use Rattle.xti_model.specs.Profile.{usual}
 use Rattle.xti_model.specs.Work.{script_bytes}
 use Rattle.xti_base.specs.declared.limits.TheConstants.{LAST_WORKER}
 use Rattle.xti_head.specs.Head.{head_of}
@@ -32,6 +32,7 @@ script_is_small s h =
     let bytes = h.1.small.few_bytes in
     omega arith
 
-pub head_is_valid : ((text : List ℕ) (p : Providers) → head_of text ≡ Some p → valid p ≡ true) → valid usual ≡ true → (p : Providers) (texts rest : List (List ℕ)) → HasHead p texts rest ⊎ HasNoHead p texts rest → valid p ≡ true
-head_is_valid heads start p texts rest (inl h) = heads (text_of h.head) p h.gives
-head_is_valid heads start p texts rest (inr h) = rw h.0 start
+-- what holds of each head's providers and of the usual ones holds of a script's
+pub head_has : (Holds : Providers → Type 0) → ((text : List ℕ) (p : Providers) → head_of text ≡ Some p → Holds p) → Holds usual → (p : Providers) (texts rest : List (List ℕ)) → HasHead p texts rest ⊎ HasNoHead p texts rest → Holds p
+head_has Holds heads start p texts rest (inl h) = heads (text_of h.head) p h.gives
+head_has Holds heads start p texts rest (inr h) = subst Holds (sym h.0) start

@@ -7,7 +7,7 @@ use Rattle.xti_script_reader.specs.FieldValue.Value.{Bytes, Number, Parts, Sizes
 use Rattle.xti_script_reader.specs.declared.fields.Key.{Key}
 use Rattle.xti_script_reader.specs.declared.fields.Key.TheVariants as key
 use Rattle.xti_verbs.specs.declared.verb.Verb.{Verb}
-use Rattle.xti_verbs.specs.declared.verb.Verb.TheVariants.{Open, Bind, Connect, RcvConnect, Listen, Accept, Snd, SndV, Rcv, RcvV, SndDis, RcvDis, SndUData, SndVUData, RcvUData, RcvVUData, RcvUDErr, GetProtAddr, OptMgmt, SetMode}
+use Rattle.xti_verbs.specs.declared.verb.Verb.TheVariants.{Open, Bind, Connect, RcvConnect, Listen, Accept, Snd, SndV, Rcv, RcvV, SndDis, RcvDis, SndRelData, RcvRelData, SndUData, SndVUData, RcvUData, RcvVUData, RcvUDErr, GetProtAddr, OptMgmt, SetMode}
 use Rattle.xti_verbs.specs.Verbs.{plain_named_call}
 
 -- the keys of the fields of a call, in their order; those calls that are not named here say no more than which endpoint
@@ -24,6 +24,8 @@ form Rcv = key.Endpoint ∷ key.Max ∷ []
 form RcvV = key.Endpoint ∷ key.Sizes ∷ []
 form SndDis = key.Endpoint ∷ key.SequenceOrNone ∷ key.UData ∷ []
 form RcvDis = key.Endpoint ∷ key.Umax ∷ []
+form SndRelData = key.Endpoint ∷ key.UData ∷ []
+form RcvRelData = key.Endpoint ∷ key.Umax ∷ []
 form SndUData = key.Endpoint ∷ key.Addr ∷ key.Opt ∷ key.Data ∷ []
 form SndVUData = key.Endpoint ∷ key.Addr ∷ key.Opt ∷ key.Parts ∷ []
 form RcvUData = key.Endpoint ∷ key.Max ∷ key.Amax ∷ key.Omax ∷ []
@@ -48,6 +50,8 @@ call_with Rcv (Name fd ∷ Number max ∷ []) = Some (call.TRcv fd max)
 call_with RcvV (Name fd ∷ Sizes sizes ∷ []) = Some (call.TRcvV fd sizes)
 call_with SndDis (Name fd ∷ NameOrNone seq ∷ Bytes udata ∷ []) = Some (call.TSndDis fd seq udata)
 call_with RcvDis (Name fd ∷ Number umax ∷ []) = Some (call.TRcvDis fd umax)
+call_with SndRelData (Name fd ∷ Bytes udata ∷ []) = Some (call.TSndRelData fd udata)
+call_with RcvRelData (Name fd ∷ Number umax ∷ []) = Some (call.TRcvRelData fd umax)
 call_with SndUData (Name fd ∷ Bytes addr ∷ Bytes opt ∷ Bytes bytes ∷ []) = Some (call.TSndUData fd addr opt bytes)
 call_with SndVUData (Name fd ∷ Bytes addr ∷ Bytes opt ∷ Parts parts ∷ []) = Some (call.TSndVUData fd addr opt parts)
 call_with RcvUData (Name fd ∷ Number max ∷ Number amax ∷ Number omax ∷ []) = Some (call.TRcvUData fd max amax omax)

@@ -16,14 +16,15 @@ use Rattle.xti_script_reader.specs.Names.{Spot, after}
 use Rattle.xti_words.specs.Texts.{lines_of, text_of, words_of, is_ascii}
 use Rattle.xti_words.specs.Values.{number_in}
 use Rattle.xti_script_reader.specs.Fields.{AreFields}
-use Rattle.xti_verbs.specs.Verbs.{verb_word}
+use Rattle.xti_verbs.specs.Verbs.{is_in_texts, verb_word}
 use Rattle.xti_script_reader.specs.Calls.{form, call_with}
 
--- the words of a call of a line there: the call's word, and its fields
+-- the words of a call of a line there: the word of a call that scripts have, and its fields
 pub record IsCall (s : Spot) (call : NamedCall) (words : List (List ℕ)) : Type 0 where
   pub verb : Verb
   pub fields : List (List ℕ)
   pub values : List Value
+  pub in_texts : is_in_texts verb ≡ true
   pub spelled : words ≡ verb_word verb ∷ fields
   pub are_fields : AreFields s (form verb) values fields
   pub made : call_with verb values ≡ Some call

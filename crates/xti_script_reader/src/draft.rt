@@ -75,7 +75,9 @@ fn left_after(left: usize, call: &NamedCall) -> Option<usize>
         NamedCall::TAccept { opt, udata, .. } => less_two(left, opt, udata),
         NamedCall::TSnd { bytes, .. } => less_one(left, bytes),
         NamedCall::TSndV { parts, .. } => less_parts(left, parts.as_slice()),
-        NamedCall::TSndDis { udata, .. } => less_one(left, udata),
+        NamedCall::TSndDis { udata, .. } | NamedCall::TSndRelData { udata, .. } => {
+            less_one(left, udata)
+        }
         NamedCall::TSndUData {
             addr,
             opt,

@@ -60,7 +60,7 @@ fn read_local(verb: Verb, fields: &mut Fields) -> NamedCall
     }
 }
 
-/// A call that makes a connection or breaks it.
+/// A call that makes a connection, breaks it or has data with its release.
 #[tactic(auto, unfolding(crate::specs::Fields::field, crate::specs::Calls::form, crate::specs::Calls::call_with))]
 fn read_connecting(verb: Verb, fields: &mut Fields) -> NamedCall
     requires family { is_connecting verb ≡ true }
@@ -105,6 +105,14 @@ fn read_connecting(verb: Verb, fields: &mut Fields) -> NamedCall
             udata: fields.bytes(Key::UData),
         },
         Verb::RcvDis => NamedCall::TRcvDis {
+            fd,
+            umax: fields.number(Key::Umax),
+        },
+        Verb::SndRelData => NamedCall::TSndRelData {
+            fd,
+            udata: fields.bytes(Key::UData),
+        },
+        Verb::RcvRelData => NamedCall::TRcvRelData {
             fd,
             umax: fields.number(Key::Umax),
         },
@@ -202,7 +210,9 @@ pub(crate) fn read_fields(verb: Verb, fields: &mut Fields) -> NamedCall
         | Verb::Listen
         | Verb::Accept
         | Verb::SndDis
-        | Verb::RcvDis => read_connecting(verb, fields),
+        | Verb::RcvDis
+        | Verb::SndRelData
+        | Verb::RcvRelData => read_connecting(verb, fields),
         Verb::Snd | Verb::SndV | Verb::Rcv | Verb::RcvV => read_data(verb, fields),
         Verb::SndUData | Verb::SndVUData | Verb::RcvUData | Verb::RcvVUData | Verb::RcvUDErr =>
             read_datagram(verb, fields),

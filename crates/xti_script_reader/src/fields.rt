@@ -46,7 +46,7 @@ pub enum Key {
     Addr,
     /// Options.
     Opt,
-    /// The data that go with a request, a confirmation or a disconnect.
+    /// The data that go with a request, a confirmation, a disconnect or a release.
     UData,
     /// The data of a send.
     Data,

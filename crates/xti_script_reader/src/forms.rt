@@ -44,6 +44,8 @@ pub fn form(verb: Verb) -> &'static [Key]
         Verb::RcvV => &[Key::Endpoint, Key::Sizes],
         Verb::SndDis => &[Key::Endpoint, Key::SequenceOrNone, Key::UData],
         Verb::RcvDis => &[Key::Endpoint, Key::Umax],
+        Verb::SndRelData => &[Key::Endpoint, Key::UData],
+        Verb::RcvRelData => &[Key::Endpoint, Key::Umax],
         Verb::SndUData => &[Key::Endpoint, Key::Addr, Key::Opt, Key::Data],
         Verb::SndVUData => &[Key::Endpoint, Key::Addr, Key::Opt, Key::Parts],
         Verb::RcvUData => &[Key::Endpoint, Key::Max, Key::Amax, Key::Omax],

@@ -1,6 +1,6 @@
 //! Laws of the scripts that have a text.
 
-ghost use Rattle.std.specs.Prelude.{◌≡◌, ◌≤◌, ◌+◌, ℕ, true, List, length};
+ghost use Rattle.std.specs.Prelude.{◌≡◌, ◌≤◌, ◌+◌, ℕ, false, true, List, length};
 ghost use Rattle.xti_model.specs.Profile.{valid};
 ghost use Rattle.xti_model.specs.Robin.{most_steps};
 ghost use Rattle.xti_model.specs.SentBytes.{AllHaveByteArguments, LinesSendBytes};
@@ -9,8 +9,7 @@ ghost use Rattle.xti_model.specs.declared.script.Script.{Script};
 ghost use Rattle.xti_script_reader.specs.Grammar.{HaveWorkers, HasText, IsScript};
 ghost use Rattle.xti_script_reader.specs.Refused.{IsRefusedAt};
 
-use xti_head::heads_are_valid;
-use xti_model::usual_is_valid;
+use xti_head::{heads_are_valid, heads_have_no_release_data};
 
 /// A text is a script, or is refused at a line, and never both.
 pub fn never_both()
@@ -26,8 +25,16 @@ pub fn one_script()
 pub fn scripts_have_valid_providers()
     ensures { (s : Script) → HasText s → valid s.providers ≡ true }
 {
-    usual_is_valid();
     heads_are_valid();
+}
+
+/// Data may go with a release of none of the providers of a script that has a text.
+pub fn scripts_have_no_release_data()
+    ensures ticots { (s : Script) → HasText s → s.providers.ticots.reldata ≡ false }
+    ensures ticotsord { (s : Script) → HasText s → s.providers.ticotsord.reldata ≡ false }
+    ensures ticlts { (s : Script) → HasText s → s.providers.ticlts.reldata ≡ false }
+{
+    heads_have_no_release_data();
 }
 
 /// Each worker of a script that has a text is one of 0 to 32.
