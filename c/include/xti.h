@@ -292,6 +292,9 @@ int t_sysconf(int name);
 /* Takes the address from an endpoint. */
 int t_unbind(int fd);
 
+/* Not of XNS: records the steps that calls make as a journal, in the file of a descriptor; with -1 the journal ends. */
+int xti_journal_to(int fd);
+
 #ifdef __cplusplus
 }
 #endif

@@ -3,6 +3,7 @@
 #include "calling.h"
 #include "errors.h"
 #include "links.h"
+#include "recording.h"
 #include "waiting.h"
 #include <errno.h>
 #include <fcntl.h>
@@ -24,13 +25,21 @@ enum xti_end xti_step(const struct xti_asked *asked, const struct input *in, str
 {
     static const uint32_t no_sizes[1];
     struct xti_world kept = { NULL };
+    static uint8_t no_line[1];
+    struct place place = { 0, 0, no_line, 0, 0 };
     int has_room = in->data_room != NULL;
-    uint32_t end = xti_c_step(world, &kept, asked, bytes_at(in->addr, in->addr_len), in->addr_len, bytes_at(in->opt, in->opt_len),
+    uint32_t end;
+
+    if (xti_is_recording)
+        xti_place_step(asked, &place);
+    end = xti_c_step(world, &kept, asked, bytes_at(in->addr, in->addr_len), in->addr_len, bytes_at(in->opt, in->opt_len),
         in->opt_len, bytes_at(in->data, in->data_len), in->data_len, in->sizes_len ? in->sizes : no_sizes, in->sizes_len, &a->told,
         a->addr, sizeof a->addr, a->opt, sizeof a->opt, has_room ? (uint8_t *)in->data_room : a->data,
-        has_room ? in->data_room_len : sizeof a->data);
-
+        has_room ? in->data_room_len : sizeof a->data, place.worker, place.number, place.room,
+        place.room_len, &place.line_len);
     world = kept;
+    if (xti_is_recording)
+        xti_take_line(&place, asked, (enum xti_end)end);
     return (enum xti_end)end;
 }
 
@@ -195,15 +204,31 @@ static int wait_for_step(const struct xti_asked *asked, const struct input *inpu
 
     if (asked->call == XTI_SNDUDATA || asked->call == XTI_SNDVUDATA)
         other = xti_destination(input);
+    xti_write_journal();
     return xti_wait(place, other < 0 ? place : other, what);
+}
+
+static int make_world(void)
+{
+    if (!xti_c_make(&world))
+        return xti_system_fail(ENOMEM);
+    xti_record_by_environment();
+    return 0;
+}
+
+void xti_forget_world(void)
+{
+    if (world.at)
+        xti_c_free(world);
+    world.at = NULL;
 }
 
 int xti_make_call_locked(struct xti_asked *asked, const struct input *input, struct answer *a)
 {
     if (!world.at && asked->call != XTI_OPEN)
         return xti_fail(TBADF);
-    if (!world.at && !xti_c_make(&world))
-        return xti_system_fail(ENOMEM);
+    if (!world.at && make_world() < 0)
+        return -1;
     for (;;) {
         places touched;
         if (must_know_mode(asked))

@@ -32,6 +32,8 @@ int xti_make_plain_call(int fd, enum xti_call number, struct answer *answer);
 int xti_make_call_locked(struct xti_asked *asked, const struct input *input, struct answer *answer);
 /* One step, with the lock held and a world. */
 enum xti_end xti_step(const struct xti_asked *asked, const struct input *input, struct answer *answer);
+/* With no endpoint open: the next call begins with a new world. */
+void xti_forget_world(void);
 /* The event that t_look would tell at the endpoint, which stays as it is; 0 for none. */
 int xti_first_event(const struct endpoint *e);
 

@@ -137,20 +137,29 @@ int t_rcvrel(int fd)
     return xti_make_plain_call(fd, XTI_RCVREL, &a);
 }
 
-/* No provider has T_ORDRELDATA. */
-static int refuse_release_data(int fd)
-{
-    return t_getstate(fd) < 0 ? -1 : xti_fail(TNOTSUPPORT);
-}
-
 int t_sndreldata(int fd, struct t_discon *discon)
 {
-    (void)discon;
-    return refuse_release_data(fd);
+    struct xti_asked asked = { .call = XTI_SNDRELDATA };
+    struct input input = xti_no_input;
+    struct answer a;
+
+    if (discon)
+        take_data(&input, &discon->udata);
+    return xti_make_call(fd, &asked, &input, &a);
 }
 
+/* A release has no reason and no sequence number. */
 int t_rcvreldata(int fd, struct t_discon *discon)
 {
-    (void)discon;
-    return refuse_release_data(fd);
+    struct xti_asked asked = { .call = XTI_RCVRELDATA, .umax = xti_room(discon ? &discon->udata : NULL) };
+    struct answer a;
+
+    if (xti_make_call(fd, &asked, &xti_no_input, &a) < 0)
+        return -1;
+    if (discon) {
+        discon->reason = 0;
+        discon->sequence = 0;
+        xti_give(&discon->udata, a.data, a.told.udata);
+    }
+    return 0;
 }

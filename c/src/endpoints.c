@@ -11,7 +11,7 @@
 #include <unistd.h>
 
 /* Descriptors of the library's own begin here, where the process may have that many, so that those of a program stay low. */
-enum { FIRST_SIGNAL = 512 };
+enum { FIRST_OWN = 512 };
 
 struct endpoint xti_endpoints[XTI_PLACES];
 places xti_open_places;
@@ -68,14 +68,19 @@ int xti_is_address(const struct address *a, const void *bytes, size_t len)
     return len > 0 && a->len == len && memcmp(a->bytes, bytes, len) == 0;
 }
 
+int xti_own_descriptor(int fd)
+{
+    int own = fcntl(fd, F_DUPFD_CLOEXEC, FIRST_OWN);
+
+    return own < 0 ? fcntl(fd, F_DUPFD_CLOEXEC, 0) : own;
+}
+
 int xti_make_descriptors(struct endpoint *e, int is_nonblocking)
 {
     e->fd = eventfd(0, EFD_CLOEXEC | (is_nonblocking ? EFD_NONBLOCK : 0));
     if (e->fd < 0)
         return -1;
-    e->signal = fcntl(e->fd, F_DUPFD_CLOEXEC, FIRST_SIGNAL);
-    if (e->signal < 0)
-        e->signal = fcntl(e->fd, F_DUPFD_CLOEXEC, 0);
+    e->signal = xti_own_descriptor(e->fd);
     if (e->signal < 0) {
         close(e->fd);
         return -1;

@@ -65,6 +65,8 @@ uint32_t xti_number_of(int fd);
 int xti_place_of(const struct endpoint *e);
 void xti_set_address(struct address *a, const void *bytes, size_t len);
 int xti_is_address(const struct address *a, const void *bytes, size_t len);
+/* A second descriptor of the same file, for the library alone: -1 with errno set. */
+int xti_own_descriptor(int fd);
 /* Makes the descriptors of an endpoint: 0, or -1 with errno set. */
 int xti_make_descriptors(struct endpoint *e, int is_nonblocking);
 void xti_close_descriptors(const struct endpoint *e);

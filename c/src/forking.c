@@ -1,7 +1,8 @@
 /* After a fork each process has the world to itself: the child has a copy of every endpoint, none of them linked with the parent's,
-   and waits for nothing. Its descriptors get eventfds of their own, since the parent's would be shared. */
+   waits for nothing, and records nothing. Its descriptors get eventfds of their own, since the parent's would be shared. */
 #include "forking.h"
 #include "endpoints.h"
+#include "recording.h"
 #include "waiting.h"
 #include <pthread.h>
 
@@ -13,6 +14,7 @@ static void in_child(void)
     while ((e = xti_take_first(&open)))
         xti_renew_descriptors(e);
     xti_forget_waiters();
+    xti_forget_journal();
     xti_leave();
 }
 

@@ -156,6 +156,8 @@ void xti_note_step(const struct xti_asked *asked, const struct input *input, con
         break;
     case XTI_SNDREL:
     case XTI_RCVREL:
+    case XTI_SNDRELDATA:
+    case XTI_RCVRELDATA:
         if (answer->told.state == T_IDLE)
             note_end(e);
         break;

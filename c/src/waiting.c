@@ -114,6 +114,11 @@ void xti_wake(int place, int for_change, int for_room)
             sem_post(&l->waiter->woken);
 }
 
+int xti_has_waiters(void)
+{
+    return waiters > 0;
+}
+
 int xti_is_anybody_there(void)
 {
     return waiters > 0 || xti_is_watched;

@@ -14,6 +14,8 @@ int xti_wait(int place, int other_place, enum waits_for what);
 void xti_wake(int place, int for_change, int for_room);
 /* Whether there is anybody to tell of a step: a call that waits, or something that can wait for descriptors. */
 int xti_is_anybody_there(void);
+/* Whether a call waits. */
+int xti_has_waiters(void);
 /* Nobody waits any more: after a fork in the child. */
 void xti_forget_waiters(void);
 

@@ -38,7 +38,9 @@ enum xti_call {
     XTI_GETINFO,
     XTI_GETPROTADDR,
     XTI_OPTMGMT,
-    XTI_MODE
+    XTI_MODE,
+    XTI_SNDRELDATA,
+    XTI_RCVRELDATA
 };
 
 enum xti_reply {
@@ -60,7 +62,8 @@ enum xti_reply {
     XTI_REFUSED,
     XTI_LOOKED,
     XTI_OVERFLOW,
-    XTI_A_PART
+    XTI_A_PART,
+    XTI_RELDATA
 };
 
 /* How a step ended. */
@@ -94,11 +97,17 @@ struct xti_seen {
 _Bool xti_c_make(struct xti_world *kept);
 /* Frees a world. */
 void xti_c_free(struct xti_world given);
-/* Makes one step of a call. It takes the world, and gives it back through `kept`. */
+/* Makes one step of a call. It takes the world, and gives it back through `kept`. Where room for a line is given and a step is made,
+   as much as fits of the step's line in a journal is put there, of that worker and with that number; `line_len` gets the whole
+   line's length, and 0 where no step was made, or where there was no memory for the line after the step was made. */
 uint32_t xti_c_step(struct xti_world given, struct xti_world *kept, const struct xti_asked *asked, const uint8_t *addr,
     size_t addr_len, const uint8_t *opt, size_t opt_len, const uint8_t *udata, size_t udata_len, const uint32_t *sizes,
     size_t sizes_len, struct xti_told *told, uint8_t *addr_room, size_t addr_room_len, uint8_t *opt_room,
-    size_t opt_room_len, uint8_t *udata_room, size_t udata_room_len);
+    size_t opt_room_len, uint8_t *udata_room, size_t udata_room_len, uint32_t worker, uint64_t number, uint8_t *line_room,
+    size_t line_room_len, size_t *line_len);
+/* Puts as much as fits of the journal of a run without steps into the room: its head, and its end. The whole text's length, or 0
+   where there was no memory for it. */
+size_t xti_c_no_steps(uint8_t *room, size_t room_len);
 /* What the endpoint with this number shows, which changes nothing; whether one is open. */
 _Bool xti_c_look(struct xti_world given, struct xti_world *kept, uint32_t fd, struct xti_seen *seen);
 

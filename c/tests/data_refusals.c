@@ -80,11 +80,13 @@ static void releasing(void)
 {
     int a, c, flags, idle = endpoint("ticotsord", O_NONBLOCK, "idle", 0);
     struct t_iovec part = { bytes, 9 };
+    struct t_discon release = { .udata = { .maxlen = 64, .len = 3, .buf = bytes } };
 
     connected("ticotsord", &a, &c);
     REFUSED(t_sndrel(idle), TOUTSTATE, idle, T_IDLE);
     REFUSED(t_rcvrel(idle), TOUTSTATE, idle, T_IDLE);
     REFUSED(t_rcvrel(c), TNOREL, c, T_DATAXFER);
+    REFUSED(t_rcvreldata(c, &release), TNOREL, c, T_DATAXFER);
     REFUSED(t_snd(c, bytes, 0, 0), TBADDATA, c, T_DATAXFER);
     REFUSED(t_sndv(c, &part, 0, 0), TBADDATA, c, T_DATAXFER);
     ANSWERS(t_snd(a, "last", 4, 0), 4);
@@ -100,18 +102,22 @@ static void releasing(void)
     ANSWERS(t_look(c), T_ORDREL);
     ANSWERS(t_rcvrel(c), 0);
     REFUSED(t_rcv(c, bytes, 9, &flags), TOUTSTATE, c, T_INREL);
-    REFUSED(t_sndreldata(c, NULL), TNOTSUPPORT, c, T_INREL);
-    ANSWERS(t_sndrel(c), 0);
+    REFUSED(t_rcvreldata(c, &release), TOUTSTATE, c, T_INREL);
+    REFUSED(t_sndreldata(c, &release), TBADDATA, c, T_INREL);
+    ANSWERS(t_sndreldata(c, NULL), 0);
     CHECK(t_getstate(c) == T_IDLE);
-    REFUSED(t_rcvreldata(a, NULL), TNOTSUPPORT, a, T_OUTREL);
-    ANSWERS(t_rcvrel(a), 0);
+    REFUSED(t_sndreldata(a, &release), TOUTSTATE, a, T_OUTREL);
+    ANSWERS(t_rcvreldata(a, &release), 0);
+    CHECK(release.udata.len == 0);
     CHECK(t_getstate(a) == T_IDLE);
     ANSWERS(t_close(a), 0);
     ANSWERS(t_close(c), 0);
     connected("ticotsord", &a, &c);
     ANSWERS(t_close(a), 0);
     REFUSED(t_sndrel(c), TLOOK, c, T_DATAXFER);
+    REFUSED(t_sndreldata(c, NULL), TLOOK, c, T_DATAXFER);
     REFUSED(t_rcvrel(c), TLOOK, c, T_DATAXFER);
+    REFUSED(t_rcvreldata(c, &release), TLOOK, c, T_DATAXFER);
     REFUSED(t_snddis(c, NULL), TLOOK, c, T_DATAXFER);
     ANSWERS(t_close(c), 0);
     ANSWERS(t_close(idle), 0);

@@ -4,5 +4,6 @@
 mod exports;
 mod loose;
 mod passing;
+mod recording;
 mod seeing;
 mod stepping;

@@ -2,32 +2,56 @@
 
 ghost use Rattle.std.specs.Prelude.{◌≡◌};
 ghost use Rattle.xti_c.specs.Answers.{places_of, Answers, IsSure, RunsOutRightly, Steps, TellsNoCall};
+ghost use Rattle.xti_c.specs.Lines.{TellsLine, TellsStep};
 
+use crate::recording::{Place, act_of, tell_entry};
 use std::alloc::Global;
 use xti_core::World;
 use xti_flat::{Asked, Bytes, Told, call_of, go_of, tell};
+use xti_journal_text::Entry;
 use xti_model::{Applied, Call, Go};
+
+/// How a step ended, and how many bytes its line in the journal has; 0 where no line is told.
+#[derive(Clone, Copy)]
+pub(crate) struct Ended {
+    pub(crate) end: u32,
+    pub(crate) line: usize,
+}
 
 /// One step of the call. 0: the call is done; 1: a part of it is made; 2: it is blocked; 3: out of memory.
 #[tactic(none)]
 fn step_call(
+    alloc: Global,
     world: &mut World,
-    call: &Call,
+    call: Call,
     go: Go,
+    place: Place,
     told: &mut Told,
     addr: &mut [u8],
     opt: &mut [u8],
     udata: &mut [u8],
-) -> u32
-    ensures steps { Steps call.now go world.old world.new result
+    room: &mut [u8],
+) -> Ended
+    ensures steps { Steps call go world.old world.new result.end
         (places_of told.old addr.old opt.old udata.old)
         (places_of told.new addr.new opt.new udata.new) }
-    ensures sure { IsSure call.now go world.old result }
+    ensures line { TellsStep place call go world.old result room.old room.new }
+    ensures sure { IsSure call go world.old result.end }
 {
-    match world.step(call, go) {
-        Ok(Applied::Step { outcome, after }) => tell(&outcome, after, told, addr, opt, udata),
-        Ok(Applied::Blocked) => 2,
-        Err(_) => 3,
+    match world.step(&call, go) {
+        Ok(Applied::Step { outcome, after }) => {
+            let end = tell(&outcome, after, told, addr, opt, udata);
+            let entry = Entry {
+                worker: place.worker,
+                act: act_of(call, go),
+                outcome,
+                after,
+            };
+            let line = tell_entry(alloc, place.number, &entry, room);
+            Ended { end, line }
+        }
+        Ok(Applied::Blocked) => Ended { end: 2, line: 0 },
+        Err(_) => Ended { end: 3, line: 0 },
     }
 }
 
@@ -39,20 +63,36 @@ pub(crate) fn make_step(
     world: &mut World,
     asked: &Asked,
     bytes: &Bytes,
+    place: Place,
     told: &mut Told,
     addr: &mut [u8],
     opt: &mut [u8],
     udata: &mut [u8],
-) -> u32
-    ensures answers { Answers asked.now bytes.now world.old world.new result
+    room: &mut [u8],
+) -> Ended
+    ensures answers { Answers asked.now bytes.now world.old world.new result.end
         (places_of told.old addr.old opt.old udata.old)
         (places_of told.new addr.new opt.new udata.new) }
-    ensures sure { RunsOutRightly world.old asked.now bytes.now result }
-    ensures no_call { TellsNoCall asked.now result }
+    ensures line { TellsLine place asked.now bytes.now world.old result room.old room.new }
+    ensures sure { RunsOutRightly world.old asked.now bytes.now result.end }
+    ensures no_call { TellsNoCall asked.now result.end }
 {
     match call_of(alloc, asked, bytes) {
-        Ok(Some(call)) => step_call(world, &call, go_of(asked), told, addr, opt, udata),
-        Ok(None) => 4,
-        Err(_) => 3,
+        Ok(Some(call)) => {
+            step_call(
+                alloc,
+                world,
+                call,
+                go_of(asked),
+                place,
+                told,
+                addr,
+                opt,
+                udata,
+                room,
+            )
+        }
+        Ok(None) => Ended { end: 4, line: 0 },
+        Err(_) => Ended { end: 3, line: 0 },
     }
 }

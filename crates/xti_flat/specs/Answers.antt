@@ -7,7 +7,7 @@ use Rattle.xti_base.specs.Limit.{limit_number}
 use Rattle.xti_model.specs.declared.entry.Outcome.{Outcome}
 use Rattle.xti_model.specs.declared.entry.Outcome.TheVariants.{Done, Part}
 use Rattle.xti_model.specs.declared.entry.Reply.{Reply}
-use Rattle.xti_model.specs.declared.entry.Reply.TheVariants.{Plain, Opened, Bound, Connected, Listened, Sent, Got, Discon, UData, UDErr, Seen, Stands, Limits, Addresses, Options, Refused, Look, Overflow}
+use Rattle.xti_model.specs.declared.entry.Reply.TheVariants.{Plain, Opened, Bound, Connected, Listened, Sent, Got, Discon, RelData, UData, UDErr, Seen, Stands, Limits, Addresses, Options, Refused, Look, Overflow}
 use Rattle.xti_flat.specs.declared.told.Told.{Told}
 use Rattle.xti_flat.specs.declared.told.InfoNumbers.{InfoNumbers}
 
@@ -30,6 +30,7 @@ place_of_reply (Options result opt) = 14
 place_of_reply (Refused errno) = 15
 place_of_reply (Look event) = 16
 place_of_reply (Overflow seq) = 17
+place_of_reply (RelData udata) = 19
 
 abbrev pub fd_of : Reply → ℕ
 fd_of (Opened fd) = fd.0
@@ -95,6 +96,7 @@ data_of (Connected addr opt udata) = udata
 data_of (Listened seq addr opt udata) = udata
 data_of (Got bytes flags) = bytes
 data_of (Discon reason seq udata) = udata
+data_of (RelData udata) = udata
 data_of (UData addr opt bytes flags) = bytes
 data_of (Addresses local peer) = peer
 data_of other = []

@@ -4,7 +4,7 @@ use Rattle.std.specs.Option.{MatchOption}
 use Rattle.xti_base.specs.declared.kinds.Prov.{Prov}
 use Rattle.xti_base.specs.declared.kinds.Prov.TheVariants.{Ticots, Ticotsord, Ticlts, Other}
 use Rattle.xti_model.specs.declared.call.Call.{Call}
-use Rattle.xti_model.specs.declared.call.Call.TheVariants.{TOpen, TClose, TBind, TUnbind, TConnect, TRcvConnect, TListen, TAccept, TSnd, TSndV, TRcv, TRcvV, TSndDis, TRcvDis, TSndRel, TRcvRel, TSndUData, TSndVUData, TRcvUData, TRcvVUData, TRcvUDErr, TLookAt, TGetState, TSync, TGetInfo, TGetProtAddr, TOptMgmt, SetMode}
+use Rattle.xti_model.specs.declared.call.Call.TheVariants.{TOpen, TClose, TBind, TUnbind, TConnect, TRcvConnect, TListen, TAccept, TSnd, TSndV, TRcv, TRcvV, TSndDis, TRcvDis, TSndRel, TRcvRel, TSndRelData, TRcvRelData, TSndUData, TSndVUData, TRcvUData, TRcvVUData, TRcvUDErr, TLookAt, TGetState, TSync, TGetInfo, TGetProtAddr, TOptMgmt, SetMode}
 use Rattle.xti_model.specs.declared.entry.Go.{Go}
 use Rattle.xti_model.specs.declared.entry.Go.TheVariants.{Begin, More}
 use Rattle.xti_verbs.specs.declared.verb.Verb.{Verb}
@@ -56,7 +56,9 @@ verb_at n =
     if n == 24 then Some verb.GetInfo else
     if n == 25 then Some verb.GetProtAddr else
     if n == 26 then Some verb.OptMgmt else
-    if n == 27 then Some verb.SetMode else None
+    if n == 27 then Some verb.SetMode else
+    if n == 28 then Some verb.SndRelData else
+    if n == 29 then Some verb.RcvRelData else None
 
 -- where each argument of a call stands
 abbrev pub HasArguments : Call → Asked → Bytes → Type 0
@@ -76,6 +78,8 @@ HasArguments (TSndDis fd seq udata) a b = (fd.0 ≡ a.fd) × (seq.0 ≡ a.seq) �
 HasArguments (TRcvDis fd umax) a b = (fd.0 ≡ a.fd) × (umax ≡ a.umax)
 HasArguments (TSndRel fd) a b = (fd.0 ≡ a.fd)
 HasArguments (TRcvRel fd) a b = (fd.0 ≡ a.fd)
+HasArguments (TSndRelData fd udata) a b = (fd.0 ≡ a.fd) × (udata ≡ b.udata.now)
+HasArguments (TRcvRelData fd umax) a b = (fd.0 ≡ a.fd) × (umax ≡ a.umax)
 HasArguments (TSndUData fd addr opt bytes) a b = (fd.0 ≡ a.fd) × (addr ≡ b.addr.now) × (opt ≡ b.opt.now) × (bytes ≡ b.udata.now)
 HasArguments (TSndVUData fd addr opt parts) a b = (fd.0 ≡ a.fd) × (addr ≡ b.addr.now) × (opt ≡ b.opt.now) × (parts ≡ parts_of b.udata.now b.sizes.now)
 HasArguments (TRcvUData fd max amax omax) a b = (fd.0 ≡ a.fd) × (max ≡ a.number) × (amax ≡ a.amax) × (omax ≡ a.omax)
@@ -116,6 +120,7 @@ CopiesNone verb.Snd b = IsShort b.udata.now
 CopiesNone verb.SndV b = ⊥
 CopiesNone verb.RcvV b = ⊥
 CopiesNone verb.SndDis b = IsShort b.udata.now
+CopiesNone verb.SndRelData b = IsShort b.udata.now
 CopiesNone verb.SndUData b = IsShort b.addr.now × IsShort b.opt.now × IsShort b.udata.now
 CopiesNone verb.SndVUData b = ⊥
 CopiesNone verb.RcvVUData b = ⊥

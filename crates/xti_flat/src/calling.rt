@@ -91,6 +91,8 @@ fn verb_at(number: u32) -> Option<Verb>
         25 => Some(Verb::GetProtAddr),
         26 => Some(Verb::OptMgmt),
         27 => Some(Verb::SetMode),
+        28 => Some(Verb::SndRelData),
+        29 => Some(Verb::RcvRelData),
         _ => None,
     }
 }
@@ -162,7 +164,7 @@ fn accept_call(alloc: Global, asked: &Asked, bytes: &Bytes) -> Result<Call, Allo
     })
 }
 
-/// A call that makes a connection or breaks it.
+/// A call that makes a connection, breaks it or sends data with its release.
 fn connecting_call(
     alloc: Global,
     verb: Verb,
@@ -195,6 +197,14 @@ fn connecting_call(
             udata: Octets::copy_of(alloc, bytes.udata)?,
         },
         Verb::RcvDis => Call::TRcvDis {
+            fd,
+            umax: asked.umax,
+        },
+        Verb::SndRelData => Call::TSndRelData {
+            fd,
+            udata: Octets::copy_of(alloc, bytes.udata)?,
+        },
+        Verb::RcvRelData => Call::TRcvRelData {
             fd,
             umax: asked.umax,
         },
@@ -300,7 +310,9 @@ fn call_with(alloc: Global, verb: Verb, asked: &Asked, bytes: &Bytes) -> Result<
         | Verb::Listen
         | Verb::Accept
         | Verb::SndDis
-        | Verb::RcvDis => connecting_call(alloc, verb, asked, bytes),
+        | Verb::RcvDis
+        | Verb::SndRelData
+        | Verb::RcvRelData => connecting_call(alloc, verb, asked, bytes),
         Verb::Snd | Verb::SndV | Verb::Rcv | Verb::RcvV => data_call(alloc, verb, asked, bytes),
         Verb::SndUData | Verb::SndVUData | Verb::RcvUData | Verb::RcvVUData | Verb::RcvUDErr => {
             datagram_call(alloc, verb, asked, bytes)
