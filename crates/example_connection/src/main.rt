@@ -9,7 +9,7 @@ use std::sync::Wait;
 use std::thread::{Scope, Threads};
 use std::{io, str, thread};
 use thiserror::Error;
-use xti_calls::{Caller, Event, Fail, Fd, Max, Octets, Providers, State, Xti, usual_is_valid};
+use xti_calls::{Caller, Event, Fail, Fd, Max, Octets, Providers, State, Xti};
 
 /// The provider, of connections with orderly release.
 const PROVIDER: &[u8] = b"ticotsord";
@@ -177,7 +177,6 @@ fn meet<'a, R: Threads + Wait + Sync>(
 
 /// Both sides in a library of their own, which keeps no history.
 fn meet_anew<R: Threads + Wait + Sync + AllocGlobal>(rt: &R) -> Result<(Side, Side), Failure> {
-    usual_is_valid();
     let (xti, seat) = Xti::new(rt.alloc(), &Providers::usual(), false)?;
     let sides = meet(rt, xti.caller(rt, rt.alloc(), seat));
     drop(xti);

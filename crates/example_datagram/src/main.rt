@@ -14,7 +14,7 @@ use std::io::Print;
 use std::process::ExitCode;
 use xti_base::Fd;
 use xti_core::World;
-use xti_model::{Call, Go, Providers, Reply, usual_is_valid};
+use xti_model::{Call, Go, Providers, Reply};
 
 /// Makes a call in one step.
 fn make(world: &mut World, call: Call) -> Result<Reply, Failure> {
@@ -53,7 +53,6 @@ fn exchange<R: Print>(rt: &R, alloc: Global, world: &mut World) -> Result<(), Fa
 
 /// The same in a world of its own.
 fn run<R: Print + AllocGlobal>(rt: &R) -> Result<(), Failure> {
-    usual_is_valid();
     let mut world = World::fresh(rt.alloc(), &Providers::usual())?;
     let ended = exchange(rt, rt.alloc(), &mut world);
     drop(world);

@@ -9,7 +9,7 @@ use std::sync::Wait;
 use std::thread::{Scope, Threads};
 use std::{io, str, thread};
 use thiserror::Error;
-use xti_calls::{Caller, Event, Fail, Fd, Max, Providers, Seq, Xti, usual_is_valid};
+use xti_calls::{Caller, Event, Fail, Fd, Max, Providers, Seq, Xti};
 
 /// The provider, of connections with orderly release.
 const PROVIDER: &[u8] = b"ticotsord";
@@ -242,7 +242,6 @@ fn meet_by<'a, R: Threads + Wait + Sync>(
 
 /// The same in a library of their own, which keeps no history.
 fn meet<R: Threads + Wait + Sync + AllocGlobal>(rt: &R) -> Result<Vec<Visit>, Failure> {
-    usual_is_valid();
     let (xti, seat) = Xti::new(rt.alloc(), &Providers::usual(), false)?;
     let visits = meet_by(rt, xti.caller(rt, rt.alloc(), seat));
     drop(xti);

@@ -158,6 +158,12 @@ impl Told for (TCall, u32) {
     }
 }
 
+impl Told for Octets {
+    fn tell(&self, log: &mut Log) {
+        log.bytes("", self.as_slice());
+    }
+}
+
 impl Told for (Octets, u32) {
     fn tell(&self, log: &mut Log) {
         log.bytes("", self.0.as_slice());

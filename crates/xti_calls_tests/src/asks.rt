@@ -69,6 +69,8 @@ pub(crate) enum End {
     Disconnected(Fd, u32),
     Release(Fd),
     Released(Fd),
+    ReleaseWith(Fd, &'static [u8]),
+    ReleasedWith(Fd, u32),
 }
 
 /// Calls that move data over a connection.
@@ -180,6 +182,8 @@ fn end_connection<R: Wait + Sync>(caller: &mut Caller<R>, log: &mut Log, ask: &E
         End::Disconnected(fd, umax) => log.note(caller.t_rcvdis(fd, umax)),
         End::Release(fd) => log.note(caller.t_sndrel(fd)),
         End::Released(fd) => log.note(caller.t_rcvrel(fd)),
+        End::ReleaseWith(fd, udata) => log.note(caller.t_sndreldata(fd, udata)),
+        End::ReleasedWith(fd, umax) => log.note(caller.t_rcvreldata(fd, umax)),
     }
 }
 

@@ -53,6 +53,9 @@ pub(crate) const MESSAGES: &[Ask] = &[
     Ask::Data(Data::Receive(ANSWERER, 9)),
 ];
 
+/// One byte more than a release may carry.
+const TOO_LONG: &[u8] = b"01234567890123456789012345678901234567890123456789012345678901234";
+
 /// One part more than a vector may have.
 const SEVENTEEN: &[&[u8]] = &[
     b"x", b"x", b"x", b"x", b"x", b"x", b"x", b"x", b"x", b"x", b"x", b"x", b"x", b"x", b"x", b"x",
@@ -97,6 +100,27 @@ pub(crate) const RELEASE: &[Ask] = &[
     Ask::Look(Look::State(ANSWERER)),
 ];
 
+/// A release with data in one direction, and without any in the other; data that are too long for a release, or for what is asked.
+pub(crate) const RELEASE_DATA: &[Ask] = &[
+    Ask::Look(Look::Info(CALLER)),
+    Ask::End(End::ReleaseWith(CALLER, TOO_LONG)),
+    Ask::End(End::ReleaseWith(CALLER, b"bye")),
+    Ask::End(End::ReleasedWith(ANSWERER, 2)),
+    Ask::End(End::ReleaseWith(ANSWERER, b"")),
+    Ask::End(End::ReleasedWith(CALLER, 64)),
+    Ask::Look(Look::State(CALLER)),
+    Ask::Look(Look::State(ANSWERER)),
+];
+
+/// The same data that are asked for whole.
+pub(crate) const RELEASE_DATA_WHOLE: &[Ask] = &[
+    Ask::End(End::ReleasedWith(ANSWERER, 64)),
+    Ask::End(End::ReleaseWith(CALLER, b"bye")),
+    Ask::End(End::ReleasedWith(ANSWERER, 64)),
+    Ask::End(End::ReleaseWith(ANSWERER, b"and you")),
+    Ask::End(End::Released(CALLER)),
+];
+
 /// The endpoints without O_NONBLOCK.
 pub(crate) const BLOCKING: &[Ask] = &[
     Ask::Endpoint(Endpoint::Mode(CALLER, false)),
@@ -113,7 +137,7 @@ pub(crate) const SMALL_BUFFERS: &[Ask] = &[
     Ask::Look(Look::Event(CALLER)),
 ];
 
-static TOPICS: [Topic; 2] = [
+static TOPICS: [Topic; 4] = [
     (
         "messages",
         &[OF_TICOTS, CONNECT, MESSAGES, VECTORS, DISCONNECT],
@@ -175,6 +199,47 @@ ok
 ok
 T_IDLE
 T_IDLE
+",
+    ),
+    (
+        "a release without data, as the provider has none",
+        &[OF_TICOTSORD, CONNECT, RELEASE_DATA],
+        "0
+x:6c 1
+1
+x:2330 0
+2
+TNODATA
+1 x:2330 x: x:
+ok
+0 x:6c x: x:
+64 256 0 128 64 64 T_COTS_ORD 0
+TBADDATA
+TBADDATA
+TNOREL
+ok
+x:
+T_INREL
+T_OUTREL
+",
+    ),
+    (
+        "a release of a provider without it",
+        &[OF_TICOTS, CONNECT, RELEASE_DATA_WHOLE],
+        "0
+x:6c 1
+1
+x:2330 0
+2
+TNODATA
+1 x:2330 x: x:
+ok
+0 x:6c x: x:
+TNOTSUPPORT
+TNOTSUPPORT
+TNOTSUPPORT
+TNOTSUPPORT
+TNOTSUPPORT
 ",
     ),
 ];

@@ -8,7 +8,7 @@ ghost use Rattle.xti_calls.specs.Library.{IsFree, IsOf, MayCall, keeps_of};
 use std::alloc::{AllocError, Global};
 use std::sync::Wait;
 use xti_calls::{Caller, Seat, Xti};
-use xti_model::{Providers, usual_is_valid};
+use xti_model::Providers;
 
 /// Why a test wasn't made to its end.
 #[derive(Debug, Drop)]
@@ -47,7 +47,6 @@ pub(crate) fn library(alloc: Global) -> Result<(Xti, Seat), Stop>
     ensures keeps { IfOk result (λ r. keeps_of r.0 ≡ true) }
     ensures none { IfOk result (λ r. IsFree r.1) }
 {
-    usual_is_valid();
     library_with(alloc, &Providers::usual())
 }
 

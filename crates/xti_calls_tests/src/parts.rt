@@ -78,6 +78,43 @@ T_GODATA
 none
 ";
 
+/// What they answer of a release with data that is lost, as it is too long for what is asked.
+const RELEASED: &str = "0
+x:6c 1
+1
+x:2330 0
+2
+TNODATA
+1 x:2330 x: x:
+ok
+0 x:6c x: x:
+64 256 0 128 64 64 T_COTS_ORD 2
+TBADDATA
+ok
+TBUFOVFLW 0
+ok
+x:
+T_IDLE
+T_IDLE
+";
+
+/// What they answer of releases with data in both directions, of which one is taken with its data and one without.
+const RELEASED_WHOLE: &str = "0
+x:6c 1
+1
+x:2330 0
+2
+TNODATA
+1 x:2330 x: x:
+ok
+0 x:6c x: x:
+TNOREL
+ok
+x:627965
+ok
+ok
+";
+
 /// A connection of two endpoints without O_NONBLOCK.
 const CONNECTED: &[&[Ask]] = &[
     connections::OF_TICOTSORD,
@@ -90,6 +127,19 @@ const SMALL_BUFFERS: &[&[Ask]] = &[
     connections::OF_TICOTSORD,
     connections::CONNECT,
     connections::SMALL_BUFFERS,
+];
+
+/// A connection that is released with data, and one whose data are taken whole.
+const RELEASES: &[&[Ask]] = &[
+    connections::OF_TICOTSORD,
+    connections::CONNECT,
+    connections::RELEASE_DATA,
+];
+
+const WHOLE_RELEASES: &[&[Ask]] = &[
+    connections::OF_TICOTSORD,
+    connections::CONNECT,
+    connections::RELEASE_DATA_WHOLE,
 ];
 
 /// The send.
@@ -369,20 +419,38 @@ fn sends<R: Wait + Sync>(rt: &R, alloc: Global, log: &mut Log) -> Result<(), Sto
     made
 }
 
-/// Writes down what a connection with small buffers answers.
-fn small<R: Wait + Sync>(rt: &R, alloc: Global, log: &mut Log) -> Result<(), Stop> {
-    let mut providers = Providers::usual();
-    providers.ticotsord.sndbuf = 2;
-    providers.ticotsord.rcvbuf = 3;
-    if !providers.valid() {
+/// Writes down what the calls of these tables answer with these providers.
+fn talk_with<R: Wait + Sync>(
+    rt: &R,
+    alloc: Global,
+    log: &mut Log,
+    providers: Providers,
+    tables: &[&[Ask]],
+) -> Result<(), Stop> {
+    let Ok(providers) = providers.checked() else {
         return Err(Stop::NotValid);
-    }
+    };
     let (xti, seat) = library_with(alloc, &providers)?;
     let mut caller = xti.caller(rt, alloc, seat);
-    let made = converse(alloc, &mut caller, log, SMALL_BUFFERS);
+    let made = converse(alloc, &mut caller, log, tables);
     drop(caller);
     drop(xti);
     made
+}
+
+/// Providers with small buffers.
+fn small() -> Providers {
+    let mut providers = Providers::usual();
+    providers.ticotsord.sndbuf = 2;
+    providers.ticotsord.rcvbuf = 3;
+    providers
+}
+
+/// Providers whose releases may carry data.
+fn with_release_data() -> Providers {
+    let mut providers = Providers::usual();
+    providers.ticotsord.reldata = true;
+    providers
 }
 
 #[test]
@@ -406,8 +474,20 @@ fn a_call_beside_an_unfinished_one(rt: HostRuntime) -> Result<(), Fail> {
 #[test]
 fn buffers(rt: HostRuntime) -> Result<(), Fail> {
     let mut log = Log::new(rt.alloc());
-    let made = small(&rt, rt.alloc(), &mut log);
+    let made = talk_with(&rt, rt.alloc(), &mut log, small(), SMALL_BUFFERS);
     log.expect(&rt, "small buffers", SMALL);
     drop(log);
     Ok(made?)
+}
+
+#[test]
+fn releases(rt: HostRuntime) -> Result<(), Fail> {
+    for (tables, wanted) in [(RELEASES, RELEASED), (WHOLE_RELEASES, RELEASED_WHOLE)] {
+        let mut log = Log::new(rt.alloc());
+        let made = talk_with(&rt, rt.alloc(), &mut log, with_release_data(), tables);
+        log.expect(&rt, "releases with data", wanted);
+        drop(log);
+        made?;
+    }
+    Ok(())
 }

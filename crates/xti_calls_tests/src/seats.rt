@@ -13,7 +13,7 @@ use std::sync::Wait;
 use std::test::*;
 use xti_calls::{Caller, Seat, Xti};
 use xti_journal_text::write_entry;
-use xti_model::{Entry, Providers, usual_is_valid};
+use xti_model::{Entry, Providers};
 
 /// What the calls of a datagram answer that the second seat sends and receives, and the lines of the history.
 const ANSWERS: &str = "0
@@ -214,7 +214,6 @@ fn talked<R: Wait + Sync>(rt: &R, alloc: Global, log: &mut Log) -> Result<(), St
 
 /// The same without the history, in a library that keeps none.
 fn talked_unkept<R: Wait + Sync>(rt: &R, alloc: Global, log: &mut Log) -> Result<(), Stop> {
-    usual_is_valid();
     let (xti, seat) = Xti::new(alloc, &Providers::usual(), false)?;
     let mut first = xti.caller(rt, alloc, seat);
     let made = match another_caller(&mut first) {

@@ -2,7 +2,7 @@
 
 use std::alloc::Global;
 use std::sync::Wait;
-use xti_calls::{Caller, Errno, Fail, Fd, Max, Providers, Seq, Xti, usual_is_valid};
+use xti_calls::{Caller, Errno, Fail, Fd, Max, Providers, Seq, Xti};
 use xti_glance_table::table;
 
 const PROVIDER: &[u8] = b"ticots";
@@ -74,7 +74,6 @@ fn table_by<R: Wait + Sync>(caller: &mut Caller<R>) -> Result<Vec<u8>, Fail> {
 
 /// The same in a library of its own.
 fn table_of_two<R: Wait + Sync>(rt: &R, alloc: Global) -> Result<Vec<u8>, Fail> {
-    usual_is_valid();
     let (xti, seat) = Xti::new(alloc, &Providers::usual(), true)?;
     let mut caller = xti.caller(rt, alloc, seat);
     let made = table_by(&mut caller);

@@ -12,7 +12,7 @@ use xti_gather::{Cell, nothing_lent, open_hall};
 use xti_glance::{Glance, glance};
 use xti_hall::{Hall, Seat};
 use xti_lent::Lent;
-use xti_model::{Applied, Call, Cells, Go, Providers, usual_is_valid};
+use xti_model::{Applied, Call, Cells, Go, Providers};
 use xti_step::{Gate, NoGate, step};
 
 /// Why a test wasn't made to its end.
@@ -170,7 +170,6 @@ impl Caller {
 pub(crate) fn hall_and_caller(alloc: Global) -> Result<(Hall<Cell>, Caller), Stop>
     ensures { IfOk result (λ r. IsCallerOf r.0 r.1) }
 {
-    usual_is_valid();
     let p = Providers::usual();
     let (hall, seat) = open_hall(alloc, &p, false)?;
     let lent = nothing_lent(alloc, &p);

@@ -8,6 +8,8 @@ mod each_fault;
 #[cfg(test)]
 mod faults;
 #[cfg(test)]
+mod release_data;
+#[cfg(test)]
 mod running;
 #[cfg(test)]
 mod steps;

@@ -4,7 +4,7 @@ use std::alloc::{AllocError, Global};
 use std::test::*;
 use xti_base::Prov;
 use xti_core::World;
-use xti_model::{Applied, Call, Go, Providers, usual_is_valid};
+use xti_model::{Applied, Call, Go, Providers};
 use xti_run::replay;
 use xti_script_reader::{ScriptFail, read_script};
 
@@ -16,7 +16,6 @@ fn entries_of(alloc: Global, script: &[u8]) -> Result<usize, ScriptFail> {
 
 /// Whether the first call that opens an endpoint is made.
 fn is_opened(alloc: Global) -> Result<bool, AllocError> {
-    usual_is_valid();
     let mut world = World::fresh(alloc, &Providers::usual())?;
     let open = Call::TOpen {
         prov: Prov::Ticlts,

@@ -1,28 +1,36 @@
 //! The bounds of the providers' values.
 
 use super::cases::expect;
-use xti_base::Limit;
+use xti_base::{Limit, Prov};
 use xti_model::{Profile, Providers};
+
+/// Whether the values are valid, as `valid` and `checked` say; where they aren't, this provider's are wrong.
+fn is_valid(p: Providers, prov: Prov) -> bool {
+    match p.checked() {
+        Ok(same) => p.valid() && same == p,
+        Err(wrong) => p.valid() || wrong.prov != prov,
+    }
+}
 
 /// Whether ticots, ticotsord and ticlts may have these values, where the others have the usual ones.
 fn may_have(profile: Profile) -> [bool; 3] {
     let usual = Providers::usual();
+    let ticots = Providers {
+        ticots: profile,
+        ..usual
+    };
+    let ticotsord = Providers {
+        ticotsord: profile,
+        ..usual
+    };
+    let ticlts = Providers {
+        ticlts: profile,
+        ..usual
+    };
     [
-        Providers {
-            ticots: profile,
-            ..usual
-        }
-        .valid(),
-        Providers {
-            ticotsord: profile,
-            ..usual
-        }
-        .valid(),
-        Providers {
-            ticlts: profile,
-            ..usual
-        }
-        .valid(),
+        is_valid(ticots, Prov::Ticots),
+        is_valid(ticotsord, Prov::Ticotsord),
+        is_valid(ticlts, Prov::Ticlts),
     ]
 }
 
@@ -34,6 +42,7 @@ fn plain() -> Profile {
         same_addr: false,
         sndbuf: 512,
         rcvbuf: 512,
+        reldata: false,
     }
 }
 

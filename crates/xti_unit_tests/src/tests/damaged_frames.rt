@@ -10,13 +10,13 @@ use tpi_prim::{Decoded, FeedFail, FrameReader, decode};
 /// Whole frames, a frame with a wrong byte, the place of that byte in it, and what the case is about.
 type Case = (&'static [u8], &'static [u8], usize, &'static str);
 
-/// T_ORDREL_REQ.
-const RELEASE: &[u8] = b"\0\0\0\x04\0\0\0\0\0\0\0\x0a";
+/// T_ORDREL_IND with the user data "bye".
+const RELEASE: &[u8] = b"\0\0\0\x04\0\0\0\x03\0\0\0\x17bye";
 
 /// T_UNITDATA_REQ to "b" with the datagram "hello".
 const REQUEST: &[u8] = b"\0\0\0\x15\0\0\0\x05\0\0\0\x08\0\0\0\x01\0\0\0\x14\0\0\0\0\0\0\0\0bhello";
 
-static DAMAGED: [Case; 7] = [
+static DAMAGED: [Case; 8] = [
     (
         b"",
         b"\0\0\0\x08\0\0\0\0\0\0\0\x05",
@@ -34,6 +34,12 @@ static DAMAGED: [Case; 7] = [
         b"\0\0\0\x08\0\x01\0\x01",
         7,
         "a byte of user data too much",
+    ),
+    (
+        b"",
+        b"\0\0\0\x04\0\0\0\x01\0\0\0\x07",
+        11,
+        "user data of T_UNBIND_REQ",
     ),
     (
         b"",

@@ -15,7 +15,7 @@ use tpi_prim::primitive::Prim;
 use tpi_prim::{Frame, Kind, encode};
 use xti_base::{Fd, Octets, Prov, Sizes, State};
 use xti_end::Endpoint;
-use xti_model::{Applied, Call, Go, Outcome, Providers, Reply};
+use xti_model::{Applied, Call, Go, Outcome, Profile, Providers, Reply};
 use xti_opt::T_CURRENT;
 
 /// More bytes than stand in a value.
@@ -34,6 +34,7 @@ enum Told {
     Data,
     DataInParts,
     Disconnect,
+    ReleaseData,
     Datagram,
     DatagramInParts,
     DatagramError,
@@ -44,13 +45,14 @@ enum Told {
 /// What is told, how many bytes of it, and the state afterwards.
 type Case = (Told, usize, State);
 
-static CASES: [Case; 11] = [
+static CASES: [Case; 12] = [
     (Told::Request, 20, State::T_INCON),
     (Told::Confirmation, 20, State::T_DATAXFER),
     (Told::ConfirmationOfConnect, 20, State::T_DATAXFER),
     (Told::Data, 20, State::T_DATAXFER),
     (Told::DataInParts, 19, State::T_DATAXFER),
     (Told::Disconnect, 20, State::T_IDLE),
+    (Told::ReleaseData, 20, State::T_INREL),
     (Told::Datagram, 20, State::T_IDLE),
     (Told::DatagramInParts, 19, State::T_IDLE),
     (Told::DatagramError, 20, State::T_IDLE),
@@ -62,13 +64,10 @@ static CASES: [Case; 11] = [
 fn prov(told: Told) -> Prov
     ensures { is_provider result ≡ true }
 {
-    if matches!(
-        told,
-        Told::Datagram | Told::DatagramInParts | Told::DatagramError
-    ) {
-        Prov::Ticlts
-    } else {
-        Prov::Ticots
+    match told {
+        Told::Datagram | Told::DatagramInParts | Told::DatagramError => Prov::Ticlts,
+        Told::ReleaseData => Prov::Ticotsord,
+        _ => Prov::Ticots,
     }
 }
 
@@ -78,7 +77,9 @@ fn state(told: Told) -> State
 {
     match told {
         Told::Confirmation | Told::ConfirmationOfConnect => State::T_OUTCON,
-        Told::Data | Told::DataInParts | Told::Disconnect => State::T_DATAXFER,
+        Told::Data | Told::DataInParts | Told::Disconnect | Told::ReleaseData => {
+            State::T_DATAXFER
+        }
         _ => State::T_IDLE,
     }
 }
@@ -107,6 +108,7 @@ fn prim(told: Told) -> Option<Prim> {
             seq_number: 0,
             user: bytes,
         }),
+        Told::ReleaseData => Some(Prim::T_ORDREL_IND { user: bytes }),
         Told::Datagram | Told::DatagramInParts => Some(Prim::T_UNITDATA_IND {
             src: Bytes::new(),
             opt: Bytes::new(),
@@ -163,6 +165,7 @@ fn call(alloc: Global, told: Told) -> Result<Call, AllocError>
             sizes: sizes(alloc)?,
         },
         Told::Disconnect => Call::TRcvDis { fd, umax },
+        Told::ReleaseData => Call::TRcvRelData { fd, umax },
         Told::Datagram => Call::TRcvUData {
             fd,
             max,
@@ -196,6 +199,7 @@ fn give(e: &mut Endpoint, frame: Frame) -> bool
         Kind::T_CONN_IND if e.reserve_pending().is_ok() => e.push_pending(Fd(1), frame),
         Kind::T_CONN_CON => e.set_confirmation(frame),
         Kind::T_DATA_IND if e.reserve_normal().is_ok() => e.push_normal(frame),
+        Kind::T_ORDREL_IND => e.set_release(frame),
         Kind::T_DISCON_IND if e.reserve_disconnects().is_ok() => e.push_disconnect(frame),
         Kind::T_UNITDATA_IND if e.reserve_datagrams().is_ok() => e.push_datagram(frame),
         Kind::T_UDERROR_IND if e.reserve_datagram_errors().is_ok() => e.push_datagram_error(frame),
@@ -212,7 +216,8 @@ fn length(reply: &Reply) -> usize {
     match reply {
         Reply::Listened { udata, .. }
         | Reply::Connected { udata, .. }
-        | Reply::Discon { udata, .. } => udata.as_slice().len(),
+        | Reply::Discon { udata, .. }
+        | Reply::RelData { udata } => udata.as_slice().len(),
         Reply::Got { bytes, .. } | Reply::UData { bytes, .. } => bytes.as_slice().len(),
         Reply::UDErr { addr, .. } => addr.as_slice().len(),
         Reply::Addresses { local, .. } => local.as_slice().len(),
@@ -303,6 +308,61 @@ fn tells(rt: HostRuntime) {
         expect(
             &rt,
             answer(rt.alloc(), *told) == Some((*length, *state)),
+            &number,
+        );
+    }
+}
+
+/// The provider of an endpoint, whether it sends empty messages and releases with data, and the flags that t_getinfo tells.
+type Flags = (Prov, bool, bool, u32);
+
+static FLAGS: [Flags; 6] = [
+    (Prov::Ticots, false, true, 0),
+    (Prov::Ticots, true, true, 1),
+    (Prov::Ticotsord, false, false, 0),
+    (Prov::Ticotsord, false, true, 2),
+    (Prov::Ticotsord, true, true, 3),
+    (Prov::Ticlts, true, true, 1),
+];
+
+/// The flags of an open endpoint, where each provider has these values.
+fn flags(alloc: Global, prov: Prov, sendzero: bool, reldata: bool) -> Option<u32> {
+    if prov == Prov::Other {
+        return None;
+    }
+    let usual = Providers::usual();
+    let profile = Profile {
+        sendzero,
+        reldata,
+        ..usual.ticots
+    };
+    let p = Providers {
+        ticots: profile,
+        ticotsord: profile,
+        ticlts: profile,
+        ..usual
+    };
+    let mut e = Endpoint::closed(alloc, 0);
+    e.open(prov, false, &p);
+    let found = match e.local(&Call::TGetInfo { fd: Fd(0) }, Go::Begin, &p) {
+        Ok(
+            Applied::Step {
+                outcome: Outcome::Done(Reply::Limits { info }),
+                ..
+            },
+        ) => Some(info.flags),
+        _ => None,
+    };
+    drop(e);
+    found
+}
+
+#[test]
+fn tells_flags(rt: HostRuntime) {
+    for (number, (prov, sendzero, reldata, wanted)) in FLAGS.iter().enumerate() {
+        expect(
+            &rt,
+            flags(rt.alloc(), *prov, *sendzero, *reldata) == Some(*wanted),
             &number,
         );
     }

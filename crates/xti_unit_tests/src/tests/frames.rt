@@ -10,15 +10,23 @@ use tpi_prim::{FrameReader, IndicationWriter, encode};
 /// T_DATA_IND, MORE_flag 0, two bytes of user data.
 const DATA: &[u8] = b"\0\0\0\x08\0\0\0\x02\0\0\0\x0e\0\0\0\0hi";
 
+/// T_ORDREL_IND, three bytes of user data.
+const RELEASE: &[u8] = b"\0\0\0\x04\0\0\0\x03\0\0\0\x17bye";
+
 /// T_UNITDATA_IND from "ab", with no options and three bytes of user data.
 const DATAGRAM: &[u8] = b"\0\0\0\x16\0\0\0\x03\0\0\0\x14\0\0\0\x02\0\0\0\x14\0\0\0\0\0\0\0\0abxyz";
 
 /// An input, what is at its start, and what the case is about.
 type Case = (&'static [u8], Measure, &'static str);
 
-static MEASURES: [Case; 28] = [
+static MEASURES: [Case; 29] = [
     (DATA, Measure::Whole(18), "a frame"),
     (DATAGRAM, Measure::Whole(33), "an empty part, and user data"),
+    (
+        RELEASE,
+        Measure::Whole(15),
+        "user data of an orderly release",
+    ),
     (
         b"\0\0\0\x08\0\0\0\x02\0\0\0\x0e\0\0\0\0hi\xff",
         Measure::Whole(18),
@@ -61,9 +69,9 @@ static MEASURES: [Case; 28] = [
     ),
     (b"\0\0\0\x10\0\x01", Measure::Bad(5), "much of it"),
     (
-        b"\0\0\0\x04\0\0\0\x01",
-        Measure::Bad(7),
-        "user data of an orderly release",
+        b"\0\0\0\x04\0\0\0\x01\0\0\0\x07",
+        Measure::Bad(11),
+        "user data of T_UNBIND_REQ",
     ),
     (
         b"\0\0\0\x08\0\x01\0\x01",
@@ -165,6 +173,12 @@ fn encodes(rt: HostRuntime) {
     };
     let is_encoded = is_frame_of(rt.alloc(), &data, DATA);
     drop(data);
+    assert!(rt; is_encoded);
+    let release = Prim::T_ORDREL_IND {
+        user: Bytes::from_static(b"bye"),
+    };
+    let is_encoded = is_frame_of(rt.alloc(), &release, RELEASE);
+    drop(release);
     assert!(rt; is_encoded);
 }
 

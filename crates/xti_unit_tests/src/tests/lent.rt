@@ -8,7 +8,7 @@ use std::alloc::Global;
 use xti_base::{Fd, Prov};
 use xti_end::Endpoint;
 use xti_lent::Lent;
-use xti_model::{Providers, usual_is_valid};
+use xti_model::Providers;
 
 /// An open endpoint of place 5; `None` where there is no memory for it.
 fn opened(alloc: Global) -> Option<Box<Endpoint>>
@@ -43,7 +43,6 @@ fn takes_back(lent: &mut Lent, place: u32) -> bool {
 
 /// Whether an endpoint that is lent is changed where it is, and taken back.
 fn is_changed_in_place(alloc: Global) -> bool {
-    usual_is_valid();
     let p = Providers::usual();
     let Some(e) = opened(alloc) else {
         return false;
