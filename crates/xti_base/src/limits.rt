@@ -1,7 +1,10 @@
 //! The limits and numbers of the profile, each of them once. Definitions import them from here.
 
-/// The most places of endpoints that providers may have, and so the most endpoints that are open at once.
-pub const MOST_PLACES: usize = 64;
+/// The places of endpoints in version 1 of scripts and journals, and so the most endpoints that are open at once.
+pub const PLACES_ONE: usize = 64;
+
+/// The places of endpoints in version 2, the most that providers may have.
+pub const MOST_PLACES: usize = 256;
 
 /// The number of descriptors, of 32 bits.
 pub const DESCRIPTORS: u64 = 4_294_967_296;

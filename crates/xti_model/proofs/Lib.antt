@@ -11,3 +11,4 @@ pub mod Unfinished
 pub mod WorkLeft
 pub mod GoingOn
 pub mod RisingNumbers
+pub mod PlaceNumbers

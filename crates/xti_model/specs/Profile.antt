@@ -7,14 +7,41 @@ use Rattle.xti_base.specs.declared.limit.Limit.{Limit}
 use Rattle.xti_base.specs.declared.limit.Limit.TheVariants.{At, Infinite, Invalid}
 use Rattle.xti_model.specs.declared.profile.Profile.{Profile}
 use Rattle.xti_model.specs.declared.profile.Providers.{Providers}
+use Rattle.xti_model.specs.declared.profile.Version.{Version}
+use Rattle.xti_model.specs.declared.profile.Version.TheVariants.{One, Two}
 
--- the values where a script sets none
-abbrev pub usual : Providers
-usual = record {
+-- the values where a script of the version sets none
+abbrev pub usual_of : Version → Providers
+usual_of v = record {
+  version = v;
   ticots = record { tsdu = At MOST_SIZE; sendzero = true; same_addr = false; sndbuf = USUAL_BUFFER; rcvbuf = USUAL_BUFFER; reldata = false };
   ticotsord = record { tsdu = At 0; sendzero = false; same_addr = false; sndbuf = USUAL_BUFFER; rcvbuf = USUAL_BUFFER; reldata = false };
   ticlts = record { tsdu = At USUAL_DATAGRAM; sendzero = true; same_addr = false; sndbuf = USUAL_BUFFER; rcvbuf = USUAL_BUFFER; reldata = false };
 }
+
+abbrev pub usual : Providers
+usual = usual_of One
+
+abbrev pub usual_two : Providers
+usual_two = usual_of Two
+
+-- version 2 alone has data with a release in its texts
+abbrev pub has_release_data : Version → Bool
+has_release_data One = false
+has_release_data Two = true
+
+-- texts say of ticotsord alone whether data may go with a release
+abbrev pub tells_reldata : Version → Prov → Bool
+tells_reldata version Ticotsord = has_release_data version
+tells_reldata version prov = false
+
+-- where texts don't say so, no data may go with a release
+abbrev pub is_told : Version → Prov → Profile → Bool
+is_told version prov p = tells_reldata version prov || not p.reldata
+
+-- what texts of the version say of the three providers' releases
+abbrev pub releases_told : Providers → Bool
+releases_told p = is_told p.version Ticots p.ticots && is_told p.version Ticotsord p.ticotsord && is_told p.version Ticlts p.ticlts
 
 -- a message or a buffer of at least one byte
 abbrev pub is_size : ℕ → Bool

@@ -2,11 +2,13 @@
 -- All of them are there or only some. What is asked of a cell that is not there is answered as for a closed place.
 use Rattle.std.specs.Prelude.{ℕ, zero, suc, ◌+◌, ◌-◌, ◌*◌, ◌/◌, ◌%◌, ◌==◌, not, Bool, false, List, [], ◌∷◌, ◌++◌, Option, Some, None, option_and_then, find, map, filter, replicate, if◌then◌else◌}
 use Rattle.std.specs.List.{list_any}
-use Rattle.xti_base.specs.declared.limits.TheConstants.{MOST_PLACES, DESCRIPTORS}
+use Rattle.xti_base.specs.declared.limits.TheConstants.{PLACES_ONE, MOST_PLACES, DESCRIPTORS}
 use Rattle.xti_base.specs.declared.kinds.Prov.{Prov}
 use Rattle.xti_base.specs.declared.kinds.State.{State}
 use Rattle.xti_base.specs.declared.kinds.State.TheVariants.{T_UNINIT}
 use Rattle.xti_model.specs.declared.profile.Providers.{Providers}
+use Rattle.xti_model.specs.declared.profile.Version.{Version}
+use Rattle.xti_model.specs.declared.profile.Version.TheVariants.{One, Two}
 use Rattle.xti_model.specs.Endpoint.{Endpoint}
 
 -- an address that an endpoint is bound to
@@ -40,9 +42,14 @@ pub record Numbered : Type 0 where
 abbrev pub World : Type 0
 World = List Numbered
 
+-- how many places a version has
+abbrev pub places_of : Version → ℕ
+places_of One = PLACES_ONE
+places_of Two = MOST_PLACES
+
 -- how many places there are
 abbrev pub places : Providers → ℕ
-places p = MOST_PLACES
+places p = places_of p.version
 
 -- the switch's cell comes after those of the places
 abbrev pub switch_number : Providers → ℕ

@@ -15,6 +15,6 @@ pub use cells::Cells;
 pub use entry::{Act, Applied, Entries, Entry, Go, Outcome, Reply, Tried};
 pub use laws::{calls_send_bytes, robin_follows, robin_goes_on, robin_is_complete, robin_is_legal};
 pub use name::Name;
-pub use profile::{Profile, Providers, WrongValues};
+pub use profile::{Profile, Providers, Version, WrongValues};
 pub use script::{Journal, Line, Lines, NamedCall, Script, StallLine, Stalls};
 pub use spot::Spot;

@@ -3,12 +3,39 @@
 ghost use Rattle.std.specs.Prelude.{◌≡◌, ◌≤◌, ◌<◌, true, IfOk, IfErr};
 ghost use Rattle.std.specs.declared.option.Option.TheVariants.{Some};
 ghost use Rattle.xti_base.specs.declared.limits.TheConstants.{MOST_PLACES};
-ghost use Rattle.xti_model.specs.Profile.{usual, is_size, has_limit, has_messages, is_stream_limit, has_buffers, valid_connections, valid_orderly, valid_datagrams, valid, first_wrong};
+ghost use Rattle.xti_model.specs.Profile.{usual, usual_two, usual_of, has_release_data, tells_reldata, is_size, has_limit, has_messages, is_stream_limit, has_buffers, valid_connections, valid_orderly, valid_datagrams, valid, first_wrong};
 ghost use Rattle.xti_model.specs.World.{places, last_generation, place_of, generation_of, descriptor};
 
 use thiserror::Error;
-use xti_base::limits::{DESCRIPTORS, MOST_PLACES, MOST_SIZE, USUAL_BUFFER, USUAL_DATAGRAM};
+use xti_base::limits::{
+    DESCRIPTORS, MOST_PLACES, MOST_SIZE, PLACES_ONE, USUAL_BUFFER, USUAL_DATAGRAM,
+};
 use xti_base::{Fd, Limit, Prov};
+
+/// The version of scripts and journals, by which there are more or fewer endpoints.
+#[derive(Clone, Copy, Debug, PartialEq, Eq)]
+pub enum Version {
+    /// 64 endpoints. No text sets or has data with a release.
+    One,
+    /// 256 endpoints, and data may go with a release of `ticotsord`.
+    Two,
+}
+
+impl Version {
+    /// Whether scripts and journals of this version have t_sndreldata and t_rcvreldata.
+    pub fn has_release_data(self) -> bool
+        ensures { result ≡ has_release_data self }
+    {
+        self == Version::Two
+    }
+
+    /// Whether heads of this version say of the provider whether data may go with a release.
+    pub fn tells_reldata(self, prov: Prov) -> bool
+        ensures { result ≡ tells_reldata self prov }
+    {
+        prov == Prov::Ticotsord && self.has_release_data()
+    }
+}
 
 /// The values of a provider that a script's head may set.
 #[derive(Clone, Copy, Debug, PartialEq, Eq)]
@@ -27,9 +54,11 @@ pub struct Profile {
     pub reldata: bool,
 }
 
-/// The values of the three loopback providers.
+/// The values of the three loopback providers, and the version, which says how many endpoints they have.
 #[derive(Clone, Copy, Debug, PartialEq, Eq)]
 pub struct Providers {
+    /// How many endpoints there may be, and the form of a text that has these providers.
+    pub version: Version,
     /// Connections, T_COTS.
     pub ticots: Profile,
     /// Connections with orderly release, T_COTS_ORD.
@@ -110,9 +139,25 @@ impl Profile {
 }
 
 impl Providers {
-    /// The starting values, which are valid.
+    /// The starting values in version 1, which are valid.
     pub fn usual() -> Providers
         ensures values { result ≡ usual }
+        ensures valid { valid result ≡ true }
+    {
+        Providers::usual_of(Version::One)
+    }
+
+    /// The starting values in version 2, which are valid.
+    pub fn usual_two() -> Providers
+        ensures values { result ≡ usual_two }
+        ensures valid { valid result ≡ true }
+    {
+        Providers::usual_of(Version::Two)
+    }
+
+    /// The starting values in a version, which are valid.
+    pub fn usual_of(version: Version) -> Providers
+        ensures values { result ≡ usual_of version }
         ensures valid { valid result ≡ true }
     {
         let plain = Profile {
@@ -124,6 +169,7 @@ impl Providers {
             reldata: false,
         };
         Providers {
+            version,
             ticots: plain,
             ticotsord: Profile {
                 tsdu: Limit::At(0),
@@ -166,13 +212,16 @@ impl Providers {
         Err(WrongValues { prov })
     }
 
-    /// How many places of endpoints there are.
+    /// How many places of endpoints there are: 64 in version 1, and 256 in version 2.
     pub fn places(&self) -> u32
         ensures places { result ≡ places self.now }
         ensures some { 1 < result }
         ensures most { result ≤ MOST_PLACES }
     {
-        MOST_PLACES as u32
+        match self.version {
+            Version::One => PLACES_ONE as u32,
+            Version::Two => MOST_PLACES as u32,
+        }
     }
 
     /// The generation of a place that isn't opened again, so that no endpoint ever has the greatest descriptor.

@@ -1,7 +1,9 @@
 -- The calls: their words, and what they answer.
-use Rattle.std.specs.Prelude.{◌≡◌, ◌==◌, ℕ, Bool, true, false, List, [], ◌∷◌, length, codes, find, Option, Some, None, if◌then◌else◌}
+use Rattle.std.specs.Prelude.{◌≡◌, ◌==◌, ℕ, Bool, true, false, List, [], ◌∷◌, length, codes, find, Option, Some, None, option_and_then, if◌then◌else◌}
 use Rattle.std.specs.Str.{bytes_eq}
 use Rattle.xti_base.specs.declared.kinds.Fd.{Fd}
+use Rattle.xti_model.specs.Profile.{has_release_data}
+use Rattle.xti_model.specs.declared.profile.Version.{Version}
 use Rattle.xti_model.specs.declared.call.Call.{Call}
 use Rattle.xti_model.specs.declared.call.Call.TheVariants as call
 use Rattle.xti_model.specs.declared.script.NamedCall.{NamedCall}
@@ -60,13 +62,13 @@ answer_of verb = (row_of verb).answer
 
 -- ---- the call that a word is
 
--- scripts and journals have the call; they don't have sndreldata and rcvreldata
-abbrev pub is_in_texts : Verb → Bool
-is_in_texts SndRelData = false
-is_in_texts RcvRelData = false
-is_in_texts other = true
+-- scripts and journals of the version have the call; sndreldata and rcvreldata stand in version 2 alone
+abbrev pub is_in_texts : Version → Verb → Bool
+is_in_texts version SndRelData = has_release_data version
+is_in_texts version RcvRelData = has_release_data version
+is_in_texts version other = true
 
--- the calls of scripts and journals whose words have this length
+-- the calls whose words have this length
 unfoldable pub verbs_of_length : ℕ → List Verb
 verbs_of_length n =
     if n == 3 then Snd ∷ Rcv ∷ [] else
@@ -76,7 +78,7 @@ verbs_of_length n =
     if n == 7 then Connect ∷ GetInfo ∷ OptMgmt ∷ [] else
     if n == 8 then SndUData ∷ RcvUData ∷ RcvUDErr ∷ GetState ∷ [] else
     if n == 9 then SndVUData ∷ RcvVUData ∷ [] else
-    if n == 10 then RcvConnect ∷ [] else
+    if n == 10 then RcvConnect ∷ SndRelData ∷ RcvRelData ∷ [] else
     if n == 11 then GetProtAddr ∷ [] else []
 
 -- the first of these calls that has the word
@@ -84,8 +86,12 @@ abbrev pub verb_among : List ℕ → List Verb → Option Verb
 verb_among word verbs = find (λ verb. bytes_eq word (verb_word verb)) verbs
 
 -- the call that has the word
-unfoldable pub verb_in : List ℕ → Option Verb
-verb_in word = verb_among word (verbs_of_length (length word))
+unfoldable pub verb_with : List ℕ → Option Verb
+verb_with word = verb_among word (verbs_of_length (length word))
+
+-- the call of texts of the version that has the word
+abbrev pub verb_in : Version → List ℕ → Option Verb
+verb_in version word = option_and_then (λ verb. if is_in_texts version verb then Some verb else None) (verb_with word)
 
 -- ---- which call it is
 

@@ -1,9 +1,9 @@
 //! The calls.
 
 use crate::answer::Answer;
-use crate::words::verb_in;
+use crate::words::verb_with;
 use xti_base::Fd;
-use xti_model::{Call, Name, NamedCall};
+use xti_model::{Call, Name, NamedCall, Version};
 
 /// A call, without its arguments.
 #[derive(Clone, Copy, Debug, PartialEq, Eq)]
@@ -43,13 +43,28 @@ pub enum Verb {
 impl Verb {
     ghost use Rattle.std.specs.Prelude.{◌≡◌, true, Some};
     ghost use Rattle.std.specs.Option.{option_copied};
-    ghost use Rattle.xti_verbs.specs.Verbs.{answer_of, is_plain, plain_call, plain_name, plain_named_call, verb_in, verb_of, verb_of_named, verb_word};
+    ghost use Rattle.xti_verbs.specs.Verbs.{answer_of, is_in_texts, is_plain, plain_call, plain_name, plain_named_call, verb_in, verb_of, verb_of_named, verb_word};
 
-    /// The call that has the word; `None` where no call has it.
-    pub fn of_word(word: &[u8]) -> Option<Verb>
-        ensures { result ≡ verb_in word.now }
+    /// The call that has the word in scripts and journals of the version; `None` where no call of theirs has it.
+    pub fn of_word(version: Version, word: &[u8]) -> Option<Verb>
+        ensures { result ≡ verb_in version word.now }
     {
-        verb_in(word)
+        let verb = verb_with(word)?;
+        if verb.is_in_texts(version) {
+            Some(verb)
+        } else {
+            None
+        }
+    }
+
+    /// Whether scripts and journals of the version have the call: t_sndreldata and t_rcvreldata stand in version 2 alone.
+    pub fn is_in_texts(self, version: Version) -> bool
+        ensures { result ≡ is_in_texts version self }
+    {
+        match self {
+            Verb::SndRelData | Verb::RcvRelData => version.has_release_data(),
+            _ => true,
+        }
     }
 
     /// Its word in scripts and journals.

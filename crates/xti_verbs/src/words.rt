@@ -1,7 +1,7 @@
 //! The call that a word is.
 
 ghost use Rattle.std.specs.Prelude.{◌≡◌};
-ghost use Rattle.xti_verbs.specs.Verbs.{verbs_of_length, verb_among, verb_in};
+ghost use Rattle.xti_verbs.specs.Verbs.{verbs_of_length, verb_among, verb_with};
 
 use crate::verb::Verb;
 
@@ -142,6 +142,10 @@ fn verb_of_ten(word: &[u8]) -> Option<Verb>
 {
     if word == b"rcvconnect".as_slice() {
         Some(Verb::RcvConnect)
+    } else if word == b"sndreldata".as_slice() {
+        Some(Verb::SndRelData)
+    } else if word == b"rcvreldata".as_slice() {
+        Some(Verb::RcvRelData)
     } else {
         None
     }
@@ -161,9 +165,9 @@ fn verb_of_eleven(word: &[u8]) -> Option<Verb>
 }
 
 /// The call that has the word.
-#[tactic(auto, unfolding(crate::specs::Verbs::verb_in, crate::specs::Verbs::verbs_of_length))]
-pub(crate) fn verb_in(word: &[u8]) -> Option<Verb>
-    ensures { result ≡ verb_in word.now }
+#[tactic(auto, unfolding(crate::specs::Verbs::verb_with, crate::specs::Verbs::verbs_of_length))]
+pub(crate) fn verb_with(word: &[u8]) -> Option<Verb>
+    ensures { result ≡ verb_with word.now }
 {
     match word.len() {
         3 => verb_of_three(word),
