@@ -4,10 +4,11 @@ use Rattle.std.proofs.Math.Nat.{div-add-mod, mod-lt, mul_comm}
 use Rattle.std.proofs.lemmas.Bool.{ne_eqb}
 use Rattle.std.proofs.lemmas.Nat.{div-mul-add, mod-mul-add}
 use Rattle.xti_model.specs.declared.profile.Providers.{Providers}
+use Rattle.xti_model.proofs.PlaceNumbers.{two-places}
 use Rattle.xti_model.specs.World.{places, place_of, generation_of, descriptor, switch_number}
 
 pub some-places : (p : Providers) → 0 < places p
-some-places p = omega arith
+some-places p = omega (arith, two-places p)
 
 pub apart : (m n : ℕ) → n < m → eqb n m ≡ false
 apart m n h = ne_eqb n m (λ e. omega (arith, e, h))

@@ -14,6 +14,7 @@ use Rattle.xti_model.specs.SentBytes.{AreBytes}
 use Rattle.xti_model.specs.Symbols.{is_byte, front, piece}
 use Rattle.xti_model.specs.World.{Switch}
 use Rattle.xti_model.specs.Switch.{bound, numbered_address, free_address, chosen}
+use Rattle.xti_base.specs.declared.limits.TheConstants.{MOST_PLACES}
 
 pub none-bytes : AreBytes []
 none-bytes = All-nil (λ b. b < 256)
@@ -34,7 +35,7 @@ free-bytes s prov n (suc more) h = go (is_some (bound s prov (numbered_address n
     go false k = numbered-bytes n (omega (arith, h))
 
 -- the address that a bind gives
-pub chosen-bytes : (s : Switch) (prov : Prov) (address : List ℕ) → length s.bindings ≤ 64 → AreBytes address → AreBytes (chosen s prov address)
+pub chosen-bytes : (s : Switch) (prov : Prov) (address : List ℕ) → length s.bindings ≤ MOST_PLACES → AreBytes address → AreBytes (chosen s prov address)
 chosen-bytes s prov [] l a = free-bytes s prov 0 (length s.bindings) (omega (arith, l))
 chosen-bytes s prov (b ∷ address) l a = a
 

@@ -24,7 +24,7 @@ use Rattle.xti_model.specs.declared.profile.Providers.{Providers}
 use Rattle.xti_model.specs.Profile.{valid, valid_connections, valid_orderly, valid_datagrams, has_buffers, has_messages, has_limit, is_stream_limit, is_size}
 use Rattle.xti_model.specs.Provider.{profile, has_release_data, info, is_provider, expedited_limit, connection_limit}
 use Rattle.xti_model.specs.Endpoint.{Endpoint, Confirmation, address_of}
-use Rattle.xti_model.specs.World.{World, Switch, closed_place, endpoint, the_switch}
+use Rattle.xti_model.specs.World.{World, Switch, closed_place, endpoint, the_switch, places, last_generation}
 use Rattle.xti_model.specs.Switch.{chosen, free_place, if_provider, is_free, opening_place, place_at}
 use Rattle.xti_model.specs.Links.{linked}
 use Rattle.xti_model.specs.Sending.{room_for}
@@ -46,12 +46,13 @@ use Rattle.xti_model.specs.Calls.Show as Show
 use Rattle.xti_model.specs.SentBytes.{AreBytes}
 use Rattle.xti_laws_requests.proofs.StepWays.{is_denial, all_deny, none-is}
 use Rattle.xti_laws_sound.specs.Invariant.{SoundWorld}
-use Rattle.xti_laws_sound.proofs.CountingBindings.{few-bindings}
+use Rattle.xti_laws_sound.proofs.CountingBindings.{few-in-either}
 use Rattle.xti_laws_sound.proofs.ToldOutcomes.{StepTells, step-told, RefusalTells, denied, later-told, later-none, Clear, clear, told}
 use Rattle.xti_laws_bytes.specs.Values.{IsOfBytes, IsNumber, IsLimit, AreLimits, HasValues}
 use Rattle.xti_laws_bytes.proofs.ByteLists.{none-bytes, chosen-bytes, front-bytes}
 use Rattle.xti_laws_bytes.proofs.AnsweredOptions.{negotiated-fits}
 use Rattle.xti_laws_bytes.proofs.ByteWorlds.{ByteConfirmation, ByteDisconnect, ByteDatagram, ByteError, OfBytes, Bytes, AllBytes, any-bytes, address-bytes, first-of, oldest-bytes, datagram-bytes}
+use Rattle.xti_model.proofs.PlaceNumbers.{descriptor-fits}
 
 -- ---- plans
 
@@ -203,17 +204,17 @@ info-fits p prov h = record {
 
 -- ---- opens
 
-fd-fits : (p : Providers) (s : Switch) (n : ℕ) → length s.places ≤ 64 → free_place p s ≡ Some n → IsNumber (Open.fd_at p s n)
+fd-fits : (p : Providers) (s : Switch) (n : ℕ) → length s.places ≡ places p → free_place p s ≡ Some n → IsNumber (Open.fd_at p s n)
 fd-fits p s n l h =
     let f = position-Some (is_free p) s.places n closed_place h in
-    let g = ltb-true (place_at s n).generation 67108863 (and_parts (not (place_at s n).is_open) (nat_lt (place_at s n).generation 67108863) f.1).1 in
-    omega (arith, f.0, g, l)
+    let g = ltb-true (place_at s n).generation (last_generation p) (and_parts (not (place_at s n).is_open) (nat_lt (place_at s n).generation (last_generation p)) f.1).1 in
+    omega (arith, descriptor-fits p (place_at s n).generation n g (subst (λ m. n < m) l f.0))
 
 opens : (p : Providers) (w : World) (prov : Prov) (nonblock : Bool) → SoundWorld p w → StepTells HasValues (step_of p w (Open.plan p w prov nonblock))
 opens p w prov nonblock h = step-tells p w (Open.plan p w prov nonblock) (go (opening_place p (the_switch p w) prov) refl)
   where
-    known : length (the_switch p w).places ≤ 64
-    known = (let k = h.registered.agreement.places_known in omega (arith, k))
+    known : length (the_switch p w).places ≡ places p
+    known = h.registered.agreement.places_known
 
     place : (b : Bool) (n : ℕ) → if_provider b (free_place p (the_switch p w)) ≡ Some n → free_place p (the_switch p w) ≡ Some n
     place true n i = i
@@ -338,7 +339,7 @@ module _ (p : Providers) (w : World) (valued : valid p ≡ true) (h : SoundWorld
   binds : (fd : ℕ) (address : List ℕ) (qlen amax : ℕ) → AreBytes address → StepTells HasValues (step_of p w (Bind.plan p w fd address qlen amax))
   binds fd address qlen amax a = tells p w fd (Bind.plan_in (the_switch p w) fd address qlen amax) (λ e i. (
     refl,
-    (λ c. (trimmed-bytes (chosen (the_switch p w) e.prov address) amax (chosen-bytes (the_switch p w) e.prov address (few-bindings p w h.registered.agreement) a), queue-fits _ qlen)),
+    (λ c. (trimmed-bytes (chosen (the_switch p w) e.prov address) amax (chosen-bytes (the_switch p w) e.prov address (few-in-either p w h.registered.agreement) a), queue-fits _ qlen)),
     zero-fits,
   ))
 

@@ -40,7 +40,7 @@ use Rattle.xti_laws_requests.proofs.KeptEndpoints.{AllKeep, append-keep, keeps}
 use Rattle.xti_laws_sound.specs.Invariant.{SoundWorld}
 use Rattle.xti_laws_sound.proofs.PassedRows.{step-keeps, call-keeps}
 use Rattle.xti_laws_sound.proofs.ShortLists.{All-without, All-find}
-use Rattle.xti_laws_sound.proofs.CountingBindings.{few-bindings}
+use Rattle.xti_laws_sound.proofs.CountingBindings.{few-in-either}
 use Rattle.xti_laws_bytes.specs.Values.{IsOfBytes, IsNumber}
 use Rattle.xti_laws_bytes.proofs.ByteLists.{none-bytes, chosen-bytes, IsSymbol, none-symbols, piece-symbols}
 
@@ -397,7 +397,7 @@ pub next-bytes : (p : Providers) (w : World) (c : Call) (g : Go) → IsOfBytes c
 unfolding step plan
 next-bytes p w (call.TOpen prov nonblock) g a s h = by-plan p w (Open.plan_where p (the_switch p w) prov nonblock (opening_place p (the_switch p w) prov)) (open-bytes p (the_switch p w) prov nonblock (opening_place p (the_switch p w) prov)) h
 next-bytes p w (call.TClose fd) g a s h = on-open p w fd.0 _ (λ e b. twice (Close.changes p fd.0 e) _ (close-bytes p fd.0 e) refl refl refl) h
-next-bytes p w (call.TBind fd addr qlen amax) g a s h = on-open p w fd.0 (Bind.plan_in (the_switch p w) fd.0 addr qlen amax) (λ e b. twice (Bind.changes fd.0 e.prov (chosen (the_switch p w) e.prov addr) (Bind.queue e.prov qlen)) _ (λ z. ((λ j y q. (chosen-bytes (the_switch p w) e.prov addr (few-bindings p w s.registered.agreement) a, q.1, q.2, q.3, q.4, q.5, q.6, q.7, q.8, q.9, q.10)), (tt, tt))) refl refl refl) h
+next-bytes p w (call.TBind fd addr qlen amax) g a s h = on-open p w fd.0 (Bind.plan_in (the_switch p w) fd.0 addr qlen amax) (λ e b. twice (Bind.changes fd.0 e.prov (chosen (the_switch p w) e.prov addr) (Bind.queue e.prov qlen)) _ (λ z. ((λ j y q. (chosen-bytes (the_switch p w) e.prov addr (few-in-either p w s.registered.agreement) a, q.1, q.2, q.3, q.4, q.5, q.6, q.7, q.8, q.9, q.10)), (tt, tt))) refl refl refl) h
 next-bytes p w (call.TUnbind fd) g a s h = on-open p w fd.0 _ (λ e b. twice (at_endpoint fd.0 Bind.unbound ∷ at_switch (give_up_address fd.0) ∷ []) _ (λ z. ((λ j y q. (tt, q.1, q.2, q.3, q.4, q.5, q.6, q.7, q.8, All-nil ByteError, q.10)), (tt, tt))) refl refl refl) h
 next-bytes p w (call.TConnect fd addr opt udata amax omax umax) go.Begin a s h = connect-bytes p w s h fd.0 addr opt udata a.1 a.2
 next-bytes p w (call.TConnect fd addr opt udata amax omax umax) (go.More n) a s h = on-open p w fd.0 _ (λ e b. own fd.0 Connect.confirmed _ (λ y q. (q.0, q.1, q.2, q.3, q.4, tt, q.6, q.7, q.8, q.9, q.10)) refl refl refl) h

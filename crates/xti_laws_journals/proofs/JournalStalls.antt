@@ -8,6 +8,7 @@ use Rattle.xti_model.specs.declared.entry.Act.TheVariants.{Begin, More}
 use Rattle.xti_model.specs.declared.entry.Entry.{Entry}
 use Rattle.xti_model.specs.declared.profile.Providers.{Providers}
 use Rattle.xti_model.specs.declared.script.Line.{Line}
+use Rattle.xti_model.specs.declared.profile.Version.{Version}
 use Rattle.xti_model.specs.declared.script.StallLine.{StallLine}
 use Rattle.xti_model.specs.Complete.{Complete, resolved_in, workers, is_stuck, is_stuck_by, is_setup, is_setup_stuck, is_rest_done, setup_first}
 use Rattle.xti_model.specs.History.{Going, unfinished, made_by, step_going, after}
@@ -24,46 +25,46 @@ use Rattle.xti_laws_journals.proofs.JournalEntries.{going-verb, is-act}
 
 -- ---- in the form of journals
 
-module _ (lines : List Line) (es : List Entry) (writable : (worker : ℕ) (l : Placed) → next_line lines es worker ≡ Some l → IsWritable (resolved_in es l)) where
+module _ (version : Version) (lines : List Line) (es : List Entry) (writable : (worker : ℕ) (l : Placed) → next_line lines es worker ≡ Some l → IsWritable version (resolved_in es l)) where
   -- the next step of a worker, as a stall line shows it
-  shown : (worker : ℕ) (g : Going) → worker ≤ 32 → next_going lines es worker ≡ Some g → IsStall es (record { worker = worker; act = act_of g.so_far g.call })
+  shown : (worker : ℕ) (g : Going) → worker ≤ 32 → next_going lines es worker ≡ Some g → IsStall version es (record { worker = worker; act = act_of g.so_far g.call })
   shown worker g small n = record { worker = small; act = by (unfinished es worker) refl (unfinished-goes_on es worker) n }
     where
-      begins : (l : Option Placed) → next_line lines es worker ≡ l → option_map (begin_line es) l ≡ Some g → IsAct (last_verb es worker) (act_of g.so_far g.call)
+      begins : (l : Option Placed) → next_line lines es worker ≡ l → option_map (begin_line es) l ≡ Some g → IsAct version (last_verb es worker) (act_of g.so_far g.call)
       begins None i e = absurd (none-some g e)
       begins (Some l) i e =
           let same : begin_line es l ≡ g = cc in
-          subst (λ (x : Going). IsAct (last_verb es worker) (act_of x.so_far x.call)) same (is-act (last_verb es worker) (Begin (resolved_in es l)) (verb_of (resolved_in es l)) (writable worker l i) (λ m. absurd cc))
+          subst (λ (x : Going). IsAct version (last_verb es worker) (act_of x.so_far x.call)) same (is-act version (last_verb es worker) (Begin (resolved_in es l)) (verb_of (resolved_in es l)) (writable worker l i) (λ m. absurd cc))
 
-      by : (u : Option Going) → unfinished es worker ≡ u → GoesOn u → next_or lines es worker u ≡ Some g → IsAct (last_verb es worker) (act_of g.so_far g.call)
+      by : (u : Option Going) → unfinished es worker ≡ u → GoesOn u → next_or lines es worker u ≡ Some g → IsAct version (last_verb es worker) (act_of g.so_far g.call)
       by None i m e = begins (next_line lines es worker) refl e
       by (Some x) i m e =
           let same : x ≡ g = cc in
-          subst (λ (y : Going). IsAct (last_verb es worker) (act_of y.so_far y.call)) same (subst (IsAct (last_verb es worker)) (sym m) (is-act (last_verb es worker) More (verb_of x.call) tt (λ k. going-verb es worker x i)))
+          subst (λ (y : Going). IsAct version (last_verb es worker) (act_of y.so_far y.call)) same (subst (IsAct version (last_verb es worker)) (sym m) (is-act version (last_verb es worker) More (verb_of x.call) tt (λ k. going-verb es worker x i)))
 
   -- after a stall line of a lower worker
-  stalls-behind : (before : StallLine) (from n : ℕ) → 0 < before.worker → before.worker < from → from + n ≤ 33 → AreStallsAfter es before (flat_map (stall_at lines es) (numbers from n))
+  stalls-behind : (before : StallLine) (from n : ℕ) → 0 < before.worker → before.worker < from → from + n ≤ 33 → AreStallsAfter version es before (flat_map (stall_at lines es) (numbers from n))
   stalls-behind before from zero a b c = tt
   stalls-behind before from (suc n) a b c = by (next_going lines es from) refl (λ x i j. stalls-behind x (from + 1) n i j (omega (arith, c)))
     where
-      by : (o : Option Going) → next_going lines es from ≡ o → ((x : StallLine) → 0 < x.worker → x.worker < from + 1 → AreStallsAfter es x (flat_map (stall_at lines es) (numbers (from + 1) n)))
-          → AreStallsAfter es before (stall_of from o ++ flat_map (stall_at lines es) (numbers (from + 1) n))
+      by : (o : Option Going) → next_going lines es from ≡ o → ((x : StallLine) → 0 < x.worker → x.worker < from + 1 → AreStallsAfter version es x (flat_map (stall_at lines es) (numbers (from + 1) n)))
+          → AreStallsAfter version es before (stall_of from o ++ flat_map (stall_at lines es) (numbers (from + 1) n))
       by None i later = later before a (omega (arith, b))
       by (Some g) i later = ((a, b), shown from g (omega (arith, c)) i, later (record { worker = from; act = act_of g.so_far g.call }) (omega (arith, a, b)) (omega arith))
 
-  stalls-from : (from n : ℕ) → 0 < from → from + n ≤ 33 → AreStalls es (flat_map (stall_at lines es) (numbers from n))
+  stalls-from : (from n : ℕ) → 0 < from → from + n ≤ 33 → AreStalls version es (flat_map (stall_at lines es) (numbers from n))
   stalls-from from zero a c = tt
   stalls-from from (suc n) a c = by (next_going lines es from) refl (stalls-from (from + 1) n (omega arith) (omega (arith, c)))
     where
-      by : (o : Option Going) → next_going lines es from ≡ o → AreStalls es (flat_map (stall_at lines es) (numbers (from + 1) n)) → AreStalls es (stall_of from o ++ flat_map (stall_at lines es) (numbers (from + 1) n))
+      by : (o : Option Going) → next_going lines es from ≡ o → AreStalls version es (flat_map (stall_at lines es) (numbers (from + 1) n)) → AreStalls version es (stall_of from o ++ flat_map (stall_at lines es) (numbers (from + 1) n))
       by None i later = later
       by (Some g) i later = (shown from g (omega (arith, c)) i, stalls-behind (record { worker = from; act = act_of g.so_far g.call }) (from + 1) n a (omega arith) (omega (arith, c)))
 
-  pub stalls-are : AreStalls es (stalls_after lines es)
+  pub stalls-are : AreStalls version es (stalls_after lines es)
   unfolding stalls_after
   stalls-are = by (next_going lines es 0) refl
     where
-      by : (o : Option Going) → next_going lines es 0 ≡ o → AreStalls es (cond (is_none o) (stall_of 0 o ++ flat_map (stall_at lines es) (numbers 1 32)) (stall_of 0 o))
+      by : (o : Option Going) → next_going lines es 0 ≡ o → AreStalls version es (cond (is_none o) (stall_of 0 o ++ flat_map (stall_at lines es) (numbers 1 32)) (stall_of 0 o))
       by None i = stalls-from 1 32 (omega arith) (omega arith)
       by (Some g) i = (shown 0 g (omega arith) i, tt)
 

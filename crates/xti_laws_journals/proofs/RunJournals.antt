@@ -7,13 +7,12 @@ use Rattle.xti_model.specs.declared.profile.Providers.{Providers}
 use Rattle.xti_model.specs.declared.script.Script.{Script}
 use Rattle.xti_model.specs.Complete.{resolved_in}
 use Rattle.xti_model.specs.History.{Legal}
-use Rattle.xti_model.specs.Profile.{valid}
+use Rattle.xti_model.specs.Profile.{valid, releases_told}
 use Rattle.xti_model.specs.Resolve.{Placed, placed, begun, meanings}
 use Rattle.xti_model.specs.SentBytes.{HasByteArguments, AllHaveByteArguments}
 use Rattle.xti_model.specs.World.{World, opening}
 use Rattle.xti_verbs.specs.Verbs.{verb_of}
 use Rattle.xti_journal.specs.Grammar.{HasText}
-use Rattle.xti_journal.specs.Releases.{AreWithoutData}
 use Rattle.xti_script_reader.specs.Grammar.{HasText as HasScriptText}
 use Rattle.xti_laws_sound.specs.Given.{OfStep}
 use Rattle.xti_laws_streams.specs.Laws.{IsLegalRun}
@@ -32,7 +31,7 @@ module _
     (s : Script)
     (es : List Entry)
     (v : valid s.providers ≡ true)
-    (w : AreWithoutData s.providers)
+    (w : releases_told s.providers ≡ true)
     (b : AllHaveByteArguments s.lines)
     (h : HasScriptText s)
     (r : IsLegalRun s es)
@@ -40,13 +39,13 @@ module _
     answers : All AnswersValues es
     answers = valued s.providers es v r.legal (begun-such HasByteArguments IsOfBytes s.lines es r.workers_only r.follows (lines-of-bytes s.lines b) (λ l k. named-of-bytes (meanings l.earlier l.line.worker es) l.line.call k))
 
-    of_line : (l : Placed) → IsWritableNamed l.line.call → IsWritable (resolved_in es l)
+    of_line : (l : Placed) → IsWritableNamed s.providers.version l.line.call → IsWritable s.providers.version (resolved_in es l)
     of_line l k = k (meanings l.earlier l.line.worker es) (meanings-numbered l.earlier l.line.worker es answers)
 
     pub run-text : HasText (journal_of s es)
     run-text = record {
       providers = v;
       releases = w;
-      entries = entries-are s.providers (opening s.providers) es (form s.providers) r.legal (begun-such IsWritableNamed IsWritable s.lines es r.workers_only r.follows (script-writable s h) of_line) answers r.workers_only;
-      stalls = stalls-are s.lines es (λ worker l n. of_line l (one-placed IsWritableNamed (placed s.lines worker) (length (begun es worker)) l (placed-such IsWritableNamed [] s.lines worker (script-writable s h)) n));
+      entries = entries-are s.providers.version s.providers (opening s.providers) es (form s.providers) r.legal (begun-such (IsWritableNamed s.providers.version) (IsWritable s.providers.version) s.lines es r.workers_only r.follows (script-writable s h) of_line) answers r.workers_only;
+      stalls = stalls-are s.providers.version s.lines es (λ worker l n. of_line l (one-placed (IsWritableNamed s.providers.version) (placed s.lines worker) (length (begun es worker)) l (placed-such (IsWritableNamed s.providers.version) [] s.lines worker (script-writable s h)) n));
     }

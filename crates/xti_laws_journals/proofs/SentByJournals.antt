@@ -9,6 +9,7 @@ use Rattle.xti_model.specs.declared.entry.Act.{Act}
 use Rattle.xti_model.specs.declared.entry.Act.TheVariants.{Begin, More}
 use Rattle.xti_model.specs.declared.entry.Entry.{Entry}
 use Rattle.xti_model.specs.SentBytes.{AreBytes, SendsBytes, BeginsBytes, AllSendBytes}
+use Rattle.xti_model.specs.declared.profile.Version.{Version}
 use Rattle.xti_verbs.specs.declared.verb.Verb.{Verb}
 use Rattle.xti_journal.specs.Fields.{field, AreFields}
 use Rattle.xti_verbs.specs.Verbs.{verb_of}
@@ -25,11 +26,11 @@ fields-send (call.TSnd fd bytes flags) h = h.1.0
 fields-send (call.TSndV fd parts flags) h = joined-bytes parts h.1.0
 fields-send other h = tt
 
-act-sends : (o : Option Verb) (a : Act) → IsAct o a → BeginsBytes a
-act-sends None (Begin c) h = fields-send c h.1
-act-sends (Some v) (Begin c) h = fields-send c h.1
-act-sends o More h = tt
+act-sends : (version : Version) (o : Option Verb) (a : Act) → IsAct version o a → BeginsBytes a
+act-sends version None (Begin c) h = fields-send c h.1
+act-sends version (Some v) (Begin c) h = fields-send c h.1
+act-sends version o More h = tt
 
-pub entries-send : (past es : List Entry) → AreEntries past es → AllSendBytes es
-entries-send past [] h = tt
-entries-send past (e ∷ es) h = (act-sends _ e.act h.0.act, entries-send (past ++ e ∷ []) es h.1)
+pub entries-send : (version : Version) (past es : List Entry) → AreEntries version past es → AllSendBytes es
+entries-send version past [] h = tt
+entries-send version past (e ∷ es) h = (act-sends version _ e.act h.0.act, entries-send version (past ++ e ∷ []) es h.1)

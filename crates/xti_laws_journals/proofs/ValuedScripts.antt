@@ -23,6 +23,7 @@ use Rattle.xti_script_reader.specs.FieldValue.{Value}
 use Rattle.xti_script_reader.specs.FieldValue.Value.{Bytes, Number, Parts, Sizes, Name, NameOrNone, Provider, Mode}
 use Rattle.xti_script_reader.specs.declared.fields.Key.{Key}
 use Rattle.xti_script_reader.specs.declared.fields.Key.TheVariants as key
+use Rattle.xti_model.specs.declared.profile.Version.{Version}
 use Rattle.xti_verbs.specs.declared.verb.Verb.{Verb}
 use Rattle.xti_verbs.specs.declared.verb.Verb.TheVariants.{Open, Close, Bind, Unbind, Connect, RcvConnect, Listen, Accept, Snd, SndV, Rcv, RcvV, SndDis, RcvDis, SndRel, RcvRel, SndRelData, RcvRelData, SndUData, SndVUData, RcvUData, RcvVUData, RcvUDErr, Look, GetState, Sync, GetInfo, GetProtAddr, OptMgmt, SetMode}
 use Rattle.xti_script_reader.specs.Names.{Spot, after, is_defined, can_name}
@@ -167,63 +168,63 @@ abbrev pub AreNumbered : Meanings → Type 0
 AreNumbered m = ((name : List ℕ) → IsNumber (m.fd name).0) × ((name : List ℕ) → IsNumber (m.seq name).0)
 
 -- a journal has the call
-abbrev pub IsWritable : Call → Type 0
-IsWritable c = (is_in_texts (verb_of c) ≡ true) × AreJournalFields (form (verb_of c)) (call_values c)
+abbrev pub IsWritable : Version → Call → Type 0
+IsWritable version c = (is_in_texts version (verb_of c) ≡ true) × AreJournalFields (form (verb_of c)) (call_values c)
 
 -- with such numbers for its names, a journal has the call
-abbrev pub IsWritableNamed : NamedCall → Type 0
-IsWritableNamed c = (m : Meanings) → AreNumbered m → IsWritable (with_numbers m c)
+abbrev pub IsWritableNamed : Version → NamedCall → Type 0
+IsWritableNamed version c = (m : Meanings) → AreNumbered m → IsWritable version (with_numbers m c)
 
-same : (c d : NamedCall) → IsWritableNamed c → Some c ≡ Some d → IsWritableNamed d
-same c d h e = subst IsWritableNamed (some-is c d e) h
+same : (version : Version) (c d : NamedCall) → IsWritableNamed version c → Some c ≡ Some d → IsWritableNamed version d
+same version c d h e = subst (IsWritableNamed version) (some-is c d e) h
 
 or-none : (m : Meanings) (o : Option (List ℕ)) → AreNumbered m → IsNumber (seq_or_none m o).0
 or-none m None k = omega arith
 or-none m (Some name) k = k.1 name
 
-call-fields : (verb : Verb) (values : List Value) (d : NamedCall) → is_in_texts verb ≡ true → AllValued values → call_with verb values ≡ Some d → IsWritableNamed d
+call-fields : (version : Version) (verb : Verb) (values : List Value) (d : NamedCall) → is_in_texts version verb ≡ true → AllValued values → call_with verb values ≡ Some d → IsWritableNamed version d
 unfolding call_with form journal_field
-call-fields Open (Name v1 ∷ Provider v2 ∷ Mode v3 ∷ []) d t h e = same (call.TOpen v1 v2 v3) d (λ m k. (refl, (tt, (tt, tt)))) e
-call-fields Close (Name v1 ∷ []) d t h e = same (call.TClose v1) d (λ m k. (refl, (k.0 v1, tt))) e
-call-fields Bind (Name v1 ∷ Bytes v2 ∷ Number v3 ∷ Number v4 ∷ []) d t h e = same (call.TBind v1 v2 v3 v4) d (λ m k. (refl, (k.0 v1, h.1))) e
-call-fields Unbind (Name v1 ∷ []) d t h e = same (call.TUnbind v1) d (λ m k. (refl, (k.0 v1, tt))) e
-call-fields Connect (Name v1 ∷ Bytes v2 ∷ Bytes v3 ∷ Bytes v4 ∷ Number v5 ∷ Number v6 ∷ Number v7 ∷ []) d t h e = same (call.TConnect v1 v2 v3 v4 v5 v6 v7) d (λ m k. (refl, (k.0 v1, h.1))) e
-call-fields RcvConnect (Name v1 ∷ Number v2 ∷ Number v3 ∷ Number v4 ∷ []) d t h e = same (call.TRcvConnect v1 v2 v3 v4) d (λ m k. (refl, (k.0 v1, h.1))) e
-call-fields Listen (Name v1 ∷ Name v2 ∷ Number v3 ∷ Number v4 ∷ Number v5 ∷ []) d t h e = same (call.TListen v1 v2 v3 v4 v5) d (λ m k. (refl, (k.0 v1, h.1.1))) e
-call-fields Accept (Name v1 ∷ Name v2 ∷ Name v3 ∷ Bytes v4 ∷ Bytes v5 ∷ []) d t h e = same (call.TAccept v1 v2 v3 v4 v5) d (λ m k. (refl, (k.0 v1, (k.0 v2, (k.1 v3, h.1.1.1))))) e
-call-fields Snd (Name v1 ∷ Bytes v2 ∷ Number v3 ∷ []) d t h e = same (call.TSnd v1 v2 v3) d (λ m k. (refl, (k.0 v1, h.1))) e
-call-fields SndV (Name v1 ∷ Parts v2 ∷ Number v3 ∷ []) d t h e = same (call.TSndV v1 v2 v3) d (λ m k. (refl, (k.0 v1, h.1))) e
-call-fields Rcv (Name v1 ∷ Number v2 ∷ []) d t h e = same (call.TRcv v1 v2) d (λ m k. (refl, (k.0 v1, h.1))) e
-call-fields RcvV (Name v1 ∷ Sizes v2 ∷ []) d t h e = same (call.TRcvV v1 v2) d (λ m k. (refl, (k.0 v1, h.1))) e
-call-fields SndDis (Name v1 ∷ NameOrNone v2 ∷ Bytes v3 ∷ []) d t h e = same (call.TSndDis v1 v2 v3) d (λ m k. (refl, (k.0 v1, (or-none m v2 k, h.1.1)))) e
-call-fields RcvDis (Name v1 ∷ Number v2 ∷ []) d t h e = same (call.TRcvDis v1 v2) d (λ m k. (refl, (k.0 v1, h.1))) e
-call-fields SndRel (Name v1 ∷ []) d t h e = same (call.TSndRel v1) d (λ m k. (refl, (k.0 v1, tt))) e
-call-fields RcvRel (Name v1 ∷ []) d t h e = same (call.TRcvRel v1) d (λ m k. (refl, (k.0 v1, tt))) e
-call-fields SndRelData values d t h e = absurd cc
-call-fields RcvRelData values d t h e = absurd cc
-call-fields SndUData (Name v1 ∷ Bytes v2 ∷ Bytes v3 ∷ Bytes v4 ∷ []) d t h e = same (call.TSndUData v1 v2 v3 v4) d (λ m k. (refl, (k.0 v1, h.1))) e
-call-fields SndVUData (Name v1 ∷ Bytes v2 ∷ Bytes v3 ∷ Parts v4 ∷ []) d t h e = same (call.TSndVUData v1 v2 v3 v4) d (λ m k. (refl, (k.0 v1, h.1))) e
-call-fields RcvUData (Name v1 ∷ Number v2 ∷ Number v3 ∷ Number v4 ∷ []) d t h e = same (call.TRcvUData v1 v2 v3 v4) d (λ m k. (refl, (k.0 v1, h.1))) e
-call-fields RcvVUData (Name v1 ∷ Sizes v2 ∷ Number v3 ∷ Number v4 ∷ []) d t h e = same (call.TRcvVUData v1 v2 v3 v4) d (λ m k. (refl, (k.0 v1, h.1))) e
-call-fields RcvUDErr (Name v1 ∷ Number v2 ∷ Number v3 ∷ []) d t h e = same (call.TRcvUDErr v1 v2 v3) d (λ m k. (refl, (k.0 v1, h.1))) e
-call-fields Look (Name v1 ∷ []) d t h e = same (call.TLookAt v1) d (λ m k. (refl, (k.0 v1, tt))) e
-call-fields GetState (Name v1 ∷ []) d t h e = same (call.TGetState v1) d (λ m k. (refl, (k.0 v1, tt))) e
-call-fields Sync (Name v1 ∷ []) d t h e = same (call.TSync v1) d (λ m k. (refl, (k.0 v1, tt))) e
-call-fields GetInfo (Name v1 ∷ []) d t h e = same (call.TGetInfo v1) d (λ m k. (refl, (k.0 v1, tt))) e
-call-fields GetProtAddr (Name v1 ∷ Number v2 ∷ Number v3 ∷ []) d t h e = same (call.TGetProtAddr v1 v2 v3) d (λ m k. (refl, (k.0 v1, h.1))) e
-call-fields OptMgmt (Name v1 ∷ Number v2 ∷ Bytes v3 ∷ Number v4 ∷ []) d t h e = same (call.TOptMgmt v1 v2 v3 v4) d (λ m k. (refl, (k.0 v1, h.1))) e
-call-fields SetMode (Name v1 ∷ Mode v2 ∷ []) d t h e = same (call.SetMode v1 v2) d (λ m k. (refl, (k.0 v1, (tt, tt)))) e
-call-fields verb values d t h e = absurd (none-is d e)
+call-fields version Open (Name v1 ∷ Provider v2 ∷ Mode v3 ∷ []) d t h e = same version (call.TOpen v1 v2 v3) d (λ m k. (refl, (tt, (tt, tt)))) e
+call-fields version Close (Name v1 ∷ []) d t h e = same version (call.TClose v1) d (λ m k. (refl, (k.0 v1, tt))) e
+call-fields version Bind (Name v1 ∷ Bytes v2 ∷ Number v3 ∷ Number v4 ∷ []) d t h e = same version (call.TBind v1 v2 v3 v4) d (λ m k. (refl, (k.0 v1, h.1))) e
+call-fields version Unbind (Name v1 ∷ []) d t h e = same version (call.TUnbind v1) d (λ m k. (refl, (k.0 v1, tt))) e
+call-fields version Connect (Name v1 ∷ Bytes v2 ∷ Bytes v3 ∷ Bytes v4 ∷ Number v5 ∷ Number v6 ∷ Number v7 ∷ []) d t h e = same version (call.TConnect v1 v2 v3 v4 v5 v6 v7) d (λ m k. (refl, (k.0 v1, h.1))) e
+call-fields version RcvConnect (Name v1 ∷ Number v2 ∷ Number v3 ∷ Number v4 ∷ []) d t h e = same version (call.TRcvConnect v1 v2 v3 v4) d (λ m k. (refl, (k.0 v1, h.1))) e
+call-fields version Listen (Name v1 ∷ Name v2 ∷ Number v3 ∷ Number v4 ∷ Number v5 ∷ []) d t h e = same version (call.TListen v1 v2 v3 v4 v5) d (λ m k. (refl, (k.0 v1, h.1.1))) e
+call-fields version Accept (Name v1 ∷ Name v2 ∷ Name v3 ∷ Bytes v4 ∷ Bytes v5 ∷ []) d t h e = same version (call.TAccept v1 v2 v3 v4 v5) d (λ m k. (refl, (k.0 v1, (k.0 v2, (k.1 v3, h.1.1.1))))) e
+call-fields version Snd (Name v1 ∷ Bytes v2 ∷ Number v3 ∷ []) d t h e = same version (call.TSnd v1 v2 v3) d (λ m k. (refl, (k.0 v1, h.1))) e
+call-fields version SndV (Name v1 ∷ Parts v2 ∷ Number v3 ∷ []) d t h e = same version (call.TSndV v1 v2 v3) d (λ m k. (refl, (k.0 v1, h.1))) e
+call-fields version Rcv (Name v1 ∷ Number v2 ∷ []) d t h e = same version (call.TRcv v1 v2) d (λ m k. (refl, (k.0 v1, h.1))) e
+call-fields version RcvV (Name v1 ∷ Sizes v2 ∷ []) d t h e = same version (call.TRcvV v1 v2) d (λ m k. (refl, (k.0 v1, h.1))) e
+call-fields version SndDis (Name v1 ∷ NameOrNone v2 ∷ Bytes v3 ∷ []) d t h e = same version (call.TSndDis v1 v2 v3) d (λ m k. (refl, (k.0 v1, (or-none m v2 k, h.1.1)))) e
+call-fields version RcvDis (Name v1 ∷ Number v2 ∷ []) d t h e = same version (call.TRcvDis v1 v2) d (λ m k. (refl, (k.0 v1, h.1))) e
+call-fields version SndRel (Name v1 ∷ []) d t h e = same version (call.TSndRel v1) d (λ m k. (refl, (k.0 v1, tt))) e
+call-fields version RcvRel (Name v1 ∷ []) d t h e = same version (call.TRcvRel v1) d (λ m k. (refl, (k.0 v1, tt))) e
+call-fields version SndRelData (Name v1 ∷ Bytes v2 ∷ []) d t h e = same version (call.TSndRelData v1 v2) d (λ m k. (t, (k.0 v1, h.1))) e
+call-fields version RcvRelData (Name v1 ∷ Number v2 ∷ []) d t h e = same version (call.TRcvRelData v1 v2) d (λ m k. (t, (k.0 v1, h.1))) e
+call-fields version SndUData (Name v1 ∷ Bytes v2 ∷ Bytes v3 ∷ Bytes v4 ∷ []) d t h e = same version (call.TSndUData v1 v2 v3 v4) d (λ m k. (refl, (k.0 v1, h.1))) e
+call-fields version SndVUData (Name v1 ∷ Bytes v2 ∷ Bytes v3 ∷ Parts v4 ∷ []) d t h e = same version (call.TSndVUData v1 v2 v3 v4) d (λ m k. (refl, (k.0 v1, h.1))) e
+call-fields version RcvUData (Name v1 ∷ Number v2 ∷ Number v3 ∷ Number v4 ∷ []) d t h e = same version (call.TRcvUData v1 v2 v3 v4) d (λ m k. (refl, (k.0 v1, h.1))) e
+call-fields version RcvVUData (Name v1 ∷ Sizes v2 ∷ Number v3 ∷ Number v4 ∷ []) d t h e = same version (call.TRcvVUData v1 v2 v3 v4) d (λ m k. (refl, (k.0 v1, h.1))) e
+call-fields version RcvUDErr (Name v1 ∷ Number v2 ∷ Number v3 ∷ []) d t h e = same version (call.TRcvUDErr v1 v2 v3) d (λ m k. (refl, (k.0 v1, h.1))) e
+call-fields version Look (Name v1 ∷ []) d t h e = same version (call.TLookAt v1) d (λ m k. (refl, (k.0 v1, tt))) e
+call-fields version GetState (Name v1 ∷ []) d t h e = same version (call.TGetState v1) d (λ m k. (refl, (k.0 v1, tt))) e
+call-fields version Sync (Name v1 ∷ []) d t h e = same version (call.TSync v1) d (λ m k. (refl, (k.0 v1, tt))) e
+call-fields version GetInfo (Name v1 ∷ []) d t h e = same version (call.TGetInfo v1) d (λ m k. (refl, (k.0 v1, tt))) e
+call-fields version GetProtAddr (Name v1 ∷ Number v2 ∷ Number v3 ∷ []) d t h e = same version (call.TGetProtAddr v1 v2 v3) d (λ m k. (refl, (k.0 v1, h.1))) e
+call-fields version OptMgmt (Name v1 ∷ Number v2 ∷ Bytes v3 ∷ Number v4 ∷ []) d t h e = same version (call.TOptMgmt v1 v2 v3 v4) d (λ m k. (refl, (k.0 v1, h.1))) e
+call-fields version SetMode (Name v1 ∷ Mode v2 ∷ []) d t h e = same version (call.SetMode v1 v2) d (λ m k. (refl, (k.0 v1, (tt, tt)))) e
+call-fields version verb values d t h e = absurd (none-is d e)
 
-writable-call : (s : Spot) (c : NamedCall) (words : List (List ℕ)) → IsCall s c words → IsWritableNamed c
-writable-call s c words h = call-fields h.verb h.values c h.in_texts (field-valued s _ h.values h.fields h.are_fields) h.made
+writable-call : (version : Version) (s : Spot) (c : NamedCall) (words : List (List ℕ)) → IsCall version s c words → IsWritableNamed version c
+writable-call version s c words h = call-fields version h.verb h.values c h.in_texts (field-valued s _ h.values h.fields h.are_fields) h.made
 
 -- ---- scripts
 
-writable-lines : (earlier lines : List Line) (texts : List (List ℕ)) → AreLines earlier lines texts → AllLines IsWritableNamed lines
-writable-lines earlier [] texts h = tt
-writable-lines earlier (line ∷ lines) [] h = absurd h
-writable-lines earlier (line ∷ lines) (text ∷ texts) h = (writable-call (after earlier line.worker) line.call h.0.words h.0.call, writable-lines (earlier ++ line ∷ []) lines texts h.1)
+writable-lines : (version : Version) (earlier lines : List Line) (texts : List (List ℕ)) → AreLines version earlier lines texts → AllLines (IsWritableNamed version) lines
+writable-lines version earlier [] texts h = tt
+writable-lines version earlier (line ∷ lines) [] h = absurd h
+writable-lines version earlier (line ∷ lines) (text ∷ texts) h = (writable-call version (after earlier line.worker) line.call h.0.words h.0.call, writable-lines version (earlier ++ line ∷ []) lines texts h.1)
 
-pub script-writable : (s : Script) → HasText s → AllLines IsWritableNamed s.lines
-script-writable s h = writable-lines [] s.lines (calls_in h.1.form.rest) h.1.form.lines
+pub script-writable : (s : Script) → HasText s → AllLines (IsWritableNamed s.providers.version) s.lines
+script-writable s h = writable-lines s.providers.version [] s.lines (calls_in h.1.form.rest) h.1.form.lines

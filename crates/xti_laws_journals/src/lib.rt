@@ -18,8 +18,7 @@ use xti_laws_answers::steps_answer_in_form;
 use xti_laws_bytes::answers_have_values;
 use xti_laws_streams::connections_keep_order;
 use xti_script_reader::{
-    scripts_are_small, scripts_have_no_release_data, scripts_have_valid_providers,
-    scripts_send_bytes,
+    scripts_are_small, scripts_have_valid_providers, scripts_send_bytes, scripts_tell_releases,
 };
 
 /// A legal history of a script has no more entries than the script has calls and bytes of arguments.
@@ -41,7 +40,7 @@ pub fn runs_make_journals()
     ensures only { OfRunJournals (λ j. IsOnlyJournal j (journal_text j)) }
 {
     scripts_have_valid_providers();
-    scripts_have_no_release_data();
+    scripts_tell_releases();
     scripts_send_bytes();
     scripts_are_small();
     steps_answer_in_form();

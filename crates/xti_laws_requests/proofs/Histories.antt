@@ -1,13 +1,15 @@
 -- The facts across cells hold after any entries.
-use Rattle.std.proofs.Common.{ℕ, zero, suc, Bool, true, false, List, [], ◌∷◌, ◌++◌, ◌+◌, ◌≡◌, refl, sym, ◌∙◌, cond, eqb, Option, Some, None}
+use Rattle.std.proofs.Common.{ℕ, zero, suc, Bool, true, false, List, [], ◌∷◌, ◌++◌, ◌+◌, ◌≡◌, refl, sym, subst, ◌∙◌, cond, eqb, Option, Some, None}
 use Rattle.std.specs.Prelude.{option_and_then}
 use Rattle.xti_model.specs.declared.entry.Entry.{Entry}
 use Rattle.xti_model.specs.declared.profile.Providers.{Providers}
 use Rattle.xti_model.specs.Endpoint.{Endpoint}
-use Rattle.xti_model.specs.World.{World, Numbered, endpoint_cell, switch_cell, opening, opening_switch, closed_places, cell_at, endpoint, endpoint_in, place_of, places, generation_of, switch_number}
+use Rattle.xti_model.specs.declared.profile.Version.{Version}
+use Rattle.xti_model.specs.declared.profile.Version.TheVariants.{One, Two}
+use Rattle.xti_model.specs.World.{World, Numbered, Switch, endpoint_cell, switch_cell, opening, opening_switch, closed_places, cell_at, endpoint, endpoint_in, place_of, places, places_of, generation_of, switch_number, switch_or_empty, the_switch}
 use Rattle.xti_model.specs.Step.{Step, step}
 use Rattle.xti_model.specs.History.{Going, doing, step_going, step_at, left_by, after_from}
-use Rattle.xti_laws_requests.specs.Requests.{SoundLinks, BoundToOpen}
+use Rattle.xti_laws_requests.specs.Requests.{SoundLinks, AllOpen, BoundToOpen}
 use Rattle.xti_laws_requests.proofs.StepWays.{none-is}
 use Rattle.xti_laws_requests.proofs.Steps.{sound-step, bound-step}
 
@@ -52,9 +54,16 @@ opening-none p fd = closed-none p fd 0 (places p) (record { number = switch_numb
     go true = refl
     go false = refl
 
-opening-bound : (p : Providers) → BoundToOpen p (opening p)
+pub opening-the-switch : (p : Providers) → the_switch p (opening p) ≡ opening_switch (places p)
 unfolding opening
-opening-bound p = tt
+opening-the-switch p = go p.version
+  where
+    go : (v : Version) → switch_or_empty (cell_at (closed_places 0 (places_of v) ++ record { number = places_of v; cell = switch_cell (opening_switch (places_of v)) } ∷ []) (places_of v)) ≡ opening_switch (places_of v)
+    go One = refl
+    go Two = refl
+
+opening-bound : (p : Providers) → BoundToOpen p (opening p)
+opening-bound p = subst (λ (s : Switch). AllOpen p (opening p) s.bindings) (sym (opening-the-switch p)) tt
 
 pub opening-sound : (p : Providers) → Sound p (opening p)
 opening-sound p = record {

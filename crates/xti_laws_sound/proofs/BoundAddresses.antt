@@ -9,15 +9,16 @@ use Rattle.xti_base.specs.declared.kinds.Prov.{Prov}
 use Rattle.xti_base.specs.declared.kinds.Prov.TheVariants.{Ticots, Ticotsord, Ticlts, Other}
 use Rattle.xti_model.specs.declared.profile.Providers.{Providers}
 use Rattle.xti_model.specs.Endpoint.{Endpoint}
-use Rattle.xti_model.specs.World.{World, Numbered, Cell, Switch, Binding, endpoint_cell, switch_cell, endpoint, endpoint_in, cell_at, the_switch, place_of, generation_of, descriptor}
+use Rattle.xti_model.specs.World.{World, Numbered, Cell, Switch, Binding, endpoint_cell, switch_cell, endpoint, endpoint_in, cell_at, the_switch, place_of, generation_of, descriptor, places}
 use Rattle.xti_model.specs.Switch.{bound, descriptors, is_bound, is_listening, listener, least, less}
 use Rattle.xti_model.specs.Sound.{ThereAgrees, CellAgrees, bindings_at, binding_of, binding_to}
 use Rattle.xti_laws_requests.proofs.AcceptEnds.{same-prov}
 use Rattle.xti_laws_requests.proofs.StepWays.{none-is}
 use Rattle.xti_laws_sound.specs.Invariant.{SoundWorld}
 use Rattle.xti_laws_sound.specs.Laws.{OpenAndBound, OpenAndListening}
-use Rattle.xti_laws_sound.proofs.ChangedCells.{below}
 use Rattle.xti_laws_sound.proofs.BindingFilters.{filter-within, filter-swap}
+use Rattle.xti_model.proofs.PlaceNumbers.{below}
+use Rattle.xti_laws.proofs.Places.{generation-is}
 
 -- the least number is one of the list
 lesser : (n : ℕ) (o : Option ℕ) (m : ℕ) → less n o ≡ Some m → (n ≡ m) ⊎ (o ≡ Some m)
@@ -49,8 +50,8 @@ bound-at p s prov address fd h =
     subst (λ bs. 0 < length (filter (is_bound prov address) bs)) (sym (filter-within (λ b. eqb b.fd fd) (λ b. eqb (place_of p b.fd) (place_of p fd)) (λ b i. eq-eqb (place_of p b.fd) (place_of p fd) (ap (place_of p) (eqb-true b.fd fd i))) s.bindings))
     (subst (λ bs. 0 < length bs) (filter-swap (λ b. eqb b.fd fd) (is_bound prov address) s.bindings) (least-found (filter (is_bound prov address) s.bindings) fd h))
 
-generation-at : (p : Providers) (g n fd : ℕ) → descriptor p g n ≡ fd → n < 64 → generation_of p fd ≡ g
-generation-at p g n fd h l = omega (arith, h, l)
+generation-at : (p : Providers) (g n fd : ℕ) → descriptor p g n ≡ fd → n < places p → generation_of p fd ≡ g
+generation-at p g n fd h l = subst (λ x. generation_of p x ≡ g) h (generation-is p g n l)
 
 -- an open endpoint, at whose descriptor the switch has a binding that passes a test
 record FoundOpen (test : Binding → Bool) (p : Providers) (w : World) (fd : ℕ) : Type 0 where
@@ -70,7 +71,7 @@ open-of test p w fd g c (Some e) i j h = go e.address refl h
     given a = record { prov = e.prov; address = a; fd = descriptor p g (place_of p fd); listening = nat_lt 0 e.qlen }
 
     opened : descriptor p g (place_of p fd) ≡ fd → endpoint p w fd ≡ Some e
-    opened k = ap (option_and_then (λ c. endpoint_in (generation_of p fd) c.cell)) i ∙ (ap (endpoint_in (generation_of p fd)) j ∙ ap (λ b. cond b (Some e) None) (eq-eqb g (generation_of p fd) (sym (generation-at p g (place_of p fd) fd k (below fd)))))
+    opened k = ap (option_and_then (λ c. endpoint_in (generation_of p fd) c.cell)) i ∙ (ap (endpoint_in (generation_of p fd)) j ∙ ap (λ b. cond b (Some e) None) (eq-eqb g (generation_of p fd) (sym (generation-at p g (place_of p fd) fd k (below p fd)))))
 
     found : (a : List ℕ) → e.address ≡ Some a → (b : Bool) → eqb (descriptor p g (place_of p fd)) fd ≡ b → (d : Bool) → test (given a) ≡ d → 0 < length (filter test (cond b (given a ∷ []) [])) → FoundOpen test p w fd
     found a k false l d m z = absurd (omega (arith, z))
@@ -83,7 +84,7 @@ open-of test p w fd g c (Some e) i j h = go e.address refl h
 
 -- a binding at a descriptor's place is an open endpoint's
 found-open : (test : Binding → Bool) (p : Providers) (w : World) (fd : ℕ) → SoundWorld p w → 0 < length (filter test (filter (λ b. eqb b.fd fd) (bindings_at p (the_switch p w) (place_of p fd)))) → FoundOpen test p w fd
-found-open test p w fd h i = go (cell_at w (place_of p fd)) refl (h.registered.agreement.each_agrees (place_of p fd) (below fd))
+found-open test p w fd h i = go (cell_at w (place_of p fd)) refl (h.registered.agreement.each_agrees (place_of p fd) (below p fd))
   where
     inside : (c : Numbered) → cell_at w (place_of p fd) ≡ Some c → (x : Cell) → c.cell ≡ x → CellAgrees p (the_switch p w) (place_of p fd) x → FoundOpen test p w fd
     inside c j (switch_cell s) k a = absurd a

@@ -11,11 +11,12 @@ use Rattle.xti_base.specs.Kinds.{same_prov}
 use Rattle.xti_base.specs.declared.kinds.Prov.{Prov}
 use Rattle.xti_model.specs.declared.profile.Providers.{Providers}
 use Rattle.xti_model.specs.Endpoint.{Endpoint}
-use Rattle.xti_model.specs.World.{World, Numbered, Cell, Switch, Binding, endpoint_cell, switch_cell, place_of, the_switch, cell_at, descriptor}
+use Rattle.xti_model.specs.World.{World, Numbered, Cell, Switch, Binding, endpoint_cell, switch_cell, place_of, the_switch, cell_at, descriptor, places}
 use Rattle.xti_model.specs.Switch.{bound, is_bound, numbered_address, free_address}
 use Rattle.xti_model.specs.Sound.{ThereAgrees, CellAgrees, Agreement, bindings_at, binding_of, binding_to}
-use Rattle.xti_laws_sound.proofs.ChangedCells.{below}
 use Rattle.xti_laws_sound.proofs.BindingFilters.{filter-within, none-unbound}
+use Rattle.xti_model.proofs.PlaceNumbers.{below, most-places}
+use Rattle.xti_base.specs.declared.limits.TheConstants.{MOST_PLACES}
 
 -- Each place has at most one binding, so there are at most as many as places.
 
@@ -62,12 +63,15 @@ few-below p bs zero h = none bs
     none (c ∷ cs) = simp (le-ltb (place_of p c.fd) zero (omega arith)) (none cs)
 few-below p bs (suc k) h = omega (arith, one-more p k bs, h k (omega arith), few-below p bs k (λ m i. h m (omega (arith, i))))
 
-all-below : (p : Providers) (bs : List Binding) → filter (λ b. nat_lt (place_of p b.fd) 64) bs ≡ bs
+all-below : (p : Providers) (bs : List Binding) → filter (λ b. nat_lt (place_of p b.fd) (places p)) bs ≡ bs
 all-below p [] = refl
-all-below p (b ∷ bs) = simp (lt-ltb (place_of p b.fd) 64 (below b.fd), all-below p bs) refl
+all-below p (b ∷ bs) = simp (lt-ltb (place_of p b.fd) (places p) (below p b.fd), all-below p bs) refl
 
-pub few-bindings : (p : Providers) (w : World) → Agreement p w → length (the_switch p w).bindings ≤ 64
-few-bindings p w h = subst (λ z. length z ≤ 64) (all-below p (the_switch p w).bindings) (few-below p (the_switch p w).bindings 64 (λ m i. there-one p (the_switch p w) m (cell_at w m) (h.each_agrees m i)))
+pub few-bindings : (p : Providers) (w : World) → Agreement p w → length (the_switch p w).bindings ≤ places p
+few-bindings p w h = subst (λ z. length z ≤ places p) (all-below p (the_switch p w).bindings) (few-below p (the_switch p w).bindings (places p) (λ m i. there-one p (the_switch p w) m (cell_at w m) (h.each_agrees m i)))
+
+pub few-in-either : (p : Providers) (w : World) → Agreement p w → length (the_switch p w).bindings ≤ MOST_PLACES
+few-in-either p w h = omega (arith, few-bindings p w h, most-places p)
 
 -- So many different addresses that are bound are those of so many bindings.
 
@@ -133,7 +137,7 @@ some-taken s prov address h = go (filter (is_bound prov address) s.bindings) ref
     go (b ∷ bs) i = omega arith
 
 -- with few bindings the choice is bound to nobody
-pub chosen-free : (s : Switch) (prov : Prov) → length s.bindings ≤ 64 → bound s prov (free_address s prov 0 (length s.bindings)) ≡ None
+pub chosen-free : (s : Switch) (prov : Prov) → length s.bindings ≤ MOST_PLACES → bound s prov (free_address s prov 0 (length s.bindings)) ≡ None
 chosen-free s prov l = go (bound s prov (free_address s prov 0 (length s.bindings))) refl (found s prov 0 (length s.bindings))
   where
     full : (f : Found s prov 0 (length s.bindings) (free_address s prov 0 (length s.bindings))) → is_some (bound s prov (free_address s prov 0 (length s.bindings))) ≡ true → (b : Bool) → nat_lt f.number (length s.bindings) ≡ b → ⊥
@@ -151,9 +155,9 @@ chosen-free s prov l = go (bound s prov (free_address s prov 0 (length s.binding
     go None h f = refl
     go (Some n) h f = absurd (full f (ap is_some h) (nat_lt f.number (length s.bindings)) refl)
 
--- and has at most three bytes
-pub chosen-short : (s : Switch) (prov : Prov) → length s.bindings ≤ 64 → length (free_address s prov 0 (length s.bindings)) ≤ 3
+-- and has at most four bytes
+pub chosen-short : (s : Switch) (prov : Prov) → length s.bindings ≤ MOST_PLACES → length (free_address s prov 0 (length s.bindings)) ≤ 4
 chosen-short s prov l = go (found s prov 0 (length s.bindings))
   where
-    go : Found s prov 0 (length s.bindings) (free_address s prov 0 (length s.bindings)) → length (free_address s prov 0 (length s.bindings)) ≤ 3
-    go f = subst (λ z. length z ≤ 3) (sym f.is_numbered) (omega (arith, length-decimal-le 2 f.number (omega arith) (omega (arith, f.not_behind, l)) (omega (arith, f.not_behind, l))))
+    go : Found s prov 0 (length s.bindings) (free_address s prov 0 (length s.bindings)) → length (free_address s prov 0 (length s.bindings)) ≤ 4
+    go f = subst (λ z. length z ≤ 4) (sym f.is_numbered) (omega (arith, length-decimal-le 3 f.number (omega arith) (omega (arith, f.not_behind, l)) (omega (arith, f.not_behind, l))))

@@ -4,7 +4,7 @@ use Rattle.std.specs.Prelude.{option_and_then, nat_le}
 use Rattle.std.proofs.lemmas.Bool.{eq-eqb, eqb-true, le-leb, false≢true}
 use Rattle.xti_model.specs.declared.profile.Providers.{Providers}
 use Rattle.xti_model.specs.Endpoint.{Endpoint, address_of}
-use Rattle.xti_model.specs.World.{World, Numbered, Cell, endpoint_cell, switch_cell, endpoint, endpoint_in, cell_at, the_switch, places, place_of, generation_of, switch_number, switch_in, switch_or_empty}
+use Rattle.xti_model.specs.World.{World, Numbered, Cell, endpoint_cell, switch_cell, endpoint, endpoint_in, cell_at, the_switch, places, place_of, generation_of, switch_number, switch_in, switch_or_empty, descriptor, last_generation}
 use Rattle.xti_model.specs.Calls.Open.{no_fd}
 use Rattle.xti_model.specs.Sound.{ThereAgrees, CellAgrees, is_sound, is_sound_body, is_only_asked, requests}
 use Rattle.xti_laws.proofs.Opening.{looked}
@@ -20,7 +20,8 @@ use Rattle.xti_laws_sound.proofs.OwnCalls.{short-address}
 use Rattle.xti_base.specs.Kinds.{same_state}
 use Rattle.xti_base.specs.declared.kinds.State.TheVariants.{T_IDLE, T_INCON}
 use Rattle.xti_laws_sound.specs.Laws.{SoundBody, SoundWhenLent}
-use Rattle.xti_laws_sound.proofs.PlaceAndSwitch.{open-agrees}
+use Rattle.xti_laws_sound.proofs.PlaceAndSwitch.{open-agrees, whole}
+use Rattle.xti_model.proofs.PlaceNumbers.{two-places, below, descriptor-fits}
 
 not-in : (b c : Bool) → (c || b) ≡ false → b ≡ false
 not-in b true h = absurd (false≢true (sym h))
@@ -58,12 +59,12 @@ endpoint-alone e h g =
     all a b c d i j k l = simp (i, j, k, l) refl
 
 -- the endpoint in a place's cell is the one with its place and generation
-pub cell-endpoint : (p : Providers) (w : World) (n g : ℕ) (e : Endpoint) (c : Numbered) → n < 64 → cell_at w n ≡ Some c → c.cell ≡ endpoint_cell g (Some e) → endpoint p w (64 * g + n) ≡ Some e
+pub cell-endpoint : (p : Providers) (w : World) (n g : ℕ) (e : Endpoint) (c : Numbered) → n < places p → cell_at w n ≡ Some c → c.cell ≡ endpoint_cell g (Some e) → endpoint p w (descriptor p g n) ≡ Some e
 cell-endpoint p w n g e c l i j = looked p w g n l ∙ (ap (option_and_then (λ c. endpoint_in g c.cell)) i ∙ (ap (endpoint_in g) j ∙ ap (λ b. cond b (Some e) None) (eq-eqb g g refl)))
 
-body-sound : (p : Providers) (w : World) (n g : ℕ) (body : Option Endpoint) (c : Numbered) → SoundWorld p w → n < 64 → cell_at w n ≡ Some c → c.cell ≡ endpoint_cell g body → SoundBody body
+body-sound : (p : Providers) (w : World) (n g : ℕ) (body : Option Endpoint) (c : Numbered) → SoundWorld p w → n < places p → cell_at w n ≡ Some c → c.cell ≡ endpoint_cell g body → SoundBody body
 body-sound p w n g None c h l i j = tt
-body-sound p w n g (Some e) c h l i j = (let o = cell-endpoint p w n g e c l i j in (h.endpoints (64 * g + n) e o, h.links.good (64 * g + n) e o))
+body-sound p w n g (Some e) c h l i j = (let o = cell-endpoint p w n g e c l i j in (h.endpoints (descriptor p g n) e o, h.links.good (descriptor p g n) e o))
 
 body-alone : (body : Option Endpoint) → SoundBody body → is_sound_body body ≡ true
 body-alone None h = refl
@@ -77,20 +78,20 @@ lent-cell p w n c h l i = go c.cell refl (subst (ThereAgrees p (the_switch p w) 
     go (switch_cell s) j a = absurd a
     go (endpoint_cell g body) j a =
         let b = body-sound p w n g body c h l i j in
-        record { is_sound = (b, subst (λ z. z ≤ 67108863) a.generation_known (h.registered.places n).0); is_sound_alone = body-alone body b; switch_agrees = a }
+        record { is_sound = (b, subst (λ z. z ≤ last_generation p) a.generation_known (h.registered.places n).0); is_sound_alone = body-alone body b; switch_agrees = a }
 
 -- the same of an open descriptor, which fits
 pub lent-open : (p : Providers) (w : World) (fd : ℕ) (e : Endpoint) → SoundWorld p w → endpoint p w fd ≡ Some e → SoundWhenLent p (the_switch p w) (place_of p fd) (endpoint_cell (generation_of p fd) (Some e))
 lent-open p w fd e h i =
     let b : SoundEndpoint e × SoundRequests e = (h.endpoints fd e i, h.links.good fd e i) in
     let a = open-agrees p w fd e i h.registered.agreement in
-    record { is_sound = (b, subst (λ z. z ≤ 67108863) a.generation_known (h.registered.places (place_of p fd)).0); is_sound_alone = endpoint-alone e b.0 b.1; switch_agrees = a }
+    record { is_sound = (b, subst (λ z. z ≤ last_generation p) a.generation_known (h.registered.places (place_of p fd)).0); is_sound_alone = endpoint-alone e b.0 b.1; switch_agrees = a }
 
 pub open-fits : (p : Providers) (w : World) (fd : ℕ) (e : Endpoint) → SoundWorld p w → endpoint p w fd ≡ Some e → fd < no_fd
 open-fits p w fd e h i =
     let a = open-agrees p w fd e i h.registered.agreement in
-    let g : generation_of p fd < 67108863 = subst (λ z. z < 67108863) a.generation_known ((h.registered.places (place_of p fd)).1 a.openness_known) in
-    omega (arith, g)
+    let g : generation_of p fd < last_generation p = subst (λ z. z < last_generation p) a.generation_known ((h.registered.places (place_of p fd)).1 a.openness_known) in
+    subst (λ z. z < no_fd) (whole p fd) (descriptor-fits p (generation_of p fd) (place_of p fd) g (below p fd))
 
 -- the cell after those of the places is the switch's
 cell-number : (n : ℕ) (w : World) (c : Numbered) → cell_at w n ≡ Some c → c.number ≡ n
@@ -104,12 +105,12 @@ cell-number n (d ∷ w) c h = go (eqb d.number n) refl h (cell-number n w c)
     go false i j ih = ih j
 
 pub switch-there : (p : Providers) (w : World) → SoundWorld p w → cell_at w (switch_number p) ≡ Some (record { number = switch_number p; cell = switch_cell (the_switch p w) })
-switch-there p w h = go (cell_at w 64) refl h.registered.agreement.places_known
+switch-there p w h = go (cell_at w (switch_number p)) refl h.registered.agreement.places_known
   where
-    inside : (c : Numbered) → c.number ≡ 64 → (x : Cell) → c.cell ≡ x → length (switch_in c.cell).places ≡ 64 → Some c ≡ Some (record { number = 64; cell = switch_cell (switch_in c.cell) })
-    inside c i (switch_cell s) j l = ap (λ z. Some (record { number = z; cell = c.cell })) i ∙ ap (λ x. Some (record { number = 64; cell = x })) (j ∙ ap (λ x. switch_cell (switch_in x)) (sym j))
-    inside c i (endpoint_cell g body) j l = absurd (omega (arith, ap (λ x. length (switch_in x).places) (sym j) ∙ l))
+    inside : (c : Numbered) → c.number ≡ switch_number p → (x : Cell) → c.cell ≡ x → length (switch_in c.cell).places ≡ places p → Some c ≡ Some (record { number = switch_number p; cell = switch_cell (switch_in c.cell) })
+    inside c i (switch_cell s) j l = ap (λ z. Some (record { number = z; cell = c.cell })) i ∙ ap (λ x. Some (record { number = switch_number p; cell = x })) (j ∙ ap (λ x. switch_cell (switch_in x)) (sym j))
+    inside c i (endpoint_cell g body) j l = absurd (omega (arith, two-places p, ap (λ x. length (switch_in x).places) (sym j) ∙ l))
 
-    go : (o : Option Numbered) → cell_at w 64 ≡ o → length (switch_or_empty o).places ≡ 64 → o ≡ Some (record { number = 64; cell = switch_cell (switch_or_empty o) })
-    go None i l = absurd (omega (arith, l))
-    go (Some c) i l = inside c (cell-number 64 w c i) c.cell refl l
+    go : (o : Option Numbered) → cell_at w (switch_number p) ≡ o → length (switch_or_empty o).places ≡ places p → o ≡ Some (record { number = switch_number p; cell = switch_cell (switch_or_empty o) })
+    go None i l = absurd (omega (arith, l, two-places p))
+    go (Some c) i l = inside c (cell-number (switch_number p) w c i) c.cell refl l

@@ -33,7 +33,7 @@ use Rattle.xti_laws_requests.proofs.Bindings.{Found, listener-found}
 use Rattle.xti_laws_sound.specs.Endpoints.{SoundEndpoint, ShortAddress}
 use Rattle.xti_laws_requests.specs.Requests.{is_one_of}
 use Rattle.xti_laws_sound.specs.Invariant.{SoundWorld}
-use Rattle.xti_laws_sound.proofs.CountingBindings.{few-bindings, chosen-free, chosen-short}
+use Rattle.xti_laws_sound.proofs.CountingBindings.{few-in-either, chosen-free, chosen-short}
 use Rattle.xti_laws_sound.proofs.BindingFilters.{unbound-none}
 use Rattle.xti_laws_sound.proofs.PassedRows.{Keeps, call-keeps}
 use Rattle.xti_laws.proofs.ClearedRows.{cleared}
@@ -42,6 +42,7 @@ use Rattle.xti_laws_sound.proofs.Updates.{idle-alone, fit-bound, fit-unbound, fi
 use Rattle.xti_laws_sound.proofs.ReleaseAndDatagramUpdates.{fit-after_receive, fit-cut_received}
 use Rattle.xti_laws_sound.proofs.QuietChanges.{Quiet, Parts, own-parts, one-fit, switch-fit, quiet-cond}
 use Rattle.xti_laws_sound.proofs.Registering.{MayGive, gives-registered, gives_up-registered}
+use Rattle.xti_base.specs.declared.limits.TheConstants.{MOST_PLACES}
 
 pub parts : (p : Providers) (w : World) → SoundWorld p w → Parts p w
 parts p w h = (h.registered, h.endpoints)
@@ -76,7 +77,7 @@ not-some : (o : Option ℕ) → is_some o ≡ false → o ≡ None
 not-some None h = refl
 not-some (Some n) h = absurd (false≢true (sym h))
 
-choice-short : (s : Switch) (prov : Prov) (address : List ℕ) → length s.bindings ≤ 64 → length address ≤ 64 → length (chosen s prov address) ≤ 64
+choice-short : (s : Switch) (prov : Prov) (address : List ℕ) → length s.bindings ≤ MOST_PLACES → length address ≤ 64 → length (chosen s prov address) ≤ 64
 choice-short s prov [] l h = omega (arith, chosen-short s prov l)
 choice-short s prov (a ∷ address) l h = h
 
@@ -103,7 +104,7 @@ none-heard prov address (b ∷ bs) h = go (is_bound prov address b) h (none-hear
     go true h k = absurd (cc)
     go false h k = k h
 
-may-give : (s : Switch) (prov : Prov) (address : List ℕ) (qlen : ℕ) → length s.bindings ≤ 64 → Bind.is_busy s prov address qlen ≡ false → MayGive s prov (chosen s prov address) (nat_lt 0 (Bind.queue prov qlen))
+may-give : (s : Switch) (prov : Prov) (address : List ℕ) (qlen : ℕ) → length s.bindings ≤ MOST_PLACES → Bind.is_busy s prov address qlen ≡ false → MayGive s prov (chosen s prov address) (nat_lt 0 (Bind.queue prov qlen))
 may-give s prov [] qlen l h = record {
   is_free = λ k. subst (λ z. bound s z (chosen s prov []) ≡ None) (same-prov prov Ticlts k) (chosen-free s prov l);
   is_unheard = λ k. none-heard prov (chosen s prov []) s.bindings (unbound-none s prov (chosen s prov []) (chosen-free s prov l));
@@ -127,7 +128,7 @@ bind-parts p w fd address qlen amax h = call-keeps (Parts p) p w fd (Bind.plan_i
     effect : (e : Endpoint) → endpoint p w fd ≡ Some e → has_effect (first (Bind.rows (the_switch p w) address qlen amax e)) ≡ true → Parts p (changed p w (Bind.changes fd e.prov (chosen (the_switch p w) e.prov address) (Bind.queue e.prov qlen)))
     effect e i g =
         let c = cleared (Bind.rows (the_switch p w) address qlen amax e) g in
-        let l = few-bindings p w h.registered.agreement in
+        let l = few-in-either p w h.registered.agreement in
         let s = h.endpoints fd e i in
         let u : is_state (T_UNBND ∷ []) e ≡ true = not-false (is_state (T_UNBND ∷ []) e) c.0 in
         let o : e.outstanding ≡ [] = (h.links.good fd e i).outstanding (ap (is_one_of (T_INCON ∷ [])) (only e.state T_UNBND u)) in

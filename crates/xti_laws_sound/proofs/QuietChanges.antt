@@ -12,7 +12,8 @@ use Rattle.xti_model.specs.Links.{if_names, names}
 use Rattle.xti_laws_requests.proofs.OneChange.{one_world, one-other}
 use Rattle.xti_laws_requests.proofs.StepWays.{some-is, none-is}
 use Rattle.xti_laws_sound.specs.Endpoints.{SoundEndpoint}
-use Rattle.xti_laws_sound.proofs.ChangedCells.{numbers-kept, switch-kept, agreement-moved, below}
+use Rattle.xti_laws_sound.proofs.ChangedCells.{numbers-kept, switch-kept, agreement-moved}
+use Rattle.xti_model.proofs.PlaceNumbers.{below}
 
 -- the update leaves what the switch knows of an endpoint
 abbrev pub Quiet : (Endpoint → Endpoint) → Type 0
@@ -33,9 +34,9 @@ quiet-there p s n g f q (Some c) a = quiet-cell p s n g f q c.cell a
 
 quiet-agreement : (p : Providers) (w : World) (fd : ℕ) (f : Endpoint → Endpoint) → Quiet f → Agreement p w → Agreement p (change (place_of p fd) (change_endpoint (generation_of p fd) f) w)
 quiet-agreement p w fd f q h =
-    agreement-moved p w (change (place_of p fd) (change_endpoint (generation_of p fd) f) w) (place_of p fd) (the_switch p w) (switch-kept p (place_of p fd) (change_endpoint (generation_of p fd) f) w (below fd)) h.places_known
+    agreement-moved p w (change (place_of p fd) (change_endpoint (generation_of p fd) f) w) (place_of p fd) (the_switch p w) (switch-kept p (place_of p fd) (change_endpoint (generation_of p fd) f) w (below p fd)) h.places_known
     (λ m j e. cell_at-other (place_of p fd) m e (change_endpoint (generation_of p fd) f) w) (λ m g body e a. a)
-    (subst (ThereAgrees p (the_switch p w) (place_of p fd)) (sym (cell_at-same (place_of p fd) (change_endpoint (generation_of p fd) f) w)) (quiet-there p (the_switch p w) (place_of p fd) (generation_of p fd) f q (cell_at w (place_of p fd)) (h.each_agrees (place_of p fd) (below fd)))) h
+    (subst (ThereAgrees p (the_switch p w) (place_of p fd)) (sym (cell_at-same (place_of p fd) (change_endpoint (generation_of p fd) f) w)) (quiet-there p (the_switch p w) (place_of p fd) (generation_of p fd) f q (cell_at w (place_of p fd)) (h.each_agrees (place_of p fd) (below p fd)))) h
 
 pub quiet-registered : (p : Providers) (w : World) (fd : ℕ) (f : Endpoint → Endpoint) → Quiet f → Registered p w → Registered p (one_world p w fd f)
 quiet-registered p w fd f q h = record {
@@ -46,7 +47,7 @@ quiet-registered p w fd f q h = record {
 }
   where
     s : the_switch p (change (place_of p fd) (change_endpoint (generation_of p fd) f) w) ≡ the_switch p w
-    s = switch-kept p (place_of p fd) (change_endpoint (generation_of p fd) f) w (below fd)
+    s = switch-kept p (place_of p fd) (change_endpoint (generation_of p fd) f) w (below p fd)
 
 -- The endpoints of a world but for one descriptor.
 abbrev pub SoundBeside : Providers → World → ℕ → Type 0

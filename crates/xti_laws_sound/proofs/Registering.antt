@@ -12,7 +12,7 @@ use Rattle.xti_base.specs.declared.kinds.Prov.{Prov}
 use Rattle.xti_base.specs.declared.kinds.Prov.TheVariants.{Ticlts}
 use Rattle.xti_model.specs.declared.profile.Providers.{Providers}
 use Rattle.xti_model.specs.Endpoint.{Endpoint}
-use Rattle.xti_model.specs.World.{World, Numbered, Switch, Place, Binding, endpoint_cell, change_endpoint, changed, cell_at, endpoint, place_of, generation_of, closed_place, the_switch, at_endpoint, at_switch, opens_place, open_cell, close_cell, last_generation, descriptor}
+use Rattle.xti_model.specs.World.{World, Numbered, Switch, Place, Binding, endpoint_cell, change_endpoint, changed, cell_at, endpoint, place_of, generation_of, closed_place, the_switch, at_endpoint, at_switch, opens_place, open_cell, close_cell, last_generation, descriptor, places}
 use Rattle.xti_model.specs.Switch.{bound, is_bound, is_listening, has_listener, give_address, give_up_address, free_place, is_free, place_at, mark_open}
 use Rattle.xti_model.specs.Sound.{Agrees, CellAgrees, ThereAgrees, bindings_at, binding_to}
 use Rattle.xti_model.specs.Calls.Close as Close
@@ -20,10 +20,10 @@ use Rattle.xti_laws.proofs.ChangedEndpoints.{recell}
 use Rattle.xti_laws.proofs.Opening.{Closed, closed-there}
 use Rattle.xti_laws_requests.proofs.AcceptEnds.{same-prov}
 use Rattle.xti_laws_sound.specs.Invariant.{Registered, BoundOnce, SoundPlace, SoundPlaces}
-use Rattle.xti_laws_sound.proofs.ChangedCells.{below}
 use Rattle.xti_laws_sound.proofs.PlaceAndSwitch.{both, both-numbers, both-switch, both-agree, open-agrees, there-after, whole}
 use Rattle.xti_laws_sound.proofs.BindingFilters.{unbound-none}
 use Rattle.xti_laws_sound.proofs.SwitchUpdates.{given-here, given-other, given-once, given_up-other, given_up-here, given_up-once, set-other, set-same, set-places}
+use Rattle.xti_model.proofs.PlaceNumbers.{below}
 
 -- An update of an open endpoint, and with it one of the switch that leaves the places.
 record Together (p : Providers) (w : World) (fd : ℕ) (e : Endpoint) (f : Endpoint → Endpoint) (k : Switch → Switch) : Type 0 where
@@ -35,7 +35,7 @@ record Together (p : Providers) (w : World) (fd : ℕ) (e : Endpoint) (f : Endpo
 together : (p : Providers) (w : World) (fd : ℕ) (e : Endpoint) (f : Endpoint → Endpoint) (k : Switch → Switch) → endpoint p w fd ≡ Some e → Together p w fd e f k → Registered p w → Registered p (changed p w (at_endpoint fd f ∷ at_switch k ∷ []))
 together p w fd e f k i t h = record {
   cells = both-numbers p (place_of p fd) (change_endpoint (generation_of p fd) f) k w ∙ h.cells;
-  agreement = both-agree p (place_of p fd) (change_endpoint (generation_of p fd) f) k w (below fd) (ap (λ z. length z) t.places_left ∙ h.agreement.places_known) t.others_agree (there-after p w (k (the_switch p w)) fd e (change_endpoint (generation_of p fd) f) i h.agreement here) h.agreement;
+  agreement = both-agree p (place_of p fd) (change_endpoint (generation_of p fd) f) k w (below p fd) (ap (λ z. length z) t.places_left ∙ h.agreement.places_known) t.others_agree (there-after p w (k (the_switch p w)) fd e (change_endpoint (generation_of p fd) f) i h.agreement here) h.agreement;
   bound_once = subst BoundOnce (sym s) t.once;
   places = subst (SoundPlaces p) (sym s) (λ n. subst (λ z. SoundPlace p (slice_index_or z n closed_place)) (sym t.places_left) (h.places n));
 }
@@ -44,7 +44,7 @@ together p w fd e f k i t h = record {
     v = both p (place_of p fd) (change_endpoint (generation_of p fd) f) k w
 
     s : the_switch p v ≡ k (the_switch p w)
-    s = both-switch p (place_of p fd) (change_endpoint (generation_of p fd) f) k w (below fd) h.agreement.places_known
+    s = both-switch p (place_of p fd) (change_endpoint (generation_of p fd) f) k w (below p fd) h.agreement.places_known
 
     a : Agrees p (the_switch p w) (place_of p fd) (generation_of p fd) (Some e)
     a = open-agrees p w fd e i h.agreement
@@ -110,7 +110,7 @@ gives_up-registered p w fd e f i n h = together p w fd e f (give_up_address fd) 
 pub closes-registered : (p : Providers) (w : World) (fd : ℕ) (e : Endpoint) → endpoint p w fd ≡ Some e → Registered p w → Registered p (changed p w (Close.closing p fd))
 closes-registered p w fd e i h = record {
   cells = both-numbers p (place_of p fd) (close_cell (generation_of p fd)) (Close.forget p fd) w ∙ h.cells;
-  agreement = both-agree p (place_of p fd) (close_cell (generation_of p fd)) (Close.forget p fd) w (below fd) (length-set (the_switch p w).places (place_of p fd) shut ∙ h.agreement.places_known) others
+  agreement = both-agree p (place_of p fd) (close_cell (generation_of p fd)) (Close.forget p fd) w (below p fd) (length-set (the_switch p w).places (place_of p fd) shut ∙ h.agreement.places_known) others
       (there-after p w t fd e (close_cell (generation_of p fd)) i h.agreement here) h.agreement;
   bound_once = subst BoundOnce (sym s) (once (given_up-once (the_switch p w) fd h.bound_once));
   places = subst (SoundPlaces p) (sym s) (set-places p (give_up_address fd (the_switch p w)) (place_of p fd) shut inside (last, λ b. absurd (false≢true b)) h.places);
@@ -129,15 +129,15 @@ closes-registered p w fd e i h = record {
     v = both p (place_of p fd) (close_cell (generation_of p fd)) (Close.forget p fd) w
 
     s : the_switch p v ≡ t
-    s = both-switch p (place_of p fd) (close_cell (generation_of p fd)) (Close.forget p fd) w (below fd) h.agreement.places_known
+    s = both-switch p (place_of p fd) (close_cell (generation_of p fd)) (Close.forget p fd) w (below p fd) h.agreement.places_known
 
     a : Agrees p (the_switch p w) (place_of p fd) (generation_of p fd) (Some e)
     a = open-agrees p w fd e i h.agreement
 
     inside : place_of p fd < length (the_switch p w).places
-    inside = subst (λ n. place_of p fd < n) (sym h.agreement.places_known) (below fd)
+    inside = subst (λ n. place_of p fd < n) (sym h.agreement.places_known) (below p fd)
 
-    last : (place_at (the_switch p w) (place_of p fd)).generation + 1 ≤ 67108863
+    last : (place_at (the_switch p w) (place_of p fd)).generation + 1 ≤ last_generation p
     last = omega (arith, (h.places (place_of p fd)).1 a.openness_known)
 
     others : (m g : ℕ) (body : Option Endpoint) → eqb m (place_of p fd) ≡ false → Agrees p (the_switch p w) m g body → Agrees p t m g body
@@ -192,7 +192,7 @@ opens-registered p w n e l u h = record {
     once : BoundOnce (the_switch p w) → BoundOnce (mark_open n (the_switch p w))
     once b = record { datagrams = b.datagrams; listeners = b.listeners }
 
-    inside : n < 64
+    inside : n < places p
     inside = subst (λ z. n < z) h.agreement.places_known f.known
 
     c : Closed w n g

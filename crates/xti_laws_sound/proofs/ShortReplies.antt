@@ -42,7 +42,7 @@ use Rattle.xti_base.specs.declared.errno.Errno.TheVariants.{TNODATA}
 use Rattle.xti_laws_requests.proofs.StepWays.{is_denial, all_deny}
 use Rattle.xti_laws_sound.specs.Endpoints.{SoundEndpoint, ShortIndication, ShortDisconnect, ShortConfirmation, ShortRelease, ShortDatagram, ShortError}
 use Rattle.xti_laws_sound.specs.Invariant.{SoundWorld}
-use Rattle.xti_laws_sound.proofs.CountingBindings.{few-bindings, chosen-short}
+use Rattle.xti_laws_sound.proofs.CountingBindings.{few-in-either, chosen-short}
 use Rattle.xti_laws_sound.proofs.OwnCalls.{short-address}
 use Rattle.xti_laws_sound.proofs.ToldOutcomes.{StepTells, Tells, step-tells, denied, later-told, Clear, clear, open-tells, told}
 use Rattle.xti_laws_sound.specs.Replies.{Lengths, lengths, answered_length, bound_length, lengths_of, IsShortOutcome}
@@ -224,7 +224,7 @@ taken-few : (max k : ℕ) (bytes : List ℕ) → length bytes ≤ k → length (
 taken-few max k bytes h = (let a : length (take max bytes) ≡ min max (length bytes) = length-take max bytes in omega (arith, a, h))
 
 chosen-few : (p : Providers) (w : World) (e : Endpoint) (address : List ℕ) → SoundWorld p w → length address ≤ 64 → length (chosen (the_switch p w) e.prov address) ≤ bound_length address
-chosen-few p w e [] h l = chosen-short (the_switch p w) e.prov (few-bindings p w h.registered.agreement)
+chosen-few p w e [] h l = chosen-short (the_switch p w) e.prov (few-in-either p w h.registered.agreement)
 chosen-few p w e (a ∷ address) h l = omega (arith, l)
 
 -- Calls.

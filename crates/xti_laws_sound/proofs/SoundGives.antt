@@ -29,6 +29,7 @@ use Rattle.xti_laws_sound.proofs.BoundAddresses.{listener-open, listener-other}
 use Rattle.xti_laws_sound.proofs.PlaceAndSwitch.{open-agrees}
 use Rattle.xti_laws_sound.proofs.States.{busy-out, resting-out, idle-not-asked, resting-bare, resting-unconnected}
 use Rattle.xti_laws_sound.proofs.Updates.{not-asking}
+use Rattle.xti_laws.proofs.Places.{same-fd}
 
 -- An endpoint of datagrams.
 no-length : {A : Type 0} (xs : List A) (n : ℕ) → length xs + n ≤ 0 → xs ≡ []
@@ -78,7 +79,7 @@ pub places-differ : (p : Providers) (w : World) (x y : ℕ) (e d : Endpoint) →
 places-differ p w x y e d h i j k =
     let a = (open-agrees p w x e i h.registered.agreement).generation_known in
     let b = (open-agrees p w y d j h.registered.agreement).generation_known in
-    let g : x / 64 ≡ y / 64 = sym a ∙ (ap (λ z. (place_at (the_switch p w) z).generation) k ∙ b) in omega arith
+    same-fd p x y k (sym a ∙ (ap (λ z. (place_at (the_switch p w) z).generation) k ∙ b))
 
 -- The cells that a call names.
 few-some : (p : Providers) (o : Option ℕ) → length (cell_of p o) ≤ 1

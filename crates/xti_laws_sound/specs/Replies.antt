@@ -20,7 +20,7 @@ lengths first second third = record { first = first; second = second; third = th
 
 -- the most bytes of an address that the provider chooses
 abbrev pub longest_choice : ℕ
-longest_choice = 3
+longest_choice = 4
 
 -- the address of a bind
 abbrev pub bound_length : List ℕ → ℕ

@@ -12,6 +12,7 @@ use Rattle.xti_model.specs.declared.entry.Outcome.{Outcome}
 use Rattle.xti_model.specs.declared.entry.Outcome.TheVariants.{Done, Part}
 use Rattle.xti_model.specs.declared.entry.Reply.TheVariants as reply
 use Rattle.xti_model.specs.declared.profile.Providers.{Providers}
+use Rattle.xti_model.specs.declared.profile.Version.{Version}
 use Rattle.xti_model.specs.World.{World}
 use Rattle.xti_model.specs.Step.{Step}
 use Rattle.xti_model.specs.History.{Going, own, call_after, unfinished, made_by, doing, step_going}
@@ -71,13 +72,13 @@ verb-is past e g d =
 -- ---- entries
 
 -- an entry with the text of the step has its outcome and its state
-pub step-text : (p : Providers) (w : World) (past : List Entry) (e : Entry) (g : Going) (s : Step) → IsEntry past e → doing past e ≡ Some g → step_going p w g ≡ Some s → AreNumbers s.outcome → answer_text s.outcome s.after ≡ answer_text e.outcome e.after → (e.outcome ≡ s.outcome) × (e.after ≡ s.after)
-step-text p w past e g s h d b n t =
+pub step-text : (version : Version) (p : Providers) (w : World) (past : List Entry) (e : Entry) (g : Going) (s : Step) → IsEntry version past e → doing past e ≡ Some g → step_going p w g ≡ Some s → AreNumbers s.outcome → answer_text s.outcome s.after ≡ answer_text e.outcome e.after → (e.outcome ≡ s.outcome) × (e.after ≡ s.after)
+step-text version p w past e g s h d b n t =
     let answer : IsAnswer (Some (verb_of g.call)) e.outcome = subst (λ (v : Option Verb). IsAnswer v e.outcome) (verb-is past e g d) h.answer in
     let both = one-answer (verb_of g.call) s.outcome e.outcome s.after e.after (in-form p w g.call g.so_far s b) n answer t in
     (sym both.0, sym both.1)
 
 -- each entry of a journal has a text after those before
-pub entry-form : (done front others : List Entry) (e : Entry) → AreEntries done (front ++ e ∷ others) → IsEntry (done ++ front) e
-entry-form done [] others e h = subst (λ (l : List Entry). IsEntry l e) (sym (append-nil done)) h.0
-entry-form done (x ∷ front) others e h = subst (λ (l : List Entry). IsEntry l e) (append_assoc done (x ∷ []) front) (entry-form (done ++ x ∷ []) front others e h.1)
+pub entry-form : (version : Version) (done front others : List Entry) (e : Entry) → AreEntries version done (front ++ e ∷ others) → IsEntry version (done ++ front) e
+entry-form version done [] others e h = subst (λ (l : List Entry). IsEntry version l e) (sym (append-nil done)) h.0
+entry-form version done (x ∷ front) others e h = subst (λ (l : List Entry). IsEntry version l e) (append_assoc done (x ∷ []) front) (entry-form version (done ++ x ∷ []) front others e h.1)

@@ -13,6 +13,7 @@ use Rattle.xti_model.specs.declared.entry.Entry.{Entry}
 use Rattle.xti_model.specs.declared.entry.Outcome.TheVariants.{Done}
 use Rattle.xti_model.specs.declared.entry.Reply.TheVariants.{Plain, Opened, Bound, Connected, Listened, Sent, Got, Discon, UData, UDErr, Seen, Refused}
 use Rattle.xti_model.specs.declared.profile.Providers.{Providers}
+use Rattle.xti_model.specs.declared.profile.Version.TheVariants.{One}
 use Rattle.xti_model.specs.declared.script.Line.{Line}
 use Rattle.xti_model.specs.declared.script.NamedCall.TheVariants as named
 use Rattle.xti_model.specs.Robin.{robin}
@@ -20,7 +21,7 @@ use Rattle.xti_model.specs.Step.{plan, step}
 use Rattle.xti_model.specs.World.{opening}
 
 providers : Providers
-providers = record { ticots = record { tsdu = At 65536; sendzero = true; same_addr = false; sndbuf = 1; rcvbuf = 1; reldata = false }; ticotsord = record { tsdu = At 0; sendzero = false; same_addr = false; sndbuf = 16384; rcvbuf = 16384; reldata = false }; ticlts = record { tsdu = At 8192; sendzero = true; same_addr = false; sndbuf = 16384; rcvbuf = 16384; reldata = false } }
+providers = record { version = One; ticots = record { tsdu = At 65536; sendzero = true; same_addr = false; sndbuf = 1; rcvbuf = 1; reldata = false }; ticotsord = record { tsdu = At 0; sendzero = false; same_addr = false; sndbuf = 16384; rcvbuf = 16384; reldata = false }; ticlts = record { tsdu = At 8192; sendzero = true; same_addr = false; sndbuf = 16384; rcvbuf = 16384; reldata = false } }
 
 lines : List Line
 lines =
