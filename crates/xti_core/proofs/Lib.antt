@@ -5,6 +5,7 @@ pub mod Settling
 pub mod Fitting
 pub mod OneCell
 pub mod Stepping
+pub mod Sums
 pub mod AllLent
 pub mod Standing
 pub mod OpeningWorld

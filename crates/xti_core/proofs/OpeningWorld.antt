@@ -112,7 +112,11 @@ opened-table p k l a = ap (λ (q : Providers). cell_lent l (switch_number q)) (s
 
 all-cells : (p : Providers) (at : ℕ → Option Cell) → ((n : ℕ) → n < places p → at n ≡ Some (endpoint_cell 0 None)) → at (switch_number p) ≡ Some (switch_cell (opening_switch (places p))) → cells_by p at ≡ opening p
 unfolding cells_by opening
-all-cells p at closed table = closed-from at 0 (places p) (λ n i j. closed n j) ∙ ap (λ o. closed_places 0 (places p) ++ numbered_cell (switch_number p) o) table
+all-cells p at closed table =
+    let e : 0 + places p ≡ places p = omega arith in
+    let t : places p + 1 ≡ suc (places p) = omega arith in
+    ap (from_number at 0) t ∙ closed-from at 0 (places p) (λ n i j. closed n (omega (arith, j)))
+    ∙ (ap (λ n. closed_places 0 (places p) ++ numbered_cell n (at n)) e ∙ ap (λ o. closed_places 0 (places p) ++ numbered_cell (switch_number p) o) table)
 
 pub opens : (p : Providers) (k : Known) (l : Lending) → AllClosed p k l → cells l ≡ opening p
 opens p k l a = ap (λ (q : Providers). cells_by q (cell_lent l)) a.providers ∙ all-cells p (cell_lent l) (closed-cells p k l a) (opened-table p k l a)

@@ -1,11 +1,12 @@
 -- What a look finds among lent cells, and what an endpoint shows in a world.
-use Rattle.std.specs.Prelude.{ℕ, Bool, ◌&&◌, Option, is_some, option_map}
+use Rattle.std.specs.Prelude.{ℕ, Bool, ◌&&◌, sum_by, if◌then◌else◌, Option, is_some, option_map}
 use Rattle.xti_base.specs.declared.kinds.Event.{Event}
 use Rattle.xti_base.specs.declared.kinds.State.{State}
+use Rattle.xti_base.specs.Kinds.{event_number}
 use Rattle.xti_model.specs.declared.profile.Providers.{Providers}
 use Rattle.xti_model.specs.Calls.Show.{first_pending}
 use Rattle.xti_model.specs.Endpoint.{Endpoint}
-use Rattle.xti_model.specs.Events.{Around, around, can_send_again, is_pending}
+use Rattle.xti_model.specs.Events.{Around, around, can_send_again, is_pending, pending}
 use Rattle.xti_model.specs.Sending.{takes_datagram}
 use Rattle.xti_model.specs.World.{World, endpoint}
 use Rattle.xti_lent.specs.Lending.{Lending, cells}
@@ -42,3 +43,19 @@ sight_in p w fd = option_map (shown_by p w fd) (endpoint p w fd)
 -- the same among lent cells
 abbrev pub sight_among : Lending → ℕ → Option (State × Option Event)
 sight_among l fd = sight_in l.providers (cells l) fd
+
+-- the number of an event that passes a test, else 0
+abbrev pub number_where : (Event → Bool) → Event → ℕ
+number_where test event = if test event then event_number event else 0
+
+-- the sum of the numbers of the events that are pending at an endpoint with the descriptor
+abbrev pub events_by : Providers → World → ℕ → Endpoint → ℕ
+events_by p w fd e = sum_by event_number (pending (around p w fd e) e)
+
+-- the same of the endpoint that is open with the descriptor, if there is one
+abbrev pub events_in : Providers → World → ℕ → Option ℕ
+events_in p w fd = option_map (events_by p w fd) (endpoint p w fd)
+
+-- the same among lent cells
+abbrev pub events_among : Lending → ℕ → Option ℕ
+events_among l fd = events_in l.providers (cells l) fd

@@ -1,6 +1,6 @@
 //! t_look.
 
-ghost use Rattle.std.specs.Prelude.{◌≡◌, ◌∷◌, [], ℕ, true, is_some, find};
+ghost use Rattle.std.specs.Prelude.{◌≡◌, ◌≤◌, ◌∷◌, [], ℕ, true, is_some, find};
 ghost use Rattle.xti_model.specs.Calls.Show as Show;
 ghost use Rattle.xti_model.specs.Events.{is_here, is_state, receiving};
 ghost use Rattle.xti_model.specs.declared.entry.Go.{Go};
@@ -8,9 +8,10 @@ ghost use Rattle.xti_model.specs.World.{at_endpoint, place_of};
 ghost use Rattle.xti_end.specs.Held.{is_open, parts, with_parts};
 ghost use Rattle.xti_lent.specs.Answers.{AnswersCall, Changed, StaysBlocked};
 ghost use Rattle.xti_lent.specs.Fit.{AtOwnPlaces, SameCells};
-ghost use Rattle.xti_lent.specs.Lending.{held_at};
+ghost use Rattle.xti_lent.specs.Lending.{cells, held_at};
 ghost use Rattle.xti_lent.specs.Lends.{ChangesAt};
 ghost use Rattle.xti_core.specs.Looks.{can_send_among, goes_again, is_pending_among, sight_among, shown};
+ghost use Rattle.xti_core.specs.Looks.{events_among, events_by, number_where};
 
 use crate::touching::bound;
 use xti_base::{Errno, Event, Fd, State};
@@ -135,6 +136,44 @@ pub fn sight_of(lent: &Lent, fd: Fd) -> Option<Sight>
         state: e.state(),
         event: first_pending(lent, fd, e, &EVENTS),
     })
+}
+
+/// The number of the event, if it is pending at an open endpoint among lent cells, else 0.
+fn number_where(lent: &Lent, fd: Fd, e: &Endpoint, event: Event) -> u32
+    requires own { AtOwnPlaces lent.now }
+    requires open { is_open e.now ≡ true }
+    ensures value { result ≡ number_where (is_pending_among lent.now fd.0 (parts e.now)) event }
+    ensures small { result ≤ 512 }
+{
+    if is_pending(lent, fd, e, event) {
+        event.number()
+    } else {
+        0
+    }
+}
+
+/// The sum of the numbers of the events that are pending at an open endpoint among lent cells.
+fn pending_events(lent: &Lent, fd: Fd, e: &Endpoint) -> u32
+    requires own { AtOwnPlaces lent.now }
+    requires open { is_open e.now ≡ true }
+    ensures { result ≡ events_by lent.now.providers (cells lent.now) fd.0 (parts e.now) }
+{
+    let mut sum = 0;
+    for event in &EVENTS {
+        sum += number_where(lent, fd, e, *event);
+    }
+    sum
+}
+
+/// The sum of the numbers of all events that are pending at the endpoint that is open with the descriptor, in the world of the
+/// cells that are lent, which are to be those that a `t_look` of it touches; `None` where none is open. It changes nothing, and
+/// takes no memory.
+pub fn events_of(lent: &Lent, fd: Fd) -> Option<u32>
+    requires { AtOwnPlaces lent.now }
+    ensures { result ≡ events_among lent.now fd.0 }
+{
+    let e = lent.open_endpoint(fd)?;
+    Some(pending_events(lent, fd, e))
 }
 
 /// What showing the event makes of an open endpoint: a flow event clears its marks.

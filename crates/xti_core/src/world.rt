@@ -4,13 +4,13 @@ ghost use Rattle.std.specs.Prelude.{◌≡◌, true, false, None, IfOk, OnErr};
 ghost use Rattle.xti_model.specs.Profile.{valid};
 ghost use Rattle.xti_model.specs.World.{opening};
 ghost use Rattle.xti_end.specs.Taken.{taken};
-ghost use Rattle.xti_core.specs.Looks.{shown, sight_in};
+ghost use Rattle.xti_core.specs.Looks.{events_in, shown, sight_in};
 ghost use Rattle.xti_core.specs.Standing.{IsStep, IsSureAt};
 ghost use Rattle.xti_core.specs.Waits.{IsBlocked};
 ghost use Rattle.xti_core.specs.Written.{StayUnmade, StepsTo};
 
 use crate::applying::{apply, apply_into};
-use crate::looking::{Sight, sight_of};
+use crate::looking::{Sight, events_of, sight_of};
 use crate::waiting::waits;
 use std::alloc::{AllocError, Global};
 use std::marker::Model;
@@ -114,5 +114,13 @@ impl World {
         ensures { shown result ≡ sight_in self.now.providers self.now.cells fd.0 }
     {
         sight_of(&self.lent, fd)
+    }
+
+    /// The sum of the numbers of the events that are pending at the endpoint that is open with the descriptor, whether or not a
+    /// `t_look` would show them first; `None` where none is open. It changes nothing, and takes no memory.
+    pub fn events(&self, fd: Fd) -> Option<u32>
+        ensures { result ≡ events_in self.now.providers self.now.cells fd.0 }
+    {
+        events_of(&self.lent, fd)
     }
 }

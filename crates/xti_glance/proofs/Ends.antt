@@ -111,4 +111,5 @@ pub less-left : (l l' : Lending) (ns : List ℕ) (k : ℕ) → IsLoan l' → l'.
 less-left l l' ns k loan same least here others =
     let more : count_lent l < count_lent l' = fewer-lent l' l k loan (sym same) here (is-not (cell_lent l k) least.gone) (λ n ne. sym (others n ne)) in
     let most = most-lent l' in
-    omega (arith, more, most)
+    let as-many : places l'.providers ≡ places l.providers = ap places same in
+    omega (arith, more, most, as-many)

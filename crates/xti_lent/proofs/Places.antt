@@ -3,10 +3,11 @@ use Rattle.std.proofs.Common.{◌≡◌, ℕ, ◌+◌, ◌<◌, false, eqb, arit
 use Rattle.std.proofs.Math.Nat.{mod-lt}
 use Rattle.std.proofs.lemmas.Bool.{ne_eqb}
 use Rattle.xti_model.specs.declared.profile.Providers.{Providers}
+use Rattle.xti_model.proofs.PlaceNumbers.{two-places}
 use Rattle.xti_model.specs.World.{places, place_of, switch_number}
 
 some-places : (p : Providers) → 0 < places p
-some-places p = omega arith
+some-places p = omega (arith, two-places p)
 
 -- a descriptor has one of the places
 pub place-below : (p : Providers) (fd : ℕ) → place_of p fd < places p

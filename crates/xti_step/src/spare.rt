@@ -15,7 +15,7 @@ use xti_base::{Octets, Room, let_go};
 use xti_model::{Call, Outcome, Reply};
 
 /// The most bytes of an address that the provider chooses.
-const LONGEST_CHOICE: usize = 3;
+const LONGEST_CHOICE: usize = 4;
 
 /// The most bytes that wait at an endpoint: those of its buffer, and of its peer's.
 const TWO_BUFFERS: usize = 2 * MOST_SIZE as usize;

@@ -31,7 +31,9 @@ pub leave_unless_in_order-requires-clause-cell : goal.leave_unless_in_order-requ
 leave_unless_in_order-requires-clause-cell g c =
     let p = c.loop.lent.providers in
     let cells = subst (λ (ns : List ℕ). AreCells p ns) (sym c.touch-cells.ensures) (lends-cells c.loop.seat.view c.loop.lent c.args.call.now c.loop.invariant.lends) in
-    all-among (λ n. n < places p + 1) c.touch-cells.result c.in-Some-missing.least cells c.in-Some-missing.ensures.among
+    let same = same-providers c.loop.seat.view c.give_back.new.seat.view c.loop.lent c.give_back.new.lent c.loop.invariant.lends c.give_back.ensures.lends c.give_back.ensures.rest in
+    subst (λ (q : Providers). c.in-Some-missing.least < places q + 1) (sym same)
+    (all-among (λ n. n < places p + 1) c.touch-cells.result c.in-Some-missing.least cells c.in-Some-missing.ensures.among)
 
 pub enter_missing-requires-clause-cells : goal.enter_missing-requires-clause-cells
 enter_missing-requires-clause-cells g c =

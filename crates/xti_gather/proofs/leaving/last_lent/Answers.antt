@@ -26,5 +26,5 @@ last-or-none l None loan s e = λ n. go n (is_lent l n) refl
 
 pub returns : goal.returns
 returns c = last-or-none c.args.lent.now c.copied.result c.requires
-    (ap (is_lent c.args.lent.now) (sym c.switch_number-switch.ensures) ∙ (sym c.has.ensures ∙ c.if-has.false))
+    (ap (is_lent c.args.lent.now) (sym (c.switch_number-switch.ensures ∙ ap switch_number c.providers.ensures.providers)) ∙ (sym c.has.ensures ∙ c.if-has.false))
     (sym (c.copied.ensures ∙ (c.last.ensures.value ∙ ap (λ (ns : List ℕ). slice_get ns (length ns - 1)) c.places.ensures)))

@@ -1,14 +1,16 @@
-use Rattle.std.proofs.Common.{◌∷◌, [], ◌∙◌, sym, ap, subst, Some}
+use Rattle.std.proofs.Common.{◌∷◌, [], ◌∙◌, sym, ap, subst, Some, arith}
 use Rattle.xti_lent.specs.Lending.{Lending, cell_lent}
 use Rattle.xti_core.specs.Standing.{IsLoan}
 use Rattle.xti_gather.specs.Cells.{StandsFor}
 use Rattle.xti_gather.proofs.Loans.{end-is, held-none, has-room, push-loan, push-cell, push-others}
+use Rattle.xti_model.proofs.PlaceNumbers.{most-places}
 use Rattle.xti_gather.proofs.lending.lend_cell.Goals as goal
 
 pub lend-requires-clause-room : goal.lend-requires-clause-room
 lend-requires-clause-room c =
     let s = end-is c.args.lent.now.providers c.in-End.e c.args.cell c.requires.stands.0 (subst (λ z. StandsFor c.args.lent.now.providers z ((c.args.cell, c.requires.stands.0) ∷ [])) c.in-End.is c.requires.stands.1) in
-    has-room c.args.lent.now c.args.cell c.requires.loan s.0 (held-none c.args.lent.now c.args.cell s.0 c.requires.apart)
+    let room = has-room c.args.lent.now c.args.cell c.requires.loan s.0 (held-none c.args.lent.now c.args.cell s.0 c.requires.apart) in
+    omega (arith, room, most-places c.args.lent.now.providers)
 
 pub returns-in-End-clause-loan : goal.returns-in-End-clause-loan
 returns-in-End-clause-loan c =

@@ -1,5 +1,6 @@
 use Rattle.std.proofs.Common.{◌≡◌, ◌∙◌, ◌∷◌, [], ◌++◌, length, length-append, sym, subst, ap, arith}
 use Rattle.xti_model.specs.Robin.{numbers}
+use Rattle.xti_model.proofs.PlaceNumbers.{most-places}
 use Rattle.xti_registry.specs.Known.{Known}
 use Rattle.xti_end.specs.Held.{Held}
 use Rattle.xti_model.specs.World.{opening, places}
@@ -11,7 +12,7 @@ pub lend-requires-clause-apart : goal.lend-requires-clause-apart
 lend-requires-clause-apart c = next-apart c.loop-place.lent c.loop-place.place c.loop-place.invariant.numbered
 
 pub lend-requires-clause-room : goal.lend-requires-clause-room
-lend-requires-clause-room c = let e = ap length c.loop-place.invariant.numbered ∙ numbers-length 0 c.loop-place.place in omega (arith, e)
+lend-requires-clause-room c = let e = ap length c.loop-place.invariant.numbered ∙ numbers-length 0 c.loop-place.place in omega (arith, e, c.loop-place-test.true, most-places c.args.p.now)
 
 pub loop-place-preserved : goal.loop-place-preserved
 loop-place-preserved c =
