@@ -1,0 +1,13 @@
+mod Accepted
+mod Ends
+mod Entries
+mod InStep
+mod Inputs
+mod KeptAt
+mod NewSockets
+mod NoBytes
+mod OpenedAs
+mod OpenedOnce
+mod Received
+mod Running
+mod Turning

@@ -1,0 +1,9 @@
+pub mod Accepting
+pub mod Calling
+pub mod Keeping
+pub mod Rows
+pub mod Scripts
+pub mod Socks
+pub mod Steps
+pub mod Streams
+pub mod Turns

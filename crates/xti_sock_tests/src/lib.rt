@@ -1,0 +1,5 @@
+//! Tests of sockets.
+#![tactic(auto)]
+
+#[cfg(test)]
+mod callers;
