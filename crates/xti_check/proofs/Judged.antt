@@ -12,6 +12,7 @@ use Rattle.xti_model.specs.declared.entry.Act.{Act}
 use Rattle.xti_model.specs.declared.entry.Act.TheVariants as act
 use Rattle.xti_model.specs.declared.entry.Entry.{Entry}
 use Rattle.xti_model.specs.declared.profile.Providers.{Providers}
+use Rattle.xti_model.specs.declared.profile.Version.{Version}
 use Rattle.xti_model.specs.declared.script.StallLine.{StallLine}
 use Rattle.xti_model.specs.World.{World, opening}
 use Rattle.xti_model.specs.Step.{Step}
@@ -48,14 +49,14 @@ wanted-letter (act.Begin c) = refl
 wanted-letter act.More = refl
 
 -- another text should stand in a wrong entry
-pub texts_differ : (p : Providers) (w : World) (past : List Entry) (e : Entry) (text : List ℕ) → IsEntry past e → Wrong p w past e text → text ≡ answer_text e.outcome e.after → ⊥
-texts_differ p w past e text h wrong t = by (doing past e) refl (sym wrong.1 ∙ t)
+pub texts_differ : (version : Version) (p : Providers) (w : World) (past : List Entry) (e : Entry) (text : List ℕ) → IsEntry version past e → Wrong p w past e text → text ≡ answer_text e.outcome e.after → ⊥
+texts_differ version p w past e text h wrong t = by (doing past e) refl (sym wrong.1 ∙ t)
   where
     by_step : (g : Going) → doing past e ≡ Some g → (o : Option Step) → step_going p w g ≡ o → step_text o ≡ answer_text e.outcome e.after → ⊥
     by_step g d None b s = no-answer (codes "blocked") e.outcome e.after refl s
     by_step g d (Some x) b s =
         let at : step_at p w past e ≡ Some x = ap (option_and_then (step_going p w)) d ∙ b in
-        let same : (e.outcome ≡ x.outcome) × (e.after ≡ x.after) = step-text p w past e g x h d b (subst HasNumbers at wrong.2) s in
+        let same : (e.outcome ≡ x.outcome) × (e.after ≡ x.after) = step-text version p w past e g x h d b (subst HasNumbers at wrong.2) s in
         wrong.0 (subst (λ (o : Option Step). Fits o e) (sym at) same)
 
     by : (o : Option Going) → doing past e ≡ o → wanted p w e.act o ≡ answer_text e.outcome e.after → ⊥

@@ -6,6 +6,7 @@ use Rattle.xti_base.specs.declared.limits.TheConstants.{LAST_WORKER}
 use Rattle.xti_model.specs.declared.entry.Entry.{Entry}
 use Rattle.xti_model.specs.declared.profile.Providers.{Providers}
 use Rattle.xti_model.specs.declared.script.Journal.{Journal}
+use Rattle.xti_model.specs.declared.profile.Version.{Version}
 use Rattle.xti_model.specs.declared.script.StallLine.{StallLine}
 use Rattle.xti_model.specs.World.{opening}
 use Rattle.xti_model.specs.History.{step_at, after, Fits, Legal, doing}
@@ -51,7 +52,7 @@ wrong_entry j past others old new line e expected found text s w h f = inl (reco
   wrong = subst (λ (q : Providers). Fits (step_at q (after q past) past e) e → ⊥) s.same h.0;
   expected_is = subst (λ (q : Providers). expected ≡ wanted q (after q past) e.act (doing past e)) s.same h.1;
   found_is = f;
-  differ = λ d. texts_differ old.world.providers (after old.world.providers past) past e expected (entry-form [] past others e (subst (AreEntries []) w text.entries)) h (d ∙ f);
+  differ = λ d. texts_differ j.providers.version old.world.providers (after old.world.providers past) past e expected (entry-form j.providers.version [] past others e (subst (AreEntries j.providers.version []) w text.entries)) h (d ∙ f);
 })
 
 pub all_entries : (j : Journal) (judge : Judge) (line : ℕ) → EntriesSoFar j j.entries judge line → JudgesEntries j judge None
@@ -59,38 +60,38 @@ all_entries j judge line s = (s.legal, s.stands, s.same)
 
 -- ---- workers
 
-worker_from : (past es : List Entry) (i : ℕ) (d : Entry) → AreEntries past es → i < length es → (get_or es i d).worker ≤ LAST_WORKER
-worker_from past [] i d h l = absurd (omega arith)
-worker_from past (e ∷ es) zero d h l = h.0.worker
-worker_from past (e ∷ es) (suc i) d h l = worker_from (past ++ e ∷ []) es i d h.1 (omega arith)
+worker_from : (version : Version) (past es : List Entry) (i : ℕ) (d : Entry) → AreEntries version past es → i < length es → (get_or es i d).worker ≤ LAST_WORKER
+worker_from version past [] i d h l = absurd (omega arith)
+worker_from version past (e ∷ es) zero d h l = h.0.worker
+worker_from version past (e ∷ es) (suc i) d h l = worker_from version (past ++ e ∷ []) es i d h.1 (omega arith)
 
 pub entry_worker : (j : Journal) (i : ℕ) (e : Entry) → HasText j → i < length j.entries → e ≡ get_or j.entries i e → e.worker ≤ LAST_WORKER
-entry_worker j i e h l g = subst (λ (x : Entry). x.worker ≤ LAST_WORKER) (sym g) (worker_from [] j.entries i e h.entries l)
+entry_worker j i e h l g = subst (λ (x : Entry). x.worker ≤ LAST_WORKER) (sym g) (worker_from j.providers.version [] j.entries i e h.entries l)
 
-stall_from : (es : List Entry) (before : StallLine) (ss : List StallLine) (i : ℕ) (d : StallLine) → AreStallsAfter es before ss → i < length ss → (get_or ss i d).worker ≤ LAST_WORKER
-stall_from es before [] i d h l = absurd (omega arith)
-stall_from es before (s ∷ ss) zero d h l = h.1.worker
-stall_from es before (s ∷ ss) (suc i) d h l = stall_from es s ss i d h.2 (omega arith)
+stall_from : (version : Version) (es : List Entry) (before : StallLine) (ss : List StallLine) (i : ℕ) (d : StallLine) → AreStallsAfter version es before ss → i < length ss → (get_or ss i d).worker ≤ LAST_WORKER
+stall_from version es before [] i d h l = absurd (omega arith)
+stall_from version es before (s ∷ ss) zero d h l = h.1.worker
+stall_from version es before (s ∷ ss) (suc i) d h l = stall_from version es s ss i d h.2 (omega arith)
 
-stall_first : (es : List Entry) (ss : List StallLine) (i : ℕ) (d : StallLine) → AreStalls es ss → i < length ss → (get_or ss i d).worker ≤ LAST_WORKER
-stall_first es [] i d h l = absurd (omega arith)
-stall_first es (s ∷ ss) zero d h l = h.0.worker
-stall_first es (s ∷ ss) (suc i) d h l = stall_from es s ss i d h.1 (omega arith)
+stall_first : (version : Version) (es : List Entry) (ss : List StallLine) (i : ℕ) (d : StallLine) → AreStalls version es ss → i < length ss → (get_or ss i d).worker ≤ LAST_WORKER
+stall_first version es [] i d h l = absurd (omega arith)
+stall_first version es (s ∷ ss) zero d h l = h.0.worker
+stall_first version es (s ∷ ss) (suc i) d h l = stall_from version es s ss i d h.1 (omega arith)
 
 -- there are few stall lines
-few_after : (es : List Entry) (before : StallLine) (ss : List StallLine) → AreStallsAfter es before ss → before.worker ≤ LAST_WORKER → length ss + before.worker ≤ LAST_WORKER
-few_after es before [] h w = omega (arith, w)
-few_after es before (s ∷ ss) h w = omega (arith, few_after es s ss h.2 h.1.worker, h.0.1)
+few_after : (version : Version) (es : List Entry) (before : StallLine) (ss : List StallLine) → AreStallsAfter version es before ss → before.worker ≤ LAST_WORKER → length ss + before.worker ≤ LAST_WORKER
+few_after version es before [] h w = omega (arith, w)
+few_after version es before (s ∷ ss) h w = omega (arith, few_after version es s ss h.2 h.1.worker, h.0.1)
 
-few_first : (es : List Entry) (ss : List StallLine) → AreStalls es ss → length ss ≤ LAST_WORKER + 1
-few_first es [] h = omega arith
-few_first es (s ∷ ss) h = omega (arith, few_after es s ss h.1 h.0.worker)
+few_first : (version : Version) (es : List Entry) (ss : List StallLine) → AreStalls version es ss → length ss ≤ LAST_WORKER + 1
+few_first version es [] h = omega arith
+few_first version es (s ∷ ss) h = omega (arith, few_after version es s ss h.1 h.0.worker)
 
 pub few_stalls : (j : Journal) → HasText j → length j.stalls ≤ LAST_WORKER + 1
-few_stalls j h = few_first j.entries j.stalls h.stalls
+few_stalls j h = few_first j.providers.version j.entries j.stalls h.stalls
 
 pub stall_worker : (j : Journal) (i : ℕ) (s : StallLine) → HasText j → i < length j.stalls → s ≡ get_or j.stalls i s → s.worker ≤ LAST_WORKER
-stall_worker j i s h l g = subst (λ (x : StallLine). x.worker ≤ LAST_WORKER) (sym g) (stall_first j.entries j.stalls i s h.stalls l)
+stall_worker j i s h l g = subst (λ (x : StallLine). x.worker ≤ LAST_WORKER) (sym g) (stall_first j.providers.version j.entries j.stalls i s h.stalls l)
 
 -- ---- the place of a line in its list
 
@@ -156,7 +157,7 @@ there (x ∷ xs) zero l = (x, refl)
 there (x ∷ xs) (suc i) l = there xs i (omega arith)
 
 pub have_workers : (j : Journal) (judge : Judge) → HasText j → judge.entries.now ≡ j.entries → HaveWorkers judge.entries.now
-have_workers j judge h w = subst HaveWorkers (sym w) (λ i d l. worker_from [] j.entries i d h.entries l)
+have_workers j judge h w = subst HaveWorkers (sym w) (λ i d l. worker_from j.providers.version [] j.entries i d h.entries l)
 
 pub wrong_at : (j : Journal) (i : ℕ) (old new : Judge) (line : ℕ) (e : Entry) (o : Option (List ℕ)) (expected found : List ℕ) → HasText j → EntriesSoFar j (take i j.entries) old line → i < length j.entries → e ≡ get_or j.entries i e → JudgesPlace i old new o → o ≡ Some expected → found ≡ answer_text e.outcome e.after
     → IsVerdict j (verdict.Wrong line expected found)

@@ -8,6 +8,7 @@ use Rattle.std.proofs.lemmas.List.FromFn.{length-map-range_with_len, get_or-map-
 use Rattle.xti_base.specs.declared.limits.TheConstants.{LAST_WORKER, MOST_ADDRESS, MOST_OPTIONS, MOST_CONNECT_DATA}
 use Rattle.xti_base.specs.declared.kinds.Prov.{Prov}
 use Rattle.xti_base.specs.declared.kinds.Prov.TheVariants.{Ticotsord, Ticlts}
+use Rattle.xti_model.specs.declared.profile.Version.TheVariants.{One}
 use Rattle.xti_model.specs.declared.script.NamedCall.TheVariants as call
 use Rattle.xti_model.specs.declared.script.Line.{Line}
 use Rattle.xti_model.specs.Resolve.{opens, listens}
@@ -59,7 +60,7 @@ known_reads s name h w = name_reads s kind.Endpoint name refl h w.spaceless w.en
 -- ---- lines
 
 module _ (earlier : List Line) (worker : ℕ) (small : worker ≤ LAST_WORKER) where
-  opening_reads : (name : List ℕ) (prov : Prov) → is_new opens (after earlier worker) name ≡ true → IsWord name → LineReads earlier (line worker (opening name prov))
+  opening_reads : (name : List ℕ) (prov : Prov) → is_new opens (after earlier worker) name ≡ true → IsWord name → LineReads One earlier (line worker (opening name prov))
   unfolding written_call form field
   opening_reads name prov h w = record {
     is_worker = small;
@@ -67,7 +68,7 @@ module _ (earlier : List Line) (worker : ℕ) (small : worker ≤ LAST_WORKER) w
     call = (name_reads (after earlier worker) kind.NewEndpoint name refl h w.spaceless w.endless, (provider_reads (after earlier worker) prov, (mode_reads (after earlier worker) false, tt)));
   }
 
-  binding_reads : (name addr : List ℕ) (qlen : ℕ) → is_defined opens (after earlier worker) name ≡ true → IsWord name → AreBytes addr → qlen < 4294967296 → LineReads earlier (line worker (binding name addr qlen))
+  binding_reads : (name addr : List ℕ) (qlen : ℕ) → is_defined opens (after earlier worker) name ≡ true → IsWord name → AreBytes addr → qlen < 4294967296 → LineReads One earlier (line worker (binding name addr qlen))
   unfolding written_call form field
   binding_reads name addr qlen h w b q = record {
     is_worker = small;
@@ -75,7 +76,7 @@ module _ (earlier : List Line) (worker : ℕ) (small : worker ≤ LAST_WORKER) w
     call = (known_reads (after earlier worker) name h w, (bytes_reads (after earlier worker) addr b, (number_reads (after earlier worker) qlen q, (number_reads (after earlier worker) MOST_ADDRESS (omega arith), tt))));
   }
 
-  listening_reads : (name seq : List ℕ) → is_defined opens (after earlier worker) name ≡ true → IsWord name → is_new listens (after earlier worker) seq ≡ true → IsWord seq → LineReads earlier (line worker (listening name seq))
+  listening_reads : (name seq : List ℕ) → is_defined opens (after earlier worker) name ≡ true → IsWord name → is_new listens (after earlier worker) seq ≡ true → IsWord seq → LineReads One earlier (line worker (listening name seq))
   unfolding written_call form field
   listening_reads name seq h w i v = record {
     is_worker = small;
@@ -90,7 +91,7 @@ module _ (earlier : List Line) (worker : ℕ) (small : worker ≤ LAST_WORKER) w
   }
 
   accepting_reads : (name resfd seq : List ℕ) → is_defined opens (after earlier worker) name ≡ true → IsWord name → is_defined opens (after earlier worker) resfd ≡ true → IsWord resfd
-      → is_defined listens (after earlier worker) seq ≡ true → IsWord seq → LineReads earlier (line worker (accepting name resfd seq))
+      → is_defined listens (after earlier worker) seq ≡ true → IsWord seq → LineReads One earlier (line worker (accepting name resfd seq))
   unfolding written_call form field
   accepting_reads name resfd seq h w i v j u = record {
     is_worker = small;
@@ -107,7 +108,7 @@ module _ (earlier : List Line) (worker : ℕ) (small : worker ≤ LAST_WORKER) w
     );
   }
 
-  connecting_reads : (name addr : List ℕ) → is_defined opens (after earlier worker) name ≡ true → IsWord name → AreBytes addr → LineReads earlier (line worker (connecting name addr))
+  connecting_reads : (name addr : List ℕ) → is_defined opens (after earlier worker) name ≡ true → IsWord name → AreBytes addr → LineReads One earlier (line worker (connecting name addr))
   unfolding written_call form field
   connecting_reads name addr h w b = record {
     is_worker = small;
@@ -127,7 +128,7 @@ module _ (earlier : List Line) (worker : ℕ) (small : worker ≤ LAST_WORKER) w
     );
   }
 
-  sending_reads : (name bytes : List ℕ) → is_defined opens (after earlier worker) name ≡ true → IsWord name → AreBytes bytes → LineReads earlier (line worker (sending name bytes))
+  sending_reads : (name bytes : List ℕ) → is_defined opens (after earlier worker) name ≡ true → IsWord name → AreBytes bytes → LineReads One earlier (line worker (sending name bytes))
   unfolding written_call form field
   sending_reads name bytes h w b = record {
     is_worker = small;
@@ -135,7 +136,7 @@ module _ (earlier : List Line) (worker : ℕ) (small : worker ≤ LAST_WORKER) w
     call = (known_reads (after earlier worker) name h w, (bytes_reads (after earlier worker) bytes b, (number_reads (after earlier worker) 0 (omega arith), tt)));
   }
 
-  sending_to_reads : (name addr bytes : List ℕ) → is_defined opens (after earlier worker) name ≡ true → IsWord name → AreBytes addr → AreBytes bytes → LineReads earlier (line worker (sending_to name addr bytes))
+  sending_to_reads : (name addr bytes : List ℕ) → is_defined opens (after earlier worker) name ≡ true → IsWord name → AreBytes addr → AreBytes bytes → LineReads One earlier (line worker (sending_to name addr bytes))
   unfolding written_call form field
   sending_to_reads name addr bytes h w a b = record {
     is_worker = small;
@@ -143,7 +144,7 @@ module _ (earlier : List Line) (worker : ℕ) (small : worker ≤ LAST_WORKER) w
     call = (known_reads (after earlier worker) name h w, (bytes_reads (after earlier worker) addr a, (options_reads (after earlier worker) [] no_bytes, (bytes_reads (after earlier worker) bytes b, tt))));
   }
 
-  receiving_reads : (name : List ℕ) → is_defined opens (after earlier worker) name ≡ true → IsWord name → LineReads earlier (line worker (receiving name))
+  receiving_reads : (name : List ℕ) → is_defined opens (after earlier worker) name ≡ true → IsWord name → LineReads One earlier (line worker (receiving name))
   unfolding written_call form field
   receiving_reads name h w = record {
     is_worker = small;
@@ -151,7 +152,7 @@ module _ (earlier : List Line) (worker : ℕ) (small : worker ≤ LAST_WORKER) w
     call = (known_reads (after earlier worker) name h w, (number_reads (after earlier worker) MOST_SENT (omega arith), tt));
   }
 
-  receiving_datagram_reads : (name : List ℕ) → is_defined opens (after earlier worker) name ≡ true → IsWord name → LineReads earlier (line worker (receiving_datagram name))
+  receiving_datagram_reads : (name : List ℕ) → is_defined opens (after earlier worker) name ≡ true → IsWord name → LineReads One earlier (line worker (receiving_datagram name))
   unfolding written_call form field
   receiving_datagram_reads name h w = record {
     is_worker = small;
@@ -159,11 +160,11 @@ module _ (earlier : List Line) (worker : ℕ) (small : worker ≤ LAST_WORKER) w
     call = (known_reads (after earlier worker) name h w, (number_reads (after earlier worker) MOST_SENT (omega arith), (number_reads (after earlier worker) MOST_ADDRESS (omega arith), (number_reads (after earlier worker) MOST_OPTIONS (omega arith), tt))));
   }
 
-  releasing_reads : (name : List ℕ) → is_defined opens (after earlier worker) name ≡ true → IsWord name → LineReads earlier (line worker (call.TSndRel name))
+  releasing_reads : (name : List ℕ) → is_defined opens (after earlier worker) name ≡ true → IsWord name → LineReads One earlier (line worker (call.TSndRel name))
   unfolding written_call form field
   releasing_reads name h w = record { is_worker = small; in_texts = refl; call = (known_reads (after earlier worker) name h w, tt) }
 
-  taking_release_reads : (name : List ℕ) → is_defined opens (after earlier worker) name ≡ true → IsWord name → LineReads earlier (line worker (call.TRcvRel name))
+  taking_release_reads : (name : List ℕ) → is_defined opens (after earlier worker) name ≡ true → IsWord name → LineReads One earlier (line worker (call.TRcvRel name))
   unfolding written_call form field
   taking_release_reads name h w = record { is_worker = small; in_texts = refl; call = (known_reads (after earlier worker) name h w, tt) }
 
@@ -176,7 +177,7 @@ record IsInRing (worker : ℕ) : Type 0 where
   address : AreBytes (ring_name (next worker))
 
 datagrams_read : (shift worker : ℕ) (rounds : List ℕ) (earlier : List Line) → IsInRing worker → is_defined opens (after earlier worker) (ring_name worker) ≡ true
-    → LinesRead earlier (flat_map (datagram_round shift worker) rounds)
+    → LinesRead One earlier (flat_map (datagram_round shift worker) rounds)
 datagrams_read shift worker [] earlier w known = tt
 datagrams_read shift worker (round ∷ rounds) earlier w known =
     let name : List ℕ = ring_name worker in
@@ -192,14 +193,14 @@ datagrams_read shift worker (round ∷ rounds) earlier w known =
       ),
     )
 
-sends_read : (shift : ℕ) (rounds : List ℕ) (earlier : List Line) → is_defined opens (after earlier CONNECTING) (codes "c") ≡ true → LinesRead earlier (map (send_round shift) rounds)
+sends_read : (shift : ℕ) (rounds : List ℕ) (earlier : List Line) → is_defined opens (after earlier CONNECTING) (codes "c") ≡ true → LinesRead One earlier (map (send_round shift) rounds)
 sends_read shift [] earlier known = tt
 sends_read shift (round ∷ rounds) earlier known = (
   sending_reads earlier CONNECTING (omega arith) (codes "c") (round_bytes shift CONNECTING round) known (word_by (codes "c") refl refl) (counted_bytes (1 + (shift + CONNECTING + round) % MOST_SENT)),
   sends_read shift rounds (earlier ++ send_round shift round ∷ []) (still_known opens earlier (send_round shift round ∷ []) CONNECTING (codes "c") known),
 )
 
-receives_read : (rounds : ℕ) (earlier : List Line) → is_defined opens (after earlier ACCEPTING) (codes "r") ≡ true → LinesRead earlier (replicate rounds receive_round)
+receives_read : (rounds : ℕ) (earlier : List Line) → is_defined opens (after earlier ACCEPTING) (codes "r") ≡ true → LinesRead One earlier (replicate rounds receive_round)
 receives_read zero earlier known = tt
 receives_read (suc rounds) earlier known = (
   receiving_reads earlier ACCEPTING (omega arith) (codes "r") known (word_by (codes "r") refl refl),
@@ -217,15 +218,15 @@ still_theirs : (earlier more : List Line) (workers : List ℕ) → KnowTheirs ea
 still_theirs earlier more [] h = tt
 still_theirs earlier more (worker ∷ workers) h = (h.0, still_known opens earlier more worker (ring_name worker) h.1, still_theirs earlier more workers h.2)
 
-rounds_read : (shift worker rounds : ℕ) (earlier : List Line) → IsInRing worker → is_defined opens (after earlier worker) (ring_name worker) ≡ true → LinesRead earlier (datagram_rounds shift worker rounds)
+rounds_read : (shift worker rounds : ℕ) (earlier : List Line) → IsInRing worker → is_defined opens (after earlier worker) (ring_name worker) ≡ true → LinesRead One earlier (datagram_rounds shift worker rounds)
 unfolding datagram_rounds
 rounds_read shift worker rounds earlier w known = datagrams_read shift worker (range_with_len 0 rounds) earlier w known
 
-workers_read : (shift : ℕ) (workers : List ℕ) (earlier : List Line) → KnowTheirs earlier workers → LinesRead earlier (flat_map (λ worker. datagram_rounds shift worker ROUNDS) workers)
+workers_read : (shift : ℕ) (workers : List ℕ) (earlier : List Line) → KnowTheirs earlier workers → LinesRead One earlier (flat_map (λ worker. datagram_rounds shift worker ROUNDS) workers)
 workers_read shift [] earlier h = tt
 workers_read shift (worker ∷ workers) earlier h =
     let lines : List Line = datagram_rounds shift worker ROUNDS in
-    both_read earlier lines (flat_map (λ worker. datagram_rounds shift worker ROUNDS) workers) (rounds_read shift worker ROUNDS earlier h.0 h.1)
+    both_read One earlier lines (flat_map (λ worker. datagram_rounds shift worker ROUNDS) workers) (rounds_read shift worker ROUNDS earlier h.0 h.1)
     (workers_read shift workers (earlier ++ lines) (still_theirs earlier lines workers h.2))
 
 -- ---- the setup
@@ -241,7 +242,7 @@ CanSetUp earlier (worker ∷ workers) =
     × (is_defined opens (after (earlier ++ line 0 (opening (ring_name worker) Ticlts) ∷ []) 0) (ring_name worker) ≡ true)
     × CanSetUp ((earlier ++ line 0 (opening (ring_name worker) Ticlts) ∷ []) ++ line 0 (binding (ring_name worker) (ring_name worker) 0) ∷ []) workers
 
-ring_set_up : (workers : List ℕ) (earlier : List Line) → CanSetUp earlier workers → LinesRead earlier (flat_map ring_setup workers)
+ring_set_up : (workers : List ℕ) (earlier : List Line) → CanSetUp earlier workers → LinesRead One earlier (flat_map ring_setup workers)
 ring_set_up [] earlier h = tt
 ring_set_up (worker ∷ workers) earlier h =
     let name : List ℕ = ring_name worker in
@@ -253,7 +254,7 @@ ring_set_up (worker ∷ workers) earlier h =
       ),
     )
 
-setups_read : LinesRead [] (setups RING)
+setups_read : LinesRead One [] (setups RING)
 unfolding setups digits
 setups_read = ring_set_up (range_with_len 1 RING) [] (
   word_by (ring_name 1) refl refl,
@@ -300,7 +301,7 @@ setups_read = ring_set_up (range_with_len 1 RING) [] (
 )
 
 -- no line of the ring's setup has the name of an endpoint of the connection
-connection_set_up : LinesRead (setups RING) connection_setup
+connection_set_up : LinesRead One (setups RING) connection_setup
 unfolding setups digits
 connection_set_up =
     let listener : IsWord (codes "l") = word_by (codes "l") refl refl in
@@ -323,8 +324,8 @@ connection_set_up =
       ),
     )
 
-setup_read : LinesRead [] setup
-setup_read = both_read [] (setups RING) connection_setup setups_read connection_set_up
+setup_read : LinesRead One [] setup
+setup_read = both_read One [] (setups RING) connection_setup setups_read connection_set_up
 
 in_ring_by : (worker : ℕ) → worker ≤ LAST_WORKER → list_all (λ c. not (eqb c 32)) (ring_name worker) ≡ true → list_all (λ c. not (eqb c 10)) (ring_name worker) ≡ true
     → list_all (λ b. ltb b 256) (ring_name (next worker)) ≡ true → IsInRing worker
@@ -362,7 +363,7 @@ all_know = (
   ),
 )
 
-ring_read : (shift : ℕ) → LinesRead setup (ring shift RING)
+ring_read : (shift : ℕ) → LinesRead One setup (ring shift RING)
 unfolding ring
 ring_read shift = workers_read shift (range_with_len 1 RING) setup all_know
 
@@ -407,15 +408,15 @@ setup_silent : AreSilent listens (codes "q") setup
 unfolding setups
 setup_silent = refl
 
-receive_rounds_read : (rounds : ℕ) (earlier : List Line) → is_defined opens (after earlier ACCEPTING) (codes "r") ≡ true → LinesRead earlier (receive_rounds rounds)
+receive_rounds_read : (rounds : ℕ) (earlier : List Line) → is_defined opens (after earlier ACCEPTING) (codes "r") ≡ true → LinesRead One earlier (receive_rounds rounds)
 unfolding receive_rounds
 receive_rounds_read rounds earlier known = receives_read rounds earlier known
 
-send_rounds_read : (shift rounds : ℕ) (earlier : List Line) → is_defined opens (after earlier CONNECTING) (codes "c") ≡ true → LinesRead earlier (send_rounds shift rounds)
+send_rounds_read : (shift rounds : ℕ) (earlier : List Line) → is_defined opens (after earlier CONNECTING) (codes "c") ≡ true → LinesRead One earlier (send_rounds shift rounds)
 unfolding send_rounds
 send_rounds_read shift rounds earlier known = sends_read shift (range_with_len 0 rounds) earlier known
 
-accepting_read : (earlier : List Line) → KnowEndpoints earlier → AreSilent listens (codes "q") earlier → LinesRead earlier accepting_side
+accepting_read : (earlier : List Line) → KnowEndpoints earlier → AreSilent listens (codes "q") earlier → LinesRead One earlier accepting_side
 accepting_read earlier known silent =
     let l : IsWord (codes "l") = word_by (codes "l") refl refl in
     let r : IsWord (codes "r") = word_by (codes "r") refl refl in
@@ -433,12 +434,12 @@ accepting_read earlier known silent =
       (
         accepting_reads then ACCEPTING (omega arith) (codes "l") (codes "r") (codes "q") known_then.listener l known_then.receiver r
             (just_known listens earlier listened ACCEPTING (codes "q") refl) q,
-        both_read open_both received (line ACCEPTING (call.TRcvRel (codes "r")) ∷ []) (receive_rounds_read ROUNDS open_both known_open.receiver)
+        both_read One open_both received (line ACCEPTING (call.TRcvRel (codes "r")) ∷ []) (receive_rounds_read ROUNDS open_both known_open.receiver)
             (taking_release_reads (open_both ++ received) ACCEPTING (omega arith) (codes "r") known_last.receiver r, tt),
       ),
     )
 
-connecting_read : (shift : ℕ) (earlier : List Line) → KnowEndpoints earlier → LinesRead earlier (connecting_side shift)
+connecting_read : (shift : ℕ) (earlier : List Line) → KnowEndpoints earlier → LinesRead One earlier (connecting_side shift)
 connecting_read shift earlier known =
     let c : IsWord (codes "c") = word_by (codes "c") refl refl in
     let connected : Line = line CONNECTING (connecting (codes "c") (codes "srv")) in
@@ -447,19 +448,19 @@ connecting_read shift earlier known =
     let sent : List Line = send_rounds shift ROUNDS in
     let known_last : KnowEndpoints (then ++ sent) = still_endpoints then sent known_then in (
       connecting_reads earlier CONNECTING (omega arith) (codes "c") (codes "srv") known.connector c (bytes_by (codes "srv") refl),
-      both_read then sent (line CONNECTING (call.TSndRel (codes "c")) ∷ []) (send_rounds_read shift ROUNDS then known_then.connector)
+      both_read One then sent (line CONNECTING (call.TSndRel (codes "c")) ∷ []) (send_rounds_read shift ROUNDS then known_then.connector)
           (releasing_reads (then ++ sent) CONNECTING (omega arith) (codes "c") known_last.connector c, tt),
     )
 
 -- ---- all lines
 
-pub generated_lines_read : (shift : ℕ) → LinesRead [] (generated_lines shift)
+pub generated_lines_read : (shift : ℕ) → LinesRead One [] (generated_lines shift)
 unfolding generated_lines
 generated_lines_read shift =
     let lines : List Line = ring shift RING in
     let known : KnowEndpoints (setup ++ lines) = still_endpoints setup lines setup_endpoints in
     let before : List Line = setup ++ lines in
-    both_read [] (before ++ accepting_side) (connecting_side shift)
-    (both_read [] before accepting_side (both_read [] setup lines setup_read (ring_read shift))
+    both_read One [] (before ++ accepting_side) (connecting_side shift)
+    (both_read One [] before accepting_side (both_read One [] setup lines setup_read (ring_read shift))
     (accepting_read before known (silent_both listens (codes "q") setup lines setup_silent (ring_silent shift))))
     (connecting_read shift (before ++ accepting_side) (still_endpoints before accepting_side known))

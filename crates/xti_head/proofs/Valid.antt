@@ -3,8 +3,9 @@ use Rattle.std.proofs.Common.{◌≡◌, ℕ, Bool, true, false, cond, List, Opt
 use Rattle.std.specs.Prelude.{option_and_then}
 use Rattle.toml.specs.Data.{Members}
 use Rattle.toml.specs.Parse.{parse_document}
-use Rattle.xti_model.specs.Profile.{usual, valid}
+use Rattle.xti_model.specs.Profile.{usual_of, valid}
 use Rattle.xti_model.specs.declared.profile.Providers.{Providers}
+use Rattle.xti_model.specs.declared.profile.Version.{Version}
 use Rattle.xti_words.specs.Texts.{is_ascii}
 use Rattle.xti_head.specs.Head.{is_provider, keys_pass, set_over, valid_only, providers_of, head_of}
 
@@ -20,11 +21,11 @@ pub tested : {A : Type 0} (b : Bool) (o : Option A) (p : A) → cond b o None �
 tested true o p e = e
 tested false o p e = absurd cc
 
-tables_valid : (o : Option Members) (p : Providers) → option_and_then providers_of o ≡ Some p → valid p ≡ true
+tables_valid : (version : Version) (o : Option Members) (p : Providers) → option_and_then (providers_of version) o ≡ Some p → valid p ≡ true
 unfolding providers_of
-tables_valid None p e = absurd cc
-tables_valid (Some tables) p e = valid_set (set_over usual tables) p (tested (keys_pass is_provider tables) _ p e)
+tables_valid version None p e = absurd cc
+tables_valid version (Some tables) p e = valid_set (set_over (usual_of version) tables) p (tested (keys_pass is_provider tables) _ p e)
 
-pub head_valid : (text : List ℕ) (p : Providers) → head_of text ≡ Some p → valid p ≡ true
+pub head_valid : (version : Version) (text : List ℕ) (p : Providers) → head_of version text ≡ Some p → valid p ≡ true
 unfolding head_of
-head_valid text p e = tables_valid (parse_document text) p (tested (is_ascii text) _ p e)
+head_valid version text p e = tables_valid version (parse_document text) p (tested (is_ascii text) _ p e)

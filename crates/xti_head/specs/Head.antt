@@ -9,9 +9,10 @@ use Rattle.xti_base.specs.declared.kinds.Prov.TheVariants.{Ticots, Ticotsord, Ti
 use Rattle.xti_base.specs.Kinds.{prov_name}
 use Rattle.xti_base.specs.declared.limit.Limit.{Limit}
 use Rattle.xti_base.specs.declared.limit.Limit.TheVariants.{At, Infinite}
-use Rattle.xti_model.specs.Profile.{usual, is_size, valid}
+use Rattle.xti_model.specs.Profile.{usual_of, tells_reldata, is_size, valid}
 use Rattle.xti_model.specs.declared.profile.Profile.{Profile}
 use Rattle.xti_model.specs.declared.profile.Providers.{Providers}
+use Rattle.xti_model.specs.declared.profile.Version.{Version}
 use Rattle.xti_words.specs.Texts.{is_ascii}
 
 infixl 10 ◌>>=◌
@@ -35,11 +36,11 @@ abbrev pub has_same_addr : Prov → Bool
 has_same_addr Ticlts = false
 has_same_addr _ = true
 
--- what the table of the provider may set
-abbrev pub is_setting : Prov → List ℕ → Bool
-is_setting prov key =
+-- what the table of the provider may set in this version
+abbrev pub is_setting : Version → Prov → List ℕ → Bool
+is_setting version prov key =
     bytes_eq key (codes "tsdu") || (bytes_eq key (codes "sendzero") || (bytes_eq key (codes "sndbuf") || (bytes_eq key (codes "rcvbuf")
-    || (has_same_addr prov && bytes_eq key (codes "same_addr")))))
+    || ((has_same_addr prov && bytes_eq key (codes "same_addr")) || (tells_reldata version prov && bytes_eq key (codes "reldata"))))))
 
 -- ---- values
 
@@ -69,38 +70,38 @@ limit_at usual members = or_usual (λ value. as_integer value >>= limit_of) usua
 
 -- ---- providers
 
--- no head sets whether data may go with an orderly release
-abbrev pub profile_with : Option Limit → Option Bool → Option Bool → Option ℕ → Option ℕ → Option Profile
-profile_with tsdu sendzero same_addr sndbuf rcvbuf =
-    tsdu >>= (λ t. sendzero >>= (λ z. same_addr >>= (λ a. sndbuf >>= (λ s. rcvbuf >>= (λ r.
-    Some (record { tsdu = t; sendzero = z; same_addr = a; sndbuf = s; rcvbuf = r; reldata = false }))))))
+unfoldable pub profile_with : Option Limit → Option Bool → Option Bool → Option ℕ → Option ℕ → Option Bool → Option Profile
+profile_with tsdu sendzero same_addr sndbuf rcvbuf reldata =
+    tsdu >>= (λ t. sendzero >>= (λ z. same_addr >>= (λ a. sndbuf >>= (λ s. rcvbuf >>= (λ r. reldata >>= (λ d.
+    Some (record { tsdu = t; sendzero = z; same_addr = a; sndbuf = s; rcvbuf = r; reldata = d })))))))
 
-abbrev pub profile_in : Prov → Profile → Members → Option Profile
-profile_in prov usual members =
-    if keys_pass (is_setting prov) members then profile_with (limit_at usual.tsdu members)
+abbrev pub profile_in : Version → Prov → Profile → Members → Option Profile
+profile_in version prov usual members =
+    if keys_pass (is_setting version prov) members then profile_with (limit_at usual.tsdu members)
     (flag_at (codes "sendzero") usual.sendzero members) (flag_at (codes "same_addr") usual.same_addr members)
     (size_at (codes "sndbuf") usual.sndbuf members) (size_at (codes "rcvbuf") usual.rcvbuf members)
+    (flag_at (codes "reldata") usual.reldata members)
     else None
 
--- the values of a provider, by its table
-unfoldable pub profile_of : Prov → Profile → Option Data → Option Profile
-profile_of prov usual table = or_usual (λ value. as_table value >>= profile_in prov usual) usual table
+-- the values of a provider in this version, by its table
+unfoldable pub profile_of : Version → Prov → Profile → Option Data → Option Profile
+profile_of version prov usual table = or_usual (λ value. as_table value >>= profile_in version prov usual) usual table
 
-abbrev pub profile_at : Members → Prov → Profile → Option Profile
-profile_at tables prov usual = profile_of prov usual (get_member (prov_name prov) tables)
+abbrev pub profile_at : Version → Members → Prov → Profile → Option Profile
+profile_at version tables prov usual = profile_of version prov usual (get_member (prov_name prov) tables)
 
 abbrev pub set_over : Providers → Members → Option Providers
 set_over usual tables =
-    profile_at tables Ticots usual.ticots >>= (λ cots. profile_at tables Ticotsord usual.ticotsord >>= (λ ord. profile_at tables Ticlts usual.ticlts >>= (λ clts.
-    Some (record { ticots = cots; ticotsord = ord; ticlts = clts }))))
+    profile_at usual.version tables Ticots usual.ticots >>= (λ cots. profile_at usual.version tables Ticotsord usual.ticotsord >>= (λ ord. profile_at usual.version tables Ticlts usual.ticlts >>= (λ clts.
+    Some (record { version = usual.version; ticots = cots; ticotsord = ord; ticlts = clts }))))
 
 -- what holds between values, as that a stream has no empty messages, is judged when all are set
 abbrev pub valid_only : Providers → Option Providers
 valid_only p = if valid p then Some p else None
 
-unfoldable pub providers_of : Members → Option Providers
-providers_of tables = if keys_pass is_provider tables then set_over usual tables >>= valid_only else None
+unfoldable pub providers_of : Version → Members → Option Providers
+providers_of version tables = if keys_pass is_provider tables then set_over (usual_of version) tables >>= valid_only else None
 
--- the providers that a text gives: it is ASCII that `toml` reads, with tables of the providers alone, and the values are valid
-unfoldable pub head_of : List ℕ → Option Providers
-head_of text = if is_ascii text then parse_document text >>= providers_of else None
+-- the providers that the head of a script of this version gives: it is ASCII that `toml` reads, with tables of the providers alone, and the values are valid
+unfoldable pub head_of : Version → List ℕ → Option Providers
+head_of version text = if is_ascii text then parse_document text >>= providers_of version else None

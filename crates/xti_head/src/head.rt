@@ -12,7 +12,7 @@ use std::alloc::Global;
 use thiserror::Error;
 use toml::Table;
 use xti_base::Prov;
-use xti_model::{Profile, Providers};
+use xti_model::{Profile, Providers, Version};
 use xti_words::is_ascii;
 
 /// Why a head was not read.
@@ -44,20 +44,22 @@ fn names_only(tables: &Table) -> bool
     all_providers(tables)
 }
 
-fn profile_at(tables: &Table, prov: Prov, usual: &Profile) -> Option<Profile>
-    ensures { result ≡ profile_at (table_view tables.now) prov usual.now }
+fn profile_at(version: Version, tables: &Table, prov: Prov, usual: &Profile) -> Option<Profile>
+    ensures { result ≡ profile_at version (table_view tables.now) prov usual.now }
 {
-    profile_of(prov, usual, member_at(tables, prov.name()))
+    profile_of(version, prov, usual, member_at(tables, prov.name()))
 }
 
 /// The values that the tables set, over the usual ones.
 fn set_over(usual: &Providers, tables: &Table) -> Option<Providers>
     ensures { result ≡ set_over usual.now (table_view tables.now) }
 {
+    let version = usual.version;
     Some(Providers {
-        ticots: profile_at(tables, Prov::Ticots, &usual.ticots)?,
-        ticotsord: profile_at(tables, Prov::Ticotsord, &usual.ticotsord)?,
-        ticlts: profile_at(tables, Prov::Ticlts, &usual.ticlts)?,
+        version,
+        ticots: profile_at(version, tables, Prov::Ticots, &usual.ticots)?,
+        ticotsord: profile_at(version, tables, Prov::Ticotsord, &usual.ticotsord)?,
+        ticlts: profile_at(version, tables, Prov::Ticlts, &usual.ticlts)?,
     })
 }
 
@@ -72,13 +74,13 @@ fn valid_only(providers: Providers) -> Option<Providers>
 }
 
 #[tactic(auto, unfolding(crate::specs::Head::providers_of))]
-fn providers_of(tables: &Table) -> Option<Providers>
-    ensures { result ≡ providers_of (table_view tables.now) }
+fn providers_of(version: Version, tables: &Table) -> Option<Providers>
+    ensures { result ≡ providers_of version (table_view tables.now) }
 {
     if !names_only(tables) {
         return None;
     }
-    valid_only(set_over(&Providers::usual(), tables)?)
+    valid_only(set_over(&Providers::usual_of(version), tables)?)
 }
 
 fn read_tables(alloc: Global, text: &str) -> Result<Table, HeadFail>
@@ -92,14 +94,14 @@ fn read_tables(alloc: Global, text: &str) -> Result<Table, HeadFail>
     }
 }
 
-/// The providers that the text of a head gives. It is TOML in ASCII with a table for each provider that it sets; what it
-/// leaves out has its usual value.
+/// The providers that the text of a head gives in a script of the version. It is TOML in ASCII with a table for each provider
+/// that it sets; what it leaves out has its usual value.
 ///
 /// Errors: `Bad` where the text gives none; `OutOfMemory` where memory runs out.
 #[tactic(auto, unfolding(crate::specs::Head::head_of))]
-pub fn read_head(alloc: Global, text: &[u8]) -> Result<Providers, HeadFail>
-    ensures found { IfOk result (λ p. head_of text.now ≡ Some p) }
-    ensures bad { IsErrOf result HeadFail.Bad → head_of text.now ≡ None }
+pub fn read_head(alloc: Global, version: Version, text: &[u8]) -> Result<Providers, HeadFail>
+    ensures found { IfOk result (λ p. head_of version text.now ≡ Some p) }
+    ensures bad { IsErrOf result HeadFail.Bad → head_of version text.now ≡ None }
 {
     if !is_ascii(text) {
         return Err(HeadFail::Bad);
@@ -108,5 +110,5 @@ pub fn read_head(alloc: Global, text: &[u8]) -> Result<Providers, HeadFail>
         return Err(HeadFail::Bad);
     };
     let tables = read_tables(alloc, text)?;
-    providers_of(&tables).ok_or(HeadFail::Bad)
+    providers_of(version, &tables).ok_or(HeadFail::Bad)
 }

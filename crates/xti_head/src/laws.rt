@@ -1,21 +1,22 @@
 //! Laws of heads.
 
-ghost use Rattle.std.specs.Prelude.{◌≡◌, ℕ, false, true, List, Some};
-ghost use Rattle.xti_model.specs.Profile.{valid};
+ghost use Rattle.std.specs.Prelude.{◌≡◌, ℕ, true, List, Some};
+ghost use Rattle.xti_model.specs.Profile.{releases_told, valid};
+ghost use Rattle.xti_model.specs.declared.profile.Version.{Version};
 ghost use Rattle.xti_model.specs.declared.profile.Providers.{Providers};
 ghost use Rattle.xti_head.specs.Head.{head_of};
 
 /// The providers that a head gives are valid.
 pub fn heads_are_valid()
-    ensures { (text : List ℕ) (p : Providers) → head_of text ≡ Some p → valid p ≡ true }
+    ensures { (version : Version) (text : List ℕ) (p : Providers) →
+        head_of version text ≡ Some p → valid p ≡ true }
 {}
 
-/// Data may go with a release of none of the providers that a head gives.
-pub fn heads_have_no_release_data()
-    ensures ticots { (text : List ℕ) (p : Providers) →
-        head_of text ≡ Some p → p.ticots.reldata ≡ false }
-    ensures ticotsord { (text : List ℕ) (p : Providers) →
-        head_of text ≡ Some p → p.ticotsord.reldata ≡ false }
-    ensures ticlts { (text : List ℕ) (p : Providers) →
-        head_of text ≡ Some p → p.ticlts.reldata ≡ false }
+/// The providers that a head gives have its version, and data may go with a release of those alone of which texts of the
+/// version can say so: `ticotsord` in version 2.
+pub fn heads_tell_releases()
+    ensures version { (version : Version) (text : List ℕ) (p : Providers) →
+        head_of version text ≡ Some p → p.version ≡ version }
+    ensures releases { (version : Version) (text : List ℕ) (p : Providers) →
+        head_of version text ≡ Some p → releases_told p ≡ true }
 {}

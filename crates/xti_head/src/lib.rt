@@ -6,5 +6,5 @@ mod laws;
 mod settings;
 
 pub use head::{HeadFail, read_head};
-pub use laws::{heads_are_valid, heads_have_no_release_data};
-pub use xti_model::{Profile, Providers};
+pub use laws::{heads_are_valid, heads_tell_releases};
+pub use xti_model::{Profile, Providers, Version};

@@ -10,7 +10,7 @@ ghost use Rattle.xti_head.specs.Head.{keys_pass, size_of, size_at, flag_at, limi
 use toml::{Table, Value};
 use xti_base::limits::MOST_SIZE;
 use xti_base::{Limit, Prov};
-use xti_model::Profile;
+use xti_model::{Profile, Version};
 
 /// The value of the key.
 pub(crate) fn member_at<'a>(members: &'a Table, key: &str) -> Option<&'a Value>
@@ -74,36 +74,41 @@ fn has_same_addr(prov: Prov) -> bool
     prov != Prov::Ticlts
 }
 
-fn is_setting(prov: Prov, key: &str) -> bool
-    ensures { result ≡ is_setting prov key.now }
+fn is_setting(version: Version, prov: Prov, key: &str) -> bool
+    ensures { result ≡ is_setting version prov key.now }
 {
     match key {
         "tsdu" | "sendzero" | "sndbuf" | "rcvbuf" => true,
         "same_addr" => has_same_addr(prov),
+        "reldata" => version.tells_reldata(prov),
         _ => false,
     }
 }
 
-fn all_settings(prov: Prov, members: &Table) -> bool
-    ensures { result ≡ list_all (λ k. is_setting prov (string_bytes k)) (keys members.now) }
+fn all_settings(version: Version, prov: Prov, members: &Table) -> bool
+    ensures { result ≡ list_all (λ k. is_setting version prov (string_bytes k)) (keys members.now) }
 {
-    members.keys().all(|key| is_setting(prov, key.as_str()))
+    members
+        .keys()
+        .all(|key| is_setting(version, prov, key.as_str()))
 }
 
-fn sets_only(prov: Prov, members: &Table) -> bool
-    ensures { result ≡ keys_pass (is_setting prov) (table_view members.now) }
+fn sets_only(version: Version, prov: Prov, members: &Table) -> bool
+    ensures { result ≡ keys_pass (is_setting version prov) (table_view members.now) }
 {
-    all_settings(prov, members)
+    all_settings(version, prov, members)
 }
 
+#[tactic(auto, unfolding(crate::specs::Head::profile_with))]
 fn profile_with(
     tsdu: Option<Limit>,
     sendzero: Option<bool>,
     same_addr: Option<bool>,
     sndbuf: Option<u32>,
     rcvbuf: Option<u32>,
+    reldata: Option<bool>,
 ) -> Option<Profile>
-    ensures { result ≡ profile_with tsdu sendzero same_addr sndbuf rcvbuf }
+    ensures { result ≡ profile_with tsdu sendzero same_addr sndbuf rcvbuf reldata }
 {
     Some(Profile {
         tsdu: tsdu?,
@@ -111,14 +116,14 @@ fn profile_with(
         same_addr: same_addr?,
         sndbuf: sndbuf?,
         rcvbuf: rcvbuf?,
-        reldata: false,
+        reldata: reldata?,
     })
 }
 
-fn profile_in(prov: Prov, usual: &Profile, members: &Table) -> Option<Profile>
-    ensures { result ≡ profile_in prov usual.now (table_view members.now) }
+fn profile_in(version: Version, prov: Prov, usual: &Profile, members: &Table) -> Option<Profile>
+    ensures { result ≡ profile_in version prov usual.now (table_view members.now) }
 {
-    if !sets_only(prov, members) {
+    if !sets_only(version, prov, members) {
         return None;
     }
     profile_with(
@@ -127,16 +132,23 @@ fn profile_in(prov: Prov, usual: &Profile, members: &Table) -> Option<Profile>
         flag_at(members, "same_addr", usual.same_addr),
         size_at(members, "sndbuf", usual.sndbuf),
         size_at(members, "rcvbuf", usual.rcvbuf),
+        flag_at(members, "reldata", usual.reldata),
     )
 }
 
-/// The values of the provider, over the usual ones, whose table this is; `None` where the table is wrong.
+/// The values of the provider in this version, over the usual ones, whose table this is; `None` where the table is wrong.
 #[tactic(auto, unfolding(crate::specs::Head::profile_of))]
-pub(crate) fn profile_of(prov: Prov, usual: &Profile, table: Option<&Value>) -> Option<Profile>
-    ensures { result ≡ profile_of prov usual.now (option_map (λ v. view v.now) table.entry) }
+pub(crate) fn profile_of(
+    version: Version,
+    prov: Prov,
+    usual: &Profile,
+    table: Option<&Value>,
+) -> Option<Profile>
+    ensures { result
+        ≡ profile_of version prov usual.now (option_map (λ v. view v.now) table.entry) }
 {
     match table {
         None => Some(*usual),
-        Some(table) => profile_in(prov, usual, table.as_table()?),
+        Some(table) => profile_in(version, prov, usual, table.as_table()?),
     }
 }

@@ -7,6 +7,7 @@ use Rattle.std.proofs.lemmas.Bool.{false_from_ne_true}
 use Rattle.std.proofs.lemmas.List.Elements.{All-nil, All-cons}
 use Rattle.xti_model.specs.declared.entry.Entry.{Entry}
 use Rattle.xti_model.specs.declared.script.StallLine.{StallLine}
+use Rattle.xti_model.specs.declared.profile.Version.{Version}
 use Rattle.xti_journal_text.specs.JournalText.{entry_text, stall_text, end_text}
 use Rattle.xti_words.specs.Texts.{words_of, is_digit}
 use Rattle.xti_journal.specs.Grammar.{last_verb, IsEntry, IsStall}
@@ -41,17 +42,17 @@ no_last (s ∷ stalls) e = some_last s stalls e
 line_of_words : (line : List ℕ) (words : List (List ℕ)) → words_of line ≡ words → line ≡ join_with_byte 32 words
 line_of_words line words e = sym (joined_again line) ∙ ap (join_with_byte 32) e
 
-pub record ReadEntry (entries : List Entry) (stalls : List StallLine) (line : List ℕ) (e : Entry) : Type 0 where
+pub record ReadEntry (version : Version) (entries : List Entry) (stalls : List StallLine) (line : List ℕ) (e : Entry) : Type 0 where
   pub first : stalls ≡ []
-  pub is_entry : IsEntry entries e
+  pub is_entry : IsEntry version entries e
   pub written : with_lf line ≡ entry_text (length entries + 1) e
 
-pub record ReadStall (entries : List Entry) (stalls : List StallLine) (line : List ℕ) (s : StallLine) : Type 0 where
-  pub is_stall : IsStall entries s
+pub record ReadStall (version : Version) (entries : List Entry) (stalls : List StallLine) (line : List ℕ) (s : StallLine) : Type 0 where
+  pub is_stall : IsStall version entries s
   pub follows : may_follow (last_worker stalls) s.worker ≡ true
   pub written : with_lf line ≡ stall_text s
 
-module _ (entries : List Entry) (stalls : List StallLine) where
+module _ (version : Version) (entries : List Entry) (stalls : List StallLine) where
   entered_is : (o : Option EntryRead) (e : Entry) → entered o ≡ Some (Entered (entry_read e)) → o ≡ Some (entry_read e)
   entered_is None e h = none_is (Entered (entry_read e)) h
   entered_is (Some r) e h = let p = some_is (Entered r) (Entered (entry_read e)) h in let q : r ≡ entry_read e = cc in ap (λ (x : EntryRead). Some x) q
@@ -96,20 +97,20 @@ module _ (entries : List Entry) (stalls : List StallLine) where
   is_kind (Stalled s) = 1
   is_kind Ended = 2
 
-  pub entry_line : (line : List ℕ) (e : Entry) → line_in entries stalls (words_of line) ≡ Some (Entered (entry_read e)) → ReadEntry entries stalls line e
+  pub entry_line : (line : List ℕ) (e : Entry) → line_in version entries stalls (words_of line) ≡ Some (Entered (entry_read e)) → ReadEntry version entries stalls line e
   unfolding line_in
   entry_line line e h = by_words (words_of line) refl h
     where
-      by_words : (ws : List (List ℕ)) → words_of line ≡ ws → line_in entries stalls ws ≡ Some (Entered (entry_read e)) → ReadEntry entries stalls line e
+      by_words : (ws : List (List ℕ)) → words_of line ≡ ws → line_in version entries stalls ws ≡ Some (Entered (entry_read e)) → ReadEntry version entries stalls line e
       by_words [] p h = none_is (Entered (entry_read e)) h
       by_words (word ∷ ws) p h = go (bytes_eq word (codes "end")) (bytes_eq word (codes "stall")) h
         where
-          go : (a b : Bool) → cond a (ended (length entries) ws) (cond b (stalled (last_worker stalls) (stall_in (last_verb entries) ws)) (only_before (last_worker stalls) (entered (entry_in (length entries + 1) (last_verb entries) word ws)))) ≡ Some (Entered (entry_read e)) → ReadEntry entries stalls line e
+          go : (a b : Bool) → cond a (ended (length entries) ws) (cond b (stalled (last_worker stalls) (stall_in version (last_verb entries) ws)) (only_before (last_worker stalls) (entered (entry_in version (length entries + 1) (last_verb entries) word ws)))) ≡ Some (Entered (entry_read e)) → ReadEntry version entries stalls line e
           go true b h = let k : 2 ≡ 0 = ap is_kind (ended_not ws (Entered (entry_read e)) h) in absurd (omega (arith, k))
-          go false true h = let s = stalled_not (last_worker stalls) (stall_in (last_verb entries) ws) (Entered (entry_read e)) h in let k : 1 ≡ 0 = ap is_kind s.3 in absurd (omega (arith, k))
+          go false true h = let s = stalled_not (last_worker stalls) (stall_in version (last_verb entries) ws) (Entered (entry_read e)) h in let k : 1 ≡ 0 = ap is_kind s.3 in absurd (omega (arith, k))
           go false false h =
-              let o = only_is (last_worker stalls) (entered (entry_in (length entries + 1) (last_verb entries) word ws)) (Entered (entry_read e)) h in
-              let x = entry_exact (length entries + 1) entries word ws e (entered_is (entry_in (length entries + 1) (last_verb entries) word ws) e o.1) in
+              let o = only_is (last_worker stalls) (entered (entry_in version (length entries + 1) (last_verb entries) word ws)) (Entered (entry_read e)) h in
+              let x = entry_exact version (length entries + 1) entries word ws e (entered_is (entry_in version (length entries + 1) (last_verb entries) word ws) e o.1) in
               let w : words_of line ≡ decimal (length entries + 1) ∷ entry_words e = p ∙ ap (λ (l : List ℕ). l ∷ ws) x.0 ∙ ap (λ (ls : List (List ℕ)). decimal (length entries + 1) ∷ ls) x.1.written in
               record {
                 first = no_last stalls o.0;
@@ -117,20 +118,20 @@ module _ (entries : List Entry) (stalls : List StallLine) where
                 written = ap with_lf (line_of_words line (decimal (length entries + 1) ∷ entry_words e) w) ∙ sym (entry_text_is (length entries + 1) e);
               }
 
-  pub stall_line : (line : List ℕ) (s : StallLine) → line_in entries stalls (words_of line) ≡ Some (Stalled (stall_read s)) → ReadStall entries stalls line s
+  pub stall_line : (line : List ℕ) (s : StallLine) → line_in version entries stalls (words_of line) ≡ Some (Stalled (stall_read s)) → ReadStall version entries stalls line s
   unfolding line_in
   stall_line line s h = by_words (words_of line) refl h
     where
-      by_words : (ws : List (List ℕ)) → words_of line ≡ ws → line_in entries stalls ws ≡ Some (Stalled (stall_read s)) → ReadStall entries stalls line s
+      by_words : (ws : List (List ℕ)) → words_of line ≡ ws → line_in version entries stalls ws ≡ Some (Stalled (stall_read s)) → ReadStall version entries stalls line s
       by_words [] p h = none_is (Stalled (stall_read s)) h
       by_words (word ∷ ws) p h = go (bytes_eq word (codes "end")) (bytes_eq word (codes "stall")) refl h
         where
-          go : (a b : Bool) → bytes_eq word (codes "stall") ≡ b → cond a (ended (length entries) ws) (cond b (stalled (last_worker stalls) (stall_in (last_verb entries) ws)) (only_before (last_worker stalls) (entered (entry_in (length entries + 1) (last_verb entries) word ws)))) ≡ Some (Stalled (stall_read s)) → ReadStall entries stalls line s
+          go : (a b : Bool) → bytes_eq word (codes "stall") ≡ b → cond a (ended (length entries) ws) (cond b (stalled (last_worker stalls) (stall_in version (last_verb entries) ws)) (only_before (last_worker stalls) (entered (entry_in version (length entries + 1) (last_verb entries) word ws)))) ≡ Some (Stalled (stall_read s)) → ReadStall version entries stalls line s
           go true b t h = let k : 2 ≡ 1 = ap is_kind (ended_not ws (Stalled (stall_read s)) h) in absurd (omega (arith, k))
           go false true t h =
-              let q = stalled_not (last_worker stalls) (stall_in (last_verb entries) ws) (Stalled (stall_read s)) h in
+              let q = stalled_not (last_worker stalls) (stall_in version (last_verb entries) ws) (Stalled (stall_read s)) h in
               let same : q.0 ≡ stall_read s = let k = q.3 in cc in
-              let x = stall_exact entries ws s (q.1 ∙ ap (λ (r : StepRead). Some r) same) in
+              let x = stall_exact version entries ws s (q.1 ∙ ap (λ (r : StepRead). Some r) same) in
               let w : words_of line ≡ codes "stall" ∷ stall_words s = p ∙ ap (λ (l : List ℕ). l ∷ ws) (is_word word (codes "stall") t) ∙ ap (λ (ls : List (List ℕ)). codes "stall" ∷ ls) x.written in
               record {
                 is_stall = x.is_stall;
@@ -138,26 +139,26 @@ module _ (entries : List Entry) (stalls : List StallLine) where
                 written = ap with_lf (line_of_words line (codes "stall" ∷ stall_words s) w) ∙ sym (stall_text_is s);
               }
           go false false t h =
-              let o = only_is (last_worker stalls) (entered (entry_in (length entries + 1) (last_verb entries) word ws)) (Stalled (stall_read s)) h in
-              let x = entered_not (entry_in (length entries + 1) (last_verb entries) word ws) (Stalled (stall_read s)) o.1 in
+              let o = only_is (last_worker stalls) (entered (entry_in version (length entries + 1) (last_verb entries) word ws)) (Stalled (stall_read s)) h in
+              let x = entered_not (entry_in version (length entries + 1) (last_verb entries) word ws) (Stalled (stall_read s)) o.1 in
               let k : 0 ≡ 1 = ap is_kind x.1 in absurd (omega (arith, k))
 
-  pub end_line : (line : List ℕ) → line_in entries stalls (words_of line) ≡ Some Ended → with_lf line ≡ end_text (length entries)
+  pub end_line : (line : List ℕ) → line_in version entries stalls (words_of line) ≡ Some Ended → with_lf line ≡ end_text (length entries)
   unfolding line_in
   end_line line h = by_words (words_of line) refl h
     where
-      by_words : (ws : List (List ℕ)) → words_of line ≡ ws → line_in entries stalls ws ≡ Some Ended → with_lf line ≡ end_text (length entries)
+      by_words : (ws : List (List ℕ)) → words_of line ≡ ws → line_in version entries stalls ws ≡ Some Ended → with_lf line ≡ end_text (length entries)
       by_words [] p h = none_is Ended h
       by_words (word ∷ ws) p h = go (bytes_eq word (codes "end")) refl (bytes_eq word (codes "stall")) h
         where
-          go : (a : Bool) → bytes_eq word (codes "end") ≡ a → (b : Bool) → cond a (ended (length entries) ws) (cond b (stalled (last_worker stalls) (stall_in (last_verb entries) ws)) (only_before (last_worker stalls) (entered (entry_in (length entries + 1) (last_verb entries) word ws)))) ≡ Some Ended → with_lf line ≡ end_text (length entries)
+          go : (a : Bool) → bytes_eq word (codes "end") ≡ a → (b : Bool) → cond a (ended (length entries) ws) (cond b (stalled (last_worker stalls) (stall_in version (last_verb entries) ws)) (only_before (last_worker stalls) (entered (entry_in version (length entries + 1) (last_verb entries) word ws)))) ≡ Some Ended → with_lf line ≡ end_text (length entries)
           go true t b h =
               let w : words_of line ≡ codes "end" ∷ decimal (length entries) ∷ [] = p ∙ ap (λ (l : List ℕ). l ∷ ws) (is_word word (codes "end") t) ∙ ap (λ (ls : List (List ℕ)). codes "end" ∷ ls) (ended_is ws h) in
               ap with_lf (line_of_words line (codes "end" ∷ decimal (length entries) ∷ []) w) ∙ sym (end_text_is (length entries))
-          go false t true h = let s = stalled_not (last_worker stalls) (stall_in (last_verb entries) ws) Ended h in let k : 1 ≡ 2 = ap is_kind s.3 in absurd (omega (arith, k))
+          go false t true h = let s = stalled_not (last_worker stalls) (stall_in version (last_verb entries) ws) Ended h in let k : 1 ≡ 2 = ap is_kind s.3 in absurd (omega (arith, k))
           go false t false h =
-              let o = only_is (last_worker stalls) (entered (entry_in (length entries + 1) (last_verb entries) word ws)) Ended h in
-              let x = entered_not (entry_in (length entries + 1) (last_verb entries) word ws) Ended o.1 in
+              let o = only_is (last_worker stalls) (entered (entry_in version (length entries + 1) (last_verb entries) word ws)) Ended h in
+              let x = entered_not (entry_in version (length entries + 1) (last_verb entries) word ws) Ended o.1 in
               let k : 0 ≡ 2 = ap is_kind x.1 in absurd (omega (arith, k))
 
 -- ---- written lines
@@ -175,26 +176,26 @@ made word words text e h hs = record { line = join_with_byte 32 (word ∷ words)
 number_above : (n : ℕ) → n < 2 ^ 64 → Above 32 (decimal n)
 number_above n h = above_less 44 32 (decimal n) (omega arith) (decimal_above n h)
 
-pub entry_is_line : (n : ℕ) (past : List Entry) (e : Entry) → n < 2 ^ 64 → IsEntry past e → Line (decimal n ∷ entry_words e) (entry_text n e)
-entry_is_line n past e small h = made (decimal n) (entry_words e) (entry_text n e) (entry_text_is n e) (number_above n small) (entry_above past e h)
+pub entry_is_line : (version : Version) (n : ℕ) (past : List Entry) (e : Entry) → n < 2 ^ 64 → IsEntry version past e → Line (decimal n ∷ entry_words e) (entry_text n e)
+entry_is_line version n past e small h = made (decimal n) (entry_words e) (entry_text n e) (entry_text_is n e) (number_above n small) (entry_above version past e h)
 
-pub stall_is_line : (entries : List Entry) (s : StallLine) → IsStall entries s → Line (codes "stall" ∷ stall_words s) (stall_text s)
-stall_is_line entries s h = made (codes "stall") (stall_words s) (stall_text s) (stall_text_is s) (known (codes "stall") refl) (stall_above entries s h)
+pub stall_is_line : (version : Version) (entries : List Entry) (s : StallLine) → IsStall version entries s → Line (codes "stall" ∷ stall_words s) (stall_text s)
+stall_is_line version entries s h = made (codes "stall") (stall_words s) (stall_text s) (stall_text_is s) (known (codes "stall") refl) (stall_above version entries s h)
 
 pub end_is_line : (n : ℕ) → n < 2 ^ 64 → Line (codes "end" ∷ decimal n ∷ []) (end_text n)
 end_is_line n small = made (codes "end") (decimal n ∷ []) (end_text n) (end_text_is n) (known (codes "end") refl) (All-cons (Above 32) (decimal n) [] (number_above n small) (All-nil (Above 32)))
 
-pub entry_read_in : (entries : List Entry) (e : Entry) → length entries + 1 < 2 ^ 64 → IsEntry entries e → line_in entries [] (decimal (length entries + 1) ∷ entry_words e) ≡ Some (Entered (entry_read e))
+pub entry_read_in : (version : Version) (entries : List Entry) (e : Entry) → length entries + 1 < 2 ^ 64 → IsEntry version entries e → line_in version entries [] (decimal (length entries + 1) ∷ entry_words e) ≡ Some (Entered (entry_read e))
 unfolding line_in
-entry_read_in entries e small h =
+entry_read_in version entries e small h =
     let a : bytes_eq (decimal (length entries + 1)) (codes "end") ≡ false = not_digits (length entries + 1) (codes "end") small refl in
     let b : bytes_eq (decimal (length entries + 1)) (codes "stall") ≡ false = not_digits (length entries + 1) (codes "stall") small refl in
-    rw (a, b) (ap entered (entry_full (length entries + 1) entries e h))
+    rw (a, b) (ap entered (entry_full version (length entries + 1) entries e h))
 
-pub stall_read_in : (entries : List Entry) (stalls : List StallLine) (s : StallLine) → IsStall entries s → may_follow (last_worker stalls) s.worker ≡ true → line_in entries stalls (codes "stall" ∷ stall_words s) ≡ Some (Stalled (stall_read s))
+pub stall_read_in : (version : Version) (entries : List Entry) (stalls : List StallLine) (s : StallLine) → IsStall version entries s → may_follow (last_worker stalls) s.worker ≡ true → line_in version entries stalls (codes "stall" ∷ stall_words s) ≡ Some (Stalled (stall_read s))
 unfolding line_in
-stall_read_in entries stalls s h f = ap (stalled (last_worker stalls)) (stall_full entries s h) ∙ ap (λ (b : Bool). cond b (Some (Stalled (stall_read s))) None) f
+stall_read_in version entries stalls s h f = ap (stalled (last_worker stalls)) (stall_full version entries s h) ∙ ap (λ (b : Bool). cond b (Some (Stalled (stall_read s))) None) f
 
-pub end_read_in : (entries : List Entry) (stalls : List StallLine) → line_in entries stalls (codes "end" ∷ decimal (length entries) ∷ []) ≡ Some Ended
+pub end_read_in : (version : Version) (entries : List Entry) (stalls : List StallLine) → line_in version entries stalls (codes "end" ∷ decimal (length entries) ∷ []) ≡ Some Ended
 unfolding line_in
-end_read_in entries stalls = ap (λ (b : Bool). cond b (Some Ended) None) (is_same (decimal (length entries)))
+end_read_in version entries stalls = ap (λ (b : Bool). cond b (Some Ended) None) (is_same (decimal (length entries)))

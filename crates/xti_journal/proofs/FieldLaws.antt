@@ -118,6 +118,7 @@ key_above key.SendZero = refl
 key_above key.SameAddr = refl
 key_above key.SndBuf = refl
 key_above key.RcvBuf = refl
+key_above key.RelData = refl
 
 pub texts_above : (keys : List Key) (values : List Value) → AreFields keys values → All (Above 32) (texts keys values)
 texts_above [] [] h = All-nil (Above 32)

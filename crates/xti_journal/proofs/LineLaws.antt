@@ -21,6 +21,7 @@ use Rattle.xti_model.specs.declared.entry.Outcome.TheVariants.{Done, Part}
 use Rattle.xti_model.specs.declared.entry.Reply.TheVariants as reply
 use Rattle.xti_model.specs.declared.entry.Entry.{Entry}
 use Rattle.xti_model.specs.declared.script.StallLine.{StallLine}
+use Rattle.xti_model.specs.declared.profile.Version.{Version}
 use Rattle.xti_journal_text.specs.JournalText.{act_text, outcome_text, entry_text, stall_text, end_text}
 use Rattle.xti_words.specs.Values.{number_in}
 use Rattle.xti_journal.specs.FieldValue.{Value}
@@ -59,24 +60,24 @@ act_words (Begin c) = call_words c
 act_words More = codes "more" ∷ []
 
 -- journals have the call, and its values are of their kinds
-abbrev pub Fits : Act → Type 0
-Fits (Begin c) = (is_in_texts (verb_of c) ≡ true) × AreFields (form (verb_of c)) (call_values c)
-Fits More = Unit {0}
+abbrev pub Fits : Version → Act → Type 0
+Fits version (Begin c) = (is_in_texts version (verb_of c) ≡ true) × AreFields (form (verb_of c)) (call_values c)
+Fits version More = Unit {0}
 
-pub act_fits : (before : Option Verb) (act : Act) → IsAct before act → Fits act
-act_fits before (Begin c) h = h
-act_fits None More h = absurd h
-act_fits (Some v) More h = tt
+pub act_fits : (version : Version) (before : Option Verb) (act : Act) → IsAct version before act → Fits version act
+act_fits version before (Begin c) h = h
+act_fits version None More h = absurd h
+act_fits version (Some v) More h = tt
 
-pub is_act : (before : Option Verb) (act : Act) (v : Verb) → Fits act → verb_after before act ≡ Some v → IsAct before act
-is_act before (Begin c) v h e = h
-is_act None More v h e = none_is v e
-is_act (Some w) More v h e = tt
+pub is_act : (version : Version) (before : Option Verb) (act : Act) (v : Verb) → Fits version act → verb_after before act ≡ Some v → IsAct version before act
+is_act version before (Begin c) v h e = h
+is_act version None More v h e = none_is v e
+is_act version (Some w) More v h e = tt
 
-pub has_verb : (before : Option Verb) (act : Act) → IsAct before act → (v : Verb) × (verb_after before act ≡ Some v)
-has_verb before (Begin c) h = (verb_of c, refl)
-has_verb None More h = absurd h
-has_verb (Some v) More h = (v, refl)
+pub has_verb : (version : Version) (before : Option Verb) (act : Act) → IsAct version before act → (v : Verb) × (verb_after before act ≡ Some v)
+has_verb version before (Begin c) h = (verb_of c, refl)
+has_verb version None More h = absurd h
+has_verb version (Some v) More h = (v, refl)
 
 pub verb_after_is : (before : Option Verb) (act : Act) → verb_after_read before (act_read act) ≡ verb_after before act
 verb_after_is before (Begin c) = refl
@@ -115,13 +116,13 @@ not_more GetProtAddr = refl
 not_more OptMgmt = refl
 not_more SetMode = refl
 
-act_full : (act : Act) (rest : List (List ℕ)) → Fits act → act_in (act_words act ++ rest) ≡ Some (act_read act, rest)
+act_full : (version : Version) (act : Act) (rest : List (List ℕ)) → Fits version act → act_in version (act_words act ++ rest) ≡ Some (act_read act, rest)
 unfolding act_in
-act_full (Begin c) rest h =
+act_full version (Begin c) rest h =
     let v : Verb = verb_of c in
     let f : fields_of (form v) (texts (form v) (call_values c) ++ rest) ≡ Some (call_values c, rest) = fields_full (form v) (call_values c) rest h.1 in
-    rw (not_more v) (rw (is_verb v h.0) (ap (begun v) f))
-act_full More rest h = refl
+    rw (not_more v) (rw (is_verb version v h.0) (ap (begun v) f))
+act_full version More rest h = refl
 
 record BegunIs (verb : Verb) (words : List (List ℕ)) (act : ActRead) (rest : List (List ℕ)) : Type 0 where
   values : List Value
@@ -142,35 +143,35 @@ abbrev act_values : ActRead → List Value
 act_values (Begins verb values) = values
 act_values Goes = []
 
-act_by_verb : (word : List ℕ) (words : List (List ℕ)) (o : Option Verb) (act : Act) (rest : List (List ℕ)) → verb_in word ≡ o → call_in o words ≡ Some (act_read act, rest) → (word ∷ words ≡ act_words act ++ rest) × Fits act
-act_by_verb word words None act rest p e = none_is (act_read act, rest) e
-act_by_verb word words (Some verb) (Begin c) rest p e =
+act_by_verb : (version : Version) (word : List ℕ) (words : List (List ℕ)) (o : Option Verb) (act : Act) (rest : List (List ℕ)) → verb_in version word ≡ o → call_in o words ≡ Some (act_read act, rest) → (word ∷ words ≡ act_words act ++ rest) × Fits version act
+act_by_verb version word words None act rest p e = none_is (act_read act, rest) e
+act_by_verb version word words (Some verb) (Begin c) rest p e =
     let b = begun_is verb (fields_of (form verb) words) words (act_read (Begin c)) rest refl e in
     let v : verb ≡ verb_of c = some_is verb (verb_of c) (ap goes_verb b.same) in
     let vs : b.values ≡ call_values c = ap act_values b.same in
     let f : fields_of (form (verb_of c)) words ≡ Some (call_values c, rest) = subst (λ (w : Verb). fields_of (form w) words ≡ Some (call_values c, rest)) v (b.found ∙ ap (λ (l : List Value). Some (l, rest)) vs) in
     let r = fields_exact (form (verb_of c)) words (call_values c) rest f in
-    let w : word ≡ verb_word (verb_of c) = verb_is word verb p ∙ ap verb_word v in
-    (ap (λ (l : List ℕ). l ∷ words) w ∙ ap (λ (ls : List (List ℕ)). verb_word (verb_of c) ∷ ls) r.written, (subst (λ (w : Verb). is_in_texts w ≡ true) v (is_known word verb p), r.are))
-act_by_verb word words (Some verb) More rest p e =
+    let w : word ≡ verb_word (verb_of c) = verb_is version word verb p ∙ ap verb_word v in
+    (ap (λ (l : List ℕ). l ∷ words) w ∙ ap (λ (ls : List (List ℕ)). verb_word (verb_of c) ∷ ls) r.written, (subst (λ (w : Verb). is_in_texts version w ≡ true) v (is_known version word verb p), r.are))
+act_by_verb version word words (Some verb) More rest p e =
     let b = begun_is verb (fields_of (form verb) words) words (act_read More) rest refl e in
     none_is verb (sym (ap goes_verb b.same))
 
-act_exact : (words : List (List ℕ)) (act : Act) (rest : List (List ℕ)) → act_in words ≡ Some (act_read act, rest) → (words ≡ act_words act ++ rest) × Fits act
+act_exact : (version : Version) (words : List (List ℕ)) (act : Act) (rest : List (List ℕ)) → act_in version words ≡ Some (act_read act, rest) → (words ≡ act_words act ++ rest) × Fits version act
 unfolding act_in
-act_exact [] act rest e = none_is (act_read act, rest) e
-act_exact (word ∷ words) act rest e = go (bytes_eq word (codes "more")) refl act e
+act_exact version [] act rest e = none_is (act_read act, rest) e
+act_exact version (word ∷ words) act rest e = go (bytes_eq word (codes "more")) refl act e
   where
-    go : (b : Bool) → bytes_eq word (codes "more") ≡ b → (act : Act) → ◌≡◌ {A = Found ActRead} (cond {A = Found ActRead} b (Some (Goes, words)) (call_in (verb_in word) words)) (Some (act_read act, rest)) → (word ∷ words ≡ act_words act ++ rest) × Fits act
+    go : (b : Bool) → bytes_eq word (codes "more") ≡ b → (act : Act) → ◌≡◌ {A = Found ActRead} (cond {A = Found ActRead} b (Some (Goes, words)) (call_in (verb_in version word) words)) (Some (act_read act, rest)) → (word ∷ words ≡ act_words act ++ rest) × Fits version act
     go true t (Begin c) e = let q = pair_is Goes (act_read (Begin c)) words rest e in none_is (verb_of c) (ap goes_verb q.0)
     go true t More e =
         let q = pair_is Goes Goes words rest e in
         (ap (λ (l : List ℕ). l ∷ words) (is_word word (codes "more") t) ∙ ap (λ (ls : List (List ℕ)). codes "more" ∷ ls) q.1, tt)
-    go false t act e = act_by_verb word words (verb_in word) act rest refl e
+    go false t act e = act_by_verb version word words (verb_in version word) act rest refl e
 
-act_above : (act : Act) → Fits act → All (Above 32) (act_words act)
-act_above (Begin c) h = All-cons (Above 32) (verb_word (verb_of c)) (texts (form (verb_of c)) (call_values c)) (verb_word_above (verb_of c)) (texts_above (form (verb_of c)) (call_values c) h.1)
-act_above More h = All-cons (Above 32) (codes "more") [] (known (codes "more") refl) (All-nil (Above 32))
+act_above : (version : Version) (act : Act) → Fits version act → All (Above 32) (act_words act)
+act_above version (Begin c) h = All-cons (Above 32) (verb_word (verb_of c)) (texts (form (verb_of c)) (call_values c)) (verb_word_above (verb_of c)) (texts_above (form (verb_of c)) (call_values c) h.1)
+act_above version More h = All-cons (Above 32) (codes "more") [] (known (codes "more") refl) (All-nil (Above 32))
 
 -- ---- answers
 
@@ -402,9 +403,9 @@ worker_exact word (Some n) w p e =
 abbrev step_of : ℕ → Act → StepRead
 step_of worker act = record { worker = worker; act = act_read act }
 
-step_full : (worker : ℕ) (act : Act) (rest : List (List ℕ)) → worker ≤ LAST_WORKER → Fits act → step_in (decimal worker ∷ (act_words act ++ rest)) ≡ Some (step_of worker act, rest)
+step_full : (version : Version) (worker : ℕ) (act : Act) (rest : List (List ℕ)) → worker ≤ LAST_WORKER → Fits version act → step_in version (decimal worker ∷ (act_words act ++ rest)) ≡ Some (step_of worker act, rest)
 unfolding step_in
-step_full worker act rest w h = ap (λ (o : Option ℕ). by_worker o (act_words act ++ rest)) (worker_full worker w) ∙ ap (worker_does worker) (act_full act rest h)
+step_full version worker act rest w h = ap (λ (o : Option ℕ). by_worker version o (act_words act ++ rest)) (worker_full worker w) ∙ ap (worker_does worker) (act_full version act rest h)
 
 worker_does_is : (worker : ℕ) (o : Found ActRead) (step : StepRead) (rest : List (List ℕ)) → worker_does worker o ≡ Some (step, rest) → (worker ≡ step.worker) × (o ≡ Some (step.act, rest))
 worker_does_is worker None step rest e = none_is (step, rest) e
@@ -412,23 +413,23 @@ worker_does_is worker (Some (act, words)) step rest e =
     let p = pair_is (record { worker = worker; act = act }) step words rest e in
     (ap (λ (s : StepRead). s.worker) p.0, ap (λ (s : StepRead). Some (s.act, words)) p.0 ∙ ap (λ (ls : List (List ℕ)). Some (step.act, ls)) p.1)
 
-record StepIs (words : List (List ℕ)) (worker : ℕ) (act : Act) (rest : List (List ℕ)) : Type 0 where
+record StepIs (version : Version) (words : List (List ℕ)) (worker : ℕ) (act : Act) (rest : List (List ℕ)) : Type 0 where
   written : words ≡ decimal worker ∷ (act_words act ++ rest)
   is_worker : worker ≤ LAST_WORKER
-  fits : Fits act
+  fits : Fits version act
 
-step_by : (word : List ℕ) (words : List (List ℕ)) (o : Option ℕ) (worker : ℕ) (act : Act) (rest : List (List ℕ)) → worker_in word ≡ o → by_worker o words ≡ Some (step_of worker act, rest) → StepIs (word ∷ words) worker act rest
-step_by word words None worker act rest p e = none_is (step_of worker act, rest) e
-step_by word words (Some w) worker act rest p e =
-    let d = worker_does_is w (act_in words) (step_of worker act) rest e in
+step_by : (version : Version) (word : List ℕ) (words : List (List ℕ)) (o : Option ℕ) (worker : ℕ) (act : Act) (rest : List (List ℕ)) → worker_in word ≡ o → by_worker version o words ≡ Some (step_of worker act, rest) → StepIs version (word ∷ words) worker act rest
+step_by version word words None worker act rest p e = none_is (step_of worker act, rest) e
+step_by version word words (Some w) worker act rest p e =
+    let d = worker_does_is w (act_in version words) (step_of worker act) rest e in
     let n = worker_exact word (number_in word) worker refl (p ∙ ap (λ (x : ℕ). Some x) d.0) in
-    let a = act_exact words act rest d.1 in
+    let a = act_exact version words act rest d.1 in
     record { written = ap (λ (l : List ℕ). l ∷ words) n.0 ∙ ap (λ (ls : List (List ℕ)). decimal worker ∷ ls) a.0; is_worker = n.1; fits = a.1 }
 
-step_exact : (words : List (List ℕ)) (worker : ℕ) (act : Act) (rest : List (List ℕ)) → step_in words ≡ Some (step_of worker act, rest) → StepIs words worker act rest
+step_exact : (version : Version) (words : List (List ℕ)) (worker : ℕ) (act : Act) (rest : List (List ℕ)) → step_in version words ≡ Some (step_of worker act, rest) → StepIs version words worker act rest
 unfolding step_in
-step_exact [] worker act rest e = none_is (step_of worker act, rest) e
-step_exact (word ∷ words) worker act rest e = step_by word words (worker_in word) worker act rest refl e
+step_exact version [] worker act rest e = none_is (step_of worker act, rest) e
+step_exact version (word ∷ words) worker act rest e = step_by version word words (worker_in word) worker act rest refl e
 
 -- ---- states
 
@@ -496,11 +497,11 @@ behind_exact (Some v) (word ∷ words) o s e = go (bytes_eq word (codes "=>")) r
 abbrev pub entry_words : Entry → List (List ℕ)
 entry_words e = decimal e.worker ∷ (act_words e.act ++ behind_words e.outcome e.after)
 
-pub entry_full : (n : ℕ) (past : List Entry) (e : Entry) → IsEntry past e → entry_in n (last_verb past) (decimal n) (entry_words e) ≡ Some (entry_read e)
+pub entry_full : (version : Version) (n : ℕ) (past : List Entry) (e : Entry) → IsEntry version past e → entry_in version n (last_verb past) (decimal n) (entry_words e) ≡ Some (entry_read e)
 unfolding entry_in
-entry_full n past e h =
+entry_full version n past e h =
     let before : Option Verb = last_verb past e.worker in
-    let step : step_in (entry_words e) ≡ Some (step_of e.worker e.act, behind_words e.outcome e.after) = step_full e.worker e.act (behind_words e.outcome e.after) h.worker (act_fits before e.act h.act) in
+    let step : step_in version (entry_words e) ≡ Some (step_of e.worker e.act, behind_words e.outcome e.after) = step_full version e.worker e.act (behind_words e.outcome e.after) h.worker (act_fits version before e.act h.act) in
     let behind : behind_arrow (verb_after before e.act) (behind_words e.outcome e.after) ≡ Some (outcome_read e.outcome, e.after) = behind_full (verb_after before e.act) e.outcome e.after h.answer in
     rw (is_same (decimal n))
     (ap (with_step (last_verb past)) step
@@ -517,15 +518,15 @@ whole_is step (Some (read, s)) e h =
     let p = some_is (record { step = step; answer = read; after = s }) (entry_read e) h in
     record { step_is = ap (λ (r : EntryRead). r.step) p; behind_is = ap (λ (r : EntryRead). Some (r.answer, r.after)) p }
 
-pub record EntryIs (past : List Entry) (words : List (List ℕ)) (e : Entry) : Type 0 where
+pub record EntryIs (version : Version) (past : List Entry) (words : List (List ℕ)) (e : Entry) : Type 0 where
   pub written : words ≡ entry_words e
-  pub is_entry : IsEntry past e
+  pub is_entry : IsEntry version past e
 
-with_step_is : (past : List Entry) (words : List (List ℕ)) (o : Found StepRead) (e : Entry) → step_in words ≡ o → with_step (last_verb past) o ≡ Some (entry_read e) → EntryIs past words e
-with_step_is past words None e p h = none_is (entry_read e) h
-with_step_is past words (Some (step, left)) e p h =
+with_step_is : (version : Version) (past : List Entry) (words : List (List ℕ)) (o : Found StepRead) (e : Entry) → step_in version words ≡ o → with_step (last_verb past) o ≡ Some (entry_read e) → EntryIs version past words e
+with_step_is version past words None e p h = none_is (entry_read e) h
+with_step_is version past words (Some (step, left)) e p h =
     let w = whole_is step (behind_arrow (verb_after_read (last_verb past step.worker) step.act) left) e h in
-    let s = step_exact words e.worker e.act left (p ∙ ap (λ (x : StepRead). Some (x, left)) w.step_is) in
+    let s = step_exact version words e.worker e.act left (p ∙ ap (λ (x : StepRead). Some (x, left)) w.step_is) in
     let before : Option Verb = last_verb past e.worker in
     let at : behind_arrow (verb_after_read before (act_read e.act)) left ≡ Some (outcome_read e.outcome, e.after) =
     ap (λ (x : StepRead). behind_arrow (verb_after_read (last_verb past x.worker) x.act) left) (sym w.step_is) ∙ w.behind_is in
@@ -535,28 +536,28 @@ with_step_is past words (Some (step, left)) e p h =
       is_entry = record { worker = s.is_worker; act = answered_act before e.act e.outcome s.fits b.1; answer = b.1 };
     }
   where
-    answered_act : (before : Option Verb) (act : Act) (o : Outcome) → Fits act → IsAnswer (verb_after before act) o → IsAct before act
+    answered_act : (before : Option Verb) (act : Act) (o : Outcome) → Fits version act → IsAnswer (verb_after before act) o → IsAct version before act
     answered_act before (Begin c) o h a = h
     answered_act None More o h a = a
     answered_act (Some v) More o h a = tt
 
-pub entry_exact : (n : ℕ) (past : List Entry) (word : List ℕ) (words : List (List ℕ)) (e : Entry) → entry_in n (last_verb past) word words ≡ Some (entry_read e) → (word ≡ decimal n) × EntryIs past words e
+pub entry_exact : (version : Version) (n : ℕ) (past : List Entry) (word : List ℕ) (words : List (List ℕ)) (e : Entry) → entry_in version n (last_verb past) word words ≡ Some (entry_read e) → (word ≡ decimal n) × EntryIs version past words e
 unfolding entry_in
-entry_exact n past word words e h = go (bytes_eq word (decimal n)) refl h
+entry_exact version n past word words e h = go (bytes_eq word (decimal n)) refl h
   where
-    go : (b : Bool) → bytes_eq word (decimal n) ≡ b → cond b (with_step (last_verb past) (step_in words)) None ≡ Some (entry_read e) → (word ≡ decimal n) × EntryIs past words e
-    go true p h = (is_word word (decimal n) p, with_step_is past words (step_in words) e refl h)
+    go : (b : Bool) → bytes_eq word (decimal n) ≡ b → cond b (with_step (last_verb past) (step_in version words)) None ≡ Some (entry_read e) → (word ≡ decimal n) × EntryIs version past words e
+    go true p h = (is_word word (decimal n) p, with_step_is version past words (step_in version words) e refl h)
     go false p h = none_is (entry_read e) h
 
 small_number : (w : ℕ) → w ≤ LAST_WORKER → Above 32 (decimal w)
 small_number w h = above_less 44 32 (decimal w) (omega arith) (decimal_above w (omega arith))
 
-pub entry_above : (past : List Entry) (e : Entry) → IsEntry past e → All (Above 32) (entry_words e)
-entry_above past e h =
-    let v = has_verb (last_verb past e.worker) e.act h.act in
+pub entry_above : (version : Version) (past : List Entry) (e : Entry) → IsEntry version past e → All (Above 32) (entry_words e)
+entry_above version past e h =
+    let v = has_verb version (last_verb past e.worker) e.act h.act in
     let a : IsAnswer (Some v.0) e.outcome = subst (λ (x : Option Verb). IsAnswer x e.outcome) v.1 h.answer in
     All-cons (Above 32) (decimal e.worker) (act_words e.act ++ behind_words e.outcome e.after) (small_number e.worker h.worker)
-    (All-append (Above 32) (act_words e.act) (behind_words e.outcome e.after) (act_above e.act (act_fits (last_verb past e.worker) e.act h.act))
+    (All-append (Above 32) (act_words e.act) (behind_words e.outcome e.after) (act_above version e.act (act_fits version (last_verb past e.worker) e.act h.act))
     (All-cons (Above 32) (codes "=>") (outcome_words e.outcome ++ state_name e.after ∷ []) (known (codes "=>") refl)
     (All-append (Above 32) (outcome_words e.outcome) (state_name e.after ∷ []) (outcome_above v.0 e.outcome a)
     (All-cons (Above 32) (state_name e.after) [] (state_above e.after) (All-nil (Above 32))))))
@@ -566,13 +567,13 @@ entry_above past e h =
 abbrev pub stall_words : StallLine → List (List ℕ)
 stall_words s = decimal s.worker ∷ act_words s.act
 
-pub stall_full : (entries : List Entry) (s : StallLine) → IsStall entries s → stall_in (last_verb entries) (stall_words s) ≡ Some (stall_read s)
+pub stall_full : (version : Version) (entries : List Entry) (s : StallLine) → IsStall version entries s → stall_in version (last_verb entries) (stall_words s) ≡ Some (stall_read s)
 unfolding stall_in
-stall_full entries s h =
+stall_full version entries s h =
     let before : Option Verb = last_verb entries s.worker in
-    let v = has_verb before s.act h.act in
-    let step : step_in (decimal s.worker ∷ (act_words s.act ++ [])) ≡ Some (step_of s.worker s.act, []) = step_full s.worker s.act [] h.worker (act_fits before s.act h.act) in
-    let here : step_in (stall_words s) ≡ Some (step_of s.worker s.act, []) = ap (λ (ls : List (List ℕ)). step_in (decimal s.worker ∷ ls)) (sym (append-nil (act_words s.act))) ∙ step in
+    let v = has_verb version before s.act h.act in
+    let step : step_in version (decimal s.worker ∷ (act_words s.act ++ [])) ≡ Some (step_of s.worker s.act, []) = step_full version s.worker s.act [] h.worker (act_fits version before s.act h.act) in
+    let here : step_in version (stall_words s) ≡ Some (step_of s.worker s.act, []) = ap (λ (ls : List (List ℕ)). step_in version (decimal s.worker ∷ ls)) (sym (append-nil (act_words s.act))) ∙ step in
     ap (with_stall (last_verb entries)) here ∙ ap (λ (x : Option Verb). stall_verb (step_of s.worker s.act) x []) (verb_after_is before s.act ∙ v.1)
 
 stall_verb_is : (step : StepRead) (o : Option Verb) (words : List (List ℕ)) (wanted : StepRead) → stall_verb step o words ≡ Some wanted → (step ≡ wanted) × (words ≡ []) × ((v : Verb) × (o ≡ Some v))
@@ -580,28 +581,28 @@ stall_verb_is step None words wanted e = none_is wanted e
 stall_verb_is step (Some v) [] wanted e = (some_is step wanted e, refl, (v, refl))
 stall_verb_is step (Some v) (word ∷ words) wanted e = none_is wanted e
 
-pub record StallIs (entries : List Entry) (words : List (List ℕ)) (s : StallLine) : Type 0 where
+pub record StallIs (version : Version) (entries : List Entry) (words : List (List ℕ)) (s : StallLine) : Type 0 where
   pub written : words ≡ stall_words s
-  pub is_stall : IsStall entries s
+  pub is_stall : IsStall version entries s
 
-with_stall_is : (entries : List Entry) (words : List (List ℕ)) (o : Found StepRead) (s : StallLine) → step_in words ≡ o → with_stall (last_verb entries) o ≡ Some (stall_read s) → StallIs entries words s
-with_stall_is entries words None s p e = none_is (stall_read s) e
-with_stall_is entries words (Some (step, left)) s p e =
+with_stall_is : (version : Version) (entries : List Entry) (words : List (List ℕ)) (o : Found StepRead) (s : StallLine) → step_in version words ≡ o → with_stall (last_verb entries) o ≡ Some (stall_read s) → StallIs version entries words s
+with_stall_is version entries words None s p e = none_is (stall_read s) e
+with_stall_is version entries words (Some (step, left)) s p e =
     let v = stall_verb_is step (verb_after_read (last_verb entries step.worker) step.act) left (stall_read s) e in
-    let x = step_exact words s.worker s.act left (p ∙ ap (λ (y : StepRead). Some (y, left)) v.0) in
+    let x = step_exact version words s.worker s.act left (p ∙ ap (λ (y : StepRead). Some (y, left)) v.0) in
     let before : Option Verb = last_verb entries s.worker in
     let verb : verb_after before s.act ≡ Some v.2.0 = sym (verb_after_is before s.act) ∙ ap (λ (y : StepRead). verb_after_read (last_verb entries y.worker) y.act) (sym v.0) ∙ v.2.1 in
     record {
       written = x.written ∙ ap (λ (ls : List (List ℕ)). decimal s.worker ∷ (act_words s.act ++ ls)) v.1 ∙ ap (λ (ls : List (List ℕ)). decimal s.worker ∷ ls) (append-nil (act_words s.act));
-      is_stall = record { worker = x.is_worker; act = is_act before s.act v.2.0 x.fits verb };
+      is_stall = record { worker = x.is_worker; act = is_act version before s.act v.2.0 x.fits verb };
     }
 
-pub stall_exact : (entries : List Entry) (words : List (List ℕ)) (s : StallLine) → stall_in (last_verb entries) words ≡ Some (stall_read s) → StallIs entries words s
+pub stall_exact : (version : Version) (entries : List Entry) (words : List (List ℕ)) (s : StallLine) → stall_in version (last_verb entries) words ≡ Some (stall_read s) → StallIs version entries words s
 unfolding stall_in
-stall_exact entries words s e = with_stall_is entries words (step_in words) s refl e
+stall_exact version entries words s e = with_stall_is version entries words (step_in version words) s refl e
 
-pub stall_above : (entries : List Entry) (s : StallLine) → IsStall entries s → All (Above 32) (stall_words s)
-stall_above entries s h = All-cons (Above 32) (decimal s.worker) (act_words s.act) (small_number s.worker h.worker) (act_above s.act (act_fits (last_verb entries s.worker) s.act h.act))
+pub stall_above : (version : Version) (entries : List Entry) (s : StallLine) → IsStall version entries s → All (Above 32) (stall_words s)
+stall_above version entries s h = All-cons (Above 32) (decimal s.worker) (act_words s.act) (small_number s.worker h.worker) (act_above version s.act (act_fits version (last_verb entries s.worker) s.act h.act))
 
 -- ---- texts
 
@@ -668,24 +669,24 @@ end_text_is n = end_shape (decimal n)
 
 -- ---- what readers of lines give
 
-entry_by : (n : ℕ) (verbs : ℕ → Option Verb) (word : List ℕ) (words left : List (List ℕ)) (worker : ℕ) (act : Act) (verb : Option Verb) → bytes_eq word (decimal n) ≡ true → step_in words ≡ Some (step_of worker act, left) → verb ≡ verb_after (verbs worker) act
-    → entry_in n verbs word words ≡ whole_entry (step_of worker act) (behind_arrow verb left)
+entry_by : (version : Version) (n : ℕ) (verbs : ℕ → Option Verb) (word : List ℕ) (words left : List (List ℕ)) (worker : ℕ) (act : Act) (verb : Option Verb) → bytes_eq word (decimal n) ≡ true → step_in version words ≡ Some (step_of worker act, left) → verb ≡ verb_after (verbs worker) act
+    → entry_in version n verbs word words ≡ whole_entry (step_of worker act) (behind_arrow verb left)
 unfolding entry_in
-entry_by n verbs word words left worker act verb t s v =
+entry_by version n verbs word words left worker act verb t s v =
     rw t (ap (with_step verbs) s ∙ ap (λ (x : Option Verb). whole_entry (step_of worker act) (behind_arrow x left)) (verb_after_is (verbs worker) act ∙ sym v))
 
-pub entry_ok : (n : ℕ) (verbs : ℕ → Option Verb) (word : List ℕ) (words left : List (List ℕ)) (worker : ℕ) (act : Act) (verb : Option Verb) (o : Outcome) (s : State) → bytes_eq word (decimal n) ≡ true → step_in words ≡ Some (step_of worker act, left) → verb ≡ verb_after (verbs worker) act
-    → behind_arrow verb left ≡ Some (outcome_read o, s) → entry_in n verbs word words ≡ Some (entry_read (record { worker = worker; act = act; outcome = o; after = s }))
-entry_ok n verbs word words left worker act verb o s t p v b = entry_by n verbs word words left worker act verb t p v ∙ ap (whole_entry (step_of worker act)) b
+pub entry_ok : (version : Version) (n : ℕ) (verbs : ℕ → Option Verb) (word : List ℕ) (words left : List (List ℕ)) (worker : ℕ) (act : Act) (verb : Option Verb) (o : Outcome) (s : State) → bytes_eq word (decimal n) ≡ true → step_in version words ≡ Some (step_of worker act, left) → verb ≡ verb_after (verbs worker) act
+    → behind_arrow verb left ≡ Some (outcome_read o, s) → entry_in version n verbs word words ≡ Some (entry_read (record { worker = worker; act = act; outcome = o; after = s }))
+entry_ok version n verbs word words left worker act verb o s t p v b = entry_by version n verbs word words left worker act verb t p v ∙ ap (whole_entry (step_of worker act)) b
 
-pub entry_err : (n : ℕ) (verbs : ℕ → Option Verb) (word : List ℕ) (words left : List (List ℕ)) (worker : ℕ) (act : Act) (verb : Option Verb) (fail : FieldFail) → bytes_eq word (decimal n) ≡ true → step_in words ≡ Some (step_of worker act, left) → verb ≡ verb_after (verbs worker) act
-    → IsRead (λ (r : AnswerRead × State). r) (behind_arrow verb left) (Err fail) → IsRead entry_read (entry_in n verbs word words) (Err fail)
-entry_err n verbs word words left worker act verb Wrong t p v b = entry_by n verbs word words left worker act verb t p v ∙ ap (whole_entry (step_of worker act)) b
-entry_err n verbs word words left worker act verb OutOfMemory t p v b = tt
+pub entry_err : (version : Version) (n : ℕ) (verbs : ℕ → Option Verb) (word : List ℕ) (words left : List (List ℕ)) (worker : ℕ) (act : Act) (verb : Option Verb) (fail : FieldFail) → bytes_eq word (decimal n) ≡ true → step_in version words ≡ Some (step_of worker act, left) → verb ≡ verb_after (verbs worker) act
+    → IsRead (λ (r : AnswerRead × State). r) (behind_arrow verb left) (Err fail) → IsRead entry_read (entry_in version n verbs word words) (Err fail)
+entry_err version n verbs word words left worker act verb Wrong t p v b = entry_by version n verbs word words left worker act verb t p v ∙ ap (whole_entry (step_of worker act)) b
+entry_err version n verbs word words left worker act verb OutOfMemory t p v b = tt
 
-pub stall_by : (verbs : ℕ → Option Verb) (words left : List (List ℕ)) (worker : ℕ) (act : Act) (verb : Option Verb) → step_in words ≡ Some (step_of worker act, left) → verb ≡ verb_after (verbs worker) act → stall_in verbs words ≡ stall_verb (step_of worker act) verb left
+pub stall_by : (version : Version) (verbs : ℕ → Option Verb) (words left : List (List ℕ)) (worker : ℕ) (act : Act) (verb : Option Verb) → step_in version words ≡ Some (step_of worker act, left) → verb ≡ verb_after (verbs worker) act → stall_in version verbs words ≡ stall_verb (step_of worker act) verb left
 unfolding stall_in
-stall_by verbs words left worker act verb s v = ap (with_stall verbs) s ∙ ap (λ (x : Option Verb). stall_verb (step_of worker act) x left) (verb_after_is (verbs worker) act ∙ sym v)
+stall_by version verbs words left worker act verb s v = ap (with_stall verbs) s ∙ ap (λ (x : Option Verb). stall_verb (step_of worker act) x left) (verb_after_is (verbs worker) act ∙ sym v)
 
 stall_verb_if : (step : StepRead) (verb : Option Verb) (words : List (List ℕ)) → stall_verb step verb words ≡ cond (is_whole verb words) (Some step) None
 stall_verb_if step None words = refl
@@ -696,8 +697,8 @@ stall_verb_if step (Some v) (word ∷ words) = go (length (word ∷ words) == 0)
     go true e = let z = eqb-true (length (word ∷ words)) 0 e in absurd (omega arith)
     go false e = refl
 
-pub stall_yes : (verbs : ℕ → Option Verb) (words left : List (List ℕ)) (worker : ℕ) (act : Act) (verb : Option Verb) (b : Bool) → step_in words ≡ Some (step_of worker act, left) → verb ≡ verb_after (verbs worker) act → b ≡ is_whole verb left → b ≡ true → stall_in verbs words ≡ Some (step_of worker act)
-stall_yes verbs words left worker act verb b s v w t = stall_by verbs words left worker act verb s v ∙ stall_verb_if (step_of worker act) verb left ∙ ap (λ (x : Bool). cond x (Some (step_of worker act)) None) (sym w ∙ t)
+pub stall_yes : (version : Version) (verbs : ℕ → Option Verb) (words left : List (List ℕ)) (worker : ℕ) (act : Act) (verb : Option Verb) (b : Bool) → step_in version words ≡ Some (step_of worker act, left) → verb ≡ verb_after (verbs worker) act → b ≡ is_whole verb left → b ≡ true → stall_in version verbs words ≡ Some (step_of worker act)
+stall_yes version verbs words left worker act verb b s v w t = stall_by version verbs words left worker act verb s v ∙ stall_verb_if (step_of worker act) verb left ∙ ap (λ (x : Bool). cond x (Some (step_of worker act)) None) (sym w ∙ t)
 
-pub stall_no : (verbs : ℕ → Option Verb) (words left : List (List ℕ)) (worker : ℕ) (act : Act) (verb : Option Verb) (b : Bool) → step_in words ≡ Some (step_of worker act, left) → verb ≡ verb_after (verbs worker) act → b ≡ is_whole verb left → b ≡ false → stall_in verbs words ≡ None
-stall_no verbs words left worker act verb b s v w t = stall_by verbs words left worker act verb s v ∙ stall_verb_if (step_of worker act) verb left ∙ ap (λ (x : Bool). cond x (Some (step_of worker act)) None) (sym w ∙ t)
+pub stall_no : (version : Version) (verbs : ℕ → Option Verb) (words left : List (List ℕ)) (worker : ℕ) (act : Act) (verb : Option Verb) (b : Bool) → step_in version words ≡ Some (step_of worker act, left) → verb ≡ verb_after (verbs worker) act → b ≡ is_whole verb left → b ≡ false → stall_in version verbs words ≡ None
+stall_no version verbs words left worker act verb b s v w t = stall_by version verbs words left worker act verb s v ∙ stall_verb_if (step_of worker act) verb left ∙ ap (λ (x : Bool). cond x (Some (step_of worker act)) None) (sym w ∙ t)

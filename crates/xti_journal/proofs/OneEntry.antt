@@ -1,5 +1,5 @@
 -- What is read is of one entry, and of one stall line.
-use Rattle.std.proofs.Common.{◌≡◌, ℕ, Bool, List, [], ◌∷◌, Option, Some, None, refl, sym, ap, ◌∙◌}
+use Rattle.std.proofs.Common.{◌≡◌, ℕ, Bool, true, false, List, [], ◌∷◌, Option, Some, None, refl, sym, ap, ◌∙◌}
 use Rattle.xti_base.specs.declared.kinds.State.{State as StateOf}
 use Rattle.xti_model.specs.declared.call.Call.{Call}
 use Rattle.xti_model.specs.declared.call.Call.TheVariants as call
@@ -171,9 +171,12 @@ one_stall s t h =
     let a : s.act ≡ t.act = one_act s.act t.act (ap (λ (r : StepRead). r.act) h) in
     ap (λ (x : ℕ). record { worker = x; act = s.act }) w ∙ ap (λ (x : Act). record { worker = t.worker; act = x }) a
 
+-- the profile of the values, with this where they don't tell whether data may go with a release
 abbrev profile_with : Bool → List Value → Option Profile
 profile_with r (Limit tsdu ∷ Truth sendzero ∷ Truth same_addr ∷ Number sndbuf ∷ Number rcvbuf ∷ []) = Some (record { tsdu = tsdu; sendzero = sendzero; same_addr = same_addr; sndbuf = sndbuf; rcvbuf = rcvbuf; reldata = r })
+profile_with r (Limit tsdu ∷ Truth sendzero ∷ Truth same_addr ∷ Number sndbuf ∷ Number rcvbuf ∷ Truth reldata ∷ []) = Some (record { tsdu = tsdu; sendzero = sendzero; same_addr = same_addr; sndbuf = sndbuf; rcvbuf = rcvbuf; reldata = reldata })
 profile_with r values = None
 
-pub one_profile : (p q : Profile) → p.reldata ≡ q.reldata → profile_values p ≡ profile_values q → p ≡ q
-one_profile p q r h = some_is p q (ap (λ (d : Bool). profile_with d (profile_values p)) r ∙ ap (profile_with q.reldata) h)
+pub one_profile : (told : Bool) (p q : Profile) → (told ≡ false → p.reldata ≡ q.reldata) → profile_values told p ≡ profile_values told q → p ≡ q
+one_profile true p q r h = some_is p q (ap (profile_with true) h)
+one_profile false p q r h = some_is p q (ap (λ (d : Bool). profile_with d (profile_values false p)) (r refl) ∙ ap (profile_with q.reldata) h)

@@ -1,6 +1,6 @@
 -- Whole journals: what is read is one, and a line that is refused is the first by which never_so journal goes on.
-use Rattle.std.proofs.Common.{◌≡◌, ℕ, suc, ◌+◌, ◌<◌, ◌≤◌, ◌^◌, Bool, true, false, cond, eqb, ltb, List, [], ◌∷◌, ◌++◌, length, take, Some, None, inl, inr, Result, Ok, Err, refl, sym, ap, subst, ◌∙◌, append_assoc, arith}
-use Rattle.std.specs.Prelude.{codes, decimal, ◌==◌}
+use Rattle.std.proofs.Common.{◌≡◌, ℕ, suc, ◌+◌, ◌<◌, ◌≤◌, ◌^◌, Bool, true, false, cond, eqb, ltb, List, [], ◌∷◌, ◌++◌, length, take, Option, Some, None, inl, inr, Result, Ok, Err, refl, sym, ap, subst, ◌∙◌, append_assoc, arith}
+use Rattle.std.specs.Prelude.{decimal, ◌==◌}
 use Rattle.std.specs.List.{flat_map, onto_first, join_with_byte}
 use Rattle.std.proofs.lemmas.Bool.{and_parts, ltb-true, eqb-true}
 use Rattle.std.proofs.lemmas.List.{append-nil, length-append, nil_from_length}
@@ -9,8 +9,8 @@ use Rattle.xti_model.specs.declared.profile.Profile.{Profile}
 use Rattle.xti_model.specs.declared.profile.Providers.{Providers}
 use Rattle.xti_model.specs.declared.script.Journal.{Journal}
 use Rattle.xti_model.specs.declared.script.StallLine.{StallLine}
-use Rattle.xti_model.specs.Profile.{usual, valid_connections, valid_orderly, valid_datagrams}
-use Rattle.xti_journal.specs.Releases.{ticots_head, ticotsord_head, ticlts_head, valid_head}
+use Rattle.xti_model.specs.declared.profile.Version.{Version}
+use Rattle.xti_model.specs.Profile.{usual, usual_of}
 use Rattle.xti_journal_text.specs.JournalText.{first_line, provider_text, head_text, entry_text, entries_text, stall_text, end_text, journal_text}
 use Rattle.xti_words.specs.Texts.{words_of}
 use Rattle.xti_journal.specs.Grammar.{IsEntry, AreEntries, IsStall, AreStallsAfter, AreStalls, HasText, IsJournal}
@@ -18,31 +18,32 @@ use Rattle.xti_journal.specs.declared.fields.FieldFail.{FieldFail}
 use Rattle.xti_journal.specs.declared.fields.FieldFail.TheVariants as field
 use Rattle.xti_journal.specs.declared.journal_text.JournalFail.{JournalFail}
 use Rattle.xti_journal.specs.declared.journal_text.JournalFail.TheVariants as journal
-use Rattle.xti_journal.specs.Head.{fail_at, ReadsFirst, ReadsProvider, ReadsHead}
+use Rattle.xti_journal.specs.Head.{is_in_head, valid_head, fail_at, ReadsFirst, ReadsProvider, ReadsHead}
 use Rattle.xti_journal.specs.Read.{ReadsText, IsReadAs, ReadsNext}
 use Rattle.xti_journal.specs.Line.{IsLine}
 use Rattle.xti_journal.specs.Refused.{lines_of, ended_lines, IsRefusedAt}
+use Rattle.xti_base.specs.declared.kinds.Prov.TheVariants.{Ticots, Ticotsord, Ticlts}
 use Rattle.xti_base.specs.declared.limits.TheConstants.{LAST_WORKER}
-use Rattle.xti_journal.specs.Reading.{last_worker, may_follow, line_in, entry_read, stall_read, Entered, Stalled, Ended}
+use Rattle.xti_journal.specs.Reading.{last_worker, may_follow, LineRead, line_in, entry_read, stall_read, Entered, Stalled, Ended}
 use Rattle.xti_journal.proofs.TextLines.{ended, text_of, same_first, first_of, first_left, goes_on, cut, first_is}
 use Rattle.xti_journal.proofs.LineLaws.{entry_words, entry_text_is}
 use Rattle.xti_journal.proofs.BodyLaws.{with_lf, Line, end_is_line, entry_line, stall_line, end_line}
 use Rattle.xti_journal.proofs.Ruled.{Ruled, ruled_append, entries_ruled, stalls_ruled, begin_same, Each, each, stalls_same, NextOf, AnEntry, AStall, TheEnd, next_of, end_no_entry, ruled_one, ruled_none, none_next, none_unended, tail_no_entry, end_no_stall}
-use Rattle.xti_journal.proofs.HeadLaws.{valid_is, is_valid, head_within, head_without, in_head, head_ruled, two_heads, two_profiles, head_parts, first_ruled, first_is_line, ticots_ruled, ticotsord_ruled, ticots_name, ticotsord_name, ticlts_name, connections_fit, orderly_fit, datagrams_fit, provider_is_line}
+use Rattle.xti_journal.proofs.HeadLaws.{valid_is, is_valid, usual_valid, head_within, head_told, in_head, head_ruled, two_heads, two_profiles, head_parts, first_same, first_ruled, first_is_line, provider_ruled, head_fits, provider_is_line}
 
 -- ---- what is read so far
 
-pub record SoFar (es : List Entry) (ss : List StallLine) (text rest : List ℕ) : Type 0 where
-  pub entries : AreEntries [] es
-  pub stalls : AreStalls es ss
+pub record SoFar (version : Version) (es : List Entry) (ss : List StallLine) (text rest : List ℕ) : Type 0 where
+  pub entries : AreEntries version [] es
+  pub stalls : AreStalls version es ss
   pub front : text ≡ entries_text 1 es ++ (flat_map stall_text ss ++ rest)
 
-pub so_far_none : (text : List ℕ) → SoFar [] [] text text
-so_far_none text = record { entries = tt; stalls = tt; front = refl }
+pub so_far_none : (version : Version) (text : List ℕ) → SoFar version [] [] text text
+so_far_none version text = record { entries = tt; stalls = tt; front = refl }
 
-entries_more : (past es : List Entry) (e : Entry) → AreEntries past es → IsEntry (past ++ es) e → AreEntries past (es ++ e ∷ [])
-entries_more past [] e h k = (subst (λ (l : List Entry). IsEntry l e) (append-nil past) k, tt)
-entries_more past (x ∷ es) e h k = (h.0, entries_more (past ++ x ∷ []) es e h.1 (subst (λ (l : List Entry). IsEntry l e) (sym (append_assoc past (x ∷ []) es)) k))
+entries_more : (version : Version) (past es : List Entry) (e : Entry) → AreEntries version past es → IsEntry version (past ++ es) e → AreEntries version past (es ++ e ∷ [])
+entries_more version past [] e h k = (subst (λ (l : List Entry). IsEntry version l e) (append-nil past) k, tt)
+entries_more version past (x ∷ es) e h k = (h.0, entries_more version (past ++ x ∷ []) es e h.1 (subst (λ (l : List Entry). IsEntry version l e) (sym (append_assoc past (x ∷ []) es)) k))
 
 entries_text_more : (n : ℕ) (es : List Entry) (e : Entry) (rest : List ℕ) → entries_text n (es ++ e ∷ []) ++ rest ≡ entries_text n es ++ (entry_text (n + length es) e ++ rest)
 entries_text_more n [] e rest =
@@ -54,27 +55,27 @@ entries_text_more n (x ∷ es) e rest =
     ∙ ap (λ (l : List ℕ). entry_text n x ++ l) (entries_text_more (n + 1) es e rest ∙ ap (λ (m : ℕ). entries_text (n + 1) es ++ (entry_text m e ++ rest)) count)
     ∙ sym (append_assoc (entry_text n x) (entries_text (n + 1) es) (entry_text (n + length (x ∷ es)) e ++ rest))
 
-pub so_far_entry : (es : List Entry) (ss : List StallLine) (text rest behind line : List ℕ) (e : Entry) → SoFar es ss text rest → rest ≡ ended line ++ behind → ss ≡ [] → IsEntry es e → with_lf line ≡ entry_text (length es + 1) e → SoFar (es ++ e ∷ []) ss text behind
-so_far_entry es ss text rest behind line e s cut none h w =
+pub so_far_entry : (version : Version) (es : List Entry) (ss : List StallLine) (text rest behind line : List ℕ) (e : Entry) → SoFar version es ss text rest → rest ≡ ended line ++ behind → ss ≡ [] → IsEntry version es e → with_lf line ≡ entry_text (length es + 1) e → SoFar version (es ++ e ∷ []) ss text behind
+so_far_entry version es ss text rest behind line e s cut none h w =
     let count : 1 + length es ≡ length es + 1 = omega arith in
     let here : rest ≡ entry_text (1 + length es) e ++ behind = cut ∙ ap (λ (l : List ℕ). l ++ behind) w ∙ ap (λ (m : ℕ). entry_text m e ++ behind) (sym count) in
     let f : text ≡ entries_text 1 es ++ rest = s.front ∙ ap (λ (l : List StallLine). entries_text 1 es ++ (flat_map stall_text l ++ rest)) none in
     record {
-      entries = entries_more [] es e s.entries h;
-      stalls = subst (AreStalls (es ++ e ∷ [])) (sym none) tt;
+      entries = entries_more version [] es e s.entries h;
+      stalls = subst (AreStalls version (es ++ e ∷ [])) (sym none) tt;
       front = f ∙ ap (λ (l : List ℕ). entries_text 1 es ++ l) here ∙ sym (entries_text_more 1 es e behind) ∙ ap (λ (l : List StallLine). entries_text 1 (es ++ e ∷ []) ++ (flat_map stall_text l ++ behind)) (sym none);
     }
 
 follow_parts : (before worker : ℕ) → may_follow (Some before) worker ≡ true → (0 < before) × (before < worker)
 follow_parts before worker h = let p = and_parts (ltb 0 before) (ltb before worker) h in (ltb-true _ _ p.0, ltb-true _ _ p.1)
 
-after_more : (es : List Entry) (before : StallLine) (ss : List StallLine) (s : StallLine) → AreStallsAfter es before ss → may_follow (last_worker (before ∷ ss)) s.worker ≡ true → IsStall es s → AreStallsAfter es before (ss ++ s ∷ [])
-after_more es before [] s h f i = (follow_parts before.worker s.worker f, i, tt)
-after_more es before (t ∷ ss) s h f i = (h.0, h.1, after_more es t ss s h.2 f i)
+after_more : (version : Version) (es : List Entry) (before : StallLine) (ss : List StallLine) (s : StallLine) → AreStallsAfter version es before ss → may_follow (last_worker (before ∷ ss)) s.worker ≡ true → IsStall version es s → AreStallsAfter version es before (ss ++ s ∷ [])
+after_more version es before [] s h f i = (follow_parts before.worker s.worker f, i, tt)
+after_more version es before (t ∷ ss) s h f i = (h.0, h.1, after_more version es t ss s h.2 f i)
 
-stalls_more : (es : List Entry) (ss : List StallLine) (s : StallLine) → AreStalls es ss → may_follow (last_worker ss) s.worker ≡ true → IsStall es s → AreStalls es (ss ++ s ∷ [])
-stalls_more es [] s h f i = (i, tt)
-stalls_more es (t ∷ ss) s h f i = (h.0, after_more es t ss s h.1 f i)
+stalls_more : (version : Version) (es : List Entry) (ss : List StallLine) (s : StallLine) → AreStalls version es ss → may_follow (last_worker ss) s.worker ≡ true → IsStall version es s → AreStalls version es (ss ++ s ∷ [])
+stalls_more version es [] s h f i = (i, tt)
+stalls_more version es (t ∷ ss) s h f i = (h.0, after_more version es t ss s h.1 f i)
 
 stalls_text_more : (ss : List StallLine) (s : StallLine) (rest : List ℕ) → flat_map stall_text (ss ++ s ∷ []) ++ rest ≡ flat_map stall_text ss ++ (stall_text s ++ rest)
 stalls_text_more [] s rest = ap (λ (l : List ℕ). l ++ rest) (append-nil (stall_text s))
@@ -83,10 +84,10 @@ stalls_text_more (t ∷ ss) s rest =
     ∙ ap (λ (l : List ℕ). stall_text t ++ l) (stalls_text_more ss s rest)
     ∙ sym (append_assoc (stall_text t) (flat_map stall_text ss) (stall_text s ++ rest))
 
-pub so_far_stall : (es : List Entry) (ss : List StallLine) (text rest behind line : List ℕ) (s : StallLine) → SoFar es ss text rest → rest ≡ ended line ++ behind → IsStall es s → may_follow (last_worker ss) s.worker ≡ true → with_lf line ≡ stall_text s → SoFar es (ss ++ s ∷ []) text behind
-so_far_stall es ss text rest behind line s f cut i may w = record {
+pub so_far_stall : (version : Version) (es : List Entry) (ss : List StallLine) (text rest behind line : List ℕ) (s : StallLine) → SoFar version es ss text rest → rest ≡ ended line ++ behind → IsStall version es s → may_follow (last_worker ss) s.worker ≡ true → with_lf line ≡ stall_text s → SoFar version es (ss ++ s ∷ []) text behind
+so_far_stall version es ss text rest behind line s f cut i may w = record {
   entries = f.entries;
-  stalls = stalls_more es ss s f.stalls may i;
+  stalls = stalls_more version es ss s f.stalls may i;
   front = f.front ∙ ap (λ (l : List ℕ). entries_text 1 es ++ (flat_map stall_text ss ++ l)) (cut ∙ ap (λ (l : List ℕ). l ++ behind) w) ∙ ap (λ (l : List ℕ). entries_text 1 es ++ l) (sym (stalls_text_more ss s behind));
 }
 
@@ -106,32 +107,34 @@ front_text p es ss = head_text p ++ (entries_text 1 es ++ flat_map stall_text ss
 front_then : (p : Providers) (es : List Entry) (ss : List StallLine) (rest : List ℕ) → head_text p ++ (entries_text 1 es ++ (flat_map stall_text ss ++ rest)) ≡ front_text p es ss ++ rest
 front_then p es ss rest = simp append_assoc refl
 
-has_text : (p : Providers) (es : List Entry) (ss : List StallLine) (text rest : List ℕ) → valid_head p ≡ true → SoFar es ss text rest → HasText (journal_of p es ss)
-has_text p es ss text rest v s = record { providers = head_within p v; releases = head_without p v; entries = s.entries; stalls = s.stalls }
+has_text : (p : Providers) (es : List Entry) (ss : List StallLine) (text rest : List ℕ) → valid_head p ≡ true → SoFar p.version es ss text rest → HasText (journal_of p es ss)
+has_text p es ss text rest v s = record { providers = head_within p v; releases = head_told p v; entries = s.entries; stalls = s.stalls }
 
-pub body_ends : (p : Providers) (es : List Entry) (ss : List StallLine) (text rest behind line : List ℕ) → valid_head p ≡ true → SoFar es ss text rest → rest ≡ ended line ++ behind → behind ≡ [] → with_lf line ≡ end_text (length es) → IsJournal (journal_of p es ss) (head_text p ++ text)
+pub body_ends : (p : Providers) (es : List Entry) (ss : List StallLine) (text rest behind line : List ℕ) → valid_head p ≡ true → SoFar p.version es ss text rest → rest ≡ ended line ++ behind → behind ≡ [] → with_lf line ≡ end_text (length es) → IsJournal (journal_of p es ss) (head_text p ++ text)
 body_ends p es ss text rest behind line v s cut none w = record {
   has_text = has_text p es ss text rest v s;
   written = ap (λ (l : List ℕ). head_text p ++ l) (s.front ∙ ap (λ (l : List ℕ). entries_text 1 es ++ (flat_map stall_text ss ++ l)) (cut ∙ ap (λ (l : List ℕ). ended line ++ l) none ∙ append-nil (ended line) ∙ w)) ∙ sym (journal_parts (journal_of p es ss));
 }
 
-front_ruled : (p : Providers) (es : List Entry) (ss : List StallLine) (text rest : List ℕ) → valid_head p ≡ true → SoFar es ss text rest → length es + 2 < 2 ^ 64 → Ruled (front_text p es ss) (4 + (length es + length ss))
+front_ruled : (p : Providers) (es : List Entry) (ss : List StallLine) (text rest : List ℕ) → valid_head p ≡ true → SoFar p.version es ss text rest → length es + 2 < 2 ^ 64 → Ruled (front_text p es ss) (4 + (length es + length ss))
 front_ruled p es ss text rest v s small =
     ruled_append (head_text p) (entries_text 1 es ++ flat_map stall_text ss) 4 (length es + length ss) (head_ruled p (valid_is p v))
-    (ruled_append (entries_text 1 es) (flat_map stall_text ss) (length es) (length ss) (entries_ruled 1 [] es refl (omega arith) s.entries) (stalls_ruled es ss s.stalls))
+    (ruled_append (entries_text 1 es) (flat_map stall_text ss) (length es) (length ss) (entries_ruled p.version 1 [] es refl (omega arith) s.entries) (stalls_ruled p.version es ss s.stalls))
 
 -- a text that begins with these lines, and a journal that has them and the next one
-later_of : (p : Providers) (es : List Entry) (ss : List StallLine) (text rest other : List ℕ) (j : Journal) (r : Ruled (front_text p es ss) (4 + (length es + length ss))) (rest' : List ℕ) → valid_head p ≡ true → SoFar es ss text rest → length es + 2 < 2 ^ 64 → IsJournal j other
-    → other ≡ text_of r.lines ++ rest' → NextOf es ss rest'
+later_of : (p : Providers) (es : List Entry) (ss : List StallLine) (text rest other : List ℕ) (j : Journal) (r : Ruled (front_text p es ss) (4 + (length es + length ss))) (rest' : List ℕ) → valid_head p ≡ true → SoFar p.version es ss text rest → length es + 2 < 2 ^ 64 → IsJournal j other
+    → other ≡ text_of r.lines ++ rest' → NextOf p.version es ss rest'
 later_of p es ss text rest other j r rest' v s small h w =
     let t : head_text p ++ (entries_text 1 es ++ (flat_map stall_text ss ++ rest')) ≡ head_text j.providers ++ (entries_text 1 j.entries ++ (flat_map stall_text j.stalls ++ end_text (length j.entries))) =
     front_then p es ss rest' ∙ ap (λ (l : List ℕ). l ++ rest') r.whole ∙ sym w ∙ h.written ∙ journal_parts j in
     let two = two_heads p j.providers _ _ (valid_is p v) (valid_is j.providers (in_head j.providers h.has_text.providers h.has_text.releases)) t in
-    next_of es j.entries ss j.stalls rest' small s.entries s.stalls h.has_text.entries h.has_text.stalls two.rest
+    let entries : AreEntries p.version [] j.entries = subst (λ (x : Providers). AreEntries x.version [] j.entries) (sym two.one) h.has_text.entries in
+    let stalls : AreStalls p.version j.entries j.stalls = subst (λ (x : Providers). AreStalls x.version j.entries j.stalls) (sym two.one) h.has_text.stalls in
+    next_of p.version es j.entries ss j.stalls rest' small s.entries s.stalls entries stalls two.rest
 
 -- what comes in every journal after these lines tells where it is refused
-refused_by : (p : Providers) (es : List Entry) (ss : List StallLine) (text rest : List ℕ) (n : ℕ) → valid_head p ≡ true → SoFar es ss text rest → length es + 2 < 2 ^ 64 → n ≡ 5 + (length es + length ss)
-    → ((rest' : List ℕ) → first_left rest' ≡ first_left rest → NextOf es ss rest' → ⊥) → IsRefusedAt (head_text p ++ text) n
+refused_by : (p : Providers) (es : List Entry) (ss : List StallLine) (text rest : List ℕ) (n : ℕ) → valid_head p ≡ true → SoFar p.version es ss text rest → length es + 2 < 2 ^ 64 → n ≡ 5 + (length es + length ss)
+    → ((rest' : List ℕ) → first_left rest' ≡ first_left rest → NextOf p.version es ss rest' → ⊥) → IsRefusedAt (head_text p ++ text) n
 refused_by p es ss text rest n v s small place never =
     let r = front_ruled p es ss text rest v s small in
     let whole : head_text p ++ text ≡ text_of r.lines ++ rest = ap (λ (l : List ℕ). head_text p ++ l) s.front ∙ front_then p es ss rest ∙ ap (λ (l : List ℕ). l ++ rest) r.whole in
@@ -152,20 +155,20 @@ refused_by p es ss text rest n v s small place never =
       };
     }
 
-pub body_refused : (p : Providers) (es : List Entry) (ss : List StallLine) (text rest behind line : List ℕ) (n : ℕ) → valid_head p ≡ true → SoFar es ss text rest → length es + 2 < 2 ^ 64 → n ≡ 5 + (length es + length ss) → IsLine line → rest ≡ ended line ++ behind → line_in es ss (words_of line) ≡ None → IsRefusedAt (head_text p ++ text) n
+pub body_refused : (p : Providers) (es : List Entry) (ss : List StallLine) (text rest behind line : List ℕ) (n : ℕ) → valid_head p ≡ true → SoFar p.version es ss text rest → length es + 2 < 2 ^ 64 → n ≡ 5 + (length es + length ss) → IsLine line → rest ≡ ended line ++ behind → line_in p.version es ss (words_of line) ≡ None → IsRefusedAt (head_text p ++ text) n
 body_refused p es ss text rest behind line n v s small place h cut never_so =
-    refused_by p es ss text rest n v s small place (λ rest' f next. none_next es ss rest' line small never_so h (f ∙ ap first_left cut ∙ first_is line behind h) next)
+    refused_by p es ss text rest n v s small place (λ rest' f next. none_next p.version es ss rest' line small never_so h (f ∙ ap first_left cut ∙ first_is line behind h) next)
 
-pub body_unended : (p : Providers) (es : List Entry) (ss : List StallLine) (text rest : List ℕ) (n : ℕ) → valid_head p ≡ true → SoFar es ss text rest → length es + 2 < 2 ^ 64 → n ≡ 5 + (length es + length ss) → IsLine rest → IsRefusedAt (head_text p ++ text) n
+pub body_unended : (p : Providers) (es : List Entry) (ss : List StallLine) (text rest : List ℕ) (n : ℕ) → valid_head p ≡ true → SoFar p.version es ss text rest → length es + 2 < 2 ^ 64 → n ≡ 5 + (length es + length ss) → IsLine rest → IsRefusedAt (head_text p ++ text) n
 body_unended p es ss text rest n v s small place h =
-    refused_by p es ss text rest n v s small place (λ rest' f next. none_unended es ss rest' rest small h f next)
+    refused_by p es ss text rest n v s small place (λ rest' f next. none_unended p.version es ss rest' rest small h f next)
 
 -- ---- a line after the last one
 
-end_only : (es : List Entry) (ss : List StallLine) (k : ℕ) (rest : List ℕ) → length es + 2 < 2 ^ 64 → NextOf es ss (end_text k ++ rest) → end_text k ++ rest ≡ end_text (length es)
-end_only es ss k rest small (AnEntry e left first i w) = absurd (end_no_entry k rest (length es + 1) es e left (omega arith) i (sym w))
-end_only es ss k rest small (AStall s left i may w) = absurd (end_no_stall s k left rest (sym w))
-end_only es ss k rest small (TheEnd w) = w
+end_only : (version : Version) (es : List Entry) (ss : List StallLine) (k : ℕ) (rest : List ℕ) → length es + 2 < 2 ^ 64 → NextOf version es ss (end_text k ++ rest) → end_text k ++ rest ≡ end_text (length es)
+end_only version es ss k rest small (AnEntry e left first i w) = absurd (end_no_entry version k rest (length es + 1) es e left (omega arith) i (sym w))
+end_only version es ss k rest small (AStall s left i may w) = absurd (end_no_stall s k left rest (sym w))
+end_only version es ss k rest small (TheEnd w) = w
 
 nothing_more : (a rest : List ℕ) → a ++ rest ≡ a → rest ≡ []
 nothing_more a [] e = refl
@@ -182,7 +185,7 @@ some_first c cs e = go (eqb c 10) (lines_of cs) e
     go false [] e = cc
     go false (l ∷ ls) e = cc
 
-pub body_extra : (p : Providers) (es : List Entry) (ss : List StallLine) (text rest behind line : List ℕ) (n : ℕ) → valid_head p ≡ true → SoFar es ss text rest → length es + 2 < 2 ^ 64 → n ≡ 5 + (length es + length ss) → rest ≡ ended line ++ behind → (behind ≡ [] → ⊥) → with_lf line ≡ end_text (length es) → IsRefusedAt (head_text p ++ text) (n + 1)
+pub body_extra : (p : Providers) (es : List Entry) (ss : List StallLine) (text rest behind line : List ℕ) (n : ℕ) → valid_head p ≡ true → SoFar p.version es ss text rest → length es + 2 < 2 ^ 64 → n ≡ 5 + (length es + length ss) → rest ≡ ended line ++ behind → (behind ≡ [] → ⊥) → with_lf line ≡ end_text (length es) → IsRefusedAt (head_text p ++ text) (n + 1)
 body_extra p es ss text rest behind line n v s small place cut more w =
     let r = front_ruled p es ss text rest v s small in
     let last : Ruled (end_text (length es)) 1 = ruled_one _ _ (end_is_line (length es) (omega arith)) in
@@ -199,7 +202,7 @@ body_extra p es ss text rest behind line n v s small place cut more w =
           let o : can.other ≡ text_of r.lines ++ (end_text (length es) ++ g.rest) =
           g.whole ∙ ap (λ (l : List ℕ). l ++ g.rest) (sym q.whole) ∙ append_assoc (front_text p es ss) (end_text (length es)) g.rest ∙ ap (λ (l : List ℕ). l ++ (end_text (length es) ++ g.rest)) r.whole in
           let next = later_of p es ss text rest can.other can.journal r (end_text (length es) ++ g.rest) v s small can.is_journal o in
-          let none : g.rest ≡ [] = nothing_more (end_text (length es)) g.rest (end_only es ss (length es) g.rest small next) in
+          let none : g.rest ≡ [] = nothing_more (end_text (length es)) g.rest (end_only p.version es ss (length es) g.rest small next) in
           no_first behind more (sym g.first ∙ ap first_left none));
       least = λ m lt. record {
         journal = journal_of p es ss;
@@ -221,10 +224,14 @@ pub one_journal : (text : List ℕ) (j k : Journal) → length j.entries + 2 < 2
 one_journal text j k small h g =
     let t : head_text j.providers ++ (entries_text 1 j.entries ++ (flat_map stall_text j.stalls ++ end_text (length j.entries))) ≡ head_text k.providers ++ (entries_text 1 k.entries ++ (flat_map stall_text k.stalls ++ end_text (length k.entries))) = sym (journal_parts j) ∙ sym h.written ∙ g.written ∙ journal_parts k in
     let two = two_heads j.providers k.providers _ _ (valid_is j.providers (in_head j.providers h.has_text.providers h.has_text.releases)) (valid_is k.providers (in_head k.providers g.has_text.providers g.has_text.releases)) t in
-    let never_so = tail_no_entry k.entries k.stalls (length k.entries) (each k.entries k.stalls g.has_text.stalls) in
-    let b = begin_same 1 [] j.entries k.entries (flat_map stall_text j.stalls ++ end_text (length j.entries)) (flat_map stall_text k.stalls ++ end_text (length k.entries)) refl (omega arith) h.has_text.entries g.has_text.entries never_so two.rest in
+    let stalls = stalls_of two.one in
+    let never_so = tail_no_entry j.providers.version k.entries k.stalls (length k.entries) (each j.providers.version k.entries k.stalls stalls) in
+    let b = begin_same j.providers.version 1 [] j.entries k.entries (flat_map stall_text j.stalls ++ end_text (length j.entries)) (flat_map stall_text k.stalls ++ end_text (length k.entries)) refl (omega arith) h.has_text.entries (subst (λ (x : Providers). AreEntries x.version [] k.entries) (sym two.one) g.has_text.entries) never_so two.rest in
     by_entries two.one b.more b.whole b.rest b.are
   where
+    stalls_of : j.providers ≡ k.providers → AreStalls j.providers.version k.entries k.stalls
+    stalls_of p = subst (λ (x : Providers). AreStalls x.version k.entries k.stalls) (sym p) g.has_text.stalls
+
     same : j.providers ≡ k.providers → j.entries ≡ k.entries → j.stalls ≡ k.stalls → j ≡ k
     same p e s =
         ap (λ (x : Providers). record { providers = x; entries = j.entries; stalls = j.stalls }) p
@@ -236,14 +243,14 @@ one_journal text j k small h g =
     by_stalls p e (s ∷ more) w r =
         absurd (end_no_stall s (length j.entries) (flat_map stall_text more ++ end_text (length k.entries)) [] (sym (append_assoc (stall_text s) (flat_map stall_text more) (end_text (length k.entries))) ∙ sym r ∙ sym (append-nil (end_text (length j.entries)))))
 
-    by_entries : j.providers ≡ k.providers → (more : List Entry) → k.entries ≡ j.entries ++ more → flat_map stall_text j.stalls ++ end_text (length j.entries) ≡ entries_text (1 + length j.entries) more ++ (flat_map stall_text k.stalls ++ end_text (length k.entries)) → AreEntries ([] ++ j.entries) more → j ≡ k
+    by_entries : j.providers ≡ k.providers → (more : List Entry) → k.entries ≡ j.entries ++ more → flat_map stall_text j.stalls ++ end_text (length j.entries) ≡ entries_text (1 + length j.entries) more ++ (flat_map stall_text k.stalls ++ end_text (length k.entries)) → AreEntries j.providers.version ([] ++ j.entries) more → j ≡ k
     by_entries p [] w r a =
         let e : k.entries ≡ j.entries = w ∙ append-nil j.entries in
-        let g' : Each j.entries k.stalls = subst (λ (l : List Entry). Each l k.stalls) e (each k.entries k.stalls g.has_text.stalls) in
-        let s = stalls_same j.entries j.stalls k.stalls (end_text (length j.entries)) (end_text (length k.entries)) (each j.entries j.stalls h.has_text.stalls) g' (λ s left i t. end_no_stall s (length k.entries) left [] (t ∙ sym (append-nil (end_text (length k.entries))))) r in
+        let g' : Each j.providers.version j.entries k.stalls = subst (λ (l : List Entry). Each j.providers.version l k.stalls) e (each j.providers.version k.entries k.stalls (stalls_of p)) in
+        let s = stalls_same j.providers.version j.entries j.stalls k.stalls (end_text (length j.entries)) (end_text (length k.entries)) (each j.providers.version j.entries j.stalls h.has_text.stalls) g' (λ s left i t. end_no_stall s (length k.entries) left [] (t ∙ sym (append-nil (end_text (length k.entries))))) r in
         by_stalls p e s.more s.whole s.rest
     by_entries p (e ∷ more) w r a =
-        absurd (tail_no_entry j.entries j.stalls (length j.entries) (each j.entries j.stalls h.has_text.stalls) (1 + length j.entries) j.entries e (entries_text (1 + length j.entries + 1) more ++ (flat_map stall_text k.stalls ++ end_text (length k.entries))) (omega arith) a.0
+        absurd (tail_no_entry j.providers.version j.entries j.stalls (length j.entries) (each j.providers.version j.entries j.stalls h.has_text.stalls) (1 + length j.entries) j.entries e (entries_text (1 + length j.entries + 1) more ++ (flat_map stall_text k.stalls ++ end_text (length k.entries))) (omega arith) a.0
         (sym (append_assoc (entry_text (1 + length j.entries) e) (entries_text (1 + length j.entries + 1) more) (flat_map stall_text k.stalls ++ end_text (length k.entries))) ∙ sym r))
 
 -- ---- the head
@@ -253,7 +260,7 @@ abbrev empty_text : Providers → List ℕ
 empty_text p = journal_text (journal_of p [] [])
 
 empty_is : (p : Providers) → valid_head p ≡ true → IsJournal (journal_of p [] []) (empty_text p)
-empty_is p v = record { has_text = record { providers = head_within p v; releases = head_without p v; entries = tt; stalls = tt }; written = refl }
+empty_is p v = record { has_text = record { providers = head_within p v; releases = head_told p v; entries = tt; stalls = tt }; written = refl }
 
 -- a text that begins with the first lines of a journal, and with none that a journal has after them
 head_refused : (front rest text : List ℕ) (k n : ℕ) (p : Providers) (back : List ℕ) → Ruled front k → text ≡ front ++ rest → n ≡ k + 1 → valid_head p ≡ true → empty_text p ≡ front ++ back
@@ -302,52 +309,66 @@ begins_text words line text rest left l w f =
 abbrev body_text : Journal → List ℕ
 body_text j = entries_text 1 j.entries ++ (flat_map stall_text j.stalls ++ end_text (length j.entries))
 
-first_cancel : (a b : List ℕ) → first_line ++ a ≡ first_line ++ b → a ≡ b
-unfolding first_line
-first_cancel a b e = cc
-
-pub first_refused : (text : List ℕ) → ((rest : List ℕ) → text ≡ first_line ++ rest → ⊥) → IsRefusedAt text 1
+pub first_refused : (text : List ℕ) → ((version : Version) (rest : List ℕ) → text ≡ first_line version ++ rest → ⊥) → IsRefusedAt text 1
 first_refused text never_so = head_refused [] text text 0 1 usual (empty_text usual) ruled_none refl refl refl refl (λ rest' f j h w.
-    (let l : Line (words_of (codes "xti-journal 1")) first_line = first_is_line in
-    let b = begins_text _ first_line text rest' _ l (sym w ∙ journal_parts j ∙ head_parts j.providers (body_text j)) f in
-    never_so b.0 b.1))
+    (let v = j.providers.version in
+    let b = begins_text _ (first_line v) text rest' _ (first_is_line v) (sym w ∙ journal_parts j ∙ head_parts j.providers (body_text j)) f in
+    never_so v b.0 b.1))
 
-pub ticots_refused : (text rest : List ℕ) → text ≡ first_line ++ rest → ((p : Profile) (left : List ℕ) → ticots_head p ≡ true → rest ≡ provider_text (codes "ticots") p ++ left → ⊥) → IsRefusedAt text 2
-ticots_refused text rest w never_so = head_refused first_line rest text 1 2 usual _ first_ruled w refl refl (journal_parts (journal_of usual [] []) ∙ head_parts usual (body_text (journal_of usual [] []))) (λ rest' f j h e.
-    (let v = valid_is j.providers (in_head j.providers h.providers h.releases) in
-    let r : rest' ≡ provider_text (codes "ticots") j.providers.ticots ++ _ = first_cancel _ _ (sym e ∙ journal_parts j ∙ head_parts j.providers (body_text j)) in
-    let b = begins_text _ (provider_text (codes "ticots") j.providers.ticots) rest rest' _ (provider_is_line (codes "ticots") j.providers.ticots ticots_name (connections_fit j.providers.ticots v.ticots)) r f in
+-- a journal's head of the version, after its first line
+record OfVersion (version : Version) (j : Journal) (rest : List ℕ) : Type 0 where
+  ticots : is_in_head version Ticots j.providers.ticots ≡ true
+  ticotsord : is_in_head version Ticotsord j.providers.ticotsord ≡ true
+  ticlts : is_in_head version Ticlts j.providers.ticlts ≡ true
+  goes : rest ≡ provider_text version Ticots j.providers.ticots ++ (provider_text version Ticotsord j.providers.ticotsord ++ (provider_text version Ticlts j.providers.ticlts ++ body_text j))
+
+of_version : (version : Version) (j : Journal) (rest : List ℕ) → HasText j → journal_text j ≡ first_line version ++ rest → OfVersion version j rest
+of_version version j rest h e =
+    let v = valid_is j.providers (in_head j.providers h.providers h.releases) in
+    let f = first_same version j.providers.version _ _ (sym e ∙ journal_parts j ∙ head_parts j.providers (body_text j)) in
+    let own : OfVersion j.providers.version j rest = record { ticots = v.ticots; ticotsord = v.ticotsord; ticlts = v.ticlts; goes = f.1 } in
+    subst (λ (x : Version). OfVersion x j rest) (sym f.0) own
+
+-- the providers are begun so, and the usual ones follow
+empty_parts : (p : Providers) → empty_text p ≡ first_line p.version ++ (provider_text p.version Ticots p.ticots ++ (provider_text p.version Ticotsord p.ticotsord ++ (provider_text p.version Ticlts p.ticlts ++ body_text (journal_of p [] []))))
+empty_parts p = journal_parts (journal_of p [] []) ∙ head_parts p (body_text (journal_of p [] []))
+
+pub ticots_refused : (version : Version) (text rest : List ℕ) → text ≡ first_line version ++ rest → ((p : Profile) (left : List ℕ) → is_in_head version Ticots p ≡ true → rest ≡ provider_text version Ticots p ++ left → ⊥) → IsRefusedAt text 2
+ticots_refused version text rest w never_so =
+    head_refused (first_line version) rest text 1 2 (usual_of version) _ (first_ruled version) w refl (is_valid (usual_of version) (usual_valid version)) (empty_parts (usual_of version)) (λ rest' f j h e.
+    (let v = of_version version j rest' h e in
+    let b = begins_text _ (provider_text version Ticots j.providers.ticots) rest rest' _ (provider_is_line version Ticots j.providers.ticots (head_fits version Ticots j.providers.ticots v.ticots)) v.goes f in
     never_so j.providers.ticots b.0 v.ticots b.1))
 
-pub ticotsord_refused : (text rest : List ℕ) (p : Profile) → text ≡ first_line ++ (provider_text (codes "ticots") p ++ rest) → ticots_head p ≡ true → ((q : Profile) (left : List ℕ) → ticotsord_head q ≡ true → rest ≡ provider_text (codes "ticotsord") q ++ left → ⊥) → IsRefusedAt text 3
-ticotsord_refused text rest p w vp never_so =
-    let ps : Providers = record { ticots = p; ticotsord = usual.ticotsord; ticlts = usual.ticlts } in
-    let parts : (a : List ℕ) → first_line ++ (provider_text (codes "ticots") p ++ a) ≡ (first_line ++ provider_text (codes "ticots") p) ++ a = λ a. sym (append_assoc first_line (provider_text (codes "ticots") p) a) in
-    head_refused (first_line ++ provider_text (codes "ticots") p) rest text 2 3 ps _ (ruled_append first_line _ 1 1 first_ruled (ticots_ruled p vp)) (w ∙ parts rest) refl (is_valid ps (record { ticots = vp; ticotsord = refl; ticlts = refl })) (journal_parts (journal_of ps [] []) ∙ head_parts ps (body_text (journal_of ps [] [])) ∙ parts (provider_text (codes "ticotsord") ps.ticotsord ++ (provider_text (codes "ticlts") ps.ticlts ++ body_text (journal_of ps [] [])))) (λ rest' f j h e.
-    (let v = valid_is j.providers (in_head j.providers h.providers h.releases) in
-    let r = first_cancel _ _ (parts rest' ∙ sym e ∙ journal_parts j ∙ head_parts j.providers (body_text j)) in
-    let two = two_profiles (codes "ticots") p j.providers.ticots rest' _ ticots_name (connections_fit p vp) (connections_fit j.providers.ticots v.ticots) r in
-    let b = begins_text _ (provider_text (codes "ticotsord") j.providers.ticotsord) rest rest' _ (provider_is_line (codes "ticotsord") j.providers.ticotsord ticotsord_name (orderly_fit j.providers.ticotsord v.ticotsord)) two.rest f in
+pub ticotsord_refused : (version : Version) (text rest : List ℕ) (p : Profile) → text ≡ first_line version ++ (provider_text version Ticots p ++ rest) → is_in_head version Ticots p ≡ true → ((q : Profile) (left : List ℕ) → is_in_head version Ticotsord q ≡ true → rest ≡ provider_text version Ticotsord q ++ left → ⊥) → IsRefusedAt text 3
+ticotsord_refused version text rest p w vp never_so =
+    let u = usual_valid version in
+    let ps : Providers = record { version = version; ticots = p; ticotsord = (usual_of version).ticotsord; ticlts = (usual_of version).ticlts } in
+    let parts : (a : List ℕ) → first_line version ++ (provider_text version Ticots p ++ a) ≡ (first_line version ++ provider_text version Ticots p) ++ a = λ a. sym (append_assoc (first_line version) (provider_text version Ticots p) a) in
+    head_refused (first_line version ++ provider_text version Ticots p) rest text 2 3 ps _ (ruled_append (first_line version) _ 1 1 (first_ruled version) (provider_ruled version Ticots p vp)) (w ∙ parts rest) refl (is_valid ps (record { ticots = vp; ticotsord = u.ticotsord; ticlts = u.ticlts }))
+    (empty_parts ps ∙ parts (provider_text version Ticotsord ps.ticotsord ++ (provider_text version Ticlts ps.ticlts ++ body_text (journal_of ps [] [])))) (λ rest' f j h e.
+    (let v = of_version version j _ h (e ∙ sym (parts rest')) in
+    let two = two_profiles version Ticots p j.providers.ticots rest' _ (head_fits version Ticots p vp) (head_fits version Ticots j.providers.ticots v.ticots) v.goes in
+    let b = begins_text _ (provider_text version Ticotsord j.providers.ticotsord) rest rest' _ (provider_is_line version Ticotsord j.providers.ticotsord (head_fits version Ticotsord j.providers.ticotsord v.ticotsord)) two.rest f in
     never_so j.providers.ticotsord b.0 v.ticotsord b.1))
 
-pub ticlts_refused : (text rest : List ℕ) (p q : Profile) → text ≡ first_line ++ (provider_text (codes "ticots") p ++ (provider_text (codes "ticotsord") q ++ rest)) → ticots_head p ≡ true → ticotsord_head q ≡ true → ((d : Profile) (left : List ℕ) → ticlts_head d ≡ true → rest ≡ provider_text (codes "ticlts") d ++ left → ⊥) → IsRefusedAt text 4
-ticlts_refused text rest p q w vp vq never_so =
-    let ps : Providers = record { ticots = p; ticotsord = q; ticlts = usual.ticlts } in
-    let front : List ℕ = first_line ++ (provider_text (codes "ticots") p ++ provider_text (codes "ticotsord") q) in
-    let parts : (a : List ℕ) → first_line ++ (provider_text (codes "ticots") p ++ (provider_text (codes "ticotsord") q ++ a)) ≡ front ++ a = λ a. regroup first_line (provider_text (codes "ticots") p) (provider_text (codes "ticotsord") q) a in
-    head_refused front rest text 3 4 ps _ (ruled_append first_line _ 1 2 first_ruled (ruled_append (provider_text (codes "ticots") p) _ 1 1 (ticots_ruled p vp) (ticotsord_ruled q vq))) (w ∙ parts rest) refl (is_valid ps (record { ticots = vp; ticotsord = vq; ticlts = refl })) (journal_parts (journal_of ps [] []) ∙ head_parts ps (body_text (journal_of ps [] [])) ∙ parts (provider_text (codes "ticlts") ps.ticlts ++ body_text (journal_of ps [] []))) (λ rest' f j h e.
-    (let v = valid_is j.providers (in_head j.providers h.providers h.releases) in
-    let r = first_cancel _ _ (parts rest' ∙ sym e ∙ journal_parts j ∙ head_parts j.providers (body_text j)) in
-    let two = two_profiles (codes "ticots") p j.providers.ticots _ _ ticots_name (connections_fit p vp) (connections_fit j.providers.ticots v.ticots) r in
-    let three = two_profiles (codes "ticotsord") q j.providers.ticotsord rest' _ ticotsord_name (orderly_fit q vq) (orderly_fit j.providers.ticotsord v.ticotsord) two.rest in
-    let b = begins_text _ (provider_text (codes "ticlts") j.providers.ticlts) rest rest' _ (provider_is_line (codes "ticlts") j.providers.ticlts ticlts_name (datagrams_fit j.providers.ticlts v.ticlts)) three.rest f in
+pub ticlts_refused : (version : Version) (text rest : List ℕ) (p q : Profile) → text ≡ first_line version ++ (provider_text version Ticots p ++ (provider_text version Ticotsord q ++ rest)) → is_in_head version Ticots p ≡ true → is_in_head version Ticotsord q ≡ true
+    → ((d : Profile) (left : List ℕ) → is_in_head version Ticlts d ≡ true → rest ≡ provider_text version Ticlts d ++ left → ⊥) → IsRefusedAt text 4
+ticlts_refused version text rest p q w vp vq never_so =
+    let u = usual_valid version in
+    let ps : Providers = record { version = version; ticots = p; ticotsord = q; ticlts = (usual_of version).ticlts } in
+    let front : List ℕ = first_line version ++ (provider_text version Ticots p ++ provider_text version Ticotsord q) in
+    let parts : (a : List ℕ) → first_line version ++ (provider_text version Ticots p ++ (provider_text version Ticotsord q ++ a)) ≡ front ++ a = λ a. regroup (first_line version) (provider_text version Ticots p) (provider_text version Ticotsord q) a in
+    head_refused front rest text 3 4 ps _ (ruled_append (first_line version) _ 1 2 (first_ruled version) (ruled_append (provider_text version Ticots p) _ 1 1 (provider_ruled version Ticots p vp) (provider_ruled version Ticotsord q vq))) (w ∙ parts rest) refl (is_valid ps (record { ticots = vp; ticotsord = vq; ticlts = u.ticlts }))
+    (empty_parts ps ∙ parts (provider_text version Ticlts ps.ticlts ++ body_text (journal_of ps [] []))) (λ rest' f j h e.
+    (let v = of_version version j _ h (e ∙ sym (parts rest')) in
+    let two = two_profiles version Ticots p j.providers.ticots _ _ (head_fits version Ticots p vp) (head_fits version Ticots j.providers.ticots v.ticots) v.goes in
+    let three = two_profiles version Ticotsord q j.providers.ticotsord rest' _ (head_fits version Ticotsord q vq) (head_fits version Ticotsord j.providers.ticotsord v.ticotsord) two.rest in
+    let b = begins_text _ (provider_text version Ticlts j.providers.ticlts) rest rest' _ (provider_is_line version Ticlts j.providers.ticlts (head_fits version Ticlts j.providers.ticlts v.ticlts)) three.rest f in
     never_so j.providers.ticlts b.0 v.ticlts b.1))
   where
     regroup : (a b c d : List ℕ) → a ++ (b ++ (c ++ d)) ≡ (a ++ (b ++ c)) ++ d
     regroup a b c d = simp append_assoc refl
-
-pub head_is : (text : List ℕ) (p q d : Profile) (rest : List ℕ) → text ≡ first_line ++ (provider_text (codes "ticots") p ++ (provider_text (codes "ticotsord") q ++ (provider_text (codes "ticlts") d ++ rest))) → text ≡ head_text (record { ticots = p; ticotsord = q; ticlts = d }) ++ rest
-head_is text p q d rest w = w ∙ sym (head_parts (record { ticots = p; ticotsord = q; ticlts = d }) rest)
 
 -- ---- what reading the head gives
 
@@ -358,26 +379,28 @@ pub at_first : (text : List ℕ) (fail : FieldFail) (r : JournalFail) → r ≡ 
 at_first text field.Wrong r e h = subst (FailsHead text) (sym e) (first_refused text h)
 at_first text field.OutOfMemory r e h = subst (FailsHead text) (sym e) tt
 
-pub at_ticots : (text rest : List ℕ) (fail : FieldFail) (r : JournalFail) → r ≡ fail_at 2 fail → text ≡ first_line ++ rest → ReadsProvider valid_connections (codes "ticots") rest (Err fail) → ReadsHead text (Err r)
-at_ticots text rest field.Wrong r e w h = subst (FailsHead text) (sym e) (ticots_refused text rest w h)
-at_ticots text rest field.OutOfMemory r e w h = subst (FailsHead text) (sym e) tt
+pub at_ticots : (version : Version) (text rest : List ℕ) (fail : FieldFail) (r : JournalFail) → r ≡ fail_at 2 fail → text ≡ first_line version ++ rest → ReadsProvider version Ticots rest (Err fail) → ReadsHead text (Err r)
+at_ticots version text rest field.Wrong r e w h = subst (FailsHead text) (sym e) (ticots_refused version text rest w h)
+at_ticots version text rest field.OutOfMemory r e w h = subst (FailsHead text) (sym e) tt
 
-pub at_ticotsord : (text rest left : List ℕ) (p : Profile) (fail : FieldFail) (r : JournalFail) → r ≡ fail_at 3 fail → text ≡ first_line ++ rest → ticots_head p ≡ true → rest ≡ provider_text (codes "ticots") p ++ left → ReadsProvider valid_orderly (codes "ticotsord") left (Err fail) → ReadsHead text (Err r)
-at_ticotsord text rest left p field.Wrong r e w v x h = subst (FailsHead text) (sym e) (ticotsord_refused text left p (w ∙ ap (λ (l : List ℕ). first_line ++ l) x) v h)
-at_ticotsord text rest left p field.OutOfMemory r e w v x h = subst (FailsHead text) (sym e) tt
+pub at_ticotsord : (version : Version) (text rest left : List ℕ) (p : Profile) (fail : FieldFail) (r : JournalFail) → r ≡ fail_at 3 fail → text ≡ first_line version ++ rest → is_in_head version Ticots p ≡ true → rest ≡ provider_text version Ticots p ++ left → ReadsProvider version Ticotsord left (Err fail) → ReadsHead text (Err r)
+at_ticotsord version text rest left p field.Wrong r e w v x h = subst (FailsHead text) (sym e) (ticotsord_refused version text left p (w ∙ ap (λ (l : List ℕ). first_line version ++ l) x) v h)
+at_ticotsord version text rest left p field.OutOfMemory r e w v x h = subst (FailsHead text) (sym e) tt
 
-pub at_ticlts : (text rest left behind : List ℕ) (p q : Profile) (fail : FieldFail) (r : JournalFail) → r ≡ fail_at 4 fail → text ≡ first_line ++ rest → ticots_head p ≡ true → rest ≡ provider_text (codes "ticots") p ++ left → ticotsord_head q ≡ true → left ≡ provider_text (codes "ticotsord") q ++ behind → ReadsProvider valid_datagrams (codes "ticlts") behind (Err fail)
-    → ReadsHead text (Err r)
-at_ticlts text rest left behind p q field.Wrong r e w v x u y h =
-    subst (FailsHead text) (sym e) (ticlts_refused text behind p q (w ∙ ap (λ (l : List ℕ). first_line ++ l) (x ∙ ap (λ (l : List ℕ). provider_text (codes "ticots") p ++ l) y)) v u h)
-at_ticlts text rest left behind p q field.OutOfMemory r e w v x u y h = subst (FailsHead text) (sym e) tt
+pub at_ticlts : (version : Version) (text rest left behind : List ℕ) (p q : Profile) (fail : FieldFail) (r : JournalFail) → r ≡ fail_at 4 fail → text ≡ first_line version ++ rest → is_in_head version Ticots p ≡ true → rest ≡ provider_text version Ticots p ++ left → is_in_head version Ticotsord q ≡ true
+    → left ≡ provider_text version Ticotsord q ++ behind → ReadsProvider version Ticlts behind (Err fail) → ReadsHead text (Err r)
+at_ticlts version text rest left behind p q field.Wrong r e w v x u y h =
+    subst (FailsHead text) (sym e) (ticlts_refused version text behind p q (w ∙ ap (λ (l : List ℕ). first_line version ++ l) (x ∙ ap (λ (l : List ℕ). provider_text version Ticots p ++ l) y)) v u h)
+at_ticlts version text rest left behind p q field.OutOfMemory r e w v x u y h = subst (FailsHead text) (sym e) tt
 
-pub whole_head : (text rest left behind last : List ℕ) (p q d : Profile) → text ≡ first_line ++ rest → ticots_head p ≡ true → rest ≡ provider_text (codes "ticots") p ++ left → ticotsord_head q ≡ true → left ≡ provider_text (codes "ticotsord") q ++ behind → ticlts_head d ≡ true → behind ≡ provider_text (codes "ticlts") d ++ last
-    → (valid_head (record { ticots = p; ticotsord = q; ticlts = d }) ≡ true) × (text ≡ head_text (record { ticots = p; ticotsord = q; ticlts = d }) ++ last)
-whole_head text rest left behind last p q d w v x u y t z = (
-  is_valid (record { ticots = p; ticotsord = q; ticlts = d }) (record { ticots = v; ticotsord = u; ticlts = t }),
-  head_is text p q d last (w ∙ ap (λ (l : List ℕ). first_line ++ l) (x ∙ ap (λ (l : List ℕ). provider_text (codes "ticots") p ++ l) (y ∙ ap (λ (l : List ℕ). provider_text (codes "ticotsord") q ++ l) z))),
-)
+pub whole_head : (version : Version) (text rest left behind last : List ℕ) (p q d : Profile) → text ≡ first_line version ++ rest → is_in_head version Ticots p ≡ true → rest ≡ provider_text version Ticots p ++ left → is_in_head version Ticotsord q ≡ true → left ≡ provider_text version Ticotsord q ++ behind
+    → is_in_head version Ticlts d ≡ true → behind ≡ provider_text version Ticlts d ++ last
+    → (valid_head (record { version = version; ticots = p; ticotsord = q; ticlts = d }) ≡ true) × (text ≡ head_text (record { version = version; ticots = p; ticotsord = q; ticlts = d }) ++ last)
+whole_head version text rest left behind last p q d w v x u y t z =
+    let ps : Providers = record { version = version; ticots = p; ticotsord = q; ticlts = d } in
+    let parts : text ≡ first_line version ++ (provider_text version Ticots p ++ (provider_text version Ticotsord q ++ (provider_text version Ticlts d ++ last))) =
+    w ∙ ap (λ (l : List ℕ). first_line version ++ l) (x ∙ ap (λ (l : List ℕ). provider_text version Ticots p ++ l) (y ∙ ap (λ (l : List ℕ). provider_text version Ticotsord q ++ l) z)) in
+    (is_valid ps (record { ticots = v; ticotsord = u; ticlts = t }), parts ∙ sym (head_parts ps last))
 
 -- ---- what reading a journal gives
 
@@ -413,60 +436,60 @@ read_as text (Err journal.OutOfMemory) small h j g = tt
 -- ---- the loop over the lines after the head
 
 pub record Loop (p drafted : Providers) (es : List Entry) (ss : List StallLine) (text rest : List ℕ) (n : ℕ) : Type 0 where
-  pub so_far : SoFar es ss text rest
+  pub so_far : SoFar p.version es ss text rest
   pub same : drafted ≡ p
   pub place : n ≡ 5 + (length es + length ss)
   pub room : n + length rest ≤ 5 + length text
 
 pub loop_first : (p : Providers) (draft : Journal) (text : List ℕ) → draft ≡ record { providers = p; entries = []; stalls = [] } → Loop p draft.providers draft.entries draft.stalls text text 5
-loop_first p draft text e = rw e (record { so_far = so_far_none text; same = refl; place = refl; room = omega arith })
+loop_first p draft text e = rw e (record { so_far = so_far_none p.version text; same = refl; place = refl; room = omega arith })
 
 shorter : (rest line behind : List ℕ) → rest ≡ ended line ++ behind → length rest ≡ length line + 1 + length behind
 shorter rest line behind cut = ap length cut ∙ length-append (ended line) behind ∙ ap (λ (m : ℕ). m + length behind) (length-append line (10 ∷ []))
 
-pub loop_entry : (p : Providers) (old new : Journal) (text rest behind line : List ℕ) (n : ℕ) (e : Entry) → Loop p old.providers old.entries old.stalls text rest n → rest ≡ ended line ++ behind → line_in old.entries old.stalls (words_of line) ≡ Some (Entered (entry_read e))
+pub loop_entry : (p : Providers) (old new : Journal) (text rest behind line : List ℕ) (n : ℕ) (e : Entry) → Loop p old.providers old.entries old.stalls text rest n → rest ≡ ended line ++ behind → line_in p.version old.entries old.stalls (words_of line) ≡ Some (Entered (entry_read e))
     → new ≡ record { providers = old.providers; entries = old.entries ++ e ∷ []; stalls = old.stalls } → Loop p new.providers new.entries new.stalls text behind (n + 1)
 loop_entry p old new text rest behind line n e l cut r w =
-    let x = entry_line old.entries old.stalls line e r in
+    let x = entry_line p.version old.entries old.stalls line e r in
     let s = shorter rest line behind cut in
     let m : length (old.entries ++ e ∷ []) ≡ length old.entries + 1 = length-append old.entries (e ∷ []) in
     rw w (record {
-      so_far = so_far_entry old.entries old.stalls text rest behind line e l.so_far cut x.first x.is_entry x.written;
+      so_far = so_far_entry p.version old.entries old.stalls text rest behind line e l.so_far cut x.first x.is_entry x.written;
       same = l.same;
       place = omega (arith, l.place, m);
       room = omega (arith, l.room, s);
     })
 
-pub loop_stall : (p : Providers) (old new : Journal) (text rest behind line : List ℕ) (n : ℕ) (st : StallLine) → Loop p old.providers old.entries old.stalls text rest n → rest ≡ ended line ++ behind → line_in old.entries old.stalls (words_of line) ≡ Some (Stalled (stall_read st))
+pub loop_stall : (p : Providers) (old new : Journal) (text rest behind line : List ℕ) (n : ℕ) (st : StallLine) → Loop p old.providers old.entries old.stalls text rest n → rest ≡ ended line ++ behind → line_in p.version old.entries old.stalls (words_of line) ≡ Some (Stalled (stall_read st))
     → new ≡ record { providers = old.providers; entries = old.entries; stalls = old.stalls ++ st ∷ [] } → Loop p new.providers new.entries new.stalls text behind (n + 1)
 loop_stall p old new text rest behind line n st l cut r w =
-    let x = stall_line old.entries old.stalls line st r in
+    let x = stall_line p.version old.entries old.stalls line st r in
     let s = shorter rest line behind cut in
     let m : length (old.stalls ++ st ∷ []) ≡ length old.stalls + 1 = length-append old.stalls (st ∷ []) in
     rw w (record {
-      so_far = so_far_stall old.entries old.stalls text rest behind line st l.so_far cut x.is_stall x.follows x.written;
+      so_far = so_far_stall p.version old.entries old.stalls text rest behind line st l.so_far cut x.is_stall x.follows x.written;
       same = l.same;
       place = omega (arith, l.place, m);
       room = omega (arith, l.room, s);
     })
 
-pub entry_worker : (es : List Entry) (ss : List StallLine) (line : List ℕ) (e : Entry) → line_in es ss (words_of line) ≡ Some (Entered (entry_read e)) → e.worker ≤ LAST_WORKER
-entry_worker es ss line e r = (entry_line es ss line e r).is_entry.worker
+pub entry_worker : (version : Version) (es : List Entry) (ss : List StallLine) (line : List ℕ) (e : Entry) → line_in version es ss (words_of line) ≡ Some (Entered (entry_read e)) → e.worker ≤ LAST_WORKER
+entry_worker version es ss line e r = (entry_line version es ss line e r).is_entry.worker
 
 pub number_fits : (p q : Providers) (es : List Entry) (ss : List StallLine) (text rest behind line : List ℕ) (n : ℕ) → Loop p q es ss text rest n → rest ≡ ended line ++ behind → n + 1 ≤ 5 + length text
 number_fits p q es ss text rest behind line n l cut = let s = shorter rest line behind cut in omega (arith, l.room, s)
 
-pub loop_ends : (p : Providers) (draft done : Journal) (text rest behind line : List ℕ) (n : ℕ) → valid_head p ≡ true → Loop p draft.providers draft.entries draft.stalls text rest n → rest ≡ ended line ++ behind → (length behind == 0) ≡ true → line_in draft.entries draft.stalls (words_of line) ≡ Some Ended → done ≡ draft → IsJournal done (head_text p ++ text)
+pub loop_ends : (p : Providers) (draft done : Journal) (text rest behind line : List ℕ) (n : ℕ) → valid_head p ≡ true → Loop p draft.providers draft.entries draft.stalls text rest n → rest ≡ ended line ++ behind → (length behind == 0) ≡ true → line_in p.version draft.entries draft.stalls (words_of line) ≡ Some Ended → done ≡ draft → IsJournal done (head_text p ++ text)
 loop_ends p draft done text rest behind line n v l cut none r d =
     let z : behind ≡ [] = nil_from_length behind (eqb-true (length behind) 0 none) in
-    let j = body_ends p draft.entries draft.stalls text rest behind line v l.so_far cut z (end_line draft.entries draft.stalls line r) in
+    let j = body_ends p draft.entries draft.stalls text rest behind line v l.so_far cut z (end_line p.version draft.entries draft.stalls line r) in
     rw d (subst (λ (q : Providers). IsJournal (journal_of q draft.entries draft.stalls) (head_text p ++ text)) (sym l.same) j)
 
-pub loop_extra : (p q : Providers) (es : List Entry) (ss : List StallLine) (text rest behind line : List ℕ) (n : ℕ) → valid_head p ≡ true → length text + 2 < 2 ^ 64 → Loop p q es ss text rest n → rest ≡ ended line ++ behind → (length behind == 0) ≡ false → line_in es ss (words_of line) ≡ Some Ended → IsRefusedAt (head_text p ++ text) (n + 1)
+pub loop_extra : (p q : Providers) (es : List Entry) (ss : List StallLine) (text rest behind line : List ℕ) (n : ℕ) → valid_head p ≡ true → length text + 2 < 2 ^ 64 → Loop p q es ss text rest n → rest ≡ ended line ++ behind → (length behind == 0) ≡ false → line_in p.version es ss (words_of line) ≡ Some Ended → IsRefusedAt (head_text p ++ text) (n + 1)
 loop_extra p q es ss text rest behind line n v few l cut more r =
-    body_extra p es ss text rest behind line n v l.so_far (omega (arith, l.place, l.room)) l.place cut (λ z. (let t : (length behind == 0) ≡ true = rw z refl in let c : true ≡ false = sym t ∙ more in cc)) (end_line es ss line r)
+    body_extra p es ss text rest behind line n v l.so_far (omega (arith, l.place, l.room)) l.place cut (λ z. (let t : (length behind == 0) ≡ true = rw z refl in let c : true ≡ false = sym t ∙ more in cc)) (end_line p.version es ss line r)
 
-pub loop_wrong : (p q : Providers) (es : List Entry) (ss : List StallLine) (text rest behind line : List ℕ) (n : ℕ) → valid_head p ≡ true → length text + 2 < 2 ^ 64 → Loop p q es ss text rest n → IsLine line → rest ≡ ended line ++ behind → line_in es ss (words_of line) ≡ None → IsRefusedAt (head_text p ++ text) n
+pub loop_wrong : (p q : Providers) (es : List Entry) (ss : List StallLine) (text rest behind line : List ℕ) (n : ℕ) → valid_head p ≡ true → length text + 2 < 2 ^ 64 → Loop p q es ss text rest n → IsLine line → rest ≡ ended line ++ behind → line_in p.version es ss (words_of line) ≡ None → IsRefusedAt (head_text p ++ text) n
 loop_wrong p q es ss text rest behind line n v few l h cut r =
     let s = shorter rest line behind cut in
     body_refused p es ss text rest behind line n v l.so_far (omega (arith, l.place, l.room, s)) l.place h cut r
@@ -480,17 +503,21 @@ loop_out p q es ss text rest n b v few l t e =
     let z : rest ≡ [] = nil_from_length rest (eqb-true (length rest) 0 (sym e ∙ t)) in
     loop_unended p q es ss text rest n v few l (subst IsLine (sym z) tt)
 
+-- the words are read by the version of the head
+read_at : (p q : Providers) (es : List Entry) (ss : List StallLine) (words : List (List ℕ)) (o : Option LineRead) → q ≡ p → line_in q.version es ss words ≡ o → line_in p.version es ss words ≡ o
+read_at p q es ss words o s e = ap (λ (x : Providers). line_in x.version es ss words) (sym s) ∙ e
+
 pub loop_on : (p : Providers) (old new : Journal) (text rest behind line : List ℕ) (n : ℕ) → Loop p old.providers old.entries old.stalls text rest n → rest ≡ ended line ++ behind → ReadsNext old (words_of line) new (Ok true) → Loop p new.providers new.entries new.stalls text behind (n + 1)
-loop_on p old new text rest behind line n l cut (inl (e, r, w)) = loop_entry p old new text rest behind line n e l cut r w
-loop_on p old new text rest behind line n l cut (inr (s, r, w)) = loop_stall p old new text rest behind line n s l cut r w
+loop_on p old new text rest behind line n l cut (inl (e, r, w)) = loop_entry p old new text rest behind line n e l cut (read_at p old.providers _ _ _ _ l.same r) w
+loop_on p old new text rest behind line n l cut (inr (s, r, w)) = loop_stall p old new text rest behind line n s l cut (read_at p old.providers _ _ _ _ l.same r) w
 
 pub loop_fails : (p : Providers) (old new : Journal) (text rest behind line : List ℕ) (n : ℕ) (fail : FieldFail) (r : JournalFail) → valid_head p ≡ true → length text + 2 < 2 ^ 64 → Loop p old.providers old.entries old.stalls text rest n → IsLine line → rest ≡ ended line ++ behind → ReadsNext old (words_of line) new (Err fail) → r ≡ fail_at n fail
     → ReadsText (head_text p ++ text) (Err r)
-loop_fails p old new text rest behind line n field.Wrong r v few l h cut x e = subst (λ (y : JournalFail). ReadsText (head_text p ++ text) (Err y)) (sym e) (loop_wrong p old.providers old.entries old.stalls text rest behind line n v few l h cut x)
+loop_fails p old new text rest behind line n field.Wrong r v few l h cut x e = subst (λ (y : JournalFail). ReadsText (head_text p ++ text) (Err y)) (sym e) (loop_wrong p old.providers old.entries old.stalls text rest behind line n v few l h cut (read_at p old.providers _ _ _ _ l.same x))
 loop_fails p old new text rest behind line n field.OutOfMemory r v few l h cut x e = subst (λ (y : JournalFail). ReadsText (head_text p ++ text) (Err y)) (sym e) tt
 
 pub loop_done : (p : Providers) (old new done : Journal) (text rest behind line : List ℕ) (n : ℕ) → valid_head p ≡ true → Loop p old.providers old.entries old.stalls text rest n → rest ≡ ended line ++ behind → (length behind == 0) ≡ true → ReadsNext old (words_of line) new (Ok false) → done ≡ new → IsJournal done (head_text p ++ text)
-loop_done p old new done text rest behind line n v l cut none r d = loop_ends p old done text rest behind line n v l cut none r.0 (d ∙ r.1)
+loop_done p old new done text rest behind line n v l cut none r d = loop_ends p old done text rest behind line n v l cut none (read_at p old.providers _ _ _ _ l.same r.0) (d ∙ r.1)
 
 pub goes : (p : Providers) (old new : Journal) (text rest behind line : List ℕ) (n : ℕ) (b : Bool) → Loop p old.providers old.entries old.stalls text rest n → rest ≡ ended line ++ behind → ReadsNext old (words_of line) new (Ok b) → b ≡ true → Loop p new.providers new.entries new.stalls text behind (n + 1)
 goes p old new text rest behind line n true l cut r t = loop_on p old new text rest behind line n l cut r
@@ -502,7 +529,7 @@ done p old new finished text rest behind line n false e v l cut q t r f d = loop
 
 pub extra : (p : Providers) (old new : Journal) (text rest behind line : List ℕ) (n : ℕ) (b e : Bool) → valid_head p ≡ true → length text + 2 < 2 ^ 64 → Loop p old.providers old.entries old.stalls text rest n → rest ≡ ended line ++ behind → e ≡ (length behind == 0) → e ≡ false → ReadsNext old (words_of line) new (Ok b) → b ≡ false → IsRefusedAt (head_text p ++ text) (n + 1)
 extra p old new text rest behind line n true e v few l cut q t r f = absurd cc
-extra p old new text rest behind line n false e v few l cut q t r f = loop_extra p old.providers old.entries old.stalls text rest behind line n v few l cut (sym q ∙ t) r.0
+extra p old new text rest behind line n false e v few l cut q t r f = loop_extra p old.providers old.entries old.stalls text rest behind line n v few l cut (sym q ∙ t) (read_at p old.providers _ _ _ _ l.same r.0)
 
 pub the_journal : (text : List ℕ) (j k : Journal) → length text < 2 ^ 63 → IsJournal j text → IsJournal k text → j ≡ k
 the_journal text j k small h g = one_journal text j k (let l = few_entries text j h in omega arith) h g

@@ -44,6 +44,7 @@ field key.SendZero = record { word = codes "sendzero="; kind = kind.Truth }
 field key.SameAddr = record { word = codes "same_addr="; kind = kind.Truth }
 field key.SndBuf = record { word = codes "sndbuf="; kind = kind.Number }
 field key.RcvBuf = record { word = codes "rcvbuf="; kind = kind.Number }
+field key.RelData = record { word = codes "reldata="; kind = kind.Truth }
 
 abbrev pub key_word : Key → List ℕ
 key_word key = (field key).word

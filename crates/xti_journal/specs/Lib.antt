@@ -2,7 +2,6 @@ pub mod Kinds
 pub mod FieldValue
 pub mod Fields
 pub mod Calls
-pub mod Releases
 pub mod Grammar
 pub mod Refused
 pub mod Values

@@ -2,7 +2,9 @@
 use Rattle.std.specs.Prelude.{ℕ, ◌+◌, ◌==◌, nat_le, nat_lt, nat_eq, ◌&&◌, Bool, true, false, List, [], ◌∷◌, length, drop, codes, decimal, Option, Some, None, if◌then◌else◌}
 use Rattle.std.specs.Str.{bytes_eq}
 use Rattle.std.specs.List.{starts_with}
+use Rattle.xti_base.specs.declared.kinds.Prov.{Prov}
 use Rattle.xti_base.specs.declared.kinds.State.{State}
+use Rattle.xti_base.specs.Kinds.{prov_name}
 use Rattle.xti_base.specs.declared.limits.TheConstants.{LAST_WORKER}
 use Rattle.xti_model.specs.declared.entry.Act.{Act}
 use Rattle.xti_model.specs.declared.entry.Act.TheVariants.{Begin, More}
@@ -23,6 +25,8 @@ use Rattle.xti_journal.specs.declared.body.Line.{Line}
 use Rattle.xti_journal.specs.declared.body.Line.TheVariants as line
 use Rattle.xti_journal.specs.Grammar.{last_verb}
 use Rattle.xti_model.specs.declared.profile.Profile.{Profile}
+use Rattle.xti_model.specs.declared.profile.Version.{Version}
+use Rattle.xti_model.specs.Profile.{tells_reldata}
 use Rattle.xti_journal.specs.Fields.{key_word, kind_of}
 use Rattle.xti_journal.specs.Values.{value_in}
 use Rattle.xti_verbs.specs.Verbs.{answer_of, verb_in, verb_of, answer_to}
@@ -77,10 +81,10 @@ call_in (Some verb) words = begun verb (fields_of (form verb) words)
 abbrev pub same : {A : Type 0} → A → A
 same x = x
 
--- the call that the first words are, or `more`
-unfoldable pub act_in : List (List ℕ) → Found ActRead
-act_in [] = None
-act_in (word ∷ words) = if bytes_eq word (codes "more") then Some (Goes, words) else call_in (verb_in word) words
+-- the call of journals of the version that the first words are, or `more`
+unfoldable pub act_in : Version → List (List ℕ) → Found ActRead
+act_in version [] = None
+act_in version (word ∷ words) = if bytes_eq word (codes "more") then Some (Goes, words) else call_in (verb_in version word) words
 
 abbrev pub verb_after_read : Option Verb → ActRead → Option Verb
 verb_after_read before (Begins verb values) = Some verb
@@ -149,13 +153,13 @@ abbrev pub worker_does : ℕ → Found ActRead → Found StepRead
 worker_does worker None = None
 worker_does worker (Some (act, words)) = Some (record { worker = worker; act = act }, words)
 
-abbrev pub by_worker : Option ℕ → List (List ℕ) → Found StepRead
-by_worker None words = None
-by_worker (Some worker) words = worker_does worker (act_in words)
+abbrev pub by_worker : Version → Option ℕ → List (List ℕ) → Found StepRead
+by_worker version None words = None
+by_worker version (Some worker) words = worker_does worker (act_in version words)
 
-unfoldable pub step_in : List (List ℕ) → Found StepRead
-step_in [] = None
-step_in (word ∷ words) = by_worker (worker_in word) words
+unfoldable pub step_in : Version → List (List ℕ) → Found StepRead
+step_in version [] = None
+step_in version (word ∷ words) = by_worker version (worker_in word) words
 
 -- what is read of an act and its worker
 abbrev pub step_read : Act → ℕ → StepRead
@@ -205,12 +209,12 @@ with_step verbs None = None
 with_step verbs (Some (step, words)) = whole_entry step (behind_arrow (verb_after_read (verbs step.worker) step.act) words)
 
 -- the entry with this number
-unfoldable pub entry_in : ℕ → (ℕ → Option Verb) → List ℕ → List (List ℕ) → Option EntryRead
-entry_in n verbs word words = if bytes_eq word (decimal n) then with_step verbs (step_in words) else None
+unfoldable pub entry_in : Version → ℕ → (ℕ → Option Verb) → List ℕ → List (List ℕ) → Option EntryRead
+entry_in version n verbs word words = if bytes_eq word (decimal n) then with_step verbs (step_in version words) else None
 
 -- the entry with this number after those that were read
 abbrev pub entry_after : Journal → ℕ → List ℕ → List (List ℕ) → Option EntryRead
-entry_after j n word words = entry_in n (last_verb j.entries) word words
+entry_after j n word words = entry_in j.providers.version n (last_verb j.entries) word words
 
 -- ---- stall lines
 
@@ -232,8 +236,8 @@ with_stall verbs None = None
 with_stall verbs (Some (step, words)) = stall_verb step (verb_after_read (verbs step.worker) step.act) words
 
 -- the stall line whose words after the first these are
-unfoldable pub stall_in : (ℕ → Option Verb) → List (List ℕ) → Option StepRead
-stall_in verbs words = with_stall verbs (step_in words)
+unfoldable pub stall_in : Version → (ℕ → Option Verb) → List (List ℕ) → Option StepRead
+stall_in version verbs words = with_stall verbs (step_in version words)
 
 -- the worker of the last stall line
 abbrev pub last_worker : List StallLine → Option ℕ
@@ -278,37 +282,48 @@ only_before None line = line
 only_before (Some worker) line = None
 
 -- the line that the words are after these entries and stall lines
-unfoldable pub line_in : List Entry → List StallLine → List (List ℕ) → Option LineRead
-line_in entries stalls [] = None
-line_in entries stalls (word ∷ words) =
+unfoldable pub line_in : Version → List Entry → List StallLine → List (List ℕ) → Option LineRead
+line_in version entries stalls [] = None
+line_in version entries stalls (word ∷ words) =
     if bytes_eq word (codes "end") then ended (length entries) words else
-    if bytes_eq word (codes "stall") then stalled (last_worker stalls) (stall_in (last_verb entries) words) else
-    only_before (last_worker stalls) (entered (entry_in (length entries + 1) (last_verb entries) word words))
+    if bytes_eq word (codes "stall") then stalled (last_worker stalls) (stall_in version (last_verb entries) words) else
+    only_before (last_worker stalls) (entered (entry_in version (length entries + 1) (last_verb entries) word words))
 
 -- the line that the words are after what was read
 abbrev pub line_after : Journal → List (List ℕ) → Option LineRead
-line_after j words = line_in j.entries j.stalls words
+line_after j words = line_in j.providers.version j.entries j.stalls words
 
--- the stall line that the words are after what was read, and what is read of it
+-- the stall line that the words are after the entries that were read
+abbrev pub stall_from : Journal → List (List ℕ) → Option StepRead
+stall_from j words = stall_in j.providers.version (last_verb j.entries) words
+
+-- the same after what was read, and what is read of it
 abbrev pub stall_after : Journal → List (List ℕ) → Option LineRead
-stall_after j words = stalled (last_worker j.stalls) (stall_in (last_verb j.entries) words)
+stall_after j words = stalled (last_worker j.stalls) (stall_from j words)
 
 abbrev pub stalled_read : StallLine → LineRead
 stalled_read s = Stalled (stall_read s)
 
 -- ---- the head
 
-abbrev pub profile_keys : List Key
-profile_keys = key.Tsdu ∷ key.SendZero ∷ key.SameAddr ∷ key.SndBuf ∷ key.RcvBuf ∷ []
+-- told is whether the line tells that data may go with a release
+abbrev pub release_keys : Bool → List Key
+release_keys told = if told then key.RelData ∷ [] else []
 
-abbrev pub profile_values : Profile → List Value
-profile_values p = value.Limit p.tsdu ∷ value.Truth p.sendzero ∷ value.Truth p.same_addr ∷ value.Number p.sndbuf ∷ value.Number p.rcvbuf ∷ []
+abbrev pub release_values : Bool → Bool → List Value
+release_values told reldata = if told then value.Truth reldata ∷ [] else []
+
+abbrev pub profile_keys : Bool → List Key
+profile_keys told = key.Tsdu ∷ key.SendZero ∷ key.SameAddr ∷ key.SndBuf ∷ key.RcvBuf ∷ release_keys told
+
+abbrev pub profile_values : Bool → Profile → List Value
+profile_values told p = value.Limit p.tsdu ∷ value.Truth p.sendzero ∷ value.Truth p.same_addr ∷ value.Number p.sndbuf ∷ value.Number p.rcvbuf ∷ release_values told p.reldata
 
 abbrev pub alone : Found (List Value) → Option (List Value)
 alone None = None
 alone (Some (values, words)) = if length words == 0 then Some values else None
 
--- the values of the provider with this name
-unfoldable pub profile_in : List ℕ → List (List ℕ) → Option (List Value)
-profile_in name (word ∷ named ∷ words) = if bytes_eq word (codes "provider") && bytes_eq named name then alone (fields_of profile_keys words) else None
-profile_in name other = None
+-- the values of the provider
+unfoldable pub profile_in : Version → Prov → List (List ℕ) → Option (List Value)
+profile_in version prov (word ∷ named ∷ words) = if bytes_eq word (codes "provider") && bytes_eq named (prov_name prov) then alone (fields_of (profile_keys (tells_reldata version prov)) words) else None
+profile_in version prov other = None

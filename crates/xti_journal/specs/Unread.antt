@@ -1,12 +1,16 @@
 -- Fields that are read one after the other, and what readers give.
-use Rattle.std.specs.Prelude.{◌≡◌, ℕ, List, [], ◌∷◌, Option, Some, None, Result, Ok, Err}
+use Rattle.std.specs.Prelude.{◌≡◌, ℕ, Bool, List, [], ◌∷◌, Option, Some, None, Result, Ok, Err}
+use Rattle.xti_base.specs.declared.kinds.Prov.{Prov}
 use Rattle.xti_base.specs.declared.limit.Info.{Info}
 use Rattle.xti_model.specs.declared.entry.Act.{Act}
 use Rattle.xti_model.specs.declared.entry.Entry.{Entry}
 use Rattle.xti_model.specs.declared.entry.Outcome.{Outcome}
 use Rattle.xti_model.specs.declared.entry.Outcome.TheVariants.{Done}
 use Rattle.xti_model.specs.declared.entry.Reply.TheVariants.{Limits}
+use Rattle.xti_model.specs.declared.profile.Profile.{Profile}
+use Rattle.xti_model.specs.declared.profile.Version.{Version}
 use Rattle.xti_model.specs.declared.script.Journal.{Journal}
+use Rattle.xti_model.specs.Profile.{tells_reldata}
 use Rattle.xti_verbs.specs.declared.verb.Verb.{Verb}
 use Rattle.xti_verbs.specs.declared.answer.Answer.{Answer}
 use Rattle.xti_verbs.specs.declared.answer.Answer.TheVariants as answer
@@ -17,7 +21,7 @@ use Rattle.xti_journal.specs.declared.fields.Fields.{Fields}
 use Rattle.xti_journal.specs.declared.fields.FieldFail.{FieldFail}
 use Rattle.xti_journal.specs.declared.fields.FieldFail.TheVariants.{Wrong, OutOfMemory}
 use Rattle.xti_journal.specs.Fields.{kind_of}
-use Rattle.xti_journal.specs.Reading.{Found, AnswerRead, text_value, before, fields_of, act_read, begun, outcome_read, answered, outcome_in, entry_read, entry_after}
+use Rattle.xti_journal.specs.Reading.{Found, AnswerRead, text_value, before, fields_of, act_read, act_in, step_read, step_in, begun, outcome_read, answered, outcome_in, entry_read, entry_after, profile_keys, profile_values, alone, profile_in}
 
 -- the values that the words give the fields that are not read yet
 abbrev pub unread : Fields → Found (List Value)
@@ -48,6 +52,14 @@ Gives is_read found left (Err OutOfMemory) = Unit {0}
 abbrev pub GivesCall : {A : Type 0} → Verb → Fields → Act → Fields → Result A FieldFail → Type 0
 GivesCall verb old act new result = Gives (λ _. act_read act) (begun verb (unread old)) new.words result
 
+-- the words give this act of journals of the version, and what is left of them is given
+abbrev pub TellsAct : {A : Type 0} → Version → Fields → Act → Fields → Result A FieldFail → Type 0
+TellsAct version old act new result = Gives (λ _. act_read act) (act_in version old.words) new.words result
+
+-- the same of a worker and its act
+abbrev pub TellsStep : Version → Fields → Act → Fields → Result ℕ FieldFail → Type 0
+TellsStep version old act new result = Gives (step_read act) (step_in version old.words) new.words result
+
 -- the fields give this outcome, which is the answer, and what is left of them is given
 abbrev pub GivesOutcome : {A : Type 0} → Answer → Fields → Outcome → Fields → Result A FieldFail → Type 0
 GivesOutcome answer old outcome new result = Gives (λ _. outcome_read outcome) (answered answer (unread old)) new.words result
@@ -73,3 +85,11 @@ IsRead is_read found (Err OutOfMemory) = Unit {0}
 -- the words after this one are those of this entry, with the number, after what was read
 abbrev pub ReadsEntry : {A : Type 0} → Journal → ℕ → List ℕ → List (List ℕ) → Entry → Result A FieldFail → Type 0
 ReadsEntry j n word words e result = IsRead (λ _. entry_read e) (entry_after j n word words) result
+
+-- the words are the values of a provider
+abbrev pub ReadsFields : Bool → List (List ℕ) → Result Profile FieldFail → Type 0
+ReadsFields told words result = IsRead (profile_values told) (alone (fields_of (profile_keys told) words)) result
+
+-- the words are those of the line of this provider, with these values
+abbrev pub ReadsValues : Version → Prov → List (List ℕ) → Result Profile FieldFail → Type 0
+ReadsValues version prov words result = IsRead (profile_values (tells_reldata version prov)) (profile_in version prov words) result

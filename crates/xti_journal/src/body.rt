@@ -1,16 +1,17 @@
 //! Reading the lines after the head.
 
-ghost use Rattle.std.specs.Prelude.{◌≡◌, false, IfOk};
+ghost use Rattle.std.specs.Prelude.{◌≡◌, ◌||◌, not, true, IfOk};
+ghost use Rattle.xti_model.specs.Profile.{is_told};
 ghost use Rattle.xti_words.specs.Texts.{words_of};
-ghost use Rattle.xti_journal.specs.Reading.{stall_after, stalled_read, ended, Ended, may_follow, line_read, line_after, profile_values, profile_in};
-ghost use Rattle.xti_journal.specs.Unread.{IsRead};
+ghost use Rattle.xti_journal.specs.Reading.{stall_after, stalled_read, ended, Ended, may_follow, line_read, line_after, release_keys, release_values, profile_keys};
+ghost use Rattle.xti_journal.specs.Unread.{unread, Gives, IsRead, ReadsFields, ReadsValues};
 
 use crate::draft::Draft;
 use crate::fields::{FieldFail, Fields, Key};
 use crate::lines::{is_number, read_entry, read_stall};
 use std::alloc::Global;
-use xti_base::let_go;
-use xti_model::{Act, Entry, Profile, StallLine};
+use xti_base::{Prov, let_go};
+use xti_model::{Act, Entry, Profile, StallLine, Version};
 
 /// A line after the head.
 #[derive(Drop)]
@@ -96,34 +97,80 @@ pub(crate) fn read_line(
     read_words(draft, &mut Fields::of(alloc, text), entry)
 }
 
-/// The values of the provider with this name.
-#[tactic(auto, unfolding(crate::specs::Reading::profile_in, crate::specs::Fields::field))]
-pub(crate) fn read_profile(alloc: Global, name: &str, text: &[u8]) -> Result<Profile, FieldFail>
-    ensures read { IsRead profile_values (profile_in name.now (words_of text.now)) result }
-    ensures without { IfOk result (λ profile. profile.reldata ≡ false) }
+/// The fields of the line of a provider: the last of them tells whether data may go with a release, where the line tells it.
+fn profile_keys(told: bool) -> &'static [Key]
+    ensures { result.now ≡ profile_keys told }
 {
-    let mut fields = Fields::of(alloc, text);
-    if fields.word() != Some(b"provider".as_slice()) || fields.word() != Some(name.as_bytes()) {
+    if told {
+        &[
+            Key::Tsdu,
+            Key::SendZero,
+            Key::SameAddr,
+            Key::SndBuf,
+            Key::RcvBuf,
+            Key::RelData,
+        ]
+    } else {
+        &[
+            Key::Tsdu,
+            Key::SendZero,
+            Key::SameAddr,
+            Key::SndBuf,
+            Key::RcvBuf,
+        ]
+    }
+}
+
+/// Whether data may go with a release, where the line tells it; none may where it doesn't.
+#[tactic(auto, unfolding(crate::specs::Fields::field))]
+fn read_release(told: bool, fields: &mut Fields) -> Result<bool, FieldFail>
+    requires { fields.old.keys.now ≡ release_keys told }
+    ensures read { Gives (release_values told) (unread fields.old) fields.new.words result }
+    ensures untold { IfOk result (λ reldata. (told || not reldata) ≡ true) }
+{
+    if told { fields.truth() } else { Ok(false) }
+}
+
+/// The values that the words of a provider's line after its name are.
+#[tactic(auto, unfolding(crate::specs::Fields::field))]
+fn read_values(told: bool, fields: &mut Fields) -> Result<Profile, FieldFail>
+    ensures read { ReadsFields told fields.old.words result }
+    ensures untold { IfOk result (λ p. (told || not p.reldata) ≡ true) }
+{
+    fields.expect(profile_keys(told));
+    let tsdu = read_or_end!(fields.limit());
+    let sendzero = read_or_end!(fields.truth());
+    let same_addr = read_or_end!(fields.truth());
+    let sndbuf = read_or_end!(fields.number());
+    let rcvbuf = read_or_end!(fields.number());
+    let reldata = read_or_end!(read_release(told, fields));
+    if !fields.are_read() {
         return Err(FieldFail::Wrong);
     }
-    fields.expect(&[
-        Key::Tsdu,
-        Key::SendZero,
-        Key::SameAddr,
-        Key::SndBuf,
-        Key::RcvBuf,
-    ]);
-    let profile = Profile {
-        tsdu: fields.limit()?,
-        sendzero: fields.truth()?,
-        same_addr: fields.truth()?,
-        sndbuf: fields.number()?,
-        rcvbuf: fields.number()?,
-        reldata: false,
-    };
-    if fields.are_read() {
-        Ok(profile)
-    } else {
-        Err(FieldFail::Wrong)
+    Ok(Profile {
+        tsdu,
+        sendzero,
+        same_addr,
+        sndbuf,
+        rcvbuf,
+        reldata,
+    })
+}
+
+/// The values of the provider in a head of the version.
+#[tactic(auto, unfolding(crate::specs::Reading::profile_in))]
+pub(crate) fn read_profile(
+    alloc: Global,
+    version: Version,
+    prov: Prov,
+    text: &[u8],
+) -> Result<Profile, FieldFail>
+    ensures read { ReadsValues version prov (words_of text.now) result }
+    ensures told { IfOk result (λ p. is_told version prov p ≡ true) }
+{
+    let mut fields = Fields::of(alloc, text);
+    if !fields.accept(b"provider") || !fields.accept(prov.name().as_bytes()) {
+        return Err(FieldFail::Wrong);
     }
+    read_values(version.tells_reldata(prov), &mut fields)
 }

@@ -11,7 +11,7 @@ use std::alloc::{AllocError, Global};
 use std::marker::Model;
 use xti_base::Items;
 use xti_base::limits::{LAST_WORKER, WORKERS};
-use xti_model::{Entry, Journal, Providers, StallLine};
+use xti_model::{Entry, Journal, Providers, StallLine, Version};
 use xti_verbs::Verb;
 
 /// The journal that is read so far.
@@ -49,6 +49,13 @@ impl Draft {
             verbs: [None; WORKERS],
             last: None,
         }
+    }
+
+    /// The version of the journal.
+    pub(crate) fn version(&self) -> Version
+        ensures { result ≡ self.now.providers.version }
+    {
+        self.providers.version
     }
 
     /// The call that the worker began last, if any.

@@ -77,6 +77,8 @@ pub(crate) enum Key {
     SndBuf,
     /// The receive size of a new endpoint.
     RcvBuf,
+    /// Whether data may go with an orderly release.
+    RelData,
 }
 
 /// Why words are not read.
@@ -140,6 +142,7 @@ fn field_text(key: Key, word: &[u8]) -> Option<&[u8]>
         Key::SameAddr => behind_key(b"same_addr=", word),
         Key::SndBuf => behind_key(b"sndbuf=", word),
         Key::RcvBuf => behind_key(b"rcvbuf=", word),
+        Key::RelData => behind_key(b"reldata=", word),
     }
 }
 

@@ -1,13 +1,11 @@
 //! Reading a journal.
 
-ghost use Rattle.std.specs.Prelude.{◌≡◌, All, ◌++◌, ◌<◌, true, codes, length, IfOk, IfErr, IfSome, IfNone};
+ghost use Rattle.std.specs.Prelude.{◌≡◌, ◌++◌, true, IfOk, IfErr, IfSome, IfNone};
 ghost use Rattle.xti_journal_text.specs.JournalText.{head_text};
-ghost use Rattle.xti_journal.specs.Releases.{valid_head};
-ghost use Rattle.xti_model.specs.Profile.{valid_connections, valid_orderly, valid_datagrams};
 ghost use Rattle.xti_model.specs.declared.script.Journal.{Journal};
 ghost use Rattle.xti_journal.specs.declared.journal_text.JournalFail.TheVariants.{OutOfMemory};
 ghost use Rattle.xti_journal.specs.Grammar.{IsJournal};
-ghost use Rattle.xti_journal.specs.Head.{fail_at, ReadsFirst, ReadsProfile, ReadsProvider, ReadsHead};
+ghost use Rattle.xti_journal.specs.Head.{valid_profile, valid_head, fail_at, ReadsFirst, ReadsProvider, ReadsHead};
 ghost use Rattle.xti_journal.specs.Line.{IsCut, IsLine};
 ghost use Rattle.xti_words.specs.Texts.{words_of};
 ghost use Rattle.xti_journal.specs.Read.{IsReadAs, IsBad, ReadsText, ReadsNext};
@@ -19,8 +17,8 @@ use memchr::memchr;
 use std::alloc::{AllocError, Global};
 use std::mem;
 use thiserror::Error;
-use xti_base::State;
-use xti_model::{Act, Entry, Journal, Outcome, Profile, Providers, Reply};
+use xti_base::{Prov, State};
+use xti_model::{Act, Entry, Journal, Outcome, Profile, Providers, Reply, Version};
 
 /// Why a text was not read.
 #[derive(Clone, Copy, Debug, PartialEq, Eq, Error)]
@@ -115,87 +113,45 @@ fn read_body(alloc: Global, providers: Providers, text: &[u8]) -> Result<Journal
     Err(JournalFail::Bad { line: number })
 }
 
-/// Whether a head may give ticots these values.
-fn valid_ticots(ticots: Profile) -> bool
-    ensures { result ≡ valid_connections ticots }
+/// Whether the values are within the bounds of the provider.
+fn valid_profile(prov: Prov, profile: Profile) -> bool
+    ensures { result ≡ valid_profile prov profile }
 {
-    let providers = Providers {
-        ticots,
-        ..Providers::usual()
+    let usual = Providers::usual();
+    let providers = match prov {
+        Prov::Ticots => Providers {
+            ticots: profile,
+            ..usual
+        },
+        Prov::Ticotsord => Providers {
+            ticotsord: profile,
+            ..usual
+        },
+        Prov::Ticlts => Providers {
+            ticlts: profile,
+            ..usual
+        },
+        Prov::Other => return false,
     };
     providers.valid()
 }
 
-/// Reads the line of ticots.
-fn read_ticots(alloc: Global, text: &[u8]) -> Result<(Profile, &[u8]), FieldFail>
-    ensures { ReadsProvider valid_connections (codes "ticots") text.now result }
-{
-    match read_provider(alloc, "ticots", text) {
-        Ok((ticots, rest)) if valid_ticots(ticots) => Ok((ticots, rest)),
-        Ok(_) => Err(FieldFail::Wrong),
-        Err(fail) => Err(fail),
-    }
-}
-
-/// Whether a head may give ticotsord these values.
-fn valid_ticotsord(ticotsord: Profile) -> bool
-    ensures { result ≡ valid_orderly ticotsord }
-{
-    let providers = Providers {
-        ticotsord,
-        ..Providers::usual()
-    };
-    providers.valid()
-}
-
-/// Reads the line of ticotsord.
-fn read_ticotsord(alloc: Global, text: &[u8]) -> Result<(Profile, &[u8]), FieldFail>
-    ensures { ReadsProvider valid_orderly (codes "ticotsord") text.now result }
-{
-    match read_provider(alloc, "ticotsord", text) {
-        Ok((ticotsord, rest)) if valid_ticotsord(ticotsord) => Ok((ticotsord, rest)),
-        Ok(_) => Err(FieldFail::Wrong),
-        Err(fail) => Err(fail),
-    }
-}
-
-/// Whether a head may give ticlts these values.
-fn valid_ticlts(ticlts: Profile) -> bool
-    ensures { result ≡ valid_datagrams ticlts }
-{
-    let providers = Providers {
-        ticlts,
-        ..Providers::usual()
-    };
-    providers.valid()
-}
-
-/// Reads the line of ticlts.
-fn read_ticlts(alloc: Global, text: &[u8]) -> Result<(Profile, &[u8]), FieldFail>
-    ensures { ReadsProvider valid_datagrams (codes "ticlts") text.now result }
-{
-    match read_provider(alloc, "ticlts", text) {
-        Ok((ticlts, rest)) if valid_ticlts(ticlts) => Ok((ticlts, rest)),
-        Ok(_) => Err(FieldFail::Wrong),
-        Err(fail) => Err(fail),
-    }
-}
-
-/// Reads the line of the provider with this name, whose values may be out of bounds.
+/// Reads the line of the provider in a head of the version.
 fn read_provider<'a>(
     alloc: Global,
-    name: &str,
+    version: Version,
+    prov: Prov,
     text: &'a [u8],
 ) -> Result<(Profile, &'a [u8]), FieldFail>
-    requires { All (λ c. 32 < c) name.now }
-    ensures { ReadsProfile name.now text.now result }
+    ensures { ReadsProvider version prov text.now result }
 {
-    match take_line(text) {
-        Some((line, rest)) => match read_profile(alloc, name, line) {
-            Ok(profile) => Ok((profile, rest)),
-            Err(fail) => Err(fail),
-        },
-        None => Err(FieldFail::Wrong),
+    let Some((line, rest)) = take_line(text) else {
+        return Err(FieldFail::Wrong);
+    };
+    match read_profile(alloc, version, prov, line) {
+        Ok(profile) if valid_profile(prov, profile) => Ok((profile, rest)),
+        Ok(_) => Err(FieldFail::Wrong),
+        Err(fail) => Err(fail),
     }
 }
 
@@ -209,13 +165,15 @@ fn fail_at(line: u64, fail: FieldFail) -> JournalFail
     }
 }
 
-/// Reads the first line.
+/// Reads the first line, which tells the version.
 #[tactic(auto, unfolding(xti_journal_text::specs::JournalText::first_line))]
-fn read_first(text: &[u8]) -> Result<&[u8], FieldFail>
+fn read_first(text: &[u8]) -> Result<(Version, &[u8]), FieldFail>
     ensures { ReadsFirst text.now result }
 {
     if text.starts_with(b"xti-journal 1\n".as_slice()) {
-        Ok(&text[14..])
+        Ok((Version::One, &text[14..]))
+    } else if text.starts_with(b"xti-journal 2\n".as_slice()) {
+        Ok((Version::Two, &text[14..]))
     } else {
         Err(FieldFail::Wrong)
     }
@@ -225,23 +183,24 @@ fn read_first(text: &[u8]) -> Result<&[u8], FieldFail>
 fn read_head(alloc: Global, text: &[u8]) -> Result<(Providers, &[u8]), JournalFail>
     ensures { ReadsHead text.now result }
 {
-    let rest = match read_first(text) {
-        Ok(rest) => rest,
+    let (version, rest) = match read_first(text) {
+        Ok(read) => read,
         Err(fail) => return Err(fail_at(1, fail)),
     };
-    let (ticots, rest) = match read_ticots(alloc, rest) {
+    let (ticots, rest) = match read_provider(alloc, version, Prov::Ticots, rest) {
         Ok(read) => read,
         Err(fail) => return Err(fail_at(2, fail)),
     };
-    let (ticotsord, rest) = match read_ticotsord(alloc, rest) {
+    let (ticotsord, rest) = match read_provider(alloc, version, Prov::Ticotsord, rest) {
         Ok(read) => read,
         Err(fail) => return Err(fail_at(3, fail)),
     };
-    let (ticlts, rest) = match read_ticlts(alloc, rest) {
+    let (ticlts, rest) = match read_provider(alloc, version, Prov::Ticlts, rest) {
         Ok(read) => read,
         Err(fail) => return Err(fail_at(4, fail)),
     };
     let providers = Providers {
+        version,
         ticots,
         ticotsord,
         ticlts,

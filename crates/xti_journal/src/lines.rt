@@ -3,9 +3,8 @@
 ghost use Rattle.std.specs.Prelude.{◌≡◌, ◌≤◌, Some, IfSome, IfOk, decimal};
 ghost use Rattle.std.specs.Str.{bytes_eq};
 ghost use Rattle.xti_base.specs.declared.limits.TheConstants.{LAST_WORKER};
-ghost use Rattle.xti_journal.specs.Grammar.{last_verb};
-ghost use Rattle.xti_journal.specs.Reading.{same, worker_in, act_read, act_in, error_in, answer_in, outcome_in, step_read, step_in, state_at_end, behind_read, behind_arrow, entry_in, stall_read, is_whole, stall_in};
-ghost use Rattle.xti_journal.specs.Unread.{Gives, IsRead, ReadsEntry, TellsOutcome};
+ghost use Rattle.xti_journal.specs.Reading.{same, worker_in, error_in, answer_in, outcome_in, state_at_end, behind_read, behind_arrow, entry_in, stall_read, is_whole, stall_in, stall_from};
+ghost use Rattle.xti_journal.specs.Unread.{Gives, IsRead, ReadsEntry, TellsAct, TellsOutcome, TellsStep};
 
 use crate::answers::read_answer;
 use crate::calls::read_call;
@@ -16,7 +15,7 @@ use itoa::Buffer;
 use std::mem;
 use xti_base::limits::LAST_WORKER;
 use xti_base::{State, write_over};
-use xti_model::{Act, Entry, Outcome, StallLine};
+use xti_model::{Act, Entry, Outcome, StallLine, Version};
 use xti_verbs::{Answer, Verb};
 use xti_words::number_in;
 
@@ -30,10 +29,10 @@ fn worker_in(word: &[u8]) -> Option<u32>
     }
 }
 
-/// Writes the call that the next words are, or `more`.
+/// Writes the call of journals of the version that the next words are, or `more`.
 #[tactic(auto, unfolding(crate::specs::Reading::act_in))]
-fn read_act(fields: &mut Fields, act: &mut Act) -> Result<(), FieldFail>
-    ensures { Gives (λ _. act_read act.new) (act_in fields.old.words) fields.new.words result }
+fn read_act(version: Version, fields: &mut Fields, act: &mut Act) -> Result<(), FieldFail>
+    ensures { TellsAct version fields.old act.new fields.new result }
 {
     let Some(word) = fields.word() else {
         return Err(FieldFail::Wrong);
@@ -42,7 +41,7 @@ fn read_act(fields: &mut Fields, act: &mut Act) -> Result<(), FieldFail>
         write_over(act, Act::More);
         return Ok(());
     }
-    let Some(verb) = Verb::of_word(word) else {
+    let Some(verb) = Verb::of_word(version, word) else {
         return Err(FieldFail::Wrong);
     };
     fields.expect(form(verb));
@@ -87,8 +86,8 @@ fn read_outcome(verb: Verb, fields: &mut Fields, outcome: &mut Outcome) -> Resul
 
 /// The worker; what it does is written. Entries and stall lines have these words in common.
 #[tactic(auto, unfolding(crate::specs::Reading::step_in))]
-fn read_step(fields: &mut Fields, act: &mut Act) -> Result<u32, FieldFail>
-    ensures value { Gives (step_read act.new) (step_in fields.old.words) fields.new.words result }
+fn read_step(version: Version, fields: &mut Fields, act: &mut Act) -> Result<u32, FieldFail>
+    ensures value { TellsStep version fields.old act.new fields.new result }
     ensures worker { IfOk result (λ worker. worker ≤ LAST_WORKER) }
 {
     let Some(word) = fields.word() else {
@@ -97,7 +96,7 @@ fn read_step(fields: &mut Fields, act: &mut Act) -> Result<u32, FieldFail>
     let Some(worker) = worker_in(word) else {
         return Err(FieldFail::Wrong);
     };
-    match read_act(fields, act) {
+    match read_act(version, fields, act) {
         Ok(()) => Ok(worker),
         Err(fail) => Err(fail),
     }
@@ -160,7 +159,7 @@ pub(crate) fn read_entry(
     if !is_number(word, n) {
         return Err(FieldFail::Wrong);
     }
-    entry.worker = read_step(fields, &mut entry.act)?;
+    entry.worker = read_step(draft.version(), fields, &mut entry.act)?;
     let verb = verb_after(draft.verb(entry.worker), &entry.act);
     match read_after_arrow(verb, fields, &mut entry.outcome) {
         Ok(after) => {
@@ -185,9 +184,9 @@ pub(crate) fn read_stall(
     fields: &mut Fields,
     act: &mut Act,
 ) -> Result<StallLine, FieldFail>
-    ensures { IsRead stall_read (stall_in (last_verb draft.now.entries) fields.old.words) result }
+    ensures { IsRead stall_read (stall_from draft.now fields.old.words) result }
 {
-    let worker = read_step(fields, act)?;
+    let worker = read_step(draft.version(), fields, act)?;
     let verb = verb_after(draft.verb(worker), act);
     if is_whole(verb, fields) {
         Ok(StallLine {

@@ -5,6 +5,8 @@ use Rattle.std.specs.Prelude.{ℕ, ◌+◌, Bool, List, [], ◌∷◌, ◌++◌,
 use Rattle.std.specs.List.{flat_map}
 use Rattle.xti_text.specs.Words.{number_word, signed_word, octets_word}
 use Rattle.xti_base.specs.declared.kinds.Event.{Event}
+use Rattle.xti_base.specs.declared.kinds.Prov.{Prov}
+use Rattle.xti_base.specs.declared.kinds.Prov.TheVariants.{Ticots, Ticotsord, Ticlts}
 use Rattle.xti_base.specs.declared.kinds.State.{State}
 use Rattle.xti_base.specs.declared.limit.Limit.{Limit}
 use Rattle.xti_base.specs.declared.limit.Info.{Info}
@@ -13,6 +15,9 @@ use Rattle.xti_base.specs.Kinds.{state_name, event_name, service_number, prov_na
 use Rattle.xti_base.specs.Limit.{limit_number}
 use Rattle.xti_model.specs.declared.profile.Profile.{Profile}
 use Rattle.xti_model.specs.declared.profile.Providers.{Providers}
+use Rattle.xti_model.specs.declared.profile.Version.{Version}
+use Rattle.xti_model.specs.declared.profile.Version.TheVariants.{One, Two}
+use Rattle.xti_model.specs.Profile.{tells_reldata}
 use Rattle.xti_model.specs.declared.call.Call.{Call}
 use Rattle.xti_model.specs.declared.call.Call.TheVariants.{TOpen, TBind, TConnect, TRcvConnect, TListen, TAccept, TSnd, TSndV, TRcv, TRcvV, TSndDis, TRcvDis, TSndRelData, TRcvRelData, TSndUData, TSndVUData, TRcvUData, TRcvVUData, TRcvUDErr, TGetProtAddr, TOptMgmt, SetMode}
 use Rattle.xti_model.specs.Touched.{fd_of}
@@ -157,18 +162,22 @@ arrow_text outcome = codes " => " ++ outcome_text outcome
 
 -- lines
 
--- whether data may go with an orderly release isn't written
 abbrev pub profile_text : Profile → List ℕ
 profile_text p = limit_word (codes " tsdu=") p.tsdu ++ bit_word (codes " sendzero=") p.sendzero ++ bit_word (codes " same_addr=") p.same_addr ++ number_word (codes " sndbuf=") p.sndbuf ++ number_word (codes " rcvbuf=") p.rcvbuf
 
-unfoldable pub provider_text : List ℕ → Profile → List ℕ
-provider_text name p = codes "provider " ++ name ++ profile_text p ++ codes "\n"
+-- whether data may go with an orderly release, where texts of the version say so of the provider
+abbrev pub release_text : Version → Prov → Profile → List ℕ
+release_text version prov p = if tells_reldata version prov then bit_word (codes " reldata=") p.reldata else []
 
-unfoldable pub first_line : List ℕ
-first_line = codes "xti-journal 1\n"
+unfoldable pub provider_text : Version → Prov → Profile → List ℕ
+provider_text version prov p = codes "provider " ++ prov_name prov ++ profile_text p ++ release_text version prov p ++ codes "\n"
+
+unfoldable pub first_line : Version → List ℕ
+first_line One = codes "xti-journal 1\n"
+first_line Two = codes "xti-journal 2\n"
 
 unfoldable pub head_text : Providers → List ℕ
-head_text p = first_line ++ provider_text (codes "ticots") p.ticots ++ provider_text (codes "ticotsord") p.ticotsord ++ provider_text (codes "ticlts") p.ticlts
+head_text p = first_line p.version ++ provider_text p.version Ticots p.ticots ++ provider_text p.version Ticotsord p.ticotsord ++ provider_text p.version Ticlts p.ticlts
 
 -- what the call answered, and the state of its endpoint
 abbrev pub answer_text : Outcome → State → List ℕ

@@ -2,14 +2,14 @@
 
 ghost use Rattle.std.specs.Prelude.{◌≡◌, ◌++◌, OnOk, IfOk};
 ghost use Rattle.std.specs.List.{flat_map};
-ghost use Rattle.xti_journal_text.specs.JournalText.{profile_text, provider_text, first_line, head_text, answer_text, answer_end, entry_text, entries_text, stall_text, end_text, journal_text};
+ghost use Rattle.xti_journal_text.specs.JournalText.{profile_text, release_text, provider_text, first_line, head_text, answer_text, answer_end, entry_text, entries_text, stall_text, end_text, journal_text};
 
 use crate::calls::put_act;
 use crate::replies::put_outcome;
 use crate::words::{put_bit, put_limit, put_state};
 use std::alloc::{AllocError, Global};
-use xti_base::{Octets, State};
-use xti_model::{Entry, Journal, Outcome, Profile, Providers, StallLine};
+use xti_base::{Octets, Prov, State};
+use xti_model::{Entry, Journal, Outcome, Profile, Providers, StallLine, Version};
 use xti_text::{put_number, put_text};
 
 fn put_profile(out: &mut Vec<u8>, p: &Profile) -> Result<(), AllocError>
@@ -22,31 +22,56 @@ fn put_profile(out: &mut Vec<u8>, p: &Profile) -> Result<(), AllocError>
     put_number(out, " rcvbuf=", p.rcvbuf as u64)
 }
 
+// Whether data may go with an orderly release, where texts of the version say so of the provider.
+fn put_release(
+    out: &mut Vec<u8>,
+    version: Version,
+    prov: Prov,
+    p: &Profile,
+) -> Result<(), AllocError>
+    ensures { OnOk result (out.new.items ≡ out.old.items ++ release_text version prov p.now) }
+{
+    if version.tells_reldata(prov) {
+        put_bit(out, " reldata=", p.reldata)
+    } else {
+        Ok(())
+    }
+}
+
 #[tactic(auto, unfolding(crate::specs::JournalText::provider_text))]
-fn put_provider(out: &mut Vec<u8>, name: &str, p: &Profile) -> Result<(), AllocError>
-    ensures { OnOk result (out.new.items ≡ out.old.items ++ provider_text name.now p.now) }
+fn put_provider(
+    out: &mut Vec<u8>,
+    version: Version,
+    prov: Prov,
+    p: &Profile,
+) -> Result<(), AllocError>
+    ensures { OnOk result (out.new.items ≡ out.old.items ++ provider_text version prov p.now) }
 {
     put_text(out, "provider ")?;
-    put_text(out, name)?;
+    put_text(out, prov.name())?;
     put_profile(out, p)?;
+    put_release(out, version, prov, p)?;
     put_text(out, "\n")
 }
 
 #[tactic(auto, unfolding(crate::specs::JournalText::first_line))]
-fn put_first_line(out: &mut Vec<u8>) -> Result<(), AllocError>
-    ensures { OnOk result (out.new.items ≡ out.old.items ++ first_line) }
+fn put_first_line(out: &mut Vec<u8>, version: Version) -> Result<(), AllocError>
+    ensures { OnOk result (out.new.items ≡ out.old.items ++ first_line version) }
 {
-    put_text(out, "xti-journal 1\n")
+    match version {
+        Version::One => put_text(out, "xti-journal 1\n"),
+        Version::Two => put_text(out, "xti-journal 2\n"),
+    }
 }
 
 #[tactic(auto, unfolding(crate::specs::JournalText::head_text))]
 pub(crate) fn put_head(out: &mut Vec<u8>, p: &Providers) -> Result<(), AllocError>
     ensures { OnOk result (out.new.items ≡ out.old.items ++ head_text p.now) }
 {
-    put_first_line(out)?;
-    put_provider(out, "ticots", &p.ticots)?;
-    put_provider(out, "ticotsord", &p.ticotsord)?;
-    put_provider(out, "ticlts", &p.ticlts)
+    put_first_line(out, p.version)?;
+    put_provider(out, p.version, Prov::Ticots, &p.ticots)?;
+    put_provider(out, p.version, Prov::Ticotsord, &p.ticotsord)?;
+    put_provider(out, p.version, Prov::Ticlts, &p.ticlts)
 }
 
 // What a call answered and the state of its endpoint, after an arrow, to the end of the line.

@@ -1,11 +1,12 @@
 //! A call and its fields, one after the other.
 
 use crate::bounded::Reason;
-use crate::places::{Spot, ends_line, number_of};
+use crate::places::{Place, Spot, ends_line, number_of};
 use crate::values::{Value, wanted};
 use memchr::memchr;
 use std::alloc::Global;
 use xti_base::limits::LAST_WORKER;
+use xti_model::Version;
 use xti_script_reader::{Key, Verb, form};
 use xti_words::Words;
 
@@ -167,10 +168,10 @@ fn go_over(
     Some(open)
 }
 
-/// The call that the word is; where it is none, that is said.
-fn find_verb(word: Option<&[u8]>, reason: &mut Reason) -> Option<Verb> {
+/// The call that the word is in texts of the version; where it is none, that is said.
+fn find_verb(version: Version, word: Option<&[u8]>, reason: &mut Reason) -> Option<Verb> {
     let text = word.unwrap_or(b"");
-    let verb = Verb::of_word(text);
+    let verb = Verb::of_word(version, text);
     if verb.is_some() {
         return verb;
     }
@@ -180,7 +181,8 @@ fn find_verb(word: Option<&[u8]>, reason: &mut Reason) -> Option<Verb> {
     }
     reason.put("unknown call ");
     reason.put_quoted(text);
-    if let Some(verb) = Verb::of_word(text.strip_prefix(b"t_".as_slice()).unwrap_or(b"")) {
+    let behind = text.strip_prefix(b"t_".as_slice()).unwrap_or(b"");
+    if let Some(verb) = Verb::of_word(version, behind) {
         reason.put(", expected ");
         reason.put_all(verb.word());
     }
@@ -188,13 +190,13 @@ fn find_verb(word: Option<&[u8]>, reason: &mut Reason) -> Option<Verb> {
 }
 
 /// The call that the worker began last; where there is none, that is said.
-fn last_verb(spot: &Spot, reason: &mut Reason) -> Option<Verb> {
+fn last_verb(version: Version, spot: &Spot, reason: &mut Reason) -> Option<Verb> {
     let mut last = None;
     for line in spot.earlier.split(ends_line) {
         let mut words = Words::of(line);
         words.next();
         if number_of(words.next()) == Some(spot.worker) {
-            last = Verb::of_word(words.next().unwrap_or(b"")).or(last);
+            last = Verb::of_word(version, words.next().unwrap_or(b"")).or(last);
         }
     }
     if last.is_none() {
@@ -204,12 +206,12 @@ fn last_verb(spot: &Spot, reason: &mut Reason) -> Option<Verb> {
     last
 }
 
-/// Goes over a worker, its call and the call's fields: which call that is, and which fields were left out behind the last that
+/// Goes over the worker of the line at that place, its call and the call's fields: which call that is, and which fields were left out behind the last that
 /// stands there. Nothing where one is wrong, which is then said.
 pub(crate) fn find_call<'a>(
     alloc: Global,
     form: Form,
-    earlier: &'a [u8],
+    place: &Place<'a>,
     words: &mut Words,
     reason: &mut Reason,
 ) -> Option<(CallAt<'a>, &'static [Key])> {
@@ -221,13 +223,16 @@ pub(crate) fn find_call<'a>(
             return None;
         }
     };
-    let spot = Spot { earlier, worker };
+    let spot = Spot {
+        earlier: place.earlier,
+        worker,
+    };
     let word = words.next();
     if matches!(form, Form::Journal) && word == Some(b"more".as_slice()) {
-        let verb = last_verb(&spot, reason)?;
+        let verb = last_verb(place.version, &spot, reason)?;
         return Some((CallAt { form, verb, spot }, &[]));
     }
-    let verb = find_verb(word, reason)?;
+    let verb = find_verb(place.version, word, reason)?;
     let call = CallAt { form, verb, spot };
     let open = go_over(alloc, &call, words, reason)?;
     Some((call, open))

@@ -6,6 +6,7 @@ use crate::profiles::{wanted_setting, wrong_value};
 use std::alloc::Global;
 use toml::{Table, Value};
 use xti_base::Prov;
+use xti_model::Version;
 use xti_words::is_ascii;
 
 /// The head that ends at the first line `+++` of the text.
@@ -52,7 +53,7 @@ fn unknown(what: &str, name: &str, expected: &str, reason: &mut Reason) {
 
 /// What is expected of the value of a key, where it isn't that; nothing where the key is unknown, either.
 fn wanted_of(prov: Prov, key: &str, value: &Value) -> Option<&'static str> {
-    let is_truth = matches!(key, "sendzero" | "same_addr");
+    let is_truth = matches!(key, "sendzero" | "same_addr" | "reldata");
     match value.as_integer() {
         _ if is_truth && value.as_bool().is_none() => Some("true or false"),
         _ if is_truth => None,
@@ -61,11 +62,23 @@ fn wanted_of(prov: Prov, key: &str, value: &Value) -> Option<&'static str> {
     }
 }
 
-fn is_key(prov: Prov, key: &str) -> bool {
+fn is_key(version: Version, prov: Prov, key: &str) -> bool {
     match key {
         "tsdu" | "sendzero" | "sndbuf" | "rcvbuf" => true,
         "same_addr" => prov != Prov::Ticlts,
+        "reldata" => version.tells_reldata(prov),
         _ => false,
+    }
+}
+
+/// The keys of the provider's table in heads of the version.
+fn keys_of(version: Version, prov: Prov) -> &'static str {
+    if prov == Prov::Ticlts {
+        "tsdu, sendzero, sndbuf or rcvbuf"
+    } else if version.tells_reldata(prov) {
+        "tsdu, sendzero, same_addr, sndbuf, rcvbuf or reldata"
+    } else {
+        "tsdu, sendzero, same_addr, sndbuf or rcvbuf"
     }
 }
 
@@ -82,17 +95,12 @@ fn has_empty_without_ends(prov: Prov, members: &Table) -> bool {
 }
 
 /// Says what is wrong in a provider's table; whether something is.
-fn wrong_table(prov: Prov, members: &Table, reason: &mut Reason) -> bool {
+fn wrong_table(version: Version, prov: Prov, members: &Table, reason: &mut Reason) -> bool {
     for (key, value) in members {
         let key = key.as_str();
-        if !is_key(prov, key) {
+        if !is_key(version, prov, key) {
             reason.about(prov.name().as_bytes());
-            let expected = if prov == Prov::Ticlts {
-                "tsdu, sendzero, sndbuf or rcvbuf"
-            } else {
-                "tsdu, sendzero, same_addr, sndbuf or rcvbuf"
-            };
-            unknown("key ", key, expected, reason);
+            unknown("key ", key, keys_of(version, prov), reason);
             return true;
         }
         if let Some(wanted) = wanted_of(prov, key, value) {
@@ -108,7 +116,7 @@ fn wrong_table(prov: Prov, members: &Table, reason: &mut Reason) -> bool {
 }
 
 /// Says what is wrong in the tables of a head.
-fn wrong_tables(tables: &Table, reason: &mut Reason) {
+fn wrong_tables(version: Version, tables: &Table, reason: &mut Reason) {
     for (name, value) in tables {
         let name = name.as_str();
         let prov = Prov::of_name(name.as_bytes());
@@ -121,27 +129,27 @@ fn wrong_tables(tables: &Table, reason: &mut Reason) {
             reason.put("expected a table");
             return;
         };
-        if wrong_table(prov, members, reason) {
+        if wrong_table(version, prov, members, reason) {
             return;
         }
     }
 }
 
-fn read_tables(alloc: Global, head: &[u8], reason: &mut Reason) {
+fn read_tables(alloc: Global, version: Version, head: &[u8], reason: &mut Reason) {
     let text = str::from_utf8(head).unwrap_or("");
     match toml::table_from_str(alloc, text) {
-        Ok(tables) => wrong_tables(&tables, reason),
+        Ok(tables) => wrong_tables(version, &tables, reason),
         Err(error) if error.is_memory() => reason.run_out(),
         Err(error) => no_toml(head, &error, reason),
     }
 }
 
-/// Says why the head is refused that begins this text.
-pub(crate) fn find_out(alloc: Global, text: &[u8], reason: &mut Reason) {
+/// Says why the head is refused that begins this text, in a script of the version.
+pub(crate) fn find_out(alloc: Global, version: Version, text: &[u8], reason: &mut Reason) {
     reason.about(b"head");
     match head_in(text) {
         None => reason.put("there is no second line +++"),
         Some(head) if !is_ascii(head) => reason.put("a byte is not ASCII"),
-        Some(head) => read_tables(alloc, head, reason),
+        Some(head) => read_tables(alloc, version, head, reason),
     }
 }

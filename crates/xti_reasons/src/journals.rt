@@ -9,19 +9,23 @@ use crate::scripts::first_line;
 use crate::values::{Value, are_right, wanted};
 use std::alloc::Global;
 use xti_base::Prov;
+use xti_model::Version;
 use xti_verbs::Answer;
 use xti_words::{Words, number_in};
 
-/// The first line.
-const FIRST: &[u8] = b"xti-journal 1";
+/// Whether a journal begins with this line.
+fn is_first(line: &[u8]) -> bool {
+    matches!(line, b"xti-journal 1" | b"xti-journal 2")
+}
 
-/// The keys of a provider's line with their signs, and what stands behind each.
-static SETTINGS: [(&[u8], Value); 5] = [
+/// The keys of a provider's line with their signs, and what stands behind each. The last stands only where texts tell it.
+static SETTINGS: [(&[u8], Value); 6] = [
     (b"tsdu=", Value::Limit),
     (b"sendzero=", Value::Truth),
     (b"same_addr=", Value::Truth),
     (b"sndbuf=", Value::Number),
     (b"rcvbuf=", Value::Number),
+    (b"reldata=", Value::Truth),
 ];
 
 /// The number that a value of a provider is.
@@ -33,10 +37,17 @@ fn signed_number(text: &[u8]) -> i64 {
     }
 }
 
-/// Goes over the values of a provider's line.
-fn profile_values(alloc: Global, prov: Prov, words: &mut Words, reason: &mut Reason) {
+/// Goes over the values of a provider's line in a journal of the version.
+fn profile_values(
+    alloc: Global,
+    version: Version,
+    prov: Prov,
+    words: &mut Words,
+    reason: &mut Reason,
+) {
+    let count = if version.tells_reldata(prov) { 6 } else { 5 };
     let mut tsdu = 1;
-    for (key, value) in &SETTINGS {
+    for (key, value) in SETTINGS.iter().take(count) {
         let name = name_of(*key);
         let word = words.next();
         let Some(text) = word.unwrap_or(b"").strip_prefix(*key) else {
@@ -64,8 +75,8 @@ fn profile_values(alloc: Global, prov: Prov, words: &mut Words, reason: &mut Rea
     reason.expected("the end of the line", words.next());
 }
 
-fn profile_line(alloc: Global, prov: Prov, line: &[u8], reason: &mut Reason) {
-    let mut words = Words::of(line);
+fn profile_line(alloc: Global, prov: Prov, place: &Place, reason: &mut Reason) {
+    let mut words = Words::of(place.line);
     let word = words.next();
     if word != Some(b"provider".as_slice()) {
         reason.expected("provider", word);
@@ -77,7 +88,7 @@ fn profile_line(alloc: Global, prov: Prov, line: &[u8], reason: &mut Reason) {
         reason.expected(prov.name(), name);
         return;
     }
-    profile_values(alloc, prov, &mut words, reason);
+    profile_values(alloc, place.version, prov, &mut words, reason);
 }
 
 /// What stands behind `err`, whose word was taken.
@@ -113,8 +124,8 @@ fn answer_words(alloc: Global, answer: Answer, words: &mut Words, reason: &mut R
 }
 
 /// Goes over a step, whose number was taken.
-fn step_words(alloc: Global, earlier: &[u8], words: &mut Words, reason: &mut Reason) {
-    let Some((call, _)) = find_call(alloc, Form::Journal, earlier, words, reason) else {
+fn step_words(alloc: Global, place: &Place, words: &mut Words, reason: &mut Reason) {
+    let Some((call, _)) = find_call(alloc, Form::Journal, place, words, reason) else {
         return;
     };
     reason.about(call.verb.word());
@@ -128,9 +139,9 @@ fn step_words(alloc: Global, earlier: &[u8], words: &mut Words, reason: &mut Rea
 }
 
 /// Goes over a stall line, whose first word was taken.
-fn stall_words(alloc: Global, earlier: &[u8], words: &mut Words, reason: &mut Reason) {
+fn stall_words(alloc: Global, place: &Place, words: &mut Words, reason: &mut Reason) {
     reason.about(b"stall");
-    let Some((call, _)) = find_call(alloc, Form::Journal, earlier, words, reason) else {
+    let Some((call, _)) = find_call(alloc, Form::Journal, place, words, reason) else {
         return;
     };
     let word = words.next();
@@ -163,11 +174,11 @@ fn body_line(alloc: Global, place: &Place, past: &Past, reason: &mut Reason) {
     if word == Some(b"end".as_slice()) {
         end_words(past.calls, &mut words, reason);
     } else if word == Some(b"stall".as_slice()) {
-        stall_words(alloc, place.earlier, &mut words, reason);
+        stall_words(alloc, place, &mut words, reason);
     } else if past.last == b"stall".as_slice() {
         reason.expected("stall or end", word);
     } else if number_of(word) == Some(number) {
-        step_words(alloc, place.earlier, &mut words, reason);
+        step_words(alloc, place, &mut words, reason);
     } else {
         reason.put("expected the number of the step, ");
         reason.put_number(number);
@@ -179,8 +190,8 @@ fn body_line(alloc: Global, place: &Place, past: &Past, reason: &mut Reason) {
 /// Says why a journal is refused at this line.
 pub(crate) fn find_out(alloc: Global, place: &Place, reason: &mut Reason) {
     let past = Past::of(place.earlier);
-    if place.number <= 1 && place.line != FIRST {
-        first_line(place, "'xti-journal 1'", reason);
+    if place.number <= 1 && !is_first(place.line) {
+        first_line(place, "'xti-journal 1' or 'xti-journal 2'", reason);
     } else if past.last == b"end".as_slice() {
         reason.put("nothing stands behind the line end");
     } else if place.is_end {
@@ -193,9 +204,9 @@ pub(crate) fn find_out(alloc: Global, place: &Place, reason: &mut Reason) {
         reason.put("the last line has no LF at its end");
     } else {
         match place.number {
-            2 => profile_line(alloc, Prov::Ticots, place.line, reason),
-            3 => profile_line(alloc, Prov::Ticotsord, place.line, reason),
-            4 => profile_line(alloc, Prov::Ticlts, place.line, reason),
+            2 => profile_line(alloc, Prov::Ticots, place, reason),
+            3 => profile_line(alloc, Prov::Ticotsord, place, reason),
+            4 => profile_line(alloc, Prov::Ticlts, place, reason),
             _ => body_line(alloc, place, &past, reason),
         }
     }

@@ -1,10 +1,13 @@
 //! The line that is refused, and what stands before it.
 
+use xti_model::Version;
 use xti_words::{Words, first_line, number_in};
 
 /// A line of a text.
 #[derive(Clone, Copy)]
 pub(crate) struct Place<'a> {
+    /// The version of the text.
+    pub(crate) version: Version,
     /// Its number, from 1.
     pub(crate) number: u64,
     /// The lines before, each with its end.
@@ -33,6 +36,15 @@ fn start_of(text: &[u8], line: u64) -> usize {
     text.len()
 }
 
+/// The version that the first line of a text tells; 1 where it tells none.
+fn version_of(text: &[u8]) -> Version {
+    let is_two = match text.split(ends_line).next() {
+        Some(line) => matches!(line, b"xti-script 2" | b"xti-journal 2"),
+        None => false,
+    };
+    if is_two { Version::Two } else { Version::One }
+}
+
 impl<'a> Place<'a> {
     /// The line with this number; the empty one at the end where there are fewer.
     pub(crate) fn at(text: &'a [u8], number: u64) -> Place<'a> {
@@ -44,6 +56,7 @@ impl<'a> Place<'a> {
             first_line(rest)
         };
         Place {
+            version: version_of(text),
             number,
             earlier,
             line,

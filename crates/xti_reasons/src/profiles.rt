@@ -38,6 +38,8 @@ pub(crate) fn wanted_setting(
         } else {
             None
         }
+    } else if key == b"reldata".as_slice() {
+        None
     } else {
         wanted_size(prov, key == b"tsdu".as_slice(), number)
     }

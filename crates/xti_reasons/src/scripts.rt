@@ -10,8 +10,7 @@ use xti_words::Words;
 
 fn call_line(alloc: Global, place: &Place, reason: &mut Reason) {
     let mut words = Words::of(place.line);
-    let Some((call, open)) = find_call(alloc, Form::Script, place.earlier, &mut words, reason)
-    else {
+    let Some((call, open)) = find_call(alloc, Form::Script, place, &mut words, reason) else {
         return;
     };
     match words.first() {
@@ -39,9 +38,9 @@ pub(crate) fn first_line(place: &Place, wanted: &str, reason: &mut Reason) {
 /// Says why a script is refused at this line.
 pub(crate) fn find_out(alloc: Global, place: &Place, reason: &mut Reason) {
     if place.number <= 1 {
-        first_line(place, "'xti-script 1'", reason);
+        first_line(place, "'xti-script 1' or 'xti-script 2'", reason);
     } else if place.number == 2 && place.line == b"+++".as_slice() {
-        heads::find_out(alloc, place.behind, reason);
+        heads::find_out(alloc, place.version, place.behind, reason);
     } else if place.line.starts_with(b"#".as_slice()) {
         reason.put("a comment has a byte that is not ASCII");
     } else {

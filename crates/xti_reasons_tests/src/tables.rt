@@ -4,15 +4,15 @@ use crate::cases::{Group, expect_all};
 use std::test::*;
 use xti_reasons::Kind;
 
-static SCRIPTS: [Group; 4] = [
+static SCRIPTS: [Group; 6] = [
     Group {
         kind: Kind::Script,
         before: "",
-        cases: "|line 1: expected 'xti-script 1', found the end of the input
-~|line 1: expected 'xti-script 1', found ''
-xti-script 2~|line 1: expected 'xti-script 1', found 'xti-script 2'
-xti-script 1\r~|line 1: expected 'xti-script 1', found 'xti-script 1\\x0d'
-0 open a ticlts~|line 1: expected 'xti-script 1', found '0 open a ticlts'
+        cases: "|line 1: expected 'xti-script 1' or 'xti-script 2', found the end of the input
+~|line 1: expected 'xti-script 1' or 'xti-script 2', found ''
+xti-script 3~|line 1: expected 'xti-script 1' or 'xti-script 2', found 'xti-script 3'
+xti-script 1\r~|line 1: expected 'xti-script 1' or 'xti-script 2', found 'xti-script 1\\x0d'
+0 open a ticlts~|line 1: expected 'xti-script 1' or 'xti-script 2', found '0 open a ticlts'
 ",
     },
     Group {
@@ -94,6 +94,26 @@ ticots = 1~+++~|line 2: head: ticots: expected a table
 0 look b|line 8: look: expected an endpoint that this worker or worker 0 opens above, found 'b'
 ",
     },
+    Group {
+        kind: Kind::Script,
+        before: "xti-script 2\n+++\n",
+        cases: "[ticots]~reldata = true~+++~|line 2: head: ticots: unknown key 'reldata', expected tsdu, sendzero, same_addr, sndbuf or rcvbuf
+[ticotsord]~size = 1~+++~|line 2: head: ticotsord: unknown key 'size', expected tsdu, sendzero, same_addr, sndbuf, rcvbuf or reldata
+[ticotsord]~reldata = 1~+++~|line 2: head: ticotsord: reldata: expected true or false
+[ticotsord]~reldata = true~sendzero = true~+++~|line 2: head: ticotsord: sendzero: expected no empty messages, as tsdu is 0
+",
+    },
+    Group {
+        kind: Kind::Script,
+        before: "xti-script 2\n+++\n[ticotsord]\nreldata = true\n+++\n0 open a ticotsord\n",
+        cases: "0 sndreldata~|line 7: sndreldata: expected an endpoint that this worker or worker 0 opens above, found the end of the line
+0 sndreldata a data=t:bye~|line 7: sndreldata: unknown field 'data', expected udata
+0 sndreldata a udata=bye~|line 7: sndreldata: udata: expected bytes after t:, x: or f:, found 'bye'
+0 rcvreldata a max=1~|line 7: rcvreldata: unknown field 'max', expected umax
+0 t_sndreldata a~|line 7: unknown call 't_sndreldata', expected sndreldata
+0 sndreldata a~0 rcvreldata a~0 frob a~|line 9: unknown call 'frob'
+",
+    },
 ];
 
 static LINKS: [Group; 2] = [
@@ -128,13 +148,13 @@ provider ticots tsdu=65536 sendzero=1 same_addr=0 sndbuf=16384 rcvbuf=16384
 provider ticotsord tsdu=0 sendzero=0 same_addr=0 sndbuf=16384 rcvbuf=16384
 ";
 
-static JOURNALS: [Group; 4] = [
+static JOURNALS: [Group; 6] = [
     Group {
         kind: Kind::Journal,
         before: "",
-        cases: "|line 1: expected 'xti-journal 1', found the end of the input
+        cases: "|line 1: expected 'xti-journal 1' or 'xti-journal 2', found the end of the input
 xti-journal 1|line 1: the last line has no LF at its end
-xti-script 1~|line 1: expected 'xti-journal 1', found 'xti-script 1'
+xti-script 1~|line 1: expected 'xti-journal 1' or 'xti-journal 2', found 'xti-script 1'
 xti-journal 1~|line 2: expected a provider's line, found the end of the input
 xti-journal 1~provider|line 2: the last line has no LF at its end
 xti-journal 1~1 0 open~|line 2: expected provider, found '1'
@@ -158,6 +178,27 @@ xti-journal 1~provider ticots tsdu=1 sendzero=1 same_addr=0 sndbuf=0 rcvbuf=1~|l
         kind: Kind::Journal,
         before: HEAD,
         cases: "provider ticlts tsdu=1 sendzero=1 same_addr=1 sndbuf=1 rcvbuf=1~|line 4: ticlts: same_addr: expected 0
+",
+    },
+    Group {
+        kind: Kind::Journal,
+        before: "xti-journal 2\nprovider ticots tsdu=65536 sendzero=1 same_addr=0 sndbuf=16384 rcvbuf=16384",
+        cases: " reldata=0~|line 2: ticots: expected the end of the line, found 'reldata=0'
+~provider ticotsord tsdu=0 sendzero=0 same_addr=0 sndbuf=1 rcvbuf=1~|line 3: ticotsord: expected reldata, found the end of the line
+~provider ticotsord tsdu=0 sendzero=0 same_addr=0 sndbuf=1 rcvbuf=1 reldata=2~|line 3: ticotsord: reldata: expected 0 or 1, found '2'
+~provider ticotsord tsdu=0 sendzero=0 same_addr=0 sndbuf=1 rcvbuf=1 reldata=1 x~|line 3: ticotsord: expected the end of the line, found 'x'
+",
+    },
+    Group {
+        kind: Kind::Journal,
+        before: "xti-journal 2
+provider ticots tsdu=65536 sendzero=1 same_addr=0 sndbuf=16384 rcvbuf=16384
+provider ticotsord tsdu=0 sendzero=0 same_addr=0 sndbuf=16384 rcvbuf=16384 reldata=1
+",
+        cases: "provider ticlts tsdu=1 sendzero=1 same_addr=0 sndbuf=1 rcvbuf=1 reldata=0~|line 4: ticlts: expected the end of the line, found 'reldata=0'
+provider ticlts tsdu=1 sendzero=1 same_addr=0 sndbuf=1 rcvbuf=1~1 0 sndreldata 0~|line 5: sndreldata: field 'udata' is missing
+provider ticlts tsdu=1 sendzero=1 same_addr=0 sndbuf=1 rcvbuf=1~1 0 rcvreldata 0 umax=64 => ok T_IDLE~|line 5: rcvreldata: answer: expected bytes after x:, found 'T_IDLE'
+provider ticlts tsdu=1 sendzero=1 same_addr=0 sndbuf=1 rcvbuf=1~stall 0 sndreldata 0 udata=x: x~|line 5: stall: sndreldata: expected the end of the line, found 'x'
 ",
     },
     Group {

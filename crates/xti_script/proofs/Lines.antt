@@ -3,6 +3,7 @@ use Rattle.std.proofs.Common.{◌≡◌, refl, sym, ap, subst, ◌∙◌, ℕ, �
 use Rattle.std.specs.List.{list_all}
 use Rattle.std.proofs.lemmas.List.Elements.{All-nil, All-cons}
 use Rattle.xti_base.specs.declared.limits.TheConstants.{LAST_WORKER}
+use Rattle.xti_model.specs.declared.profile.Version.{Version}
 use Rattle.xti_model.specs.declared.script.NamedCall.{NamedCall}
 use Rattle.xti_model.specs.declared.script.NamedCall.TheVariants as call
 use Rattle.xti_model.specs.declared.script.Line.{Line}
@@ -134,25 +135,25 @@ made (call.TGetProtAddr fd amax pmax) = refl
 made (call.TOptMgmt fd action opt omax) = refl
 made (call.SetMode fd nonblock) = refl
 
--- scripts have the call
-abbrev pub IsInTexts : NamedCall → Type 0
-IsInTexts call = is_in_texts (written_call call).verb ≡ true
+-- scripts of the version have the call
+abbrev pub IsInTexts : Version → NamedCall → Type 0
+IsInTexts version call = is_in_texts version (written_call call).verb ≡ true
 
 -- the text of each of the call's values is read there as this value
 abbrev pub CallReads : Spot → NamedCall → Type 0
 CallReads s call = AllReads s (form (written_call call).verb) (written_call call).values
 
 -- a call that is written whole: its text is words without a space or an end of a line, and they are the call
-pub record CallWritten (s : Spot) (call : NamedCall) : Type 0 where
+pub record CallWritten (version : Version) (s : Spot) (call : NamedCall) : Type 0 where
   pub first : List ℕ
   pub others : List (List ℕ)
   pub text_is : call_text call ≡ first ++ after_each 32 others
-  pub is_call : IsCall s call (first ∷ others)
+  pub is_call : IsCall version s call (first ∷ others)
   pub spaceless : AllLack 32 (first ∷ others)
   pub endless : AllLack 10 (first ∷ others)
 
-pub call_written : (s : Spot) (call : NamedCall) → IsInTexts call → CallReads s call → CallWritten s call
-call_written s call t h =
+pub call_written : (version : Version) (s : Spot) (call : NamedCall) → IsInTexts version call → CallReads s call → CallWritten version s call
+call_written version s call t h =
     let w = written_call call in
     let f = fields_written s (form w.verb) w.values h in
     record {
@@ -164,13 +165,13 @@ call_written s call t h =
       endless = ((word_fits w.verb).endless, f.endless);
     }
 
-call_read : (s : Spot) (call : NamedCall) (words : List (List ℕ)) → AllLack 32 words → AllLack 10 words → IsCall s call words → CallReads s call
-call_read s call words space line h =
+call_read : (version : Version) (s : Spot) (call : NamedCall) (words : List (List ℕ)) → AllLack 32 words → AllLack 10 words → IsCall version s call words → CallReads s call
+call_read version s call words space line h =
     subst (λ (w : Written). AllReads s (form w.verb) w.values) (sym (written_is h.verb h.values call h.made))
     (fields_read s (form h.verb) h.values h.fields (subst (AllLack 32) h.spelled space).1 (subst (AllLack 10) h.spelled line).1 h.are_fields)
 
-call_in_texts : (s : Spot) (call : NamedCall) (words : List (List ℕ)) → IsCall s call words → IsInTexts call
-call_in_texts s call words h = subst (λ (w : Written). is_in_texts w.verb ≡ true) (sym (written_is h.verb h.values call h.made)) h.in_texts
+call_in_texts : (version : Version) (s : Spot) (call : NamedCall) (words : List (List ℕ)) → IsCall version s call words → IsInTexts version call
+call_in_texts version s call words h = subst (λ (w : Written). is_in_texts version w.verb ≡ true) (sym (written_is h.verb h.values call h.made)) h.in_texts
 
 -- ---- lines
 
@@ -185,20 +186,20 @@ joined_lacks : (byte : ℕ) (texts : List (List ℕ)) → eqb 32 byte ≡ false 
 joined_lacks byte [] e h = All-nil (λ c. eqb c byte ≡ false)
 joined_lacks byte (text ∷ texts) e h = All-cons (λ c. eqb c byte ≡ false) 32 (text ++ after_each 32 texts) e (lacks_both byte text (after_each 32 texts) h.0 (joined_lacks byte texts e h.1))
 
--- the worker is one, scripts have the call, and the text of each of its values is read there as this value
-pub record LineReads (earlier : List Line) (line : Line) : Type 0 where
+-- the worker is one, scripts of the version have the call, and the text of each of its values is read there as this value
+pub record LineReads (version : Version) (earlier : List Line) (line : Line) : Type 0 where
   pub is_worker : line.worker ≤ LAST_WORKER
-  pub in_texts : IsInTexts line.call
+  pub in_texts : IsInTexts version line.call
   pub call : CallReads (after earlier line.worker) line.call
 
 -- a line that is written whole
-pub record LineWritten (earlier : List Line) (line : Line) : Type 0 where
-  pub is_line : IsLine earlier line (bare_line line)
+pub record LineWritten (version : Version) (earlier : List Line) (line : Line) : Type 0 where
+  pub is_line : IsLine version earlier line (bare_line line)
   pub endless : Lacks 10 (bare_line line)
 
-pub line_written : (earlier : List Line) (line : Line) → LineReads earlier line → LineWritten earlier line
-line_written earlier line h =
-    let c = call_written (after earlier line.worker) line.call h.in_texts h.call in
+pub line_written : (version : Version) (earlier : List Line) (line : Line) → LineReads version earlier line → LineWritten version earlier line
+line_written version earlier line h =
+    let c = call_written version (after earlier line.worker) line.call h.in_texts h.call in
     let small : line.worker < 4294967296 = let most = h.is_worker in omega arith in
     let bare : bare_line line ≡ decimal line.worker ++ after_each 32 (c.first ∷ c.others) =
     append_assoc (decimal line.worker) (codes " ") (call_text line.call) ∙ ap (λ t. decimal line.worker ++ 32 ∷ t) c.text_is in
@@ -209,8 +210,8 @@ line_written earlier line h =
       endless = subst (Lacks 10) (sym bare) (lacks_both 10 (decimal line.worker) (after_each 32 (c.first ∷ c.others)) (number_lacks 10 line.worker (omega arith) small) (joined_lacks 10 (c.first ∷ c.others) refl c.endless));
     }
 
-pub line_read : (earlier : List Line) (line : Line) (text : List ℕ) → Lacks 10 text → IsLine earlier line text → LineReads earlier line
-line_read earlier line text endless h =
+pub line_read : (version : Version) (earlier : List Line) (line : Line) (text : List ℕ) → Lacks 10 text → IsLine version earlier line text → LineReads version earlier line
+line_read version earlier line text endless h =
     let space : AllLack 32 (h.number ∷ h.words) = subst (AllLack 32) h.split (pieces_lack_separator 32 text) in
     let end : AllLack 10 (h.number ∷ h.words) = subst (AllLack 10) h.split (pieces_lack 32 10 text endless) in
-    record { is_worker = h.is_worker; in_texts = call_in_texts (after earlier line.worker) line.call h.words h.call; call = call_read (after earlier line.worker) line.call h.words space.1 end.1 h.call }
+    record { is_worker = h.is_worker; in_texts = call_in_texts version (after earlier line.worker) line.call h.words h.call; call = call_read version (after earlier line.worker) line.call h.words space.1 end.1 h.call }

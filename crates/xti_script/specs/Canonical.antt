@@ -16,7 +16,7 @@ use Rattle.xti_verbs.specs.declared.verb.Verb.TheVariants.{Open, Bind, Connect, 
 use Rattle.xti_script_reader.specs.Fields.{key_word}
 use Rattle.xti_verbs.specs.Verbs.{plain_name, verb_of_named, verb_word}
 use Rattle.xti_script_reader.specs.Calls.{form}
-use Rattle.xti_script_reader.specs.Grammar.{IsScript}
+use Rattle.xti_script_reader.specs.Grammar.{first_line, IsScript}
 
 -- the texts of several values, separated by commas
 abbrev pub listed : {A : Type 0} → (A → List ℕ) → List A → List ℕ
@@ -127,9 +127,9 @@ call_text c = text_of (written_call c)
 abbrev pub line_text : Line → List ℕ
 line_text line = decimal line.worker ++ codes " " ++ call_text line.call ++ codes "\n"
 
--- the text of a script whose providers have their usual values
+-- the text of a script whose providers have the usual values of its version: the first line of the version, and the lines of calls
 unfoldable pub script_text : Script → List ℕ
-script_text s = codes "xti-script 1\n" ++ flat_map line_text s.lines
+script_text s = first_line s.providers.version ++ codes "\n" ++ flat_map line_text s.lines
 
 -- where the canonical text of the first is a text of the other, they are the same
 abbrev pub AreSameIfRead : Script → Script → Type 0

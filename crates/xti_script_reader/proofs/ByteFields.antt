@@ -4,6 +4,7 @@ use Rattle.std.specs.Prelude.{codes, option_map}
 use Rattle.std.specs.List.{concat}
 use Rattle.std.specs.Str.{bytes_eq}
 use Rattle.std.proofs.lemmas.List.Elements.{All-nil}
+use Rattle.xti_model.specs.declared.profile.Version.{Version}
 use Rattle.xti_model.specs.Resolve.{listens}
 use Rattle.xti_base.specs.declared.limits.TheConstants.{MOST_SEND, MOST_ADDRESS, MOST_OPTIONS, MOST_CONNECT_DATA}
 use Rattle.xti_model.specs.declared.script.NamedCall.{NamedCall}
@@ -141,18 +142,18 @@ call-bytes OptMgmt (Name v1 ∷ Number v2 ∷ Bytes v3 ∷ Number v4 ∷ []) d h
 call-bytes SetMode (Name v1 ∷ Mode v2 ∷ []) d h e = same (call.SetMode v1 v2) d tt e
 call-bytes verb values d h e = absurd (none-is d e)
 
-argument-bytes : (s : Spot) (c : NamedCall) (words : List (List ℕ)) → IsCall s c words → HasByteArguments c
-argument-bytes s c words h = call-bytes h.verb h.values c (field-bytes s _ h.values h.fields h.are_fields) h.made
+argument-bytes : (version : Version) (s : Spot) (c : NamedCall) (words : List (List ℕ)) → IsCall version s c words → HasByteArguments c
+argument-bytes version s c words h = call-bytes h.verb h.values c (field-bytes s _ h.values h.fields h.are_fields) h.made
 
 -- ---- scripts
 
-lines-bytes : (earlier lines : List Line) (texts : List (List ℕ)) → AreLines earlier lines texts → AllHaveByteArguments lines
-lines-bytes earlier [] texts h = tt
-lines-bytes earlier (line ∷ lines) [] h = absurd h
-lines-bytes earlier (line ∷ lines) (text ∷ texts) h = (argument-bytes (after earlier line.worker) line.call h.0.words h.0.call, lines-bytes (earlier ++ line ∷ []) lines texts h.1)
+lines-bytes : (version : Version) (earlier lines : List Line) (texts : List (List ℕ)) → AreLines version earlier lines texts → AllHaveByteArguments lines
+lines-bytes version earlier [] texts h = tt
+lines-bytes version earlier (line ∷ lines) [] h = absurd h
+lines-bytes version earlier (line ∷ lines) (text ∷ texts) h = (argument-bytes version (after earlier line.worker) line.call h.0.words h.0.call, lines-bytes version (earlier ++ line ∷ []) lines texts h.1)
 
 pub script_has_byte_arguments : (s : Script) → HasText s → AllHaveByteArguments s.lines
-script_has_byte_arguments s h = lines-bytes [] s.lines (calls_in h.1.form.rest) h.1.form.lines
+script_has_byte_arguments s h = lines-bytes s.providers.version [] s.lines (calls_in h.1.form.rest) h.1.form.lines
 
 -- a call whose arguments are of bytes sends bytes
 named-sends : (c : NamedCall) → HasByteArguments c → NamedSendsBytes c

@@ -2,13 +2,17 @@
 use Rattle.std.proofs.Common.{◌≡◌, ℕ, ◌⊎◌, inl, inr, Bool, true, false, cond, List, [], ◌∷◌, ◌++◌, Option, Some, None, refl, sym, ap, subst, ◌∙◌, append_assoc}
 use Rattle.std.specs.Prelude.{codes}
 use Rattle.std.specs.List.{list_any}
+use Rattle.std.specs.Str.{bytes_eq}
 use Rattle.std.proofs.lemmas.Bool.{or_parts}
 use Rattle.xti_model.specs.declared.script.Line.{Line}
 use Rattle.xti_model.specs.declared.profile.Providers.{Providers}
+use Rattle.xti_model.specs.declared.profile.Version.{Version}
+use Rattle.xti_model.specs.declared.profile.Version.TheVariants.{One, Two}
+use Rattle.xti_model.specs.Profile.{usual_of}
 use Rattle.xti_head.specs.Head.{head_of}
 use Rattle.xti_words.specs.Texts.{text_of, words_of}
 use Rattle.xti_words.specs.Values.{number_in}
-use Rattle.xti_script_reader.specs.Grammar.{AreLines, is_mark, calls_in, HasHead, HasNoHead}
+use Rattle.xti_script_reader.specs.Grammar.{first_line, AreLines, is_mark, calls_in, HasHead, HasNoHead}
 use Rattle.xti_script_reader.specs.Reading.{to_mark, onto_parts, any_line_of}
 use Rattle.xti_script_reader.proofs.CallLaws.{is_word, is_line}
 
@@ -17,6 +21,21 @@ mark = codes "+++"
 
 abbrev pub Parts : Type 0
 Parts = List (List ℕ) × List (List ℕ)
+
+-- ---- the first line
+
+-- a text has one version by it
+pub same_version : (v w : Version) (texts others : List (List ℕ)) → first_line v ∷ texts ≡ first_line w ∷ others → v ≡ w
+same_version One One texts others e = refl
+same_version Two Two texts others e = refl
+same_version One Two texts others e =
+    let same : first_line One ≡ first_line Two = cc in
+    let never : true ≡ false = ap (λ (line : List ℕ). bytes_eq line (first_line One)) same in
+    absurd cc
+same_version Two One texts others e =
+    let same : first_line Two ≡ first_line One = cc in
+    let never : true ≡ false = ap (λ (line : List ℕ). bytes_eq line (first_line Two)) same in
+    absurd cc
 
 -- ---- the first mark
 
@@ -58,7 +77,7 @@ IsUnmarked texts = (more : List (List ℕ)) → texts ≡ mark ∷ more → ⊥
 abbrev pub Opens : Providers → List (List ℕ) → List (List ℕ) → Type 0
 Opens p texts rest = HasHead p texts rest ⊎ (HasNoHead p texts rest × IsUnmarked texts)
 
-tails : (x y : List ℕ) (xs ys : List (List ℕ)) → x ∷ xs ≡ y ∷ ys → xs ≡ ys
+pub tails : (x y : List ℕ) (xs ys : List (List ℕ)) → x ∷ xs ≡ y ∷ ys → xs ≡ ys
 tails x y xs ys e = cc
 
 given : (x y : Providers) → Some x ≡ Some y → x ≡ y
@@ -67,37 +86,37 @@ given x y e = cc
 pair : (x y : Parts) → Some x ≡ Some y → x ≡ y
 pair x y e = cc
 
-pub head_after : (p : Providers) (texts rest : List (List ℕ)) → HasHead p (mark ∷ texts) rest → (head : List (List ℕ)) × (to_mark texts ≡ Some (head, rest)) × (head_of (text_of head) ≡ Some p)
+pub head_after : (p : Providers) (texts rest : List (List ℕ)) → HasHead p (mark ∷ texts) rest → (head : List (List ℕ)) × (to_mark texts ≡ Some (head, rest)) × (head_of p.version (text_of head) ≡ Some p)
 head_after p texts rest h = (h.head, ap to_mark (tails mark mark texts (h.head ++ mark ∷ rest) h.split) ∙ mark_at h.head rest h.next, h.gives)
 
-two_heads : (p q : Providers) (texts rest other : List (List ℕ)) → HasHead p texts rest → HasHead q texts other → (p ≡ q) × (rest ≡ other)
-two_heads p q texts rest other h k =
+two_heads : (p q : Providers) (texts rest other : List (List ℕ)) → p.version ≡ q.version → HasHead p texts rest → HasHead q texts other → (p ≡ q) × (rest ≡ other)
+two_heads p q texts rest other v h k =
     let same : h.head ++ mark ∷ rest ≡ k.head ++ mark ∷ other = tails mark mark _ _ (sym h.split ∙ k.split) in
     let e = pair _ _ (sym (mark_at h.head rest h.next) ∙ ap to_mark same ∙ mark_at k.head other k.next) in
     let head : h.head ≡ k.head = ap (λ (x : Parts). x.0) e in
-    (given p q (sym h.gives ∙ ap (λ (ts : List (List ℕ)). head_of (text_of ts)) head ∙ k.gives), ap (λ (x : Parts). x.1) e)
+    (given p q (sym h.gives ∙ ap (λ (w : Version). head_of w (text_of h.head)) v ∙ ap (λ (ts : List (List ℕ)). head_of q.version (text_of ts)) head ∙ k.gives), ap (λ (x : Parts). x.1) e)
 
-pub one_head : (p q : Providers) (texts rest other : List (List ℕ)) → Opens p texts rest → Opens q texts other → (p ≡ q) × (rest ≡ other)
-one_head p q texts rest other (inl h) (inl k) = two_heads p q texts rest other h k
-one_head p q texts rest other (inl h) (inr k) = absurd (k.1 _ h.split)
-one_head p q texts rest other (inr h) (inl k) = absurd (h.1 _ k.split)
-one_head p q texts rest other (inr h) (inr k) = (h.0.0 ∙ sym k.0.0, sym h.0.1 ∙ k.0.1)
+pub one_head : (p q : Providers) (texts rest other : List (List ℕ)) → p.version ≡ q.version → Opens p texts rest → Opens q texts other → (p ≡ q) × (rest ≡ other)
+one_head p q texts rest other v (inl h) (inl k) = two_heads p q texts rest other v h k
+one_head p q texts rest other v (inl h) (inr k) = absurd (k.1 _ h.split)
+one_head p q texts rest other v (inr h) (inl k) = absurd (h.1 _ k.split)
+one_head p q texts rest other v (inr h) (inr k) = (h.0.0 ∙ ap usual_of v ∙ sym k.0.0, sym h.0.1 ∙ k.0.1)
 
 -- a mark is no line
-no_line : any_line_of [] (words_of mark) ≡ None
+no_line : (version : Version) → any_line_of version [] (words_of mark) ≡ None
 unfolding any_line_of number_in
-no_line = refl
+no_line version = refl
 
-pub unmarked : (lines : List Line) (texts : List (List ℕ)) → AreLines [] lines (calls_in texts) → IsUnmarked texts
-unmarked lines texts good more e = by_lines lines (subst (λ (ts : List (List ℕ)). AreLines [] lines (calls_in ts)) e good)
+pub unmarked : (version : Version) (lines : List Line) (texts : List (List ℕ)) → AreLines version [] lines (calls_in texts) → IsUnmarked texts
+unmarked version lines texts good more e = by_lines lines (subst (λ (ts : List (List ℕ)). AreLines version [] lines (calls_in ts)) e good)
   where
-    by_lines : (lines : List Line) → AreLines [] lines (mark ∷ calls_in more) → ⊥
+    by_lines : (lines : List Line) → AreLines version [] lines (mark ∷ calls_in more) → ⊥
     by_lines [] g = g
-    by_lines (line ∷ lines) g = let never = sym no_line ∙ is_line [] mark line g.0 in cc
+    by_lines (line ∷ lines) g = let never = sym (no_line version) ∙ is_line version [] mark line g.0 in cc
 
-pub opens : (p : Providers) (lines : List Line) (texts rest : List (List ℕ)) → HasHead p texts rest ⊎ HasNoHead p texts rest → AreLines [] lines (calls_in rest) → Opens p texts rest
+pub opens : (p : Providers) (lines : List Line) (texts rest : List (List ℕ)) → HasHead p texts rest ⊎ HasNoHead p texts rest → AreLines p.version [] lines (calls_in rest) → Opens p texts rest
 opens p lines texts rest (inl h) good = inl h
-opens p lines texts rest (inr h) good = inr (h, rw h.1 (unmarked lines rest good))
+opens p lines texts rest (inr h) good = inr (h, rw h.1 (unmarked p.version lines rest good))
 
 -- ---- the same head before other lines
 

@@ -6,6 +6,7 @@ use Rattle.std.proofs.lemmas.List.Elements.{filter-append}
 use Rattle.std.proofs.lemmas.List.Sums.{sum_by-append}
 use Rattle.std.specs.Prelude.{not}
 use Rattle.xti_base.specs.declared.limits.TheConstants.{MOST_LINES, MOST_ARGUMENT_BYTES}
+use Rattle.xti_model.specs.declared.profile.Version.{Version}
 use Rattle.xti_model.specs.declared.script.Line.{Line}
 use Rattle.xti_model.specs.Work.{argument_bytes, script_bytes}
 use Rattle.xti_words.specs.Texts.{words_of}
@@ -47,29 +48,29 @@ too_many earlier more line none small =
 -- ---- one text
 
 -- what a text is after the earlier lines
-data Fate (earlier : List Line) (text : List ℕ) (outcome : Taken × List Line) : Type 0 where
-  passed : is_passed text ≡ true → outcome ≡ (taken.Read, earlier) → Fate earlier text outcome
-  added : (line : Line) → is_passed text ≡ false → any_line_of earlier (words_of text) ≡ Some line → has_room earlier line ≡ true → outcome ≡ (taken.Read, earlier ++ line ∷ []) → Fate earlier text outcome
-  wrong : is_passed text ≡ false → any_line_of earlier (words_of text) ≡ None → outcome ≡ (taken.Wrong, earlier) → Fate earlier text outcome
-  over : (line : Line) → is_passed text ≡ false → any_line_of earlier (words_of text) ≡ Some line → has_room earlier line ≡ false → outcome ≡ (taken.TooMany, earlier) → Fate earlier text outcome
+data Fate (version : Version) (earlier : List Line) (text : List ℕ) (outcome : Taken × List Line) : Type 0 where
+  passed : is_passed text ≡ true → outcome ≡ (taken.Read, earlier) → Fate version earlier text outcome
+  added : (line : Line) → is_passed text ≡ false → any_line_of version earlier (words_of text) ≡ Some line → has_room earlier line ≡ true → outcome ≡ (taken.Read, earlier ++ line ∷ []) → Fate version earlier text outcome
+  wrong : is_passed text ≡ false → any_line_of version earlier (words_of text) ≡ None → outcome ≡ (taken.Wrong, earlier) → Fate version earlier text outcome
+  over : (line : Line) → is_passed text ≡ false → any_line_of version earlier (words_of text) ≡ Some line → has_room earlier line ≡ false → outcome ≡ (taken.TooMany, earlier) → Fate version earlier text outcome
 
-by_room : (earlier : List Line) (text : List ℕ) (line : Line) (outcome : Taken × List Line) (room : Bool) → is_passed text ≡ false → any_line_of earlier (words_of text) ≡ Some line → has_room earlier line ≡ room
-    → outcome ≡ cond room (taken.Read, earlier ++ line ∷ []) (taken.TooMany, earlier) → Fate earlier text outcome
-by_room earlier text line outcome true n s r e = added line n s r e
-by_room earlier text line outcome false n s r e = over line n s r e
+by_room : (version : Version) (earlier : List Line) (text : List ℕ) (line : Line) (outcome : Taken × List Line) (room : Bool) → is_passed text ≡ false → any_line_of version earlier (words_of text) ≡ Some line → has_room earlier line ≡ room
+    → outcome ≡ cond room (taken.Read, earlier ++ line ∷ []) (taken.TooMany, earlier) → Fate version earlier text outcome
+by_room version earlier text line outcome true n s r e = added line n s r e
+by_room version earlier text line outcome false n s r e = over line n s r e
 
-by_line : (earlier : List Line) (text : List ℕ) (outcome : Taken × List Line) (o : Option Line) → is_passed text ≡ false → any_line_of earlier (words_of text) ≡ o → outcome ≡ longer earlier o → Fate earlier text outcome
+by_line : (version : Version) (earlier : List Line) (text : List ℕ) (outcome : Taken × List Line) (o : Option Line) → is_passed text ≡ false → any_line_of version earlier (words_of text) ≡ o → outcome ≡ longer earlier o → Fate version earlier text outcome
 unfolding extended
-by_line earlier text outcome None n s e = wrong n s e
-by_line earlier text outcome (Some line) n s e = by_room earlier text line outcome (has_room earlier line) n s refl e
+by_line version earlier text outcome None n s e = wrong n s e
+by_line version earlier text outcome (Some line) n s e = by_room version earlier text line outcome (has_room earlier line) n s refl e
 
-by_passing : (earlier : List Line) (text : List ℕ) (outcome : Taken × List Line) (b : Bool) → is_passed text ≡ b → outcome ≡ cond b (taken.Read, earlier) (longer earlier (any_line_of earlier (words_of text))) → Fate earlier text outcome
-by_passing earlier text outcome true p e = passed p e
-by_passing earlier text outcome false p e = by_line earlier text outcome (any_line_of earlier (words_of text)) p refl e
+by_passing : (version : Version) (earlier : List Line) (text : List ℕ) (outcome : Taken × List Line) (b : Bool) → is_passed text ≡ b → outcome ≡ cond b (taken.Read, earlier) (longer earlier (any_line_of version earlier (words_of text))) → Fate version earlier text outcome
+by_passing version earlier text outcome true p e = passed p e
+by_passing version earlier text outcome false p e = by_line version earlier text outcome (any_line_of version earlier (words_of text)) p refl e
 
-fate : (earlier : List Line) (text : List ℕ) → Fate earlier text (after_text earlier text)
+fate : (version : Version) (earlier : List Line) (text : List ℕ) → Fate version earlier text (after_text version earlier text)
 unfolding after_text
-fate earlier text = by_passing earlier text _ (is_passed text) refl refl
+fate version earlier text = by_passing version earlier text _ (is_passed text) refl refl
 
 -- ---- calls among the lines
 
@@ -88,10 +89,10 @@ calls_around front text back n = calls_append front (text ∷ back) ∙ ap (λ (
 
 -- ---- what is read
 
-pub record Whole (earlier all : List Line) (texts : List (List ℕ)) : Type 0 where
+pub record Whole (version : Version) (earlier all : List Line) (texts : List (List ℕ)) : Type 0 where
   pub lines : List Line
   pub same : all ≡ earlier ++ lines
-  pub good : AreLines earlier lines (calls_in texts)
+  pub good : AreLines version earlier lines (calls_in texts)
   pub small : IsSmall all
 
 abbrev read : List Line → Result (List Line) ScriptFail
@@ -100,14 +101,14 @@ read x = Ok x
 got : (x y : List Line) → read x ≡ read y → x ≡ y
 got x y e = cc
 
-pub lines_are : (number : ℕ) (earlier all : List Line) (texts : List (List ℕ)) → IsSmall earlier → lines_from number earlier texts ≡ Ok all → Whole earlier all texts
+pub lines_are : (version : Version) (number : ℕ) (earlier all : List Line) (texts : List (List ℕ)) → IsSmall earlier → lines_from version number earlier texts ≡ Ok all → Whole version earlier all texts
 unfolding lines_from
-lines_are number earlier all [] small e =
+lines_are version number earlier all [] small e =
     let same : earlier ≡ all = got earlier all e in
     record { lines = []; same = sym same ∙ sym (append-nil earlier); good = tt; small = subst IsSmall same small }
-lines_are number earlier all (text ∷ texts) small e = by_fate (λ lines. lines_are (number + 1) lines all texts) (fate earlier text)
+lines_are version number earlier all (text ∷ texts) small e = by_fate (λ lines. lines_are version (number + 1) lines all texts) (fate version earlier text)
   where
-    by_fate : ((lines : List Line) → IsSmall lines → lines_from (number + 1) lines texts ≡ Ok all → Whole lines all texts) → Fate earlier text (after_text earlier text) → Whole earlier all (text ∷ texts)
+    by_fate : ((lines : List Line) → IsSmall lines → lines_from version (number + 1) lines texts ≡ Ok all → Whole version lines all texts) → Fate version earlier text (after_text version earlier text) → Whole version earlier all (text ∷ texts)
     by_fate on (passed p o) =
         let later = on earlier small (rw o at e) in
         record { lines = later.lines; same = later.same; good = rw (call_passed text texts p) later.good; small = later.small }
@@ -116,7 +117,7 @@ lines_are number earlier all (text ∷ texts) small e = by_fate (λ lines. lines
         record {
           lines = line ∷ later.lines;
           same = later.same ∙ regroup earlier later.lines line;
-          good = rw (call_first text texts n) (line_is earlier text line s, later.good);
+          good = rw (call_first text texts n) (line_is version earlier text line s, later.good);
           small = later.small;
         }
     by_fate on (wrong n s o) = let never : Err (fail.Bad number) ≡ Ok all = rw o at e in absurd cc
@@ -125,20 +126,20 @@ lines_are number earlier all (text ∷ texts) small e = by_fate (λ lines. lines
 -- ---- where reading stops
 
 -- why a text is refused after these lines: it is wrong, or there is no room for it
-abbrev pub Why : List Line → List ℕ → ℕ → ScriptFail → Type 0
-Why lines text n e =
-    ((e ≡ fail.Bad n) × (any_line_of lines (words_of text) ≡ None)) ⊎ ((line : Line) × (e ≡ fail.TooMany n) × (any_line_of lines (words_of text) ≡ Some line) × (has_room lines line ≡ false))
+abbrev pub Why : Version → List Line → List ℕ → ℕ → ScriptFail → Type 0
+Why version lines text n e =
+    ((e ≡ fail.Bad n) × (any_line_of version lines (words_of text) ≡ None)) ⊎ ((line : Line) × (e ≡ fail.TooMany n) × (any_line_of version lines (words_of text) ≡ Some line) × (has_room lines line ≡ false))
 
-pub record Stop (number : ℕ) (earlier : List Line) (texts : List (List ℕ)) (e : ScriptFail) : Type 0 where
+pub record Stop (version : Version) (number : ℕ) (earlier : List Line) (texts : List (List ℕ)) (e : ScriptFail) : Type 0 where
   pub front : List (List ℕ)
   pub text : List ℕ
   pub back : List (List ℕ)
   pub lines : List Line
   pub parts : texts ≡ front ++ text ∷ back
-  pub good : AreLines earlier lines (calls_in front)
+  pub good : AreLines version earlier lines (calls_in front)
   pub small : IsSmall (earlier ++ lines)
   pub call : is_passed text ≡ false
-  pub why : Why (earlier ++ lines) text (number + length front) e
+  pub why : Why version (earlier ++ lines) text (number + length front) e
 
 abbrev unread : ScriptFail → Result (List Line) ScriptFail
 unread x = Err x
@@ -146,12 +147,12 @@ unread x = Err x
 failed : (x y : ScriptFail) → unread x ≡ unread y → x ≡ y
 failed x y e = cc
 
-pub stops : (number : ℕ) (earlier : List Line) (texts : List (List ℕ)) (e : ScriptFail) → IsSmall earlier → lines_from number earlier texts ≡ Err e → Stop number earlier texts e
+pub stops : (version : Version) (number : ℕ) (earlier : List Line) (texts : List (List ℕ)) (e : ScriptFail) → IsSmall earlier → lines_from version number earlier texts ≡ Err e → Stop version number earlier texts e
 unfolding lines_from
-stops number earlier [] e small r = absurd cc
-stops number earlier (text ∷ texts) e small r = by_fate (λ lines. stops (number + 1) lines texts e) (fate earlier text)
+stops version number earlier [] e small r = absurd cc
+stops version number earlier (text ∷ texts) e small r = by_fate (λ lines. stops version (number + 1) lines texts e) (fate version earlier text)
   where
-    here : is_passed text ≡ false → Why earlier text number e → Stop number earlier (text ∷ texts) e
+    here : is_passed text ≡ false → Why version earlier text number e → Stop version number earlier (text ∷ texts) e
     here n why = record {
       front = [];
       text = text;
@@ -167,7 +168,7 @@ stops number earlier (text ∷ texts) e small r = by_fate (λ lines. stops (numb
         zero_more : (n : ℕ) → n + 0 ≡ n
         zero_more n = omega arith
 
-    by_fate : ((lines : List Line) → IsSmall lines → lines_from (number + 1) lines texts ≡ Err e → Stop (number + 1) lines texts e) → Fate earlier text (after_text earlier text) → Stop number earlier (text ∷ texts) e
+    by_fate : ((lines : List Line) → IsSmall lines → lines_from version (number + 1) lines texts ≡ Err e → Stop version (number + 1) lines texts e) → Fate version earlier text (after_text version earlier text) → Stop version number earlier (text ∷ texts) e
     by_fate on (passed p o) =
         let l = on earlier small (rw o at r) in
         let place : (number + 1) + length l.front ≡ number + length (text ∷ l.front) = omega arith in
@@ -180,7 +181,7 @@ stops number earlier (text ∷ texts) e small r = by_fate (λ lines. stops (numb
           good = rw (call_passed text l.front p) l.good;
           small = l.small;
           call = l.call;
-          why = subst (λ (n : ℕ). Why (earlier ++ l.lines) l.text n e) place l.why;
+          why = subst (λ (n : ℕ). Why version (earlier ++ l.lines) l.text n e) place l.why;
         }
     by_fate on (added line n s room o) =
         let l = on (earlier ++ line ∷ []) (grows earlier line room) (rw o at r) in
@@ -191,10 +192,10 @@ stops number earlier (text ∷ texts) e small r = by_fate (λ lines. stops (numb
           back = l.back;
           lines = line ∷ l.lines;
           parts = ap (λ (ts : List (List ℕ)). text ∷ ts) l.parts;
-          good = rw (call_first text l.front n) (line_is earlier text line s, l.good);
+          good = rw (call_first text l.front n) (line_is version earlier text line s, l.good);
           small = rw (← regroup earlier l.lines line) l.small;
           call = l.call;
-          why = subst (λ (n : ℕ). Why (earlier ++ (line ∷ l.lines)) l.text n e) place (rw (regroup earlier l.lines line) at l.why);
+          why = subst (λ (n : ℕ). Why version (earlier ++ (line ∷ l.lines)) l.text n e) place (rw (regroup earlier l.lines line) at l.why);
         }
     by_fate on (wrong n s o) = here n (inl (sym (failed _ _ (rw o at r)), s))
     by_fate on (over line n s room o) = here n (inr (line, sym (failed _ _ (rw o at r)), s, room))
@@ -202,19 +203,19 @@ stops number earlier (text ∷ texts) e small r = by_fate (λ lines. stops (numb
 -- ---- lines that begin with others
 
 -- what follows the lines of the first texts
-pub record Further (earlier lines all : List Line) (back : List (List ℕ)) : Type 0 where
+pub record Further (version : Version) (earlier lines all : List Line) (back : List (List ℕ)) : Type 0 where
   pub more : List Line
   pub same : all ≡ lines ++ more
-  pub good : AreLines (earlier ++ lines) more back
+  pub good : AreLines version (earlier ++ lines) more back
 
-pub further : (earlier lines all : List Line) (front back : List (List ℕ)) → AreLines earlier lines front → AreLines earlier all (front ++ back) → Further earlier lines all back
-further earlier [] all [] back good whole = record { more = all; same = refl; good = rw append-nil whole }
-further earlier [] all (text ∷ front) back good whole = absurd good
-further earlier (line ∷ lines) all [] back good whole = absurd good
-further earlier (line ∷ lines) [] (text ∷ front) back good whole = absurd whole
-further earlier (line ∷ lines) (other ∷ all) (text ∷ front) back good whole =
-    let one : line ≡ other = one_line earlier text line other good.0 whole.0 in
-    let later = further (earlier ++ line ∷ []) lines all front back good.1 (rw (← one) at whole.1) in
+pub further : (version : Version) (earlier lines all : List Line) (front back : List (List ℕ)) → AreLines version earlier lines front → AreLines version earlier all (front ++ back) → Further version earlier lines all back
+further version earlier [] all [] back good whole = record { more = all; same = refl; good = rw append-nil whole }
+further version earlier [] all (text ∷ front) back good whole = absurd good
+further version earlier (line ∷ lines) all [] back good whole = absurd good
+further version earlier (line ∷ lines) [] (text ∷ front) back good whole = absurd whole
+further version earlier (line ∷ lines) (other ∷ all) (text ∷ front) back good whole =
+    let one : line ≡ other = one_line version earlier text line other good.0 whole.0 in
+    let later = further version (earlier ++ line ∷ []) lines all front back good.1 (rw (← one) at whole.1) in
     record {
       more = later.more;
       same = ap (λ (l : Line). l ∷ all) (sym one) ∙ ap (λ (ls : List Line). line ∷ ls) later.same;
@@ -222,34 +223,34 @@ further earlier (line ∷ lines) (other ∷ all) (text ∷ front) back good whol
     }
 
 -- two lists of lines of the same texts are one
-pub same_lines : (earlier lines all : List Line) (texts : List (List ℕ)) → AreLines earlier lines texts → AreLines earlier all texts → lines ≡ all
-same_lines earlier lines all texts good whole =
-    let f = further earlier lines all texts [] good (rw append-nil whole) in
+pub same_lines : (version : Version) (earlier lines all : List Line) (texts : List (List ℕ)) → AreLines version earlier lines texts → AreLines version earlier all texts → lines ≡ all
+same_lines version earlier lines all texts good whole =
+    let f = further version earlier lines all texts [] good (rw append-nil whole) in
     none f.more f.good f.same
   where
-    none : (more : List Line) → AreLines (earlier ++ lines) more [] → all ≡ lines ++ more → lines ≡ all
+    none : (more : List Line) → AreLines version (earlier ++ lines) more [] → all ≡ lines ++ more → lines ≡ all
     none [] g e = sym (e ∙ append-nil lines)
     none (l ∷ more) g e = absurd g
 
 -- the line of a text after these
-pub record Next (earlier lines all : List Line) (text : List ℕ) : Type 0 where
+pub record Next (version : Version) (earlier lines all : List Line) (text : List ℕ) : Type 0 where
   pub line : Line
   pub more : List Line
   pub same : all ≡ lines ++ line ∷ more
-  pub is : any_line_of (earlier ++ lines) (words_of text) ≡ Some line
+  pub is : any_line_of version (earlier ++ lines) (words_of text) ≡ Some line
 
-pub next : (earlier lines all : List Line) (front : List (List ℕ)) (text : List ℕ) (back : List (List ℕ)) → AreLines earlier lines front → AreLines earlier all (front ++ text ∷ back) → Next earlier lines all text
-next earlier lines all front text back good whole =
-    let f = further earlier lines all front (text ∷ back) good whole in
+pub next : (version : Version) (earlier lines all : List Line) (front : List (List ℕ)) (text : List ℕ) (back : List (List ℕ)) → AreLines version earlier lines front → AreLines version earlier all (front ++ text ∷ back) → Next version earlier lines all text
+next version earlier lines all front text back good whole =
+    let f = further version earlier lines all front (text ∷ back) good whole in
     by_more f.more f.same f.good
   where
-    by_more : (more : List Line) → all ≡ lines ++ more → AreLines (earlier ++ lines) more (text ∷ back) → Next earlier lines all text
+    by_more : (more : List Line) → all ≡ lines ++ more → AreLines version (earlier ++ lines) more (text ∷ back) → Next version earlier lines all text
     by_more [] e g = absurd g
-    by_more (line ∷ more) e g = record { line = line; more = more; same = e; is = is_line (earlier ++ lines) text line g.0 }
+    by_more (line ∷ more) e g = record { line = line; more = more; same = e; is = is_line version (earlier ++ lines) text line g.0 }
 
 -- lines and then others
-pub lines_append : (earlier lines more : List Line) (front back : List (List ℕ)) → AreLines earlier lines front → AreLines (earlier ++ lines) more back → AreLines earlier (lines ++ more) (front ++ back)
-lines_append earlier [] more [] back good others = rw append-nil at others
-lines_append earlier [] more (text ∷ front) back good others = absurd good
-lines_append earlier (line ∷ lines) more [] back good others = absurd good
-lines_append earlier (line ∷ lines) more (text ∷ front) back good others = (good.0, lines_append (earlier ++ line ∷ []) lines more front back good.1 (rw (regroup earlier lines line) others))
+pub lines_append : (version : Version) (earlier lines more : List Line) (front back : List (List ℕ)) → AreLines version earlier lines front → AreLines version (earlier ++ lines) more back → AreLines version earlier (lines ++ more) (front ++ back)
+lines_append version earlier [] more [] back good others = rw append-nil at others
+lines_append version earlier [] more (text ∷ front) back good others = absurd good
+lines_append version earlier (line ∷ lines) more [] back good others = absurd good
+lines_append version earlier (line ∷ lines) more (text ∷ front) back good others = (good.0, lines_append version (earlier ++ line ∷ []) lines more front back good.1 (rw (regroup earlier lines line) others))

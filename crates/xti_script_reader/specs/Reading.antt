@@ -4,15 +4,17 @@ use Rattle.std.specs.Str.{bytes_eq}
 use Rattle.std.specs.List.{concat, starts_with}
 use Rattle.xti_model.specs.declared.script.NamedCall.{NamedCall}
 use Rattle.xti_model.specs.declared.profile.Providers.{Providers}
+use Rattle.xti_model.specs.declared.profile.Version.{Version}
+use Rattle.xti_model.specs.declared.profile.Version.TheVariants.{One, Two}
 use Rattle.xti_model.specs.declared.script.Line.{Line}
 use Rattle.xti_model.specs.declared.script.Script.{Script}
-use Rattle.xti_model.specs.Profile.{usual}
+use Rattle.xti_model.specs.Profile.{usual_of}
 use Rattle.xti_head.specs.Head.{head_of}
 use Rattle.xti_script_reader.specs.declared.draft.Taken.{Taken}
 use Rattle.xti_script_reader.specs.declared.draft.Taken.TheVariants as taken
 use Rattle.xti_script_reader.specs.declared.script_text.ScriptFail.{ScriptFail}
 use Rattle.xti_script_reader.specs.declared.script_text.ScriptFail.TheVariants as fail
-use Rattle.xti_script_reader.specs.Grammar.{is_passed, is_mark}
+use Rattle.xti_script_reader.specs.Grammar.{first_line, is_passed, is_mark}
 use Rattle.xti_model.specs.Work.{argument_bytes, script_bytes}
 use Rattle.xti_script_reader.specs.FieldValue.{Value}
 use Rattle.xti_script_reader.specs.declared.fields.Key.{Key}
@@ -65,9 +67,9 @@ call_by_verb s None words = None
 call_by_verb s (Some verb) words = with_values verb (fields_of s (form verb) words)
 
 -- the call that the words of a line there give
-unfoldable pub call_of : Spot → List (List ℕ) → Option NamedCall
-call_of s [] = None
-call_of s (word ∷ words) = call_by_verb s (verb_in word) words
+unfoldable pub call_of : Version → Spot → List (List ℕ) → Option NamedCall
+call_of version s [] = None
+call_of version s (word ∷ words) = call_by_verb s (verb_in version word) words
 
 -- ---- lines
 
@@ -85,14 +87,14 @@ abbrev pub by_worker : ℕ → Option NamedCall → Option Line
 by_worker worker None = None
 by_worker worker (Some call) = Some (line_with worker call)
 
-abbrev pub call_by : List Line → Option ℕ → List (List ℕ) → Option Line
-call_by earlier None words = None
-call_by earlier (Some worker) words = by_worker worker (call_of (after earlier worker) words)
+abbrev pub call_by : Version → List Line → Option ℕ → List (List ℕ) → Option Line
+call_by version earlier None words = None
+call_by version earlier (Some worker) words = by_worker worker (call_of version (after earlier worker) words)
 
 -- the line that the words give, whatever the limits
-unfoldable pub any_line_of : List Line → List (List ℕ) → Option Line
-any_line_of earlier [] = None
-any_line_of earlier (word ∷ words) = call_by earlier (worker_of word) words
+unfoldable pub any_line_of : Version → List Line → List (List ℕ) → Option Line
+any_line_of version earlier [] = None
+any_line_of version earlier (word ∷ words) = call_by version earlier (worker_of word) words
 
 -- how many bytes two byte strings and these parts have
 abbrev pub bytes_with_parts : List ℕ → List ℕ → List (List ℕ) → ℕ
@@ -123,16 +125,16 @@ abbrev pub with_call : List Line → ℕ → NamedCall → Taken × List Line
 with_call earlier worker call = extended earlier (line_with worker call)
 
 -- what becomes of the line of this worker with these words, and the lines after it
-abbrev pub after_call_words : List Line → ℕ → List (List ℕ) → Taken × List Line
-after_call_words earlier worker words = longer earlier (call_by earlier (Some worker) words)
+abbrev pub after_call_words : Version → List Line → ℕ → List (List ℕ) → Taken × List Line
+after_call_words version earlier worker words = longer earlier (call_by version earlier (Some worker) words)
 
 -- what becomes of the line with these words, and the lines after it
-abbrev pub after_words : List Line → List (List ℕ) → Taken × List Line
-after_words earlier words = longer earlier (any_line_of earlier words)
+abbrev pub after_words : Version → List Line → List (List ℕ) → Taken × List Line
+after_words version earlier words = longer earlier (any_line_of version earlier words)
 
 -- what becomes of the line with this text
-unfoldable pub after_text : List Line → List ℕ → Taken × List Line
-after_text earlier text = if is_passed text then (taken.Read, earlier) else after_words earlier (words_of text)
+unfoldable pub after_text : Version → List Line → List ℕ → Taken × List Line
+after_text version earlier text = if is_passed text then (taken.Read, earlier) else after_words version earlier (words_of text)
 
 -- the lines after one that was read; else why there are none
 abbrev pub behind : ℕ → Taken × List Line → (List Line → Result (List Line) ScriptFail) → Result (List Line) ScriptFail
@@ -141,9 +143,9 @@ behind number (taken.Wrong, lines) others = Err (fail.Bad number)
 behind number (taken.TooMany, lines) others = Err (fail.TooMany number)
 
 -- the lines from this number on, after the earlier ones
-unfoldable pub lines_from : ℕ → List Line → List (List ℕ) → Result (List Line) ScriptFail
-lines_from number earlier [] = Ok earlier
-lines_from number earlier (text ∷ texts) = behind number (after_text earlier text) (λ lines. lines_from (number + 1) lines texts)
+unfoldable pub lines_from : Version → ℕ → List Line → List (List ℕ) → Result (List Line) ScriptFail
+lines_from version number earlier [] = Ok earlier
+lines_from version number earlier (text ∷ texts) = behind number (after_text version earlier text) (λ lines. lines_from version (number + 1) lines texts)
 
 -- ---- scripts
 
@@ -152,7 +154,7 @@ with_providers p (Ok lines) = Ok (record { providers = p; lines = lines })
 with_providers p (Err e) = Err e
 
 abbrev pub script_from : ℕ → Providers → List (List ℕ) → Result Script ScriptFail
-script_from number p texts = with_providers p (lines_from number [] texts)
+script_from number p texts = with_providers p (lines_from p.version number [] texts)
 
 -- the lines before the first `+++`, and those after it
 abbrev pub onto_parts : List ℕ → Option (List (List ℕ) × List (List ℕ)) → Option (List (List ℕ) × List (List ℕ))
@@ -168,16 +170,24 @@ with_head number texts None = Err (fail.Bad 2)
 with_head number texts (Some p) = script_from number p texts
 
 -- the head ends before line 4 and as many more as it has
-abbrev pub by_head : Option (List (List ℕ) × List (List ℕ)) → Result Script ScriptFail
-by_head None = Err (fail.Bad 2)
-by_head (Some parts) = with_head (4 + length parts.0) parts.1 (head_of (text_of parts.0))
+abbrev pub by_head : Version → Option (List (List ℕ) × List (List ℕ)) → Result Script ScriptFail
+by_head version None = Err (fail.Bad 2)
+by_head version (Some parts) = with_head (4 + length parts.0) parts.1 (head_of version (text_of parts.0))
 
 -- the lines from the second on
-unfoldable pub body_of : List (List ℕ) → Result Script ScriptFail
-body_of [] = script_from 2 usual []
-body_of (text ∷ texts) = if is_mark text then by_head (to_mark texts) else script_from 2 usual (text ∷ texts)
+unfoldable pub body_of : Version → List (List ℕ) → Result Script ScriptFail
+body_of version [] = script_from 2 (usual_of version) []
+body_of version (text ∷ texts) = if is_mark text then by_head version (to_mark texts) else script_from 2 (usual_of version) (text ∷ texts)
+
+-- the version whose first line this is
+unfoldable pub version_of : List ℕ → Option Version
+version_of line = if bytes_eq line (first_line One) then Some One else if bytes_eq line (first_line Two) then Some Two else None
+
+abbrev pub by_version : Option Version → List (List ℕ) → Result Script ScriptFail
+by_version None texts = Err (fail.Bad 1)
+by_version (Some version) texts = body_of version texts
 
 -- a whole script
 unfoldable pub all_of : List (List ℕ) → Result Script ScriptFail
 all_of [] = Err (fail.Bad 1)
-all_of (first ∷ texts) = if bytes_eq first (codes "xti-script 1") then body_of texts else Err (fail.Bad 1)
+all_of (first ∷ texts) = by_version (version_of first) texts

@@ -1,9 +1,10 @@
 -- The first line by which a text is no script.
 use Rattle.std.specs.Prelude.{◌≡◌, ℕ, ◌<◌, ◌⊎◌, List, [], ◌∷◌, ◌++◌, map, take, codes, Option, Some, None}
 use Rattle.xti_model.specs.declared.profile.Providers.{Providers}
+use Rattle.xti_model.specs.declared.profile.Version.{Version}
 use Rattle.xti_model.specs.declared.script.Script.{Script}
 use Rattle.xti_words.specs.Texts.{lines_of}
-use Rattle.xti_script_reader.specs.Grammar.{HasHead, HasForm, IsScript}
+use Rattle.xti_script_reader.specs.Grammar.{first_line, HasHead, HasForm, IsScript}
 
 abbrev pub some : List ℕ → Option (List ℕ)
 some line = Some line
@@ -30,9 +31,10 @@ pub record IsLeast (form : Form) (text : List ℕ) (n : ℕ) : Type 0 where
 
 -- line 2 is `+++`, and begins no head: what stands up to the next `+++` is none, or there is no other `+++`
 pub record HasWrongHead (text : List ℕ) : Type 0 where
+  pub version : Version
   pub texts : List (List ℕ)
-  pub begins : lines_of text ≡ codes "xti-script 1" ∷ codes "+++" ∷ texts
-  pub wrong : (p : Providers) (rest : List (List ℕ)) → HasHead p (codes "+++" ∷ texts) rest → ⊥
+  pub begins : lines_of text ≡ first_line version ∷ codes "+++" ∷ texts
+  pub wrong : (p : Providers) (rest : List (List ℕ)) → p.version ≡ version → HasHead p (codes "+++" ∷ texts) rest → ⊥
 
 -- n is the first line by which the text isn't of this form: what is wrong in a head is so at line 2
 abbrev pub IsFirst : Form → List ℕ → ℕ → Type 0

@@ -13,7 +13,7 @@ use crate::fields::{FieldFail, Fields};
 use crate::forms::form;
 use std::alloc::AllocError;
 use xti_base::limits::LAST_WORKER;
-use xti_model::NamedCall;
+use xti_model::{NamedCall, Version};
 use xti_verbs::Verb;
 use xti_words::{Words, is_ascii, number_in};
 
@@ -46,17 +46,22 @@ fn refused(call: NamedCall) -> Result<Taken, AllocError>
     Ok(Taken::Wrong)
 }
 
-/// Adds the call of the worker that the words give after the others.
+/// Adds the call of the worker that the words give after the others, in a script of the version.
 #[tactic(auto, unfolding(crate::specs::Reading::call_of))]
-fn read_call(draft: &mut Draft, worker: u32, words: Words) -> Result<Taken, AllocError>
+fn read_call(
+    draft: &mut Draft,
+    version: Version,
+    worker: u32,
+    words: Words,
+) -> Result<Taken, AllocError>
     requires { worker ≤ LAST_WORKER }
-    ensures { Takes result draft.new (after_call_words draft.old worker words.entry) }
+    ensures { Takes result draft.new (after_call_words version draft.old worker words.entry) }
 {
     let mut words = words;
     let Some(word) = words.next() else {
         return Ok(Taken::Wrong);
     };
-    let Some(verb) = Verb::of_word(word) else {
+    let Some(verb) = Verb::of_word(version, word) else {
         return Ok(Taken::Wrong);
     };
     let mut fields = Fields::new(draft, worker, form(verb), words);
@@ -73,27 +78,31 @@ fn read_call(draft: &mut Draft, worker: u32, words: Words) -> Result<Taken, Allo
 
 /// Adds the call that the line gives after the others.
 #[tactic(auto, unfolding(crate::specs::Reading::any_line_of))]
-fn read_call_line(draft: &mut Draft, line: &[u8]) -> Result<Taken, AllocError>
-    ensures { Takes result draft.new (after_words draft.old (words_of line.now)) }
+fn read_call_line(draft: &mut Draft, version: Version, line: &[u8]) -> Result<Taken, AllocError>
+    ensures { Takes result draft.new (after_words version draft.old (words_of line.now)) }
 {
     let mut words = Words::of(line);
     let Some(word) = words.next() else {
         return Ok(Taken::Wrong);
     };
     match worker_of(word) {
-        Some(worker) => read_call(draft, worker, words),
+        Some(worker) => read_call(draft, version, worker, words),
         None => Ok(Taken::Wrong),
     }
 }
 
-/// Takes one line more: adds its call, or passes over it.
+/// Takes one line more of a script of the version: adds its call, or passes over it.
 #[tactic(auto, unfolding(crate::specs::Reading::after_text))]
-pub(crate) fn read_line(draft: &mut Draft, line: &[u8]) -> Result<Taken, AllocError>
-    ensures { Takes result draft.new (after_text draft.old line.now) }
+pub(crate) fn read_line(
+    draft: &mut Draft,
+    version: Version,
+    line: &[u8],
+) -> Result<Taken, AllocError>
+    ensures { Takes result draft.new (after_text version draft.old line.now) }
 {
     if is_passed(line) {
         Ok(Taken::Read)
     } else {
-        read_call_line(draft, line)
+        read_call_line(draft, version, line)
     }
 }

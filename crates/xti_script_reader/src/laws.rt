@@ -1,7 +1,7 @@
 //! Laws of the scripts that have a text.
 
-ghost use Rattle.std.specs.Prelude.{◌≡◌, ◌≤◌, ◌+◌, ℕ, false, true, List, length};
-ghost use Rattle.xti_model.specs.Profile.{valid};
+ghost use Rattle.std.specs.Prelude.{◌≡◌, ◌≤◌, ◌+◌, ℕ, true, List, length};
+ghost use Rattle.xti_model.specs.Profile.{releases_told, valid};
 ghost use Rattle.xti_model.specs.Robin.{most_steps};
 ghost use Rattle.xti_model.specs.SentBytes.{AllHaveByteArguments, LinesSendBytes};
 ghost use Rattle.xti_model.specs.Work.{script_bytes};
@@ -9,7 +9,7 @@ ghost use Rattle.xti_model.specs.declared.script.Script.{Script};
 ghost use Rattle.xti_script_reader.specs.Grammar.{HaveWorkers, HasText, IsScript};
 ghost use Rattle.xti_script_reader.specs.Refused.{IsRefusedAt};
 
-use xti_head::{heads_are_valid, heads_have_no_release_data};
+use xti_head::{heads_are_valid, heads_tell_releases};
 
 /// A text is a script, or is refused at a line, and never both.
 pub fn never_both()
@@ -28,13 +28,12 @@ pub fn scripts_have_valid_providers()
     heads_are_valid();
 }
 
-/// Data may go with a release of none of the providers of a script that has a text.
-pub fn scripts_have_no_release_data()
-    ensures ticots { (s : Script) → HasText s → s.providers.ticots.reldata ≡ false }
-    ensures ticotsord { (s : Script) → HasText s → s.providers.ticotsord.reldata ≡ false }
-    ensures ticlts { (s : Script) → HasText s → s.providers.ticlts.reldata ≡ false }
+/// In a script that has a text, data may go with a release of those providers alone of which texts of its version can say so:
+/// of none in version 1, and of `ticotsord` in version 2.
+pub fn scripts_tell_releases()
+    ensures { (s : Script) → HasText s → releases_told s.providers ≡ true }
 {
-    heads_have_no_release_data();
+    heads_tell_releases();
 }
 
 /// Each worker of a script that has a text is one of 0 to 32.

@@ -14,8 +14,8 @@ mod script_text;
 pub use fields::Key;
 pub use forms::form;
 pub use laws::{
-    never_both, one_script, scripts_are_small, scripts_have_no_release_data,
-    scripts_have_valid_providers, scripts_have_workers, scripts_send_bytes,
+    never_both, one_script, scripts_are_small, scripts_have_valid_providers, scripts_have_workers,
+    scripts_send_bytes, scripts_tell_releases,
 };
 pub use script_text::{ScriptFail, read_script};
 pub use xti_model::{Line, Lines, Name, NamedCall, Script};

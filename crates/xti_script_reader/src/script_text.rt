@@ -6,7 +6,7 @@ ghost use Rattle.xti_script_reader.specs.declared.script_text.ScriptFail.TheVari
 ghost use Rattle.xti_words.specs.Texts.{lines_of};
 ghost use Rattle.xti_script_reader.specs.Grammar.{IsScript};
 ghost use Rattle.xti_script_reader.specs.Refused.{IsRefusedAt};
-ghost use Rattle.xti_script_reader.specs.Reading.{lines_from, script_from, to_mark, by_head, body_of, all_of};
+ghost use Rattle.xti_script_reader.specs.Reading.{lines_from, script_from, to_mark, by_head, body_of, version_of, all_of};
 ghost use Rattle.xti_script_reader.specs.Read.{IsRead, IsBad};
 ghost use Rattle.xti_script_reader.specs.Gives.{Gives};
 
@@ -16,7 +16,7 @@ use crate::marks::{is_mark, split_at_mark};
 use std::alloc::{AllocError, Global};
 use thiserror::Error;
 use xti_head::{HeadFail, read_head};
-use xti_model::{Lines, Providers, Script};
+use xti_model::{Lines, Providers, Script, Version};
 use xti_words::first_line;
 
 /// Why a text was not read. Lines are counted from 1.
@@ -42,17 +42,17 @@ impl From<AllocError> for ScriptFail {
     }
 }
 
-/// The calls of the text, whose first line has this number.
-fn read_lines(alloc: Global, first: u64, text: &[u8]) -> Result<Lines, ScriptFail>
+/// The calls of the text, whose first line has this number, in a script of the version.
+fn read_lines(alloc: Global, version: Version, first: u64, text: &[u8]) -> Result<Lines, ScriptFail>
     requires { first + length text.now ≤ 18446744073709551615 }
-    ensures { Gives result (lines_from first [] (lines_of text.now)) }
+    ensures { Gives result (lines_from version first [] (lines_of text.now)) }
 {
     let mut draft = Draft::new(alloc)?;
     let mut rest = text;
     let mut number = first;
     while !rest.is_empty() {
         let (line, behind) = first_line(rest);
-        match read_line(&mut draft, line)? {
+        match read_line(&mut draft, version, line)? {
             Taken::Read => {}
             Taken::Wrong => return Err(ScriptFail::Bad { line: number }),
             Taken::TooMany => return Err(ScriptFail::TooMany { line: number }),
@@ -73,35 +73,49 @@ fn read_calls(
     requires { first + length text.now ≤ 18446744073709551615 }
     ensures { Gives result (script_from first providers (lines_of text.now)) }
 {
-    let lines = read_lines(alloc, first, text)?;
+    let lines = read_lines(alloc, providers.version, first, text)?;
     Ok(Script { providers, lines })
 }
 
-/// The script whose head begins the text, after its first mark.
-fn read_headed(alloc: Global, text: &[u8]) -> Result<Script, ScriptFail>
-    ensures { Gives result (by_head (to_mark (lines_of text.now))) }
+/// The script of the version whose head begins the text, after its first mark.
+fn read_headed(alloc: Global, version: Version, text: &[u8]) -> Result<Script, ScriptFail>
+    ensures { Gives result (by_head version (to_mark (lines_of text.now))) }
 {
     let parts = split_at_mark(text).ok_or(ScriptFail::Bad { line: 2 })?;
-    match read_head(alloc, parts.head) {
+    match read_head(alloc, version, parts.head) {
         Ok(providers) => read_calls(alloc, providers, parts.lines + 4, parts.rest),
         Err(HeadFail::Bad) => Err(ScriptFail::Bad { line: 2 }),
         Err(HeadFail::OutOfMemory) => Err(ScriptFail::OutOfMemory),
     }
 }
 
-/// The script from its second line on.
+/// The script of the version, from its second line on.
 #[tactic(auto, unfolding(crate::specs::Reading::body_of))]
-fn read_body(alloc: Global, text: &[u8]) -> Result<Script, ScriptFail>
-    ensures { Gives result (body_of (lines_of text.now)) }
+fn read_body(alloc: Global, version: Version, text: &[u8]) -> Result<Script, ScriptFail>
+    ensures { Gives result (body_of version (lines_of text.now)) }
 {
     if text.is_empty() {
-        return read_calls(alloc, Providers::usual(), 2, text);
+        return read_calls(alloc, Providers::usual_of(version), 2, text);
     }
     let (line, rest) = first_line(text);
     if is_mark(line) {
-        read_headed(alloc, rest)
+        read_headed(alloc, version, rest)
     } else {
-        read_calls(alloc, Providers::usual(), 2, text)
+        read_calls(alloc, Providers::usual_of(version), 2, text)
+    }
+}
+
+/// The version of the scripts that begin with this line.
+#[tactic(auto, unfolding(crate::specs::Reading::version_of))]
+fn version_of(line: &[u8]) -> Option<Version>
+    ensures { result ≡ version_of line.now }
+{
+    if line == b"xti-script 1".as_slice() {
+        Some(Version::One)
+    } else if line == b"xti-script 2".as_slice() {
+        Some(Version::Two)
+    } else {
+        None
     }
 }
 
@@ -113,10 +127,9 @@ fn read_all(alloc: Global, text: &[u8]) -> Result<Script, ScriptFail>
         return Err(ScriptFail::Bad { line: 1 });
     }
     let (line, rest) = first_line(text);
-    if line == b"xti-script 1".as_slice() {
-        read_body(alloc, rest)
-    } else {
-        Err(ScriptFail::Bad { line: 1 })
+    match version_of(line) {
+        Some(version) => read_body(alloc, version, rest),
+        None => Err(ScriptFail::Bad { line: 1 }),
     }
 }
 

@@ -1,11 +1,14 @@
-use Rattle.xti_journal.proofs.HeadLaws.{provider_found, provider_fails, provider_none}
+use Rattle.xti_journal.proofs.HeadLaws.{valid_line, invalid_line, wrong_line, no_line}
 use Rattle.xti_journal.proofs.journal_text.read_provider.Goals as goal
 
+pub returns-in_default : goal.returns-in_default
+returns-in_default c = no_line c.args.version c.args.prov c.args.text.now c.in_default.ensures.none
+
 pub returns-in-Ok : goal.returns-in-Ok
-returns-in-Ok c = provider_found _ _ _ _ c.in-Ok.profile c.in-Ok.ensures.without c.in-Some.ensures.some.1 c.in-Ok.ensures.read
+returns-in-Ok c = valid_line c.args.version c.args.prov c.in-Some.line.now _ _ c.in-Ok.profile _ c.in-Ok.ensures.told c.in-Some.ensures.some.1 c.in-Ok.ensures.read c.valid_profile.ensures c.if-valid_profile.true
+
+pub returns-in-Ok-2 : goal.returns-in-Ok-2
+returns-in-Ok-2 c = invalid_line c.args.version c.args.prov c.in-Some.line.now _ _ c.in-Ok.profile _ c.in-Ok.ensures.told c.in-Some.ensures.some.1 c.in-Ok.ensures.read c.valid_profile.ensures c.if-valid_profile.false
 
 pub returns-in-Err : goal.returns-in-Err
-returns-in-Err c = provider_fails _ _ _ _ c.in-Err.fail c.requires c.in-Some.ensures.some.0 c.in-Some.ensures.some.1 c.in-Err.ensures.read
-
-pub returns-in-None : goal.returns-in-None
-returns-in-None c = provider_none _ _ c.requires c.in-None.ensures.none
+returns-in-Err c = wrong_line c.args.version c.args.prov c.in-Some.line.now _ _ c.in-Err.fail c.in-Some.ensures.some.0 c.in-Some.ensures.some.1 c.in-Err.ensures.read

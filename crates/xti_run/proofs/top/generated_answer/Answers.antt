@@ -1,4 +1,6 @@
 use Rattle.std.proofs.Common.{ap, sym, subst, ◌∙◌}
+use Rattle.xti_model.specs.Profile.{usual_of}
+use Rattle.xti_model.specs.declared.profile.Providers.{Providers}
 use Rattle.xti_model.specs.declared.script.Script.{Script}
 use Rattle.xti_script_reader.specs.Grammar.{HasText}
 use Rattle.xti_run.proofs.top.generated_answer.Goals as goal
@@ -10,4 +12,6 @@ pub write_script-requires-clause-text : goal.write_script-requires-clause-text
 write_script-requires-clause-text c = subst HasText (sym c.in_ok-script.ensures) (c.generated_scripts_have_texts.ensures.texts c.args.seed)
 
 pub write_script-requires-clause-providers : goal.write_script-requires-clause-providers
-write_script-requires-clause-providers c = ap (λ (s : Script). s.providers) c.in_ok-script.ensures ∙ c.generated_scripts_have_texts.ensures.providers c.args.seed
+write_script-requires-clause-providers c =
+    let usual-ones = ap (λ (s : Script). s.providers) c.in_ok-script.ensures ∙ c.generated_scripts_have_texts.ensures.providers c.args.seed in
+    usual-ones ∙ sym (ap (λ (p : Providers). usual_of p.version) usual-ones)

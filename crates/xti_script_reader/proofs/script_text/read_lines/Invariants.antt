@@ -6,7 +6,7 @@ use Rattle.xti_script_reader.proofs.script_text.read_lines.Given as goal
 abbrev pub invariant-loop-rest : goal.invariant-loop-rest
 invariant-loop-rest l = record {
   number : l.number + length l.rest ≤ l.first + length l.text;
-  read : lines_from l.number l.draft (lines_of l.rest) ≡ lines_from l.first [] (lines_of l.text);
+  read : lines_from l.version l.number l.draft (lines_of l.rest) ≡ lines_from l.version l.first [] (lines_of l.text);
 }
 
 abbrev pub decreases-loop-rest : goal.decreases-loop-rest
