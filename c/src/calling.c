@@ -67,7 +67,7 @@ static int is_one_of_datagrams(uint32_t call)
 static places linked_before(const struct xti_asked *asked)
 {
     if (!xti_is_anybody_there() || is_one_of_data(asked->call) || is_one_of_datagrams(asked->call))
-        return 0;
+        return NO_PLACES;
     return xti_linked(asked);
 }
 
@@ -114,6 +114,7 @@ static void tell(struct endpoint *e, const struct xti_asked *asked)
 static void stepped(const struct xti_asked *asked, const struct input *input, const struct answer *answer, places touched)
 {
     struct endpoint *e;
+    places linked;
 
     if (!(is_to_be_noted(asked->call) || xti_is_anybody_there()) || !has_changed(asked, &answer->told))
         return;
@@ -124,7 +125,9 @@ static void stepped(const struct xti_asked *asked, const struct input *input, co
     xti_note_step(asked, input, answer, &touched);
     if (!xti_is_anybody_there())
         return;
-    touched = (touched | xti_linked(asked)) & xti_open_places;
+    linked = xti_linked(asked);
+    xti_add_places(&touched, &linked);
+    xti_keep_places(&touched, &xti_open_places);
     while ((e = xti_take_first(&touched)))
         tell(e, asked);
 }
@@ -145,7 +148,7 @@ static int take_mode(const struct xti_asked *asked)
     if (flags < 0 || e->is_nonblocking == (int)mode.number || xti_step(&mode, &xti_no_input, &a) != XTI_DONE)
         return 0;
     e->is_nonblocking = (int)mode.number;
-    stepped(&mode, &xti_no_input, &a, 0);
+    stepped(&mode, &xti_no_input, &a, NO_PLACES);
     return 1;
 }
 

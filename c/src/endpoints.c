@@ -16,14 +16,12 @@ enum { FIRST_OWN = 512 };
 struct endpoint xti_endpoints[XTI_PLACES];
 places xti_open_places;
 
-static places place_bit(const struct endpoint *e)
-{
-    return (places)1 << xti_place_of(e);
-}
-
 void xti_set_open(const struct endpoint *e, int is_open)
 {
-    xti_open_places = is_open ? xti_open_places | place_bit(e) : xti_open_places & ~place_bit(e);
+    if (is_open)
+        xti_add_place(&xti_open_places, xti_place_of(e));
+    else
+        xti_remove_place(&xti_open_places, xti_place_of(e));
 }
 
 struct endpoint *xti_of_descriptor(int fd)
@@ -41,7 +39,7 @@ struct endpoint *xti_of_number(uint32_t number)
 {
     struct endpoint *e = &xti_endpoints[number % XTI_PLACES];
 
-    return xti_open_places & place_bit(e) && e->number == number ? e : NULL;
+    return xti_has_place(&xti_open_places, xti_place_of(e)) && e->number == number ? e : NULL;
 }
 
 uint32_t xti_number_of(int fd)

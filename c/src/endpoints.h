@@ -2,14 +2,11 @@
 #ifndef XTI_ENDPOINTS_H
 #define XTI_ENDPOINTS_H
 
+#include "places.h"
 #include <stddef.h>
 #include <stdint.h>
 
-/* The places of endpoints, each a bit. */
-typedef uint64_t places;
-
 enum {
-    XTI_PLACES = 64, /* how many endpoints may be open; an endpoint's place is its number modulo this */
     MOST_ADDRESS = 64,
     MOST_OPTIONS = 256,
     MOST_CONNECT_DATA = 64,
@@ -50,10 +47,9 @@ extern places xti_open_places;
 /* The first endpoint of some places, which is taken from them; NULL where there is none left. */
 static inline struct endpoint *xti_take_first(places *from)
 {
-    struct endpoint *e = *from ? &xti_endpoints[__builtin_ctzll(*from)] : NULL;
+    int place = xti_take_place(from);
 
-    *from &= *from - 1;
-    return e;
+    return place < 0 ? NULL : &xti_endpoints[place];
 }
 
 void xti_set_open(const struct endpoint *e, int is_open);

@@ -8,11 +8,6 @@ enum { CONNECTIONLESS = 2, MOST_QUEUE = 8 };
 /* An accept was done whose caller wasn't found. */
 static int are_links_unknown;
 
-static places bit(const struct endpoint *e)
-{
-    return (places)1 << xti_place_of(e);
-}
-
 static int are_linked(const struct endpoint *e, const struct endpoint *other)
 {
     return other == e || other->peer == e->number || e->peer == other->number || other->listener == e->number ||
@@ -21,27 +16,29 @@ static int are_linked(const struct endpoint *e, const struct endpoint *other)
             xti_is_address(&e->address, other->flow_destination.bytes, other->flow_destination.len));
 }
 
-static places linked_with(const struct endpoint *e)
+static void add_linked_with(places *found, const struct endpoint *e)
 {
-    places found = 0, left = xti_open_places;
+    places left = xti_open_places;
     const struct endpoint *other;
 
     while ((other = xti_take_first(&left)))
         if (are_linked(e, other))
-            found |= bit(other);
-    return found;
+            xti_add_place(found, xti_place_of(other));
 }
 
 places xti_linked(const struct xti_asked *asked)
 {
     const struct endpoint *e = asked->call == XTI_OPEN ? NULL : xti_of_number(asked->fd);
     const struct endpoint *accepting = asked->call == XTI_ACCEPT ? xti_of_number(asked->resfd) : NULL;
+    places found = NO_PLACES;
 
-    if (!e)
-        return 0;
-    if (are_links_unknown)
-        return ~(places)0;
-    return linked_with(e) | (accepting ? linked_with(accepting) : 0);
+    if (e && are_links_unknown)
+        return xti_open_places;
+    if (e)
+        add_linked_with(&found, e);
+    if (e && accepting)
+        add_linked_with(&found, accepting);
+    return found;
 }
 
 int xti_destination(const struct input *input)
@@ -57,9 +54,10 @@ int xti_destination(const struct input *input)
 
 static struct endpoint *listener_at(const struct endpoint *caller, const struct input *input)
 {
-    places left = xti_open_places & ~bit(caller);
+    places left = xti_open_places;
     struct endpoint *e;
 
+    xti_remove_place(&left, xti_place_of(caller));
     while ((e = xti_take_first(&left)))
         if (e->provider == caller->provider && e->queue_length > 0 && xti_is_address(&e->address, input->addr, input->addr_len))
             break;
@@ -121,7 +119,7 @@ static void note_datagram(struct endpoint *e, const struct input *input, const s
     else
         e->flow_destination.len = 0;
     if (to >= 0)
-        *touched |= (places)1 << to;
+        xti_add_place(touched, to);
 }
 
 static void note_end(struct endpoint *e)

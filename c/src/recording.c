@@ -163,11 +163,12 @@ void xti_forget_journal(void)
 
 static int begin_locked(int fd)
 {
+    places open = xti_open_places;
     int flags = fcntl(fd, F_GETFL);
 
     if (flags < 0 || (flags & O_ACCMODE) == O_RDONLY)
         return xti_fail(TBADF);
-    if (xti_open_places || xti_has_waiters())
+    if (xti_take_place(&open) >= 0 || xti_has_waiters())
         return xti_fail(TOUTSTATE);
     if (xti_is_recording)
         end(NULL);

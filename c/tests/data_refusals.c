@@ -80,13 +80,15 @@ static void releasing(void)
 {
     int a, c, flags, idle = endpoint("ticotsord", O_NONBLOCK, "idle", 0);
     struct t_iovec part = { bytes, 9 };
-    struct t_discon release = { .udata = { .maxlen = 64, .len = 3, .buf = bytes } };
+    char told[64];
+    struct t_discon release = { .udata = { .maxlen = 0, .len = 65, .buf = bytes } };
+    struct t_discon taken = { .udata = { .maxlen = sizeof told, .buf = told } };
 
     connected("ticotsord", &a, &c);
     REFUSED(t_sndrel(idle), TOUTSTATE, idle, T_IDLE);
     REFUSED(t_rcvrel(idle), TOUTSTATE, idle, T_IDLE);
     REFUSED(t_rcvrel(c), TNOREL, c, T_DATAXFER);
-    REFUSED(t_rcvreldata(c, &release), TNOREL, c, T_DATAXFER);
+    REFUSED(t_rcvreldata(c, &taken), TNOREL, c, T_DATAXFER);
     REFUSED(t_snd(c, bytes, 0, 0), TBADDATA, c, T_DATAXFER);
     REFUSED(t_sndv(c, &part, 0, 0), TBADDATA, c, T_DATAXFER);
     ANSWERS(t_snd(a, "last", 4, 0), 4);
@@ -102,23 +104,33 @@ static void releasing(void)
     ANSWERS(t_look(c), T_ORDREL);
     ANSWERS(t_rcvrel(c), 0);
     REFUSED(t_rcv(c, bytes, 9, &flags), TOUTSTATE, c, T_INREL);
-    REFUSED(t_rcvreldata(c, &release), TOUTSTATE, c, T_INREL);
+    REFUSED(t_rcvreldata(c, &taken), TOUTSTATE, c, T_INREL);
     REFUSED(t_sndreldata(c, &release), TBADDATA, c, T_INREL);
-    ANSWERS(t_sndreldata(c, NULL), 0);
+    memcpy(bytes, "bye", 3);
+    release.udata.len = 3;
+    ANSWERS(t_sndreldata(c, &release), 0);
     CHECK(t_getstate(c) == T_IDLE);
     REFUSED(t_sndreldata(a, &release), TOUTSTATE, a, T_OUTREL);
-    ANSWERS(t_rcvreldata(a, &release), 0);
-    CHECK(release.udata.len == 0);
+    ANSWERS(t_rcvreldata(a, &taken), 0);
+    CHECK(taken.udata.len == 3 && memcmp(told, "bye", 3) == 0);
     CHECK(t_getstate(a) == T_IDLE);
     ANSWERS(t_close(a), 0);
     ANSWERS(t_close(c), 0);
     connected("ticotsord", &a, &c);
     ANSWERS(t_close(a), 0);
     REFUSED(t_sndrel(c), TLOOK, c, T_DATAXFER);
-    REFUSED(t_sndreldata(c, NULL), TLOOK, c, T_DATAXFER);
+    REFUSED(t_sndreldata(c, &release), TLOOK, c, T_DATAXFER);
     REFUSED(t_rcvrel(c), TLOOK, c, T_DATAXFER);
-    REFUSED(t_rcvreldata(c, &release), TLOOK, c, T_DATAXFER);
+    REFUSED(t_rcvreldata(c, &taken), TLOOK, c, T_DATAXFER);
     REFUSED(t_snddis(c, NULL), TLOOK, c, T_DATAXFER);
+    ANSWERS(t_close(c), 0);
+    connected("ticotsord", &a, &c);
+    ANSWERS(t_sndreldata(c, &release), 0);
+    taken.udata.maxlen = 2;
+    REFUSED(t_rcvreldata(a, &taken), TBUFOVFLW, a, T_INREL);
+    ANSWERS(t_sndreldata(a, NULL), 0);
+    ANSWERS(t_rcvrel(c), 0);
+    ANSWERS(t_close(a), 0);
     ANSWERS(t_close(c), 0);
     ANSWERS(t_close(idle), 0);
 }

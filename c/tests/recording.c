@@ -57,9 +57,9 @@ static void back(int saved)
 /* Each step is a line, in order, with its answer. */
 static void lines(void)
 {
-    static const char wanted[] = "xti-journal 1\n"
+    static const char wanted[] = "xti-journal 2\n"
         "provider ticots tsdu=65536 sendzero=1 same_addr=0 sndbuf=16384 rcvbuf=16384\n"
-        "provider ticotsord tsdu=0 sendzero=0 same_addr=0 sndbuf=16384 rcvbuf=16384\n"
+        "provider ticotsord tsdu=0 sendzero=0 same_addr=0 sndbuf=16384 rcvbuf=16384 reldata=1\n"
         "provider ticlts tsdu=8192 sendzero=1 same_addr=0 sndbuf=16384 rcvbuf=16384\n"
         "1 0 open ticlts block => ok 0 T_UNBND\n"
         "2 0 bind 0 addr=x:61 qlen=0 amax=0 => ok x: 0 T_IDLE\n"

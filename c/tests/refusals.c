@@ -14,19 +14,19 @@ static struct netbuf long_by_one(unsigned int most)
 
 static void opening(void)
 {
-    int fds[65], i;
+    int fds[256], i;
 
     REFUSED(t_open("ticots", O_RDONLY, NULL), TBADFLAG, -1, -1);
     REFUSED(t_open("ticots", O_RDWR | O_APPEND, NULL), TBADFLAG, -1, -1);
     REFUSED(t_open("/dev/tcp", O_RDWR, NULL), TBADNAME, -1, -1);
     REFUSED(t_open("dev/ticots", O_RDWR, NULL), TBADNAME, -1, -1);
     REFUSED(t_open(NULL, O_RDWR, NULL), TBADNAME, -1, -1);
-    for (i = 0; i < 64; i++)
+    for (i = 0; i < 256; i++)
         CHECK((fds[i] = t_open(i % 2 ? "/dev/ticlts" : "ticots", O_RDWR, NULL)) >= 0);
     errno = 0;
     REFUSED(t_open("ticots", O_RDWR, NULL), TSYSERR, fds[0], T_UNBND);
     CHECK(errno == EMFILE);
-    for (i = 0; i < 64; i++)
+    for (i = 0; i < 256; i++)
         ANSWERS(t_close(fds[i]), 0);
 }
 

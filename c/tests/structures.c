@@ -13,7 +13,7 @@ static void of_connections(int fd)
     CHECK(bound && bound->addr.maxlen == 64 && bound->addr.len == 0 && bound->qlen == 0);
     CHECK(options && options->opt.maxlen == 256);
     CHECK(discon && discon->udata.maxlen == 64);
-    CHECK(info && t_getinfo(fd, info) == 0 && info->tsdu == 0 && info->servtype == T_COTS_ORD && info->flags == 0);
+    CHECK(info && t_getinfo(fd, info) == 0 && info->tsdu == 0 && info->servtype == T_COTS_ORD && info->flags == T_ORDRELDATA);
     CHECK(t_alloc(fd, T_UNITDATA, T_ALL) == NULL && t_errno == TNOSTRUCTYPE);
     CHECK(t_alloc(fd, T_UDERROR, T_ALL) == NULL && t_errno == TNOSTRUCTYPE);
     CHECK(t_alloc(fd, 0, T_ALL) == NULL && t_errno == TNOSTRUCTYPE);

@@ -7,7 +7,6 @@ use Rattle.xti_model.specs.declared.entry.Entry.{Entry}
 use Rattle.xti_model.specs.declared.entry.Go.{Go}
 use Rattle.xti_model.specs.declared.entry.Go.TheVariants.{Begin, More}
 use Rattle.xti_model.specs.declared.script.Journal.{Journal}
-use Rattle.xti_model.specs.Profile.{usual}
 use Rattle.xti_model.specs.Step.{Step, step}
 use Rattle.xti_core.specs.Standing.{Standing}
 use Rattle.xti_flat.specs.declared.asked.Asked.{Asked}
@@ -15,6 +14,7 @@ use Rattle.xti_flat.specs.declared.bytes.Bytes.{Bytes}
 use Rattle.xti_flat.specs.Calls.{Asks, go_of}
 use Rattle.xti_flat.specs.Answers.{given}
 use Rattle.xti_journal_text.specs.JournalText.{entry_text}
+use Rattle.xti_c.specs.Opening.{c_providers}
 use Rattle.xti_c.specs.declared.recording.Place.{Place}
 use Rattle.xti_c.specs.declared.stepping.Ended.{Ended}
 
@@ -23,9 +23,9 @@ abbrev pub act_of : Call → Go → Act
 act_of c Begin = act.Begin c
 act_of c (More taken) = act.More
 
--- a run of the usual providers in which no step is made
+-- a run in which no step is made
 abbrev pub no_steps : Journal
-no_steps = record { providers = usual; entries = []; stalls = [] }
+no_steps = record { providers = c_providers; entries = []; stalls = [] }
 
 -- The text is told: its whole length, and as much of it as the room holds. A length of 0: it isn't, and the room is as before.
 pub record TellsText (text : List ℕ) (size : ℕ) (room room' : List ℕ) : Type 0 where

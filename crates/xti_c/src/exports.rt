@@ -5,10 +5,11 @@ ghost use Rattle.std.specs.declared.option.Option.TheVariants.{Some};
 ghost use Rattle.xti_c.specs.Answers.{bytes_of, places_of, Answers, RunsOutRightly, TellsNoCall};
 ghost use Rattle.xti_journal_text.specs.JournalText.{journal_text};
 ghost use Rattle.xti_c.specs.Lines.{TellsLine, TellsText, no_steps};
-ghost use Rattle.xti_c.specs.Opening.{usual_opening};
+ghost use Rattle.xti_c.specs.Opening.{c_opening};
 ghost use Rattle.xti_c.specs.Seeing.{Sees};
 
 use crate::passing::{Given, Kept};
+use crate::providers::providers;
 use crate::recording::{Place, tell_no_steps};
 use crate::seeing::{Seen, see};
 use crate::stepping::{Ended, make_step};
@@ -16,19 +17,18 @@ use std::alloc::{AllocError, Global};
 use xti_base::Fd;
 use xti_core::World;
 use xti_flat::{Asked, Bytes, Told};
-use xti_model::Providers;
 
 fn fresh(alloc: Global) -> Result<Box<World>, AllocError>
-    ensures { IfOk result (λ b. b.value ≡ usual_opening) }
+    ensures { IfOk result (λ b. b.value ≡ c_opening) }
 {
-    let world = World::fresh(alloc, &Providers::usual())?;
+    let world = World::fresh(alloc, &providers())?;
     Ok(Box::new(alloc, world)?)
 }
 
-/// Makes the opening world of the usual providers; whether there was memory for it. Where there was none, `kept` stays.
+/// Makes the opening world of C programs' providers; whether there was memory for it. Where there was none, `kept` stays.
 #[unsafe(no_mangle)]
 pub extern "C" fn xti_c_make(alloc: Global, kept: &mut Kept) -> bool
-    ensures made { result ≡ true → kept.new.value ≡ Some usual_opening }
+    ensures made { result ≡ true → kept.new.value ≡ Some c_opening }
     ensures not_made { result ≡ false → kept.new ≡ kept.old }
 {
     match fresh(alloc) {

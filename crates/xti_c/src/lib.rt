@@ -4,6 +4,7 @@
 mod exports;
 mod loose;
 mod passing;
+mod providers;
 mod recording;
 mod seeing;
 mod stepping;

@@ -4,10 +4,11 @@ ghost use Rattle.std.specs.Prelude.{◌≡◌};
 ghost use Rattle.xti_journal_text.specs.JournalText.{entry_text, journal_text};
 ghost use Rattle.xti_c.specs.Lines.{TellsText, act_of, no_steps};
 
+use crate::providers::providers;
 use std::alloc::Global;
 use xti_flat::give;
 use xti_journal_text::{Entries, Entry, Journal, Stalls, write_entry, write_journal};
-use xti_model::{Act, Call, Go, Providers};
+use xti_model::{Act, Call, Go};
 
 /// Where a step stands in a journal.
 #[derive(Clone, Copy)]
@@ -51,7 +52,7 @@ pub(crate) fn tell_no_steps(alloc: Global, room: &mut [u8]) -> usize
     ensures { TellsText (journal_text no_steps) result room.old room.new }
 {
     let journal = Journal {
-        providers: Providers::usual(),
+        providers: providers(),
         entries: Entries::new(alloc),
         stalls: Stalls::new(alloc),
     };
