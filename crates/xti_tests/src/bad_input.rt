@@ -26,7 +26,7 @@ static GROUPS: [Group; 5] = [
         lines: concat!(
             "",
             "|\n",
-            "|xti-script 2\n",
+            "|xti-script 3\n",
             "|xti-script 1 \n",
             "|xti-script 1\r\n",
             "|\nxti-script 1\n",
@@ -118,6 +118,7 @@ static GROUPS: [Group; 5] = [
             "|[ticotsord]\ntsdu = 65537\n+++\n",
             "|[ticotsord]\nsendzero = true\n+++\n",
             "|[ticotsord]\ntsdu = 0\nsendzero = true\n+++\n",
+            "|[ticotsord]\nreldata = true\n+++\n",
             "|[ticlts]\ntsdu = 0\n+++\n",
             "|[ticlts]\ntsdu = -1\n+++\n",
             "|[ticlts]\ntsdu = 65537\n+++\n",
