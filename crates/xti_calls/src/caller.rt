@@ -7,6 +7,7 @@ ghost use Rattle.xti_hall.specs.Seats.{CutsOff, HasNoneToSpare, IsStanding, Look
 ghost use Rattle.xti_hall.specs.Words.{IsSameSeat};
 ghost use Rattle.xti_glance.specs.Glances.{Finds, IsSameLater};
 ghost use Rattle.xti_step.specs.Steps.{Later, MayGo, Tells};
+ghost use Rattle.xti_survey.specs.Surveys.{all_events_after};
 ghost use Rattle.xti_calls.specs.declared.answers.Fail.TheVariants.{Unfinished};
 ghost use Rattle.xti_calls.specs.Calling.{IsUnfinished, Answered, Halted, where_left};
 ghost use Rattle.xti_calls.specs.Library.{HasUnfinished, IsFree, IsMarkedAsBefore, IsOf};
@@ -135,6 +136,18 @@ impl<'a, R> Caller<'a, R> {
 }
 
 impl<'a, R: Wait> Caller<'a, R> {
+    /// All events that are pending at each of the descriptors at one point of the history, as `Xti::survey`.
+    pub fn survey(&mut self, fds: &[Fd]) -> Result<Vec<Option<u32>>, AllocError>
+        ensures seat { IsSameSeat self.old self.new }
+        ensures same { IsSameLater self.old.view self.new.view }
+        ensures refused { self.new.view.refused ≡ self.old.view.refused }
+        ensures found { IfOk result
+            (λ found. found.items ≡ all_events_after self.new.view fds.now) }
+        ensures err { OnErr result (self.new ≡ self.old) }
+    {
+        self.xti.survey(self.rt, self.alloc, &mut self.seat, fds)
+    }
+
     /// One more caller, with the least spare number of the seat, as `Xti::split`. Takes no memory.
     pub fn split(&mut self) -> Result<Caller<'a, R>, NoSeat>
         ensures seat { IsSameSeat self.old self.new }

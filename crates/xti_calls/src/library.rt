@@ -11,6 +11,7 @@ ghost use Rattle.xti_hall.specs.Words.{IsSameSeat};
 ghost use Rattle.xti_gather.specs.Cells.{whole};
 ghost use Rattle.xti_glance.specs.Glances.{Finds, IsSameLater};
 ghost use Rattle.xti_step.specs.Steps.{Later, MayGo, Tells};
+ghost use Rattle.xti_survey.specs.Surveys.{all_events_after};
 ghost use Rattle.xti_calls.specs.Calling.{IsUnfinished, Answered, Halted, where_left};
 ghost use Rattle.xti_calls.specs.Library.{IsMarkedAsBefore, IsOf, MayCall, keeps_of, providers_of};
 
@@ -27,6 +28,7 @@ use xti_hall::{Ended as EndedHall, NoSeat, Seat as HallSeat};
 use xti_lent::Lent;
 use xti_model::{Applied, Call, Cells, Entries, Go, Providers, Reply};
 use xti_step::{Gate, step};
+use xti_survey::survey;
 
 /// One caller's token: a seat of the library's hall, which holds nothing between two calls, with room for the cells of a step
 /// and the numbers of those of the last one.
@@ -218,6 +220,30 @@ impl Xti {
         ensures finds { Finds seat.old.view seat.new.view fd result }
     {
         glance(&self.hall, &mut seat.seat, &mut seat.lent, fd)
+    }
+
+    /// All events that are pending at each of the descriptors, as the sum of their numbers; `None` exactly where no endpoint is
+    /// open with it. All is told of one point of the history, which is all that the seat has then seen.
+    ///
+    /// It waits for the steps of other seats that hold a cell which a look at one of the descriptors touches, and for nothing
+    /// else. Like `glance` it makes no entry and clears no event, and a seat may survey while a call of its own is unfinished. The
+    /// error says that memory ran out; then all is as before.
+    pub fn survey<R: Wait>(
+        &self,
+        rt: &R,
+        alloc: Global,
+        seat: &mut Seat,
+        fds: &[Fd],
+    ) -> Result<Vec<Option<u32>>, AllocError>
+        requires { IsOf self.now seat.old }
+        ensures seat { IsSameSeat seat.old seat.new }
+        ensures same { IsSameLater seat.old.view seat.new.view }
+        ensures refused { seat.new.view.refused ≡ seat.old.view.refused }
+        ensures found { IfOk result
+            (λ found. found.items ≡ all_events_after seat.new.view fds.now) }
+        ensures err { OnErr result (seat.new ≡ seat.old) }
+    {
+        survey(rt, alloc, &self.hall, &mut seat.seat, &mut seat.lent, fds)
     }
 
     /// All steps of a call by a seat that has none unfinished, waiting where it is blocked.

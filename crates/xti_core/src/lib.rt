@@ -8,7 +8,7 @@ mod waiting;
 mod world;
 
 pub use applying::apply;
-pub use looking::{Sight, events_of, sight_of};
+pub use looking::{EVENTS, Sight, events_of, sight_of};
 pub use touching::touch;
 pub use world::World;
 pub use xti_wants::{Want, WantKind, want_of};

@@ -20,7 +20,7 @@ use xti_lent::{Lent, done, is_ready, refused};
 use xti_model::{Applied, Call, Providers, Reply};
 
 /// The events in the order in which they are shown.
-const EVENTS: [Event; 9] = [
+pub const EVENTS: [Event; 9] = [
     Event::T_DISCONNECT,
     Event::T_LISTEN,
     Event::T_CONNECT,

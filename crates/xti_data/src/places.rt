@@ -23,6 +23,7 @@ use xti_model::Providers;
 
 /// Whether the endpoint with this descriptor is open at the place, and names `from` as its peer.
 fn names(at: &Endpoint, p: &Providers, fd: Fd, from: Fd) -> bool
+    requires { IsPlaceOf p.now fd.0 at.now }
     ensures { result ≡ (is_open_as p.now fd.0 at.now && names from.0 (peer_at at.now.body)) }
 {
     at.is(p, fd)

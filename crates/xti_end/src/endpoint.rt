@@ -3,7 +3,7 @@
 ghost use Rattle.std.specs.Prelude.{◌≡◌, ◌+◌, ◌<◌, None, false, true};
 ghost use Rattle.xti_model.specs.Endpoint.{reset};
 ghost use Rattle.xti_model.specs.Provider.{is_provider};
-ghost use Rattle.xti_model.specs.World.{last_generation};
+ghost use Rattle.xti_model.specs.World.{last_generation, place_of};
 ghost use Rattle.xti_end.specs.Held.{is_open, is_open_as, with_opened, with_parts, IsMadeOf};
 ghost use Rattle.xti_end.specs.Kept.{IsConfirmed, IsReleased};
 
@@ -143,12 +143,11 @@ impl Endpoint {
         self.place
     }
 
-    /// Whether the endpoint is open with this descriptor.
+    /// Whether the endpoint is open with this descriptor, whose place is its own.
     pub fn is(&self, p: &Providers, fd: Fd) -> bool
+        requires { place_of p.now fd.0 ≡ self.now.place }
         ensures { result ≡ is_open_as p.now fd.0 self.now }
     {
-        self.body.is_some()
-            && self.generation == p.generation_of(fd)
-            && self.place == p.place_of(fd)
+        self.body.is_some() && self.generation == p.generation_of(fd)
     }
 }

@@ -99,8 +99,8 @@ fn all_lower(places: &[u32], cell: u32) -> bool
     places.iter().all(|place| *place < cell)
 }
 
-/// Whether every cell that is lent has a lower number than this one.
-pub(crate) fn all_below(lent: &Lent, cell: u32) -> bool
+/// Whether every cell that is lent has a lower number than this one. Takes no memory.
+pub fn all_below(lent: &Lent, cell: u32) -> bool
     requires loan { IsLoan lent.now }
     requires cell { cell < places lent.now.providers + 1 }
     ensures { MatchBool result (AllBelow lent.now cell) (SomeNotBelow lent.now cell) }

@@ -19,14 +19,8 @@ use xti_lent::Lent;
 use xti_model::Cells;
 
 /// Enters a cell and lends it, unless it is lent already. A cell that is entered has a higher number than all that are
-/// lent.
-pub(crate) fn enter<R: Wait>(
-    rt: &R,
-    hall: &Hall<Cell>,
-    seat: &mut Seat<Cell>,
-    lent: &mut Lent,
-    cell: u32,
-)
+/// lent. Takes no memory.
+pub fn enter<R: Wait>(rt: &R, hall: &Hall<Cell>, seat: &mut Seat<Cell>, lent: &mut Lent, cell: u32)
     requires hall { InHall hall.now seat.old lent.old.providers }
     requires free { seat.old.view.journal ≡ false }
     requires lends { Lends seat.old.view lent.old }
@@ -34,6 +28,7 @@ pub(crate) fn enter<R: Wait>(
     requires order { is_lent lent.old cell ≡ false → AllBelow lent.old cell }
     ensures hall { IsSameSeat seat.old seat.new }
     ensures rest { bare seat.new.view ≡ bare seat.old.view }
+    ensures refused { seat.new.view.refused ≡ seat.old.view.refused }
     ensures lends { Lends seat.new.view lent.new }
     ensures here { is_lent lent.new cell ≡ true }
     ensures others { (n : ℕ) → n ≢ cell → cell_lent lent.new n ≡ cell_lent lent.old n }

@@ -10,8 +10,8 @@ mod lending;
 mod opening;
 
 pub use cell::Cell;
-pub use choosing::missing;
-pub use entering::try_enter;
+pub use choosing::{all_below, missing};
+pub use entering::{enter, try_enter};
 pub use gathering::gather;
 pub use leaving::leave_all;
 pub use lending::nothing_lent;

@@ -42,7 +42,7 @@ linked-only p t w fd e = go e.peer
     go None h = refl
     go (Some peer) h = ap (option_and_then (if_back fd)) (endpoint-only p t peer h.0 w)
 
-of_open-at : (t : List ℕ) (f : Endpoint → List ℕ) (o : Option Endpoint) (e : Endpoint) → o ≡ Some e → Within t (of_some o f) → Within t (f e)
+pub of_open-at : (t : List ℕ) (f : Endpoint → List ℕ) (o : Option Endpoint) (e : Endpoint) → o ≡ Some e → Within t (of_some o f) → Within t (f e)
 of_open-at t f o e h = subst (λ x. Within t (of_some x f)) h
 
 send-local : (p : Providers) (t : List ℕ) (w : World) (fd parts : ℕ) (bytes : List ℕ) (flags n : ℕ) → is_among t (place_of p fd) ≡ true → Within t (of_some (endpoint p w fd) (peer_cell p)) → Send.plan p (only t w) fd parts bytes flags n ≡ Send.plan p w fd parts bytes flags n
@@ -91,7 +91,7 @@ unfolding marked_at
 marked-only p t w e None h = refl
 marked-only p t w e (Some address) h = ap (λ s. option_and_then (endpoint p (only t w)) (bound s e.prov address)) (the_switch-only p t h.0 w) ∙ endpoint_at-only p t w (bound (the_switch p w) e.prov address) h.1
 
-around-only : (p : Providers) (t : List ℕ) (w : World) (fd : ℕ) (e : Endpoint) → Within t (peer_cell p e ++ marked_cells p w e) → around p (only t w) fd e ≡ around p w fd e
+pub around-only : (p : Providers) (t : List ℕ) (w : World) (fd : ℕ) (e : Endpoint) → Within t (peer_cell p e ++ marked_cells p w e) → around p (only t w) fd e ≡ around p w fd e
 unfolding marked_at
 around-only p t w fd e h =
     ap (λ x. record { peer = x; marked = marked_at p (only t w) e.prov e.flow_datagram }) (linked-only p t w fd e (within-left t (peer_cell p e) (marked_cells p w e) h)) ∙

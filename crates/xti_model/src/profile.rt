@@ -228,7 +228,10 @@ impl Providers {
     pub fn last_generation(&self) -> u32
         ensures { result ≡ last_generation self.now }
     {
-        (DESCRIPTORS / self.places() as u64 - 1) as u32
+        match self.version {
+            Version::One => (DESCRIPTORS / PLACES_ONE as u64 - 1) as u32,
+            Version::Two => (DESCRIPTORS / MOST_PLACES as u64 - 1) as u32,
+        }
     }
 
     /// The place of a descriptor, which is the number of its cell.
@@ -236,14 +239,20 @@ impl Providers {
         ensures place { result ≡ place_of self.now fd.0 }
         ensures bound { result < places self.now }
     {
-        fd.0 % self.places()
+        match self.version {
+            Version::One => fd.0 % PLACES_ONE as u32,
+            Version::Two => fd.0 % MOST_PLACES as u32,
+        }
     }
 
     /// The generation of its place for which a descriptor stands.
     pub fn generation_of(&self, fd: Fd) -> u32
         ensures { result ≡ generation_of self.now fd.0 }
     {
-        fd.0 / self.places()
+        match self.version {
+            Version::One => fd.0 / PLACES_ONE as u32,
+            Version::Two => fd.0 / MOST_PLACES as u32,
+        }
     }
 
     /// The number of the switch's cell, which comes after those of the places.

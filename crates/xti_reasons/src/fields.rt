@@ -206,8 +206,8 @@ fn last_verb(version: Version, spot: &Spot, reason: &mut Reason) -> Option<Verb>
     last
 }
 
-/// Goes over the worker of the line at that place, its call and the call's fields: which call that is, and which fields were left out behind the last that
-/// stands there. Nothing where one is wrong, which is then said.
+/// Goes over the worker of the line at that place, its call and the call's fields: which call that is, and which fields were
+/// left out behind the last that stands there. Nothing where one is wrong, which is then said.
 pub(crate) fn find_call<'a>(
     alloc: Global,
     form: Form,

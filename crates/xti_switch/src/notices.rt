@@ -76,6 +76,7 @@ fn is_peer(at: &Endpoint, fd: Fd) -> bool
 
 /// The endpoint at a place hears the news, if it is open with this descriptor and they concern it. Takes no memory.
 fn hear(at: &mut Endpoint, p: &Providers, fd: Fd, news: News, frame: Frame)
+    requires place { IsPlaceOf p.now fd.0 at.old }
     requires room { is_told p.now fd.0 news at.old ≡ true → HasRoom at.old }
     requires kind { kind_in frame ≡ T_DISCON_IND }
     ensures { Hears p.now fd.0 news (disconnect_in frame) at.old at.new }

@@ -49,11 +49,9 @@ impl Verb {
     pub fn of_word(version: Version, word: &[u8]) -> Option<Verb>
         ensures { result ≡ verb_in version word.now }
     {
-        let verb = verb_with(word)?;
-        if verb.is_in_texts(version) {
-            Some(verb)
-        } else {
-            None
+        match verb_with(word) {
+            Some(Verb::SndRelData | Verb::RcvRelData) if !version.has_release_data() => None,
+            verb => verb,
         }
     }
 

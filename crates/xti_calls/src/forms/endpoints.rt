@@ -18,15 +18,16 @@ impl<'a, R: Wait + Sync> Caller<'a, R> {
     ///
     /// `name` is exactly `ticots` (connections), `ticotsord` (connections with orderly release) or `ticlts` (datagrams), and no
     /// path of a device. `nonblock` is O_NONBLOCK; `set_mode` changes it later. The endpoint is in T_UNBND, without an address,
-    /// with the provider's buffer sizes. It has the least of the 64 places that is free. The descriptor is 64 times the number
-    /// of times that its place was closed, plus the place, so none is given twice. What t_info has in C comes from `t_getinfo`.
+    /// with the provider's buffer sizes. It has the least place that is free, of 64 in version 1 and 256 in version 2
+    /// (`Providers::places`). The descriptor is the number of places times the number of times that its place was closed, plus
+    /// the place, so none is given twice. What t_info has in C comes from `t_getinfo`.
     /// The call doesn't wait.
     ///
     /// # Errors
     ///
     /// XTI ([`Fail`]) answers the first that holds; nothing has changed then:
     /// - TBADNAME: `name` is none of the three.
-    /// - TSYSERR: each of the 64 places is open, or was closed 67,108,863 times.
+    /// - TSYSERR: each place is open, or was closed 67,108,863 times (16,777,215 times in version 2).
     pub fn t_open(&mut self, name: &[u8], nonblock: bool) -> Result<Fd, Fail>
         ensures seat { GoesOn self.old self.new }
         ensures made { Opens name.now nonblock self.old self.new result }

@@ -22,3 +22,7 @@ returns-clause-kept c =
 pub returns-clause-ready : goal.returns-clause-ready
 returns-clause-ready c =
     λ other s r. told-ready c.args.lent.now c.providers.result.now c.place_of.result c.endpoint.result.now c.hear.new.at c.args.notice other c.providers.ensures.providers c.place_of.ensures.place (sym c.endpoint.ensures.now) c.hear.ensures s r
+
+pub hear-requires-clause-place : goal.hear-requires-clause-place
+hear-requires-clause-place c =
+    own-place c.args.lent.now.numbers c.args.lent.now.held c.place_of.result c.endpoint.result.now c.requires.own (sym c.endpoint.ensures.now) ∙ c.place_of.ensures.place

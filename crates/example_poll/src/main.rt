@@ -1,0 +1,148 @@
+//! A server that polls: a listener and three connections, served by one thread, which prints what each poll finds.
+#![tactic(auto)]
+
+use std::io::{self, Print};
+use std::process::ExitCode;
+use std::sync::Wait;
+use thiserror::Error;
+use xti_calls::{Caller, Errno, Event, Fail, Fd, Max, Providers, Xti};
+use xti_poll::{Found, PollFail, PollSet};
+
+/// The provider, of connections without orderly release.
+const PROVIDER: &[u8] = b"ticots";
+
+/// The server's address.
+const SERVER: &[u8] = b"server";
+
+/// What the clients send, each on its connection.
+const WORDS: [&str; 3] = ["one", "two", "three"];
+
+/// Why the program gave up.
+#[derive(Debug, Drop, Error)]
+enum Failure {
+    #[error("printing failed")]
+    Printing(#[from] io::Error),
+    #[error("{0}")]
+    Call(#[from] Fail),
+    #[error("{0}")]
+    Set(#[from] PollFail),
+}
+
+/// An endpoint with O_NONBLOCK that is bound to the address.
+fn bound<R: Wait + Sync>(caller: &mut Caller<R>, addr: &[u8], qlen: u32) -> Result<Fd, Fail> {
+    let fd = caller.t_open(PROVIDER, true)?;
+    drop(caller.t_bind(fd, addr, qlen, Max::ALL.addr)?);
+    Ok(fd)
+}
+
+/// A client's endpoint, which asks for a connection.
+fn ask<R: Wait + Sync>(caller: &mut Caller<R>) -> Result<Fd, Fail> {
+    let fd = bound(caller, b"", 0)?;
+    match caller.t_connect(fd, SERVER, b"", b"", Max::ALL) {
+        Ok(answer) => drop(answer),
+        Err(Fail::Err(Errno::TNODATA)) => {}
+        Err(fail) => return Err(fail),
+    }
+    Ok(fd)
+}
+
+/// Accepts the request on an endpoint of its own, of which data and a disconnect are asked from then on.
+fn accept<R: Wait + Sync>(
+    caller: &mut Caller<R>,
+    set: &mut PollSet,
+    listener: Fd,
+) -> Result<(), Failure> {
+    let request = caller.t_listen(listener, Max::ALL)?;
+    let seq = request.seq;
+    drop(request);
+    let fd = caller.t_open(PROVIDER, true)?;
+    caller.t_accept(listener, fd, seq, b"", b"")?;
+    set.set(fd, Event::T_DATA.number() | Event::T_DISCONNECT.number())?;
+    Ok(())
+}
+
+/// Receives what was sent, and prints how much that is.
+fn receive<R: Wait + Sync + Print>(rt: &R, caller: &mut Caller<R>, fd: Fd) -> Result<(), Failure> {
+    let (bytes, _flags) = caller.t_rcv(fd, 1024)?;
+    let many = bytes.as_slice().len();
+    drop(bytes);
+    Ok(println!(rt; "  {many} bytes")?)
+}
+
+/// Does what an event asks for.
+fn answer<R: Wait + Sync + Print>(
+    rt: &R,
+    caller: &mut Caller<R>,
+    set: &mut PollSet,
+    fd: Fd,
+    event: Event,
+) -> Result<(), Failure> {
+    println!(rt; "{} at {}", event.name(), fd.0)?;
+    match event {
+        Event::T_LISTEN => accept(caller, set, fd),
+        Event::T_DATA => receive(rt, caller, fd),
+        _ => Ok(caller.t_close(fd)?),
+    }
+}
+
+/// Polls and does what is found, until nothing is.
+fn serve<R: Wait + Sync + Print>(
+    rt: &R,
+    caller: &mut Caller<R>,
+    set: &mut PollSet,
+) -> Result<(), Failure> {
+    for _ in rt.forever() {
+        match set.poll(caller).map_err(Fail::from)? {
+            Found::Event { fd, event } => answer(rt, caller, set, fd, event)?,
+            Found::Gone { fd } => {
+                set.drop_fd(fd);
+                println!(rt; "{} is gone", fd.0)?;
+            }
+            Found::None => return Ok(()),
+        }
+    }
+    unreachable!()
+}
+
+/// Clients connect, send a word each and close, and the server serves them in between.
+fn converse<R: Wait + Sync + Print>(
+    rt: &R,
+    caller: &mut Caller<R>,
+    set: &mut PollSet,
+) -> Result<(), Failure> {
+    let listener = bound(caller, SERVER, 3)?;
+    set.set(listener, Event::T_LISTEN.number())?;
+    let mut clients = [listener; 3];
+    for client in &mut clients {
+        *client = ask(caller)?;
+        serve(rt, caller, set)?;
+        drop(caller.t_rcvconnect(*client, Max::ALL)?);
+    }
+    for (client, word) in clients.iter().zip(WORDS) {
+        caller.t_snd(*client, word.as_bytes(), 0)?;
+    }
+    serve(rt, caller, set)?;
+    for client in clients {
+        caller.t_close(client)?;
+    }
+    serve(rt, caller, set)
+}
+
+/// The same in a library of its own, which keeps no history.
+fn run<R: Wait + Sync + Print + AllocGlobal>(rt: &R) -> Result<(), Failure> {
+    let mut set = PollSet::new(rt.alloc());
+    let (xti, seat) = Xti::new(rt.alloc(), &Providers::usual(), false).map_err(Fail::from)?;
+    let mut caller = xti.caller(rt, rt.alloc(), seat);
+    let served = converse(rt, &mut caller, &mut set);
+    drop(caller);
+    drop(xti);
+    served
+}
+
+fn main(rt: HostRuntime) -> ExitCode {
+    let Err(failure) = run(&rt) else {
+        return ExitCode::SUCCESS;
+    };
+    let _ = eprintln!(rt; "{failure}");
+    ExitCode::FAILURE
+}
