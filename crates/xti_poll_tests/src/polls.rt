@@ -114,7 +114,7 @@ fn close<R: Wait + Sync>(caller: &mut Caller<R>, set: &mut PollSet) -> Result<Cl
 }
 
 /// A byte is sent, in a library of its own.
-fn sent<R: Wait + Sync>(rt: &R, alloc: Global) -> Result<Sent, Stop> {
+fn send_alone<R: Wait + Sync>(rt: &R, alloc: Global) -> Result<Sent, Stop> {
     let mut set = PollSet::new(alloc);
     both(&mut set)?;
     let (xti, seat) = Xti::new(alloc, &Providers::usual(), false).map_err(CallFail::from)?;
@@ -126,7 +126,7 @@ fn sent<R: Wait + Sync>(rt: &R, alloc: Global) -> Result<Sent, Stop> {
 }
 
 /// The answerer is closed, in a library of its own.
-fn closed<R: Wait + Sync>(rt: &R, alloc: Global) -> Result<Closed, Stop> {
+fn close_alone<R: Wait + Sync>(rt: &R, alloc: Global) -> Result<Closed, Stop> {
     let mut set = PollSet::new(alloc);
     both(&mut set)?;
     let (xti, seat) = Xti::new(alloc, &Providers::usual(), false).map_err(CallFail::from)?;
@@ -139,7 +139,7 @@ fn closed<R: Wait + Sync>(rt: &R, alloc: Global) -> Result<Closed, Stop> {
 
 #[test]
 fn data_are_found_twice(rt: HostRuntime) -> Result<(), Fail> {
-    let sent = sent(&rt, rt.alloc())?;
+    let sent = send_alone(&rt, rt.alloc())?;
     let data = Found::Event {
         fd: ANSWERER,
         event: Event::T_DATA,
@@ -153,7 +153,7 @@ fn data_are_found_twice(rt: HostRuntime) -> Result<(), Fail> {
 
 #[test]
 fn a_closed_endpoint_is_gone(rt: HostRuntime) -> Result<(), Fail> {
-    let closed = closed(&rt, rt.alloc())?;
+    let closed = close_alone(&rt, rt.alloc())?;
     let gone = Found::Gone { fd: ANSWERER };
     assert_eq!(rt; closed.found, gone);
     assert_eq!(rt; closed.all, [Found::None, gone]);
