@@ -1,0 +1,7 @@
+pub mod Pieces
+mod Singles
+mod Worlds
+mod Exchanges
+mod Next
+mod Streams
+mod Calls
