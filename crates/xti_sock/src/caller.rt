@@ -1,6 +1,7 @@
 //! One who makes calls of XTI.
 
 ghost use Rattle.std.specs.Prelude.{◌≡◌, true};
+ghost use Rattle.std.specs.Thread.{IsSync};
 ghost use Rattle.xti_sock.specs.Calling.{Calls};
 ghost use Rattle.xti_sights.specs.Sights.{Sight, IsStanding};
 
@@ -22,9 +23,10 @@ pub trait Caller {
     /// What contracts see of a caller.
     ghost sight: { Self → Sight };
 
-    /// All steps of a call, where none is unfinished.
+    /// All steps of a call, where none is unfinished. `sync` says what the bound says, to those who implement it.
     fn call<R: Wait + Sync>(&mut self, rt: &R, alloc: Global, made: &Call) -> Result<Reply, CallEnd>
         requires free { (sight self.old).free ≡ true }
+        requires sync { IsSync R.row }
         ensures made { Calls (sight self.old) made.now result (sight self.new) };
 
     /// Whether no call is unfinished. `standing` is true of every caller. Takes no memory.

@@ -1,0 +1,2 @@
+mod Riding
+mod Calling
