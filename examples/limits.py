@@ -14,6 +14,7 @@ HERE = pathlib.Path(__file__).resolve().parent
 MOST_DATA = 65_536
 MOST_CONTROL = 1_024
 MOST_INPUT = 67_108_864
+MOST_COPY = 1_048_576
 MOST_LINES = 100_000
 MOST_BYTES = 4_194_304
 MOST_EVENTS = 10_000
@@ -237,6 +238,9 @@ INPUTS = {
     "generated-script-of-18446744073709551615": bytes,
     "as-many-lines-as-a-link-script-may-have": lambda: link(MOST_EVENTS),
     "a-line-more-than-a-link-script-may-have": lambda: link(MOST_EVENTS + 1),
+    "as-many-bytes-as-a-copy-may-have": lambda: octets(MOST_COPY, 5),
+    "as-many-bytes-as-a-copy-may-have-counted": lambda: octets(MOST_COPY, 5),
+    "a-byte-more-than-a-copy-may-have": lambda: octets(MOST_COPY + 1),
     "frames-with-the-most-user-data": data_frames,
     "a-frame-with-a-byte-too-much": data_over_its_limit,
     "frames-with-the-longest-control-part": control_frames,

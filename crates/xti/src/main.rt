@@ -19,6 +19,7 @@ usage: xti replay [--summary]
        xti check
        xti frames
        xti link
+       xti sock [--summary]
        xti gen --seed N [--summary]
        xti --help | -h | --version
 
@@ -38,6 +39,8 @@ frames  reads encoded TPI primitives, one after the other, and prints a line
 link    reads a link script: what is sent, and what arrives, over datagrams
         that may be lost or repeated. Prints a line for each event of both
         ends, which do go back N, and a last line of counts
+sock    copies its input, of at most 1048576 bytes, over two sockets of its
+        own, and prints the journal of the calls that they make
 gen     reads nothing, and prints a script that is generated from the number
 
 --summary  prints one line of counts in place of the journal: steps, how they

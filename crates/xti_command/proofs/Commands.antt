@@ -4,7 +4,7 @@ use Rattle.clap.specs.Words.{Kinds, Row, Text}
 use Rattle.clap.proofs.OnLiterals.{clap_on_literals}
 use Rattle.xti_command.specs.declared.command.Command.{Command}
 use Rattle.xti_command.specs.declared.command.Command.TheVariants.{Gen}
-use Rattle.xti_command.specs.Words.{IsPlain, replay, run, check, frames, link, gen, command_in, command_of, faults_in, found_in, is_taken, seed_of, summary_words, unless_wrong}
+use Rattle.xti_command.specs.Words.{IsPlain, replay, run, check, frames, link, sock, gen, command_in, command_of, faults_in, found_in, is_taken, seed_of, summary_words, unless_wrong}
 use Rattle.xti_command.proofs.Seeds.{Digit, d0, d1, d2, d3, d4, d5, d6, d7, d8, d9, decimal_begins, seed_again}
 
 with_none : (faults : Kinds) (command : Option Command) → faults ≡ [] → unless_wrong faults command ≡ command
@@ -94,6 +94,8 @@ plain_command words command (run false) = refl
 plain_command words command check = refl
 plain_command words command frames = refl
 plain_command words command link = refl
+plain_command words command (sock true) = refl
+plain_command words command (sock false) = refl
 plain_command words command (gen seed summary small) = gen_plain seed summary small
 
 pub plain_taken : (words : List Text) (command : Command) → IsPlain words command → is_taken words ≡ true
@@ -105,4 +107,6 @@ plain_taken words command (run false) = refl
 plain_taken words command check = refl
 plain_taken words command frames = refl
 plain_taken words command link = refl
+plain_taken words command (sock true) = refl
+plain_taken words command (sock false) = refl
 plain_taken words command (gen seed summary small) = gen_plain_taken seed summary small

@@ -10,7 +10,7 @@ use Rattle.xti_command.specs.declared.command.Command.{Command}
 use Rattle.clap.specs.declared.builder.action.ArgAction.TheVariants.{SetTrue}
 use Rattle.xti_command.specs.declared.command.Command.TheVariants.{Read, Gen}
 use Rattle.xti_command.specs.declared.command.Reading.{Reading}
-use Rattle.xti_command.specs.declared.command.Reading.TheVariants.{Replay, Run, Check, Frames, Link}
+use Rattle.xti_command.specs.declared.command.Reading.TheVariants.{Replay, Run, Check, Frames, Link, Sock}
 
 -- the texts of strings
 abbrev pub texts : List (String Global) → List Text
@@ -91,6 +91,7 @@ named word summary seed =
     else if bytes_eq word (codes "check") then alone Check summary seed
     else if bytes_eq word (codes "frames") then alone Frames summary seed
     else if bytes_eq word (codes "link") then alone Link summary seed
+    else if bytes_eq word (codes "sock") then without_seed (Sock summary) seed
     else if bytes_eq word (codes "gen") then generating summary seed
     else None
 
@@ -123,6 +124,7 @@ pub data IsPlain : List Text → Command → Type 0 where
   check : IsPlain (codes "check" ∷ []) (Read Check)
   frames : IsPlain (codes "frames" ∷ []) (Read Frames)
   link : IsPlain (codes "link" ∷ []) (Read Link)
+  sock : (summary : Bool) → IsPlain (codes "sock" ∷ summary_words summary) (Read (Sock summary))
   gen : (seed : ℕ) (summary : Bool) → seed < 2 ^ 64 → IsPlain (codes "gen" ∷ codes "--seed" ∷ decimal seed ∷ summary_words summary) (Gen seed summary)
 
 -- this holds of the plain words of each command

@@ -22,6 +22,8 @@ pub enum Reading {
     Frames,
     /// Both ends of a link are run, and the report is written.
     Link,
+    /// The input is copied over sockets, and the journal of that is written, or its summary.
+    Sock { summary: bool },
 }
 
 /// What the program is asked to do.
@@ -115,6 +117,7 @@ fn command_named(word: &str, summary: bool, seed: Option<&str>) -> Option<Comman
         "check" => alone(Reading::Check, summary, seed),
         "frames" => alone(Reading::Frames, summary, seed),
         "link" => alone(Reading::Link, summary, seed),
+        "sock" => without_seed(Reading::Sock { summary }, seed),
         "gen" => generating(summary, seed),
         _ => None,
     }

@@ -16,9 +16,10 @@ use Rattle.xti_link.specs.Refused.{IsRefusedAt as IsNoLinkScriptAt}
 use Rattle.xti_command.specs.declared.command.Command.{Command}
 use Rattle.xti_command.specs.declared.command.Command.TheVariants.{Read, Gen}
 use Rattle.xti_command.specs.declared.command.Reading.{Reading}
-use Rattle.xti_command.specs.declared.command.Reading.TheVariants.{Replay, Run, Check, Frames, Link}
+use Rattle.xti_command.specs.declared.command.Reading.TheVariants.{Replay, Run, Check, Frames, Link, Sock}
 use Rattle.xti_generate.specs.Generated.{generated}
-use Rattle.xti_run.specs.Program.{IsLeft, IsRun, IsAnswer, IsOutput, IsOutputOf, IsDone, HasInput, HasScript, HasJournal, HasFrames, HasLink, IsFinished, IsGenerated, IsWholeRun, limit, status_with}
+use Rattle.xti_run.specs.Program.{IsLeft, IsRun, IsAnswer, IsOutput, IsOutputOf, IsDone, HasInput, HasScript, HasJournal, HasFrames, HasLink, HasCopy, IsFinished, IsGenerated, IsWholeRun, status_with}
+use Rattle.xti_base.specs.declared.limits.TheConstants.{MOST_INPUT}
 use Rattle.xti_command.specs.Words.{command_of}
 
 -- no text is a script and refused at a line, nor a journal, nor a link script, and no bytes are frames and wrong first at a place
@@ -48,7 +49,7 @@ run_finished summary s entries status text whole = either-status (are_through s.
 no_refusal : NoScript → (left : Option (List ℕ)) (input : List ℕ) (line : ℕ) → IsLeft left input → HasScript left → IsRefusedAt input line → ⊥
 no_refusal never left input line l h refused = never input h.script line (subst (λ bs. IsScript h.script bs) (the_left left input h.input l h.told) h.is_script) refused
 
-not_long : (left : Option (List ℕ)) (input : List ℕ) → IsLeft left input → HasScript left → limit < length input → ⊥
+not_long : (left : Option (List ℕ)) (input : List ℕ) → IsLeft left input → HasScript left → MOST_INPUT < length input → ⊥
 not_long left input l h long = let same : length h.input ≡ length input = ap length (the_left left input h.input l h.told) in omega (arith, long, h.within, same)
 
 script_served : NoScript → (summary : Bool) (left : Option (List ℕ)) (input : List ℕ) (status : ℕ) (text : List ℕ) → IsLeft left input → HasScript left → IsAnswer (Replay summary) input status text → IsFinished status
@@ -77,12 +78,17 @@ link_served never left input status text l h (inl (within, inl done)) = done.don
 link_served never left input status text l h (inl (within, inr refused)) = absurd (never h.events input refused.line (subst (λ bs. IsLinkScript h.events bs) (the_left left input h.input l h.told) h.is_script) refused.refused)
 link_served never left input status text l h (inr long) = let same : length h.input ≡ length input = ap length (the_left left input h.input l h.told) in absurd (omega (arith, long.long, h.within, same))
 
+copy_served : (summary : Bool) (left : Option (List ℕ)) (input : List ℕ) (status : ℕ) (text : List ℕ) → IsLeft left input → HasCopy left → IsAnswer (Sock summary) input status text → status ≡ 0
+copy_served summary left input status text l h (inl (within, copied)) = copied.done
+copy_served summary left input status text l h (inr long) = let same : length h.input ≡ length input = ap length (the_left left input h.input l h.told) in absurd (omega (arith, long.long, h.within, same))
+
 run_served : NoScript → NoJournal → NoFrames → NoLink → (reading : Reading) (left : Option (List ℕ)) (status : ℕ) (text : List ℕ) → HasInput (Read reading) left → IsRun reading left status text → IsDone (Read reading) status
 run_served scripts journals frames links (Replay summary) left status text h run = script_served scripts summary left run.input status text run.is_left h run.answer
 run_served scripts journals frames links (Run summary) left status text h run = threads_served scripts summary left run.input status text run.is_left h run.answer
 run_served scripts journals frames links Check left status text h run = journal_served journals left run.input status text run.is_left h run.answer
 run_served scripts journals frames links Frames left status text h run = frames_served frames left run.input status text run.is_left h run.answer
 run_served scripts journals frames links Link left status text h run = link_served links left run.input status text run.is_left h run.answer
+run_served scripts journals frames links (Sock summary) left status text h run = copy_served summary left run.input status text run.is_left h run.answer
 
 gen_served : (seed : ℕ) (summary : Bool) (status : ℕ) (text : List ℕ) → IsGenerated seed summary status text → IsDone (Gen seed summary) status
 gen_served seed false status text written = written.0

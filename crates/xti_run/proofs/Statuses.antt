@@ -8,7 +8,7 @@ use Rattle.xti_generate.specs.Generated.{generated}
 use Rattle.xti_command.specs.declared.command.Command.{Command}
 use Rattle.xti_command.specs.declared.command.Command.TheVariants.{Read, Gen}
 use Rattle.xti_command.specs.declared.command.Reading.{Reading}
-use Rattle.xti_command.specs.declared.command.Reading.TheVariants.{Replay, Run, Check, Frames, Link}
+use Rattle.xti_command.specs.declared.command.Reading.TheVariants.{Replay, Run, Check, Frames, Link, Sock}
 use Rattle.xti_run.specs.Program.{IsWholeRun, IsAnswered, IsAnswer, IsGenerated, IsOutputOf, status_with}
 
 -- no fault, and 1 only where there is no command
@@ -51,6 +51,7 @@ of_input o Frames input status text (inl done) = zero o status done.done
 of_input o Frames input status text (inr refused) = two o status refused.done
 of_input o Link input status text (inl done) = zero o status done.done
 of_input o Link input status text (inr refused) = two o status refused.done
+of_input o (Sock summary) input status text copied = zero o status copied.done
 
 of_answer : (o : Option Command) (reading : Reading) (input : List ℕ) (status : ℕ) (text : List ℕ) → IsAnswer reading input status text → HasStatus o status
 of_answer o reading input status text (inl (within, answered)) = of_input o reading input status text answered

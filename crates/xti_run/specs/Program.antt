@@ -9,6 +9,8 @@ use Rattle.xti_model.specs.declared.script.Script.{Script}
 use Rattle.xti_model.specs.declared.script.Journal.{Journal}
 use Rattle.xti_model.specs.History.{Legal}
 use Rattle.xti_model.specs.Robin.{robin}
+use Rattle.xti_laws_copy.specs.Copying.{AreCalls, copied, copy_calls, copy_journal}
+use Rattle.xti_laws_copy.specs.Laws.{HasOneConnection, HasSentItsInput, HasGotItsInput}
 use Rattle.xti_model.specs.Complete.{Follows, Each, workers, Complete}
 use Rattle.xti_replay.specs.Stalls.{gone_on, are_through}
 use Rattle.xti_laws_streams.specs.Laws.{PrefixLaw, WaitingLaw, ReleaseLaw}
@@ -35,12 +37,14 @@ use Rattle.xti_script.specs.Canonical.{script_text}
 use Rattle.xti_command.specs.declared.command.Command.{Command}
 use Rattle.xti_command.specs.declared.command.Command.TheVariants.{Read, Gen}
 use Rattle.xti_command.specs.declared.command.Reading.{Reading}
-use Rattle.xti_command.specs.declared.command.Reading.TheVariants.{Replay, Run, Check, Frames, Link}
+use Rattle.xti_command.specs.declared.command.Reading.TheVariants.{Replay, Run, Check, Frames, Link, Sock}
 use Rattle.xti_command.specs.Words.{command_of}
+use Rattle.xti_run.specs.declared.limits.TheConstants.{MOST_COPY}
 
 -- the most bytes of an input
-abbrev pub limit : ℕ
-limit = MOST_INPUT
+abbrev pub limit_of : Reading → ℕ
+limit_of (Sock summary) = MOST_COPY
+limit_of other = MOST_INPUT
 
 -- 0 where all are finished, else 3
 abbrev pub status_with : Bool → ℕ
@@ -179,9 +183,21 @@ pub record IsRefusedLink (input : List ℕ) (status : ℕ) (text : List ℕ) : T
   pub done : status ≡ 2
   pub printed : text ≡ refused_line line
 
+-- The input was copied over sockets: status 0, and the journal of that, or its summary. The journal is one that is read, no other
+-- has its text, and it is legal. Its calls are those of a copy, of worker 0, in their order, each once; it has one connection, on
+-- which the client sent the input as normal data, and the other end received it.
+pub record IsCopied (summary : Bool) (input : List ℕ) (status : ℕ) (text : List ℕ) : Type 0 where
+  pub done : status ≡ 0
+  pub printed : IsPrinted summary (copy_journal input) text
+  pub judged : IsLegal (copy_journal input)
+  pub calls : AreCalls 0 (copy_calls input) (copied input)
+  pub one : HasOneConnection (copied input)
+  pub sent : HasSentItsInput input (copied input)
+  pub got : HasGotItsInput input (copied input)
+
 -- the input is too long: status 2
-pub record IsTooLong (input : List ℕ) (status : ℕ) (text : List ℕ) : Type 0 where
-  pub long : limit < length input
+pub record IsTooLong (reading : Reading) (input : List ℕ) (status : ℕ) (text : List ℕ) : Type 0 where
+  pub long : limit_of reading < length input
   pub done : status ≡ 2
   pub printed : text ≡ refused_size
 
@@ -197,6 +213,7 @@ IsAnswered (Run summary) input status text = IsRunByThreads summary input status
 IsAnswered Check input status text = IsLegalJournal input status text ⊎ (IsWrongJournal input status text ⊎ IsRefusedJournal input status text)
 IsAnswered Frames input status text = IsListed input status text ⊎ IsRefusedByte input status text
 IsAnswered Link input status text = IsLinked input status text ⊎ IsRefusedLink input status text
+IsAnswered (Sock summary) input status text = IsCopied summary input status text
 
 -- this holds of what `check` answers to the text of a whole run
 abbrev pub OfCheckedRuns : (List Entry → ℕ → List ℕ → Type 0) → Type 0
@@ -206,7 +223,7 @@ OfCheckedRuns holds =
 
 -- the status and the text for an input
 abbrev pub IsAnswer : Reading → List ℕ → ℕ → List ℕ → Type 0
-IsAnswer reading input status text = ((length input ≤ limit) × IsAnswered reading input status text) ⊎ IsTooLong input status text
+IsAnswer reading input status text = ((length input ≤ limit_of reading) × IsAnswered reading input status text) ⊎ IsTooLong reading input status text
 
 -- these are the bytes that a source had left, as far as it tells them
 abbrev pub IsLeft : Option (List ℕ) → List ℕ → Type 0
@@ -258,14 +275,14 @@ pub record HasScript (left : Option (List ℕ)) : Type 0 where
   pub script : Script
   pub input : List ℕ
   pub told : left ≡ Some input
-  pub within : length input ≤ limit
+  pub within : length input ≤ MOST_INPUT
   pub is_script : IsScript script input
 
 -- what a source that tells its bytes had left is frames, within the limit
 pub record HasFrames (left : Option (List ℕ)) : Type 0 where
   pub input : List ℕ
   pub told : left ≡ Some input
-  pub within : length input ≤ limit
+  pub within : length input ≤ MOST_INPUT
   pub are_frames : IsFrames input
 
 -- what a source that tells its bytes had left is a link script, within the limit
@@ -273,7 +290,7 @@ pub record HasLink (left : Option (List ℕ)) : Type 0 where
   pub events : List LinkEvent
   pub input : List ℕ
   pub told : left ≡ Some input
-  pub within : length input ≤ limit
+  pub within : length input ≤ MOST_INPUT
   pub is_script : IsLinkScript events input
 
 -- what a source that tells its bytes had left is a journal, within the limit
@@ -281,8 +298,14 @@ pub record HasJournal (left : Option (List ℕ)) : Type 0 where
   pub journal : Journal
   pub input : List ℕ
   pub told : left ≡ Some input
-  pub within : length input ≤ limit
+  pub within : length input ≤ MOST_INPUT
   pub is_journal : IsJournal journal input
+
+-- a source that tells its bytes had no more left than a copy takes
+pub record HasCopy (left : Option (List ℕ)) : Type 0 where
+  pub input : List ℕ
+  pub told : left ≡ Some input
+  pub within : length input ≤ MOST_COPY
 
 -- every worker is finished, or one is blocked
 abbrev pub IsFinished : ℕ → Type 0
@@ -295,6 +318,7 @@ IsDone (Read (Run summary)) status = IsFinished status
 IsDone (Read Check) status = (status ≡ 0) ⊎ (status ≡ 7)
 IsDone (Read Frames) status = status ≡ 0
 IsDone (Read Link) status = status ≡ 0
+IsDone (Read (Sock summary)) status = status ≡ 0
 IsDone (Gen seed false) status = status ≡ 0
 IsDone (Gen seed true) status = IsFinished status
 
@@ -305,6 +329,7 @@ HasInput (Read (Run summary)) left = HasScript left
 HasInput (Read Check) left = HasJournal left
 HasInput (Read Frames) left = HasFrames left
 HasInput (Read Link) left = HasLink left
+HasInput (Read (Sock summary)) left = HasCopy left
 HasInput (Gen seed summary) left = Unit {0}
 
 -- with this status the whole text was written
@@ -344,8 +369,12 @@ abbrev pub FailsToRead : {S : Type 0} → (S → ℕ) → List (List ℕ) → S 
 FailsToRead faults words before now = IsReader words × Rose (faults before) (faults now)
 
 -- at most one byte more than the limit went from what a source had left
-abbrev pub ReadsToLimit : {S : Type 0} → (S → Option (List ℕ)) → S → S → Type 0
-ReadsToLimit left before now = GivesUpTo (limit + 1) (left before) (left now)
+abbrev pub ReadsToLimit : {S : Type 0} → Reading → (S → Option (List ℕ)) → S → S → Type 0
+ReadsToLimit reading left before now = GivesUpTo (limit_of reading + 1) (left before) (left now)
+
+-- where the words are a command that reads, its limit holds of what it reads
+abbrev pub ReadsWithin : {S : Type 0} → List (List ℕ) → (S → Option (List ℕ)) → S → S → Type 0
+ReadsWithin words left before now = (reading : Reading) → command_of words ≡ Some (Read reading) → ReadsToLimit reading left before now
 
 -- a write failed
 abbrev pub IsWriteFault : ℕ → Type 0

@@ -11,8 +11,9 @@ ghost use Rattle.xti_script_reader.specs.Grammar.{HasText};
 ghost use Rattle.xti_command.specs.declared.command.Command.{Command};
 ghost use Rattle.xti_command.specs.Words.{AreTaken, IsPlain, NamesNone, command_of};
 ghost use Rattle.xti_run.specs.Entries.{IsOfSomeScript, ReportsMore, ReportsAll};
-ghost use Rattle.xti_run.specs.Program.{IsRunFrom, IsThreaded, IsRefusedBy, IsWhole, IsAnswered, FailsToRead, IsUnread, IsWriteFault, HasNoAnswer, ReadsToLimit, IsRun, IsOutput, IsRefusedWords, IsReader, IsPlayed, IsGenerated, IsWritten, IsWrittenOrOutOfMemory, IsCutOff, HasInput, IsDone, IsOutOfMemory, NoFault, refused_line, refused_byte, refused_words, refused_size, status_with};
+ghost use Rattle.xti_run.specs.Program.{IsRunFrom, IsThreaded, IsRefusedBy, IsWhole, IsAnswered, FailsToRead, IsUnread, IsWriteFault, HasNoAnswer, ReadsToLimit, ReadsWithin, IsRun, IsOutput, IsRefusedWords, IsReader, IsPlayed, IsGenerated, IsWritten, IsWrittenOrOutOfMemory, IsCutOff, HasInput, IsDone, IsOutOfMemory, NoFault, refused_line, refused_byte, refused_words, refused_size, limit_of, status_with};
 
+use crate::limits::MOST_COPY;
 use crate::report::Report;
 use crate::round_robin::texts_are_playable;
 use std::alloc::{AllocError, Global};
@@ -24,16 +25,19 @@ use xti_base::limits::{MOST_INPUT, MOST_STEPS};
 use xti_carrier::show_link;
 use xti_check::{Judgement, judge};
 use xti_command::{Command, Reading, Words, WordsFail, plain_words_are_commands};
+use xti_copy::copy;
 use xti_frames::{FramesFail, show_frames};
 use xti_generate::{generate, generated_scripts_have_texts};
 use xti_io::{ReadEnd, Sink, Source, WriteEnd, read_all, write_all};
+use xti_laws_copy::{copies_are_legal, copies_copy_their_input, copies_make_their_calls};
+use xti_laws_copy_text::copies_have_texts;
 use xti_laws_journals::{
     legal_journals_keep_order, runs_have_few_entries, runs_make_journals,
     whole_runs_make_legal_journals,
 };
 use xti_laws_streams::scripts_keep_order;
 use xti_link::{LinkFail, read_link};
-use xti_model::{Entry, Script, Stalls, robin_goes_on, robin_is_legal};
+use xti_model::{Entry, Providers, Script, Stalls, robin_goes_on, robin_is_legal};
 use xti_reasons::{Kind, Reason, reason};
 use xti_replay::Run;
 use xti_script::write_script;
@@ -314,6 +318,31 @@ fn link_answer(alloc: Global, input: &[u8]) -> Result<Answer, AllocError>
     }
 }
 
+/// What `sock` answers to an input within the limit. The journal is written in the room of bytes that are done with.
+fn sock_answer<R: Wait + Sync>(
+    rt: &R,
+    alloc: Global,
+    summary: bool,
+    input: Octets,
+) -> Result<Answer, AllocError>
+    requires { length input ≤ limit_of (Reading.Sock summary) }
+    ensures { IfOk result (λ a. IsAnswered (Reading.Sock summary) input a.status a.text) }
+{
+    copies_make_their_calls();
+    copies_are_legal();
+    copies_copy_their_input();
+    copies_have_texts();
+    let history = copy(rt, alloc, input.as_slice())?;
+    let mut report = Report::begin(summary, input, &Providers::usual())?;
+    report_history(&mut report, history.as_slice())?;
+    let text = report.end(alloc, &Stalls::new(alloc))?;
+    Ok(Answer {
+        status: 0,
+        text,
+        reason: Reason::none(),
+    })
+}
+
 /// What is answered to an input within the limit.
 fn answer_to<T: Threads + Wait + Sync, G: Gate>(
     rt: &T,
@@ -322,6 +351,7 @@ fn answer_to<T: Threads + Wait + Sync, G: Gate>(
     input: Octets,
     gate: &G,
 ) -> Result<Answer, AllocError>
+    requires { length input ≤ limit_of reading }
     ensures { IfOk result (λ a. IsAnswered reading input a.status a.text) }
 {
     match reading {
@@ -330,6 +360,7 @@ fn answer_to<T: Threads + Wait + Sync, G: Gate>(
         Reading::Check => check_answer(alloc, input.as_slice()),
         Reading::Frames => frames_answer(alloc, input.as_slice()),
         Reading::Link => link_answer(alloc, input.as_slice()),
+        Reading::Sock { summary } => sock_answer(rt, alloc, summary, input),
     }
 }
 
@@ -355,6 +386,16 @@ fn size_answer(alloc: Global) -> Result<Answer, AllocError>
     })
 }
 
+/// The most bytes of an input.
+fn most_bytes(reading: Reading) -> usize
+    ensures { result ≡ limit_of reading }
+{
+    match reading {
+        Reading::Sock { .. } => MOST_COPY,
+        _ => MOST_INPUT,
+    }
+}
+
 /// What is answered to what the source has left.
 fn answer_from<T: Threads + Wait + Sync, R: Source, G: Gate>(
     rt: &T,
@@ -365,10 +406,10 @@ fn answer_from<T: Threads + Wait + Sync, R: Source, G: Gate>(
 ) -> Result<Answer, Status>
     ensures ok { IfOk result (λ a. IsRun reading (R.left source.old) a.status a.text) }
     ensures err { IfErr result (λ s. IsUnread s.0 (R.faults source.old) (R.faults source.new)) }
-    ensures read { ReadsToLimit R.left source.old source.new }
+    ensures read { ReadsToLimit reading R.left source.old source.new }
     ensures later { R.faults source.old ≤ R.faults source.new }
 {
-    match read_all(alloc, source, MOST_INPUT) {
+    match read_all(alloc, source, most_bytes(reading)) {
         Ok(input) => Ok(answer_to(rt, alloc, reading, input, gate)?),
         Err(ReadEnd::TooLong) => Ok(size_answer(alloc)?),
         Err(ReadEnd::Fault) => Err(Status(5)),
@@ -386,7 +427,7 @@ fn output<T: Threads + Wait + Sync, R: Source, G: Gate>(
 ) -> Result<Answer, Status>
     ensures ok { IfOk result (λ a. IsOutput words.now (R.left source.old) a.status a.text) }
     ensures err { IfErr result (λ s. HasNoAnswer R.faults words.now source.old source.new s.0) }
-    ensures read { IsReader words.now → ReadsToLimit R.left source.old source.new }
+    ensures read { ReadsWithin words.now R.left source.old source.new }
     ensures unread { (IsReader words.now → ⊥) → source.new ≡ source.old }
     ensures taken { AreTaken words.now → IfOk result (λ a. a.status ≡ 1 → NamesNone words.now) }
 {
@@ -466,7 +507,7 @@ pub fn program<T: Threads + Wait + Sync, R: Source, W: Sink, G: Gate>(
         → IsDone command result.0 ⊎ IsOutOfMemory result.0 }
 
     // What is read.
-    ensures read { IsReader words.now → ReadsToLimit R.left source.old source.new }
+    ensures read { ReadsWithin words.now R.left source.old source.new }
     ensures unread { (IsReader words.now → ⊥) → source.new ≡ source.old }
 {
     never_both();

@@ -1,0 +1,6 @@
+mod Following
+mod Rows
+mod Calls
+mod Pieces
+mod InStep
+mod Steps
