@@ -1,0 +1,4 @@
+mod ReceiveSteps
+mod Lives
+mod Entries
+mod Ends
