@@ -1,3 +1,4 @@
 mod Sets
 mod SumBits
 mod Finds
+pub mod Apart

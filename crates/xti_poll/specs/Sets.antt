@@ -18,6 +18,11 @@ abbrev pub has : Fd → List Asked → Bool
 has fd [] = false
 has fd (a ∷ s) = is_of fd a || has fd s
 
+-- no descriptor stands in two pairs
+abbrev pub are_apart : List Asked → Bool
+are_apart [] = true
+are_apart (a ∷ s) = not (has a.fd s) && are_apart s
+
 -- the pair in the place of that of the same descriptor, else last
 abbrev pub with_pair : Asked → List Asked → List Asked
 with_pair x [] = x ∷ []

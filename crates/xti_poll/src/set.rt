@@ -3,7 +3,7 @@
 ghost use Rattle.std.specs.Prelude.{◌≡◌, ◌↔◌, ◌∷◌, ◌++◌, [], true, false, length, nat_le, MatchOption, OnErr, OnOk};
 ghost use Rattle.std.specs.Prelude.{Err};
 ghost use Rattle.xti_poll.specs.declared.set.PollFail.TheVariants.{BadEvents, Full};
-ghost use Rattle.xti_poll.specs.Sets.{are_events, has, is_full_for, with_pair, without, IsFirstOf};
+ghost use Rattle.xti_poll.specs.Sets.{are_apart, are_events, has, is_full_for, with_pair, without, IsFirstOf};
 
 use crate::asked::Asked;
 use crate::bits::are_events;
@@ -36,12 +36,15 @@ pub struct PollSet {
 }
 
 impl Model for PollSet {
-    ghost use Rattle.std.specs.Prelude.{List};
+    ghost use Rattle.std.specs.Prelude.{◌≡◌, true, List};
     ghost use Rattle.xti_poll.specs.declared.asked.Asked.{Asked};
+    ghost use Rattle.xti_poll.specs.Sets.{are_apart};
 
     ghost Value = { List Asked };
 
     ghost view = { λ s. s.pairs.items };
+
+    ghost invariant = { λ s. are_apart s.pairs.items ≡ true };
 }
 
 /// The place of the pair of the descriptor.
@@ -66,15 +69,17 @@ impl PollSet {
         }
     }
 
-    /// The pairs, in order. Takes no memory.
+    /// The pairs, in order, each of another descriptor. Takes no memory.
     pub fn pairs(&self) -> &[Asked]
-        ensures { result.now ≡ self.now }
+        ensures pairs { result.now ≡ self.now }
+        ensures apart { are_apart self.now ≡ true }
     {
         self.pairs.as_slice()
     }
 
     /// Puts a pair of another descriptor last.
     fn add(&mut self, asked: Asked) -> Result<(), PollFail>
+        requires { has asked.fd self.old ≡ false }
         ensures added { OnOk result (self.new ≡ self.old ++ asked ∷ []) }
         ensures full { (result ≡ Err Full) ↔ (nat_le 64 (length self.old) ≡ true) }
         ensures other { result ≡ Err BadEvents → ⊥ }

@@ -9,4 +9,4 @@ pub returns-clause-found : goal.returns-clause-found
 returns-clause-found g c =
     c.add_told.ensures
     ∙ (ap (λ (xs : List Found). xs ++ all_told c.pairs-2.result.now c.as_slice.result.now) c.in_ok-finds.ensures.items
-    ∙ (ap (λ (s : List Asked). all_told s c.as_slice.result.now) c.pairs-2.ensures ∙ found-of c.survey.new.caller.view c.args.self.now c.as_slice.result.now (c.as_slice.ensures.value ∙ c.in_ok-pending.ensures.pending)))
+    ∙ (ap (λ (s : List Asked). all_told s c.as_slice.result.now) c.pairs-2.ensures.pairs ∙ found-of c.survey.new.caller.view c.args.self.now c.as_slice.result.now (c.as_slice.ensures.value ∙ c.in_ok-pending.ensures.pending)))
