@@ -1,13 +1,12 @@
 -- What is copied of a step whose entry is kept.
-use Rattle.std.specs.Prelude.{◌≡◌, ℕ, min, Bool, true, false, Box, Option, Some, None}
+use Rattle.std.specs.Prelude.{◌≡◌, Bool, true, false, Box, Option, Some, None}
 use Rattle.std.specs.declared.alloc.Global.{Global}
-use Rattle.xti_base.specs.declared.limits.TheConstants.{MOST_ADDRESS, MOST_OPTIONS}
 use Rattle.xti_model.specs.declared.call.Call.{Call}
 use Rattle.xti_model.specs.declared.entry.Act.{Act}
 use Rattle.xti_model.specs.declared.entry.Entry.{Entry}
 use Rattle.xti_model.specs.declared.entry.Go.{Go}
 use Rattle.xti_model.specs.Robin.{act_of}
-use Rattle.xti_laws_sound.specs.Replies.{Lengths, lengths, lengths_of}
+use Rattle.xti_laws_sound.specs.Replies.{Lengths, lengths_of}
 use Rattle.xti_hall_rule.specs.declared.view.View.{View}
 use Rattle.xti_hall.specs.declared.made_step.MadeStep.{MadeStep}
 
@@ -23,7 +22,3 @@ AreCopies keeps c g None = keeps ≡ false
 -- the seat's entry of this step, which shows of its call what was copied
 abbrev pub entry_with : Box (Act × Lengths) Global → View → MadeStep → Entry
 entry_with b v s = record { worker = v.number; act = b.value.0; outcome = s.outcome.now; after = s.after }
-
--- the address, the options and so many bytes of a datagram
-abbrev pub datagram_lengths : ℕ → ℕ → ℕ → Lengths
-datagram_lengths amax omax bytes = lengths (min amax MOST_ADDRESS) (min omax MOST_OPTIONS) bytes

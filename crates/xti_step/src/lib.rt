@@ -15,7 +15,6 @@ macro_rules! or_drop {
 }
 
 mod gate;
-mod spare;
 mod stepping;
 mod waking;
 

@@ -15,7 +15,6 @@ ghost use Rattle.xti_step.specs.Copies.{AreCopies, IsCopy, entry_with};
 ghost use Rattle.xti_step.specs.Steps.{KeepsOrFreesMark, HoldsNothing, Later, MayGo, Tells, SeenAt};
 
 use crate::gate::Gate;
-use crate::spare::Spare;
 use crate::waking::concerned;
 use std::alloc::{AllocError, Global};
 use std::sync::Wait;
@@ -25,6 +24,7 @@ use xti_gather::{Cell, gather, leave_all};
 use xti_hall::{Hall, MadeStep, Pen, Rings, Seat};
 use xti_lent::Lent;
 use xti_model::{Act, Applied, Call, Cells, Entry, Go, calls_send_bytes};
+use xti_spare::Spare;
 
 /// What the entry of a step shows of its call.
 fn act(call: &Call, go: Go) -> Result<Act, AllocError>
