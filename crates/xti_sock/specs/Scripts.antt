@@ -34,6 +34,11 @@ heard_of (reply.Refused TNODATA) = heard.Waits
 heard_of (reply.Refused errno) = heard.Refused errno
 heard_of other = heard.Unasked
 
+-- this is what a reply without bytes of the stream is
+abbrev pub IsHeardPlainly : Reply → Heard → Type 0
+IsHeardPlainly (reply.Got bytes flags) h = Unit {0}
+IsHeardPlainly other h = h ≡ heard_of other
+
 -- the same of a call that may have stopped before its reply
 abbrev pub heard_in : Result Reply CallEnd → Heard
 heard_in (Ok r) = heard_of r

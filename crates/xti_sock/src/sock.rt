@@ -18,7 +18,7 @@ use crate::limits::MOST_TURNS;
 use crate::phase::Phase;
 use std::alloc::Global;
 use std::sync::Wait;
-use xti_base::{Fd, Octets};
+use xti_base::{Fd, Octets, let_go};
 use xti_laws::changes_are_named;
 use xti_model::Call;
 
@@ -292,7 +292,9 @@ impl Sock {
             bytes,
             flags: 0,
         };
-        self.send_made(io, rt, alloc, &made)
+        let sent = self.send_made(io, rt, alloc, &made);
+        let_go(made);
+        sent
     }
 
     /// Sends bytes, and answers how many were taken.
