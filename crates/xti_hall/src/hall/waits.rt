@@ -73,6 +73,60 @@ impl<C: Stands> Hall<C> {
         }
     }
 
+    /// Gives the journal back, with the seat at rest, and wakes all that wait.
+    fn give_resting(&self, seat: &mut Seat<C>, mut journal: Box<Journal>)
+        requires hall { IsSeatOf self.now seat.old }
+        requires holds { Holds seat.old.view }
+        requires log { HasLog seat.old.view.setting journal.value seat.old.view.history }
+        requires marks { journal.value.marks.items ≡ seat.old.view.marks }
+        ensures hall { IsSameSeat seat.old seat.new }
+        ensures view { seat.new.view ≡ without_pen seat.old.view Resting }
+        ensures standing { IsStanding seat.new.view }
+    {
+        let rings = journal.bells.ring(EVERYONE);
+        self.give_marked(seat, journal, Mark::Resting);
+        self.ring_all(seat, rings);
+    }
+
+    /// Gives the journal back, with the mark of a wait in the history of this length, which `set` says that the seat had already.
+    /// Where no other seat goes on, those are woken that wait since an earlier length.
+    fn give_waiting(
+        &self,
+        seat: &mut Seat<C>,
+        mut journal: Box<Journal>,
+        want: Want,
+        at: u64,
+        set: bool,
+    ) -> Sight
+        requires hall { IsSeatOf self.now seat.old }
+        requires holds { Holds seat.old.view }
+        requires log { HasLog seat.old.view.setting journal.value seat.old.view.history }
+        requires marks { journal.value.marks.items ≡ seat.old.view.marks }
+        requires at { at ≡ length seat.old.view.history }
+        requires mark { MarkFits seat.old.view.setting seat.old.view.history (Waiting want at) }
+        ensures hall { IsSameSeat seat.old seat.new }
+        ensures view { seat.new.view ≡ without_pen seat.old.view (Waiting want at) }
+        ensures standing { IsStanding seat.new.view }
+        ensures sight { Sees seat.new.view want at result }
+    {
+        let behind = left_behind(journal.marks.as_slice(), &journal.bells, seat.number, at);
+        let rings = match behind {
+            Some(seats) if set => journal.bells.ring(seats),
+            _ => 0,
+        };
+        let bell = self
+            .table
+            .shared
+            .peek(self.cells as usize + 2 + seat.number as usize);
+        self.give_marked(seat, journal, Mark::Waiting(want, at));
+        self.ring_all(seat, rings);
+        if set || behind.is_none() {
+            Sight::Parks(bell)
+        } else {
+            Sight::Alone
+        }
+    }
+
     /// Until its next call gives the journal back, the seat counts as resting.
     pub fn rest<R: Wait>(&self, rt: &R, seat: &mut Seat<C>)
         requires hall { IsSeatOf self.now seat.old }
@@ -83,10 +137,8 @@ impl<C: Stands> Hall<C> {
         ensures standing { IsStanding seat.new.view }
         ensures looks { Looks seat.old.view seat.new.view }
     {
-        let mut journal = self.look(rt, seat);
-        let rings = journal.bells.ring(EVERYONE);
-        self.give_marked(seat, journal, Mark::Resting);
-        self.ring_all(seat, rings);
+        let journal = self.look(rt, seat);
+        self.give_resting(seat, journal);
     }
 
     /// One look of a waiter. A stall is looked for where the seat's own mark is that of this wait. Where it is none, though no
@@ -111,7 +163,7 @@ impl<C: Stands> Hall<C> {
         ensures want { WasBlocked seat.new.view at want }
         ensures standing { IsStanding seat.new.view }
     {
-        let mut journal = self.look(rt, seat);
+        let journal = self.look(rt, seat);
         if journal.length > at {
             self.give_marked(seat, journal, Mark::Free);
             return Sight::Again;
@@ -122,27 +174,10 @@ impl<C: Stands> Hall<C> {
                 waiting: waiting(journal.marks.as_slice()),
                 resting: resting(journal.marks.as_slice()),
             };
-            let rings = journal.bells.ring(EVERYONE);
-            self.give_marked(seat, journal, Mark::Resting);
-            self.ring_all(seat, rings);
+            self.give_resting(seat, journal);
             return Sight::Stalls(stall);
         }
-        let behind = left_behind(journal.marks.as_slice(), &journal.bells, seat.number, at);
-        let rings = match behind {
-            Some(seats) if set => journal.bells.ring(seats),
-            _ => 0,
-        };
-        let bell = self
-            .table
-            .shared
-            .peek(self.cells as usize + 2 + seat.number as usize);
-        self.give_marked(seat, journal, Mark::Waiting(want, at));
-        self.ring_all(seat, rings);
-        if set || behind.is_none() {
-            Sight::Parks(bell)
-        } else {
-            Sight::Alone
-        }
+        self.give_waiting(seat, journal, want, at, set)
     }
 
     /// Waits until the history is longer than `at`, or until each seat that is out rests, or waits for what is blocked in the
