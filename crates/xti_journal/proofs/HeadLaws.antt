@@ -25,8 +25,8 @@ use Rattle.xti_journal.specs.FieldValue.{Value as value}
 use Rattle.xti_journal.specs.declared.fields.Key.{Key}
 use Rattle.xti_journal.specs.Fields.{field, IsOfKind, AreFields}
 use Rattle.xti_journal.specs.Line.{IsLine}
-use Rattle.xti_journal.specs.declared.fields.FieldFail.{FieldFail}
-use Rattle.xti_journal.specs.declared.fields.FieldFail.TheVariants.{Wrong, OutOfMemory}
+use Rattle.xti_words.specs.declared.noted.FieldFail.{FieldFail}
+use Rattle.xti_words.specs.declared.noted.FieldFail.TheVariants.{Wrong, OutOfMemory}
 use Rattle.xti_journal.specs.Unread.{IsRead, ReadsFields, ReadsValues}
 use Rattle.xti_journal.specs.Head.{valid_profile, is_in_head, valid_head, FitsProfile, ReadsProvider}
 use Rattle.xti_journal.specs.Reading.{Found, accepted, fields_of, release_keys, release_values, profile_keys, profile_values, alone, profile_in}

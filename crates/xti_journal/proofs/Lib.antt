@@ -2,6 +2,7 @@ pub mod NumberLaws
 pub mod Splits
 pub mod ValueLaws
 pub mod FieldLaws
+pub mod Ended
 pub mod CallText
 pub mod LineLaws
 pub mod TextLines

@@ -37,8 +37,8 @@ use Rattle.xti_verbs.specs.Verbs.{is_in_texts, row_of, verb_word, answer_of, ver
 use Rattle.xti_verbs.proofs.WordLaws.{verb_is, is_known, is_verb}
 use Rattle.xti_journal.specs.Calls.{form, call_values, answer_form, answer_values}
 use Rattle.xti_journal.specs.Grammar.{verb_after, last_verb, IsAct, IsAnswer, IsEntry, IsStall}
-use Rattle.xti_journal.specs.declared.fields.FieldFail.{FieldFail}
-use Rattle.xti_journal.specs.declared.fields.FieldFail.TheVariants.{Wrong, OutOfMemory}
+use Rattle.xti_words.specs.declared.noted.FieldFail.{FieldFail}
+use Rattle.xti_words.specs.declared.noted.FieldFail.TheVariants.{Wrong, OutOfMemory}
 use Rattle.xti_journal.specs.Unread.{IsRead}
 use Rattle.xti_journal.specs.Reading.{Found, fields_of, ActRead, Begins, Goes, act_read, begun, call_in, act_in, verb_after_read, AnswerRead, outcome_read, error_in, answer_in, answered, with_answer, outcome_in, small, worker_in, StepRead, worker_does, by_worker, step_in, EntryRead, entry_read, last_state, state_at_end, with_state, with_outcome, behind_arrow, whole_entry, with_step, entry_in, stall_read, is_whole, stall_verb, with_stall, stall_in}
 use Rattle.xti_journal.proofs.NumberLaws.{Above, number_sound, number_complete, decimal_above}

@@ -14,8 +14,8 @@ use Rattle.xti_model.specs.Profile.{usual, usual_of}
 use Rattle.xti_journal_text.specs.JournalText.{first_line, provider_text, head_text, entry_text, entries_text, stall_text, end_text, journal_text}
 use Rattle.xti_words.specs.Texts.{words_of}
 use Rattle.xti_journal.specs.Grammar.{IsEntry, AreEntries, IsStall, AreStallsAfter, AreStalls, HasText, IsJournal}
-use Rattle.xti_journal.specs.declared.fields.FieldFail.{FieldFail}
-use Rattle.xti_journal.specs.declared.fields.FieldFail.TheVariants as field
+use Rattle.xti_words.specs.declared.noted.FieldFail.{FieldFail}
+use Rattle.xti_words.specs.declared.noted.FieldFail.TheVariants as field
 use Rattle.xti_journal.specs.declared.journal_text.JournalFail.{JournalFail}
 use Rattle.xti_journal.specs.declared.journal_text.JournalFail.TheVariants as journal
 use Rattle.xti_journal.specs.Head.{is_in_head, valid_head, fail_at, ReadsFirst, ReadsProvider, ReadsHead}

@@ -1,7 +1,5 @@
 -- The values of words.
 use Rattle.std.specs.Prelude.{ℕ, Bool, List, Option}
-use Rattle.xti_base.specs.declared.kinds.Fd.{Fd}
-use Rattle.xti_base.specs.declared.kinds.Seq.{Seq}
 use Rattle.xti_base.specs.declared.kinds.Prov.{Prov}
 use Rattle.xti_base.specs.declared.kinds.ServType.{ServType}
 use Rattle.xti_base.specs.declared.kinds.State.{State as StateOf}
@@ -23,10 +21,3 @@ pub data Value : Type 0 where
   Event : EventOf → Value
   EventOrNone : Option EventOf → Value
   Errno : ErrnoOf → Value
-
--- a descriptor, and a sequence number, by its number
-abbrev pub fd_value : Fd → Value
-fd_value fd = Number fd.0
-
-abbrev pub seq_value : Seq → Value
-seq_value seq = Number seq.0

@@ -7,8 +7,8 @@ use Rattle.xti_model.specs.declared.profile.Providers.{Providers}
 use Rattle.xti_model.specs.declared.profile.Version.{Version}
 use Rattle.xti_model.specs.Profile.{valid_connections, valid_orderly, valid_datagrams, valid, tells_reldata, is_told, releases_told}
 use Rattle.xti_journal_text.specs.JournalText.{first_line, provider_text, head_text}
-use Rattle.xti_journal.specs.declared.fields.FieldFail.{FieldFail}
-use Rattle.xti_journal.specs.declared.fields.FieldFail.TheVariants as field
+use Rattle.xti_words.specs.declared.noted.FieldFail.{FieldFail}
+use Rattle.xti_words.specs.declared.noted.FieldFail.TheVariants as field
 use Rattle.xti_journal.specs.declared.journal_text.JournalFail.{JournalFail}
 use Rattle.xti_journal.specs.declared.journal_text.JournalFail.TheVariants as journal
 use Rattle.xti_journal.specs.Fields.{AreFields}

@@ -3,8 +3,8 @@ use Rattle.std.specs.Prelude.{◌≡◌, ◌⊎◌, ℕ, Bool, true, false, List
 use Rattle.xti_model.specs.declared.entry.Entry.{Entry}
 use Rattle.xti_model.specs.declared.script.Journal.{Journal}
 use Rattle.xti_model.specs.declared.script.StallLine.{StallLine}
-use Rattle.xti_journal.specs.declared.fields.FieldFail.{FieldFail}
-use Rattle.xti_journal.specs.declared.fields.FieldFail.TheVariants as field
+use Rattle.xti_words.specs.declared.noted.FieldFail.{FieldFail}
+use Rattle.xti_words.specs.declared.noted.FieldFail.TheVariants as field
 use Rattle.xti_journal.specs.Known.{Entered, Stalled}
 use Rattle.xti_journal.specs.Reading.{line_after, entry_read, stall_read}
 use Rattle.xti_journal.specs.Reading.{LineRead as read}

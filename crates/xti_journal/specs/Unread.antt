@@ -1,46 +1,58 @@
 -- Fields that are read one after the other, and what readers give.
-use Rattle.std.specs.Prelude.{◌≡◌, ℕ, Bool, List, [], ◌∷◌, Option, Some, None, Result, Ok, Err}
+use Rattle.std.specs.Prelude.{◌≡◌, ℕ, Bool, false, List, [], ◌∷◌, Option, Some, None, Result, Ok, Err}
 use Rattle.xti_base.specs.declared.kinds.Prov.{Prov}
-use Rattle.xti_base.specs.declared.limit.Info.{Info}
 use Rattle.xti_model.specs.declared.entry.Act.{Act}
 use Rattle.xti_model.specs.declared.entry.Entry.{Entry}
 use Rattle.xti_model.specs.declared.entry.Outcome.{Outcome}
-use Rattle.xti_model.specs.declared.entry.Outcome.TheVariants.{Done}
-use Rattle.xti_model.specs.declared.entry.Reply.TheVariants.{Limits}
 use Rattle.xti_model.specs.declared.profile.Profile.{Profile}
 use Rattle.xti_model.specs.declared.profile.Version.{Version}
 use Rattle.xti_model.specs.declared.script.Journal.{Journal}
 use Rattle.xti_model.specs.Profile.{tells_reldata}
 use Rattle.xti_verbs.specs.declared.verb.Verb.{Verb}
 use Rattle.xti_verbs.specs.declared.answer.Answer.{Answer}
-use Rattle.xti_verbs.specs.declared.answer.Answer.TheVariants as answer
 use Rattle.xti_journal.specs.Kinds.{Kind}
 use Rattle.xti_journal.specs.FieldValue.{Value}
 use Rattle.xti_journal.specs.declared.fields.Key.{Key}
 use Rattle.xti_journal.specs.declared.fields.Fields.{Fields}
-use Rattle.xti_journal.specs.declared.fields.FieldFail.{FieldFail}
-use Rattle.xti_journal.specs.declared.fields.FieldFail.TheVariants.{Wrong, OutOfMemory}
+use Rattle.xti_words.specs.declared.noted.FieldFail.{FieldFail}
+use Rattle.xti_words.specs.declared.noted.FieldFail.TheVariants.{Wrong, OutOfMemory}
+use Rattle.xti_words.specs.Noted.{left, Ends, Keeps}
 use Rattle.xti_journal.specs.Fields.{kind_of}
-use Rattle.xti_journal.specs.Reading.{Found, AnswerRead, text_value, before, fields_of, act_read, act_in, step_read, step_in, begun, outcome_read, answered, outcome_in, entry_read, entry_after, profile_keys, profile_values, alone, profile_in}
+use Rattle.xti_journal.specs.Reading.{Found, text_value, before, fields_of, act_read, act_in, step_read, step_in, begun, outcome_read, answered, outcome_in, entry_read, entry_after, profile_keys, profile_values, alone, profile_in}
 
--- the values that the words give the fields that are not read yet
+-- the values that the words give the fields that are not read yet, or none after one that is wrong
 abbrev pub unread : Fields → Found (List Value)
-unread fields = fields_of fields.keys.now fields.words
+unread fields = left fields.noted.is_wrong (fields_of fields.keys.now fields.words)
 
 -- the next field was taken, with this key and this word: its value is the first of those that were not read
-abbrev pub TakesField : Fields → Fields → Key → Option (List ℕ) → Type 0
-TakesField old new key text = unread old ≡ before (text_value (kind_of key) text) (unread new)
+pub record TakesField (old new : Fields) (key : Key) (text : Option (List ℕ)) : Type 0 where
+  pub keys : old.keys.now ≡ key ∷ new.keys.now
+  pub noted : new.noted ≡ old.noted
+  pub value : unread old ≡ before (text_value (kind_of key) text) (unread new)
 
 -- the next field is of this kind
 abbrev pub NextIs : Kind → List Key → Type 0
 NextIs kind [] = ⊥
 NextIs kind (key ∷ keys) = kind_of key ≡ kind
 
--- what is read is the first of the values, which the others follow, or there are none
-abbrev pub Reads : {A : Type 0} → (A → Value) → Found (List Value) → Found (List Value) → Result A FieldFail → Type 0
-Reads is_value values others (Ok read) = values ≡ before (Some (is_value read)) others
-Reads is_value values others (Err Wrong) = values ≡ None
-Reads is_value values others (Err OutOfMemory) = Unit {0}
+-- these values before others, where these are there
+abbrev pub all_before : List Value → Found (List Value) → Found (List Value)
+all_before [] others = others
+all_before (value ∷ values) others = before (Some value) (all_before values others)
+
+-- the values are the first of those that were not read, which the others follow; or memory ran out
+abbrev pub Reads : List Value → Fields → Fields → Type 0
+Reads values old new = Keeps old.noted new.noted (unread old ≡ all_before values (unread new))
+
+-- each field was read; or one is wrong; or memory ran out
+abbrev pub EndsAs : {A : Type 0} → Fields → Result A FieldFail → Type 0
+EndsAs fields result = Ends fields.noted result
+
+-- each field was read, and no word is left; or one is wrong, or a word is left; or memory ran out
+abbrev pub EndsLine : {A : Type 0} → Fields → Result A FieldFail → Type 0
+EndsLine fields (Ok read) = (fields.noted.ran_out ≡ false) × (unread fields ≡ Some ([], []))
+EndsLine fields (Err Wrong) = (fields.noted.ran_out ≡ false) × (alone (unread fields) ≡ None)
+EndsLine fields (Err OutOfMemory) = Unit {0}
 
 -- what the words give is this, and these words are left; or they give nothing
 abbrev pub Gives : {A B : Type 0} → (A → B) → Found B → List (List ℕ) → Result A FieldFail → Type 0
@@ -67,14 +79,6 @@ GivesOutcome answer old outcome new result = Gives (λ _. outcome_read outcome) 
 -- the words give this outcome of the call, and what is left of them is given
 abbrev pub TellsOutcome : {A : Type 0} → Verb → Fields → Outcome → Fields → Result A FieldFail → Type 0
 TellsOutcome verb old outcome new result = Gives (λ _. outcome_read outcome) (outcome_in verb old.words) new.words result
-
--- what is read where a provider offers this
-abbrev pub limits_read : Info → AnswerRead
-limits_read info = outcome_read (Done (Limits info))
-
--- the fields give what a provider offers, and what is left of them is given
-abbrev pub GivesLimits : Fields → Fields → Result Info FieldFail → Type 0
-GivesLimits old new result = Gives limits_read (answered answer.Limits (unread old)) new.words result
 
 -- what a whole line gives is this, or it gives nothing
 abbrev pub IsRead : {A B : Type 0} → (A → B) → Option B → Result A FieldFail → Type 0

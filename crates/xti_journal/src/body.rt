@@ -1,17 +1,18 @@
 //! Reading the lines after the head.
 
-ghost use Rattle.std.specs.Prelude.{◌≡◌, ◌||◌, not, true, IfOk};
+ghost use Rattle.std.specs.Prelude.{◌≡◌, ◌||◌, not, true, [], IfOk};
 ghost use Rattle.xti_model.specs.Profile.{is_told};
 ghost use Rattle.xti_words.specs.Texts.{words_of};
 ghost use Rattle.xti_journal.specs.Reading.{stall_after, stalled_read, ended, Ended, may_follow, line_read, line_after, release_keys, release_values, profile_keys};
-ghost use Rattle.xti_journal.specs.Unread.{unread, Gives, IsRead, ReadsFields, ReadsValues};
+ghost use Rattle.xti_journal.specs.Unread.{IsRead, Reads, ReadsFields, ReadsValues};
 
 use crate::draft::Draft;
-use crate::fields::{FieldFail, Fields, Key};
+use crate::fields::{Fields, Key};
 use crate::lines::{is_number, read_entry, read_stall};
 use std::alloc::Global;
 use xti_base::{Prov, let_go};
 use xti_model::{Act, Entry, Profile, StallLine, Version};
+use xti_words::FieldFail;
 
 /// A line after the head.
 #[derive(Drop)]
@@ -123,38 +124,34 @@ fn profile_keys(told: bool) -> &'static [Key]
 
 /// Whether data may go with a release, where the line tells it; none may where it doesn't.
 #[tactic(auto, unfolding(crate::specs::Fields::field))]
-fn read_release(told: bool, fields: &mut Fields) -> Result<bool, FieldFail>
+fn read_release(told: bool, fields: &mut Fields) -> bool
     requires { fields.old.keys.now ≡ release_keys told }
-    ensures read { Gives (release_values told) (unread fields.old) fields.new.words result }
-    ensures untold { IfOk result (λ reldata. (told || not reldata) ≡ true) }
+    ensures read { Reads (release_values told result) fields.old fields.new }
+    ensures keys { fields.new.keys.now ≡ [] }
+    ensures untold { (told || not result) ≡ true }
 {
-    if told { fields.truth() } else { Ok(false) }
+    if told { fields.truth() } else { false }
 }
 
 /// The values that the words of a provider's line after its name are.
-#[tactic(auto, unfolding(crate::specs::Fields::field))]
+#[tactic(auto, using(crate::proofs::Ended::before_none), unfolding(crate::specs::Fields::field))]
 fn read_values(told: bool, fields: &mut Fields) -> Result<Profile, FieldFail>
     ensures read { ReadsFields told fields.old.words result }
     ensures untold { IfOk result (λ p. (told || not p.reldata) ≡ true) }
 {
     fields.expect(profile_keys(told));
-    let tsdu = read_or_end!(fields.limit());
-    let sendzero = read_or_end!(fields.truth());
-    let same_addr = read_or_end!(fields.truth());
-    let sndbuf = read_or_end!(fields.number());
-    let rcvbuf = read_or_end!(fields.number());
-    let reldata = read_or_end!(read_release(told, fields));
-    if !fields.are_read() {
-        return Err(FieldFail::Wrong);
+    let profile = Profile {
+        tsdu: fields.limit(),
+        sendzero: fields.truth(),
+        same_addr: fields.truth(),
+        sndbuf: fields.number(),
+        rcvbuf: fields.number(),
+        reldata: read_release(told, fields),
+    };
+    match fields.end_line() {
+        Ok(()) => Ok(profile),
+        Err(fail) => Err(fail),
     }
-    Ok(Profile {
-        tsdu,
-        sendzero,
-        same_addr,
-        sndbuf,
-        rcvbuf,
-        reldata,
-    })
 }
 
 /// The values of the provider in a head of the version.

@@ -1,22 +1,21 @@
 //! The fields of lines: one word each, in a fixed order.
 
-ghost use Rattle.std.specs.Prelude.{◌≡◌, ◌<◌, ◌∷◌, [], Some, None, drop, length, ◌==◌, IfSome, IfNone};
+ghost use Rattle.std.specs.Prelude.{◌≡◌, ◌<◌, ◌∷◌, [], drop, length, ◌==◌, IfSome, IfNone};
 ghost use Rattle.std.specs.Option.{option_copied};
-ghost use Rattle.xti_journal.specs.FieldValue.{Value as value, fd_value, seq_value};
+ghost use Rattle.xti_journal.specs.FieldValue.{Value as value};
 ghost use Rattle.xti_journal.specs.Kinds.{Kind as kind};
 ghost use Rattle.xti_journal.specs.Fields.{key_word, kind_of};
 ghost use Rattle.xti_journal.specs.Reading.{behind_key, accepted, fields_of};
-ghost use Rattle.xti_journal.specs.Unread.{unread, TakesField, NextIs, Reads};
-ghost use Rattle.xti_journal.specs.declared.fields.FieldFail.TheVariants.{OutOfMemory};
+ghost use Rattle.xti_journal.specs.Unread.{unread, EndsAs, EndsLine, TakesField, NextIs, Reads};
 ghost use Rattle.xti_words.specs.Texts.{words_of};
 
 use crate::names::{
     errno_in, event_in, event_or_none_in, limit_in, service_in, state_in, truth_in,
 };
 use crate::values::{octets_in, parts_in, sizes_in};
-use std::alloc::{AllocError, Global};
+use std::alloc::Global;
 use xti_base::{Errno, Event, Fd, Limit, Octets, Parts, Prov, Seq, ServType, Sizes, State};
-use xti_words::{Words, mode_in, number_in, provider_in};
+use xti_words::{FieldFail, Noted, Words, mode_in, number_in, provider_in};
 
 /// The keys of fields. The first ten are written without a key.
 #[derive(Clone, Copy, Debug, PartialEq, Eq)]
@@ -81,22 +80,6 @@ pub(crate) enum Key {
     RelData,
 }
 
-/// Why words are not read.
-#[derive(Clone, Copy, Debug, PartialEq, Eq)]
-pub(crate) enum FieldFail {
-    /// A word is wrong, or missing.
-    Wrong,
-    OutOfMemory,
-}
-
-impl From<AllocError> for FieldFail {
-    ghost from_gives = { λ _ e. e ≡ OutOfMemory };
-
-    fn from(_e: AllocError) -> FieldFail {
-        FieldFail::OutOfMemory
-    }
-}
-
 /// What is after these bytes; `None` where the word doesn't begin with them.
 #[inline(always)]
 fn behind_key<'a>(key: &[u8], word: &'a [u8]) -> Option<&'a [u8]>
@@ -146,12 +129,16 @@ fn field_text(key: Key, word: &[u8]) -> Option<&[u8]>
     }
 }
 
-/// The words of a line that are not read yet, and the keys of the fields that stand there.
+/// The words of a line that are not read yet, and the keys of the fields that stand there. Where a field can't be read, that is
+/// noted and something else is given in its place: what is made of fields is made whole, and whether they were read is asked
+/// once, at the end.
 #[derive(Drop)]
 pub(crate) struct Fields<'a> {
     alloc: Global,
     keys: &'static [Key],
     words: Words<'a>,
+    /// What is noted of the fields before these.
+    noted: Noted,
 }
 
 impl<'a> Fields<'a> {
@@ -163,6 +150,7 @@ impl<'a> Fields<'a> {
             alloc,
             keys: &[],
             words: Words::of(line),
+            noted: Noted::nothing(),
         }
     }
 
@@ -170,9 +158,30 @@ impl<'a> Fields<'a> {
     #[inline(always)]
     pub(crate) fn expect(&mut self, keys: &'static [Key])
         ensures keys { self.new.keys.now ≡ keys.now }
-        ensures words { self.new.words ≡ self.old.words }
+        ensures value { unread self.new ≡ fields_of keys.now self.old.words }
     {
         self.keys = keys;
+        self.noted = Noted::nothing();
+    }
+
+    /// Whether each field was read.
+    #[inline(always)]
+    pub(crate) fn end(&self) -> Result<(), FieldFail>
+        requires { self.now.keys.now ≡ [] }
+        ensures { EndsAs self.now result }
+    {
+        self.noted.end()
+    }
+
+    /// Whether each field was read, and no word is left.
+    pub(crate) fn end_line(&self) -> Result<(), FieldFail>
+        requires { self.now.keys.now ≡ [] }
+        ensures { EndsLine self.now result }
+    {
+        match self.noted.end() {
+            Ok(()) if !self.are_read() => Err(FieldFail::Wrong),
+            ended => ended,
+        }
     }
 
     /// Takes the next word.
@@ -208,8 +217,7 @@ impl<'a> Fields<'a> {
     #[inline(always)]
     fn next(&mut self) -> (Key, Option<&'a [u8]>)
         requires { 0 < length self.old.keys.now }
-        ensures keys { self.old.keys.now ≡ result.0 ∷ self.new.keys.now }
-        ensures value { TakesField self.old self.new result.0 (option_copied result.1) }
+        ensures { TakesField self.old self.new result.0 (option_copied result.1) }
     {
         let key = self.keys[0];
         self.keys = &self.keys[1..];
@@ -222,197 +230,197 @@ impl<'a> Fields<'a> {
     /// The number that the next field is.
     #[inline(always)]
     #[tactic(auto, unfolding(crate::specs::Fields::field))]
-    pub(crate) fn number(&mut self) -> Result<u32, FieldFail>
+    pub(crate) fn number(&mut self) -> u32
         requires { NextIs kind.Number self.old.keys.now }
         ensures keys { self.new.keys.now ≡ drop 1 self.old.keys.now }
-        ensures value { Reads value.Number (unread self.old) (unread self.new) result }
+        ensures value { Reads (value.Number result ∷ []) self.old self.new }
     {
         match self.next() {
-            (_, Some(text)) => number_in(text).ok_or(FieldFail::Wrong),
-            (_, None) => Err(FieldFail::Wrong),
+            (_, Some(text)) => self.noted.or_note(number_in(text), 0),
+            (_, None) => self.noted.or_note(None, 0),
         }
     }
 
     /// The descriptor whose number the next field is.
     #[inline(always)]
-    pub(crate) fn fd(&mut self) -> Result<Fd, FieldFail>
+    pub(crate) fn fd(&mut self) -> Fd
         requires { NextIs kind.Number self.old.keys.now }
         ensures keys { self.new.keys.now ≡ drop 1 self.old.keys.now }
-        ensures value { Reads fd_value (unread self.old) (unread self.new) result }
+        ensures value { Reads (value.Number result.0 ∷ []) self.old self.new }
     {
-        match self.number() {
-            Ok(number) => Ok(Fd(number)),
-            Err(fail) => Err(fail),
-        }
+        Fd(self.number())
     }
 
     /// The sequence number that the next field is.
     #[inline(always)]
-    pub(crate) fn seq(&mut self) -> Result<Seq, FieldFail>
+    pub(crate) fn seq(&mut self) -> Seq
         requires { NextIs kind.Number self.old.keys.now }
         ensures keys { self.new.keys.now ≡ drop 1 self.old.keys.now }
-        ensures value { Reads seq_value (unread self.old) (unread self.new) result }
+        ensures value { Reads (value.Number result.0 ∷ []) self.old self.new }
     {
-        match self.number() {
-            Ok(number) => Ok(Seq(number)),
-            Err(fail) => Err(fail),
-        }
+        Seq(self.number())
     }
 
     /// The bytes of the next field.
     #[inline(always)]
     #[tactic(auto, unfolding(crate::specs::Fields::field))]
-    pub(crate) fn bytes(&mut self) -> Result<Octets, FieldFail>
+    pub(crate) fn bytes(&mut self) -> Octets
         requires { NextIs kind.Bytes self.old.keys.now }
         ensures keys { self.new.keys.now ≡ drop 1 self.old.keys.now }
-        ensures value { Reads value.Bytes (unread self.old) (unread self.new) result }
+        ensures value { Reads (value.Bytes result ∷ []) self.old self.new }
     {
         match self.next() {
-            (_, Some(text)) => octets_in(self.alloc, text)?.ok_or(FieldFail::Wrong),
-            (_, None) => Err(FieldFail::Wrong),
+            (_, Some(text)) => self
+                .noted
+                .or_keep(octets_in(self.alloc, text), Octets::new(self.alloc)),
+            (_, None) => self.noted.or_keep(Ok(None), Octets::new(self.alloc)),
         }
     }
 
     /// The parts of the next field.
     #[tactic(auto, unfolding(crate::specs::Fields::field))]
-    pub(crate) fn parts(&mut self) -> Result<Parts, FieldFail>
+    pub(crate) fn parts(&mut self) -> Parts
         requires { NextIs kind.Parts self.old.keys.now }
         ensures keys { self.new.keys.now ≡ drop 1 self.old.keys.now }
-        ensures value { Reads value.Parts (unread self.old) (unread self.new) result }
+        ensures value { Reads (value.Parts result ∷ []) self.old self.new }
     {
         match self.next() {
-            (_, Some(text)) => parts_in(self.alloc, text)?.ok_or(FieldFail::Wrong),
-            (_, None) => Err(FieldFail::Wrong),
+            (_, Some(text)) => self
+                .noted
+                .or_keep(parts_in(self.alloc, text), Parts::new(self.alloc)),
+            (_, None) => self.noted.or_keep(Ok(None), Parts::new(self.alloc)),
         }
     }
 
     /// The sizes of the next field.
     #[tactic(auto, unfolding(crate::specs::Fields::field))]
-    pub(crate) fn sizes(&mut self) -> Result<Sizes, FieldFail>
+    pub(crate) fn sizes(&mut self) -> Sizes
         requires { NextIs kind.Sizes self.old.keys.now }
         ensures keys { self.new.keys.now ≡ drop 1 self.old.keys.now }
-        ensures value { Reads value.Sizes (unread self.old) (unread self.new) result }
+        ensures value { Reads (value.Sizes result ∷ []) self.old self.new }
     {
         match self.next() {
-            (_, Some(text)) => sizes_in(self.alloc, text)?.ok_or(FieldFail::Wrong),
-            (_, None) => Err(FieldFail::Wrong),
+            (_, Some(text)) => self
+                .noted
+                .or_keep(sizes_in(self.alloc, text), Sizes::new(self.alloc)),
+            (_, None) => self.noted.or_keep(Ok(None), Sizes::new(self.alloc)),
         }
     }
 
     /// The truth value of the next field.
     #[tactic(auto, unfolding(crate::specs::Fields::field))]
-    pub(crate) fn truth(&mut self) -> Result<bool, FieldFail>
+    pub(crate) fn truth(&mut self) -> bool
         requires { NextIs kind.Truth self.old.keys.now }
         ensures keys { self.new.keys.now ≡ drop 1 self.old.keys.now }
-        ensures value { Reads value.Truth (unread self.old) (unread self.new) result }
+        ensures value { Reads (value.Truth result ∷ []) self.old self.new }
     {
         match self.next() {
-            (_, Some(text)) => truth_in(text).ok_or(FieldFail::Wrong),
-            (_, None) => Err(FieldFail::Wrong),
+            (_, Some(text)) => self.noted.or_note(truth_in(text), false),
+            (_, None) => self.noted.or_note(None, false),
         }
     }
 
     /// The provider that the next field is.
     #[tactic(auto, unfolding(crate::specs::Fields::field))]
-    pub(crate) fn provider(&mut self) -> Result<Prov, FieldFail>
+    pub(crate) fn provider(&mut self) -> Prov
         requires { NextIs kind.Provider self.old.keys.now }
         ensures keys { self.new.keys.now ≡ drop 1 self.old.keys.now }
-        ensures value { Reads value.Provider (unread self.old) (unread self.new) result }
+        ensures value { Reads (value.Provider result ∷ []) self.old self.new }
     {
         match self.next() {
-            (_, Some(text)) => provider_in(text).ok_or(FieldFail::Wrong),
-            (_, None) => Err(FieldFail::Wrong),
+            (_, Some(text)) => self.noted.or_note(provider_in(text), Prov::Other),
+            (_, None) => self.noted.or_note(None, Prov::Other),
         }
     }
 
     /// Whether the mode that the next field is, is `nonblock`.
     #[tactic(auto, unfolding(crate::specs::Fields::field))]
-    pub(crate) fn mode(&mut self) -> Result<bool, FieldFail>
+    pub(crate) fn mode(&mut self) -> bool
         requires { NextIs kind.Mode self.old.keys.now }
         ensures keys { self.new.keys.now ≡ drop 1 self.old.keys.now }
-        ensures value { Reads value.Mode (unread self.old) (unread self.new) result }
+        ensures value { Reads (value.Mode result ∷ []) self.old self.new }
     {
         match self.next() {
-            (_, Some(text)) => mode_in(text).ok_or(FieldFail::Wrong),
-            (_, None) => Err(FieldFail::Wrong),
+            (_, Some(text)) => self.noted.or_note(mode_in(text), false),
+            (_, None) => self.noted.or_note(None, false),
         }
     }
 
     /// The limit of the next field.
     #[tactic(auto, unfolding(crate::specs::Fields::field))]
-    pub(crate) fn limit(&mut self) -> Result<Limit, FieldFail>
+    pub(crate) fn limit(&mut self) -> Limit
         requires { NextIs kind.Limit self.old.keys.now }
         ensures keys { self.new.keys.now ≡ drop 1 self.old.keys.now }
-        ensures value { Reads value.Limit (unread self.old) (unread self.new) result }
+        ensures value { Reads (value.Limit result ∷ []) self.old self.new }
     {
         match self.next() {
-            (_, Some(text)) => limit_in(text).ok_or(FieldFail::Wrong),
-            (_, None) => Err(FieldFail::Wrong),
+            (_, Some(text)) => self.noted.or_note(limit_in(text), Limit::Invalid),
+            (_, None) => self.noted.or_note(None, Limit::Invalid),
         }
     }
 
     /// The service type whose number the next field is.
     #[tactic(auto, unfolding(crate::specs::Fields::field))]
-    pub(crate) fn service(&mut self) -> Result<ServType, FieldFail>
+    pub(crate) fn service(&mut self) -> ServType
         requires { NextIs kind.Service self.old.keys.now }
         ensures keys { self.new.keys.now ≡ drop 1 self.old.keys.now }
-        ensures value { Reads value.Service (unread self.old) (unread self.new) result }
+        ensures value { Reads (value.Service result ∷ []) self.old self.new }
     {
         match self.next() {
-            (_, Some(text)) => service_in(text).ok_or(FieldFail::Wrong),
-            (_, None) => Err(FieldFail::Wrong),
+            (_, Some(text)) => self.noted.or_note(service_in(text), ServType::T_COTS),
+            (_, None) => self.noted.or_note(None, ServType::T_COTS),
         }
     }
 
     /// The state that the next field is.
     #[tactic(auto, unfolding(crate::specs::Fields::field))]
-    pub(crate) fn state(&mut self) -> Result<State, FieldFail>
+    pub(crate) fn state(&mut self) -> State
         requires { NextIs kind.State self.old.keys.now }
         ensures keys { self.new.keys.now ≡ drop 1 self.old.keys.now }
-        ensures value { Reads value.State (unread self.old) (unread self.new) result }
+        ensures value { Reads (value.State result ∷ []) self.old self.new }
     {
         match self.next() {
-            (_, Some(text)) => state_in(text).ok_or(FieldFail::Wrong),
-            (_, None) => Err(FieldFail::Wrong),
+            (_, Some(text)) => self.noted.or_note(state_in(text), State::T_UNINIT),
+            (_, None) => self.noted.or_note(None, State::T_UNINIT),
         }
     }
 
     /// The event that the next field is.
     #[tactic(auto, unfolding(crate::specs::Fields::field))]
-    pub(crate) fn event(&mut self) -> Result<Event, FieldFail>
+    pub(crate) fn event(&mut self) -> Event
         requires { NextIs kind.Event self.old.keys.now }
         ensures keys { self.new.keys.now ≡ drop 1 self.old.keys.now }
-        ensures value { Reads value.Event (unread self.old) (unread self.new) result }
+        ensures value { Reads (value.Event result ∷ []) self.old self.new }
     {
         match self.next() {
-            (_, Some(text)) => event_in(text).ok_or(FieldFail::Wrong),
-            (_, None) => Err(FieldFail::Wrong),
+            (_, Some(text)) => self.noted.or_note(event_in(text), Event::T_DATA),
+            (_, None) => self.noted.or_note(None, Event::T_DATA),
         }
     }
 
     /// The event that the next field is; `None` for 0.
     #[tactic(auto, unfolding(crate::specs::Fields::field))]
-    pub(crate) fn event_or_none(&mut self) -> Result<Option<Event>, FieldFail>
+    pub(crate) fn event_or_none(&mut self) -> Option<Event>
         requires { NextIs kind.EventOrNone self.old.keys.now }
         ensures keys { self.new.keys.now ≡ drop 1 self.old.keys.now }
-        ensures value { Reads value.EventOrNone (unread self.old) (unread self.new) result }
+        ensures value { Reads (value.EventOrNone result ∷ []) self.old self.new }
     {
         match self.next() {
-            (_, Some(text)) => event_or_none_in(text).ok_or(FieldFail::Wrong),
-            (_, None) => Err(FieldFail::Wrong),
+            (_, Some(text)) => self.noted.or_note(event_or_none_in(text), None),
+            (_, None) => self.noted.or_note(None, None),
         }
     }
 
     /// The error that the next field is.
     #[tactic(auto, unfolding(crate::specs::Fields::field))]
-    pub(crate) fn errno(&mut self) -> Result<Errno, FieldFail>
+    pub(crate) fn errno(&mut self) -> Errno
         requires { NextIs kind.Errno self.old.keys.now }
         ensures keys { self.new.keys.now ≡ drop 1 self.old.keys.now }
-        ensures value { Reads value.Errno (unread self.old) (unread self.new) result }
+        ensures value { Reads (value.Errno result ∷ []) self.old self.new }
     {
         match self.next() {
-            (_, Some(text)) => errno_in(text).ok_or(FieldFail::Wrong),
-            (_, None) => Err(FieldFail::Wrong),
+            (_, Some(text)) => self.noted.or_note(errno_in(text), Errno::TBADF),
+            (_, None) => self.noted.or_note(None, Errno::TBADF),
         }
     }
 }

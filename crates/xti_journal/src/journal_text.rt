@@ -12,13 +12,13 @@ ghost use Rattle.xti_journal.specs.Read.{IsReadAs, IsBad, ReadsText, ReadsNext};
 
 use crate::body::{Line, read_line, read_profile};
 use crate::draft::Draft;
-use crate::fields::FieldFail;
 use memchr::memchr;
 use std::alloc::{AllocError, Global};
 use std::mem;
 use thiserror::Error;
 use xti_base::{Prov, State};
 use xti_model::{Act, Entry, Journal, Outcome, Profile, Providers, Reply, Version};
+use xti_words::FieldFail;
 
 /// Why a text was not read.
 #[derive(Clone, Copy, Debug, PartialEq, Eq, Error)]

@@ -9,7 +9,7 @@ ghost use Rattle.xti_journal.specs.Unread.{Gives, IsRead, ReadsEntry, TellsAct, 
 use crate::answers::read_answer;
 use crate::calls::read_call;
 use crate::draft::Draft;
-use crate::fields::{FieldFail, Fields, Key};
+use crate::fields::{Fields, Key};
 use crate::forms::{answer_form, form, verb_after};
 use itoa::Buffer;
 use std::mem;
@@ -17,7 +17,7 @@ use xti_base::limits::LAST_WORKER;
 use xti_base::{State, write_over};
 use xti_model::{Act, Entry, Outcome, StallLine, Version};
 use xti_verbs::{Answer, Verb};
-use xti_words::number_in;
+use xti_words::{FieldFail, number_in};
 
 fn worker_in(word: &[u8]) -> Option<u32>
     ensures value { result ≡ worker_in word.now }
@@ -108,11 +108,10 @@ fn read_state(fields: &mut Fields) -> Result<State, FieldFail>
     ensures { IsRead same (state_at_end fields.old.words) result }
 {
     fields.expect(&[Key::State]);
-    let state = read_or_end!(fields.state());
-    if fields.are_read() {
-        Ok(state)
-    } else {
-        Err(FieldFail::Wrong)
+    let state = fields.state();
+    match fields.end_line() {
+        Ok(()) => Ok(state),
+        Err(fail) => Err(fail),
     }
 }
 

@@ -2,3 +2,4 @@ pub mod Texts
 pub mod Words
 pub mod Values
 pub mod Numbers
+pub mod Noted

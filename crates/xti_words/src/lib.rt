@@ -2,6 +2,7 @@
 #![tactic(auto)]
 
 mod hex;
+mod noted;
 mod operands;
 mod options;
 mod texts;
@@ -9,6 +10,7 @@ mod values;
 mod words;
 
 pub use hex::hex_bytes;
+pub use noted::{FieldFail, Noted};
 pub use operands::{action_in, mode_in, provider_in};
 pub use options::options_in;
 pub use texts::{first_line, is_ascii, is_name};
