@@ -9,8 +9,9 @@ use Rattle.xti_script_reader.specs.declared.fields.Key.{Key}
 use Rattle.xti_script_reader.specs.declared.fields.Usual.{Usual}
 use Rattle.xti_script_reader.specs.declared.fields.Usual.TheVariants as usual
 use Rattle.xti_script_reader.specs.declared.fields.Fields.{Fields}
-use Rattle.xti_script_reader.specs.declared.fields.FieldFail.{FieldFail}
-use Rattle.xti_script_reader.specs.declared.fields.FieldFail.TheVariants.{Wrong, OutOfMemory}
+use Rattle.xti_words.specs.declared.noted.FieldFail.{FieldFail}
+use Rattle.xti_words.specs.declared.noted.FieldFail.TheVariants.{Wrong, OutOfMemory}
+use Rattle.xti_words.specs.Noted.{left, Keeps}
 use Rattle.xti_script_reader.specs.Names.{Spot, after}
 use Rattle.xti_words.specs.Values.{onto}
 use Rattle.xti_verbs.specs.declared.verb.Verb.{Verb}
@@ -26,18 +27,14 @@ abbrev pub spot_of : Fields → Spot
 spot_of fields = after fields.draft.now fields.worker
 
 -- the values that the words give the fields that are not read yet, or none after one that is wrong
-abbrev pub left : Bool → Option (List Value) → Option (List Value)
-left true values = None
-left false values = values
-
 abbrev pub unread : Fields → Option (List Value)
-unread fields = left fields.is_wrong (fields_of (spot_of fields) fields.keys.now fields.words)
+unread fields = left fields.noted.is_wrong (fields_of (spot_of fields) fields.keys.now fields.words)
 
 -- the next field was taken, with this key and this word: its value is the first of those that were not read
 pub record TakesField (old new : Fields) (key : Key) (text : Option (List ℕ)) : Type 0 where
   pub spot : spot_of new ≡ spot_of old
   pub keys : old.keys.now ≡ key ∷ new.keys.now
-  pub memory : new.ran_out ≡ old.ran_out
+  pub noted : new.noted ≡ old.noted
   pub value : unread old ≡ onto (written_value (spot_of old) key text) (unread new)
 
 -- the next field has this key
@@ -65,15 +62,9 @@ are_number kind.Number = true
 are_number kind.Action = true
 are_number other = false
 
--- what was read is given; or it is noted that it is wrong, or that memory ran out
-abbrev pub Notes : {A E : Type 0} → Result (Option A) E → Fields → Fields → A → Type 0
-Notes (Ok (Some read)) old new given = (given ≡ read) × (new ≡ old)
-Notes (Ok None) old new given = new ≡ record old { is_wrong = true }
-Notes (Err e) old new given = new ≡ record old { ran_out = true }
-
 -- the value is the first of those that were not read, which the others follow; or memory ran out
 abbrev pub Reads : Value → Fields → Fields → Type 0
-Reads value old new = (new.ran_out ≡ true) ⊎ ((new.ran_out ≡ old.ran_out) × (unread old ≡ onto (Some value) (unread new)))
+Reads value old new = Keeps old.noted new.noted (unread old ≡ onto (Some value) (unread new))
 
 -- the call, where no value is left
 abbrev pub alone : NamedCall → Option (List Value) → Option NamedCall
@@ -83,10 +74,10 @@ alone call (Some (value ∷ values)) = None
 
 -- the call is the one that the values make, where no value is left; or memory ran out
 abbrev pub Makes : Verb → NamedCall → Fields → Fields → Type 0
-Makes verb call old new = (new.ran_out ≡ true) ⊎ ((new.ran_out ≡ old.ran_out) × (with_values verb (unread old) ≡ alone call (unread new)))
+Makes verb call old new = Keeps old.noted new.noted (with_values verb (unread old) ≡ alone call (unread new))
 
 -- no value is left; or there are none; or memory ran out
 abbrev pub EndsAs : {A : Type 0} → Fields → Result A FieldFail → Type 0
-EndsAs fields (Ok read) = (fields.ran_out ≡ false) × (unread fields ≡ Some [])
-EndsAs fields (Err Wrong) = (fields.ran_out ≡ false) × (unread fields ≡ None)
+EndsAs fields (Ok read) = (fields.noted.ran_out ≡ false) × (unread fields ≡ Some [])
+EndsAs fields (Err Wrong) = (fields.noted.ran_out ≡ false) × (unread fields ≡ None)
 EndsAs fields (Err OutOfMemory) = Unit {0}

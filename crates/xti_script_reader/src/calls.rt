@@ -9,13 +9,13 @@ ghost use Rattle.xti_script_reader.specs.Reading.{worker_of, after_call_words, a
 
 use crate::draft::{Draft, Taken};
 use crate::field_calls::read_fields;
-use crate::fields::{FieldFail, Fields};
+use crate::fields::Fields;
 use crate::forms::form;
 use std::alloc::AllocError;
 use xti_base::limits::LAST_WORKER;
 use xti_model::{NamedCall, Version};
 use xti_verbs::Verb;
-use xti_words::{Words, is_ascii, number_in};
+use xti_words::{FieldFail, Words, is_ascii, number_in};
 
 fn worker_of(word: &[u8]) -> Option<u32>
     ensures value { result ≡ worker_of word.now }

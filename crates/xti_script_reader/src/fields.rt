@@ -1,14 +1,13 @@
 //! The fields of calls: words in a fixed order, of which those with a usual value may be left out.
 
-ghost use Rattle.std.specs.Prelude.{◌≡◌, [], true, Ok, IfOk, option_map, drop};
+ghost use Rattle.std.specs.Prelude.{◌≡◌, [], true, IfOk, option_map, drop};
 ghost use Rattle.std.specs.Option.{option_copied};
-ghost use Rattle.std.specs.declared.alloc.AllocError.{AllocError};
 ghost use Rattle.xti_script_reader.specs.FieldValue.{Value as value};
 ghost use Rattle.xti_script_reader.specs.Fields.{key_word, kind_of, usual_value};
 ghost use Rattle.xti_script_reader.specs.Names.{Spot, after, can_name};
 ghost use Rattle.xti_script_reader.specs.Reading.{behind_key, field_rest, fields_of, written_value, IsFieldText};
 ghost use Rattle.xti_script_reader.specs.Values.{value_in};
-ghost use Rattle.xti_script_reader.specs.Unread.{usual_is, spot_of, unread, are_bytes, are_number, is_naming, EndsAs, IsNext, Notes, Reads, TakesField};
+ghost use Rattle.xti_script_reader.specs.Unread.{usual_is, spot_of, unread, are_bytes, are_number, is_naming, EndsAs, IsNext, Reads, TakesField};
 ghost use Rattle.xti_script_reader.specs.Kinds.{Kind as kind};
 
 use crate::draft::Draft;
@@ -17,8 +16,8 @@ use xti_base::limits::{MOST_ADDRESS, MOST_CONNECT_DATA, MOST_OPTIONS, MOST_SEND}
 use xti_base::{Octets, Parts, Prov, Sizes};
 use xti_model::Name;
 use xti_words::{
-    Words, action_in, bytes_in, is_name, mode_in, number_in, options_in, parts_in, provider_in,
-    sizes_in,
+    FieldFail, Noted, Words, action_in, bytes_in, is_name, mode_in, number_in, options_in,
+    parts_in, provider_in, sizes_in,
 };
 
 /// The keys of fields. The first nine are written without a key, as one word.
@@ -142,14 +141,6 @@ fn usual_value(key: Key) -> Option<Usual>
     }
 }
 
-/// Why fields are not read.
-#[derive(Clone, Copy, Debug, PartialEq, Eq)]
-pub(crate) enum FieldFail {
-    /// One is wrong or missing, or a word is left.
-    Wrong,
-    OutOfMemory,
-}
-
 /// What is after the key; `None` where the word doesn't begin with it.
 #[inline(always)]
 fn behind_key<'a>(key: &[u8], word: &'a [u8]) -> Option<&'a [u8]>
@@ -246,10 +237,8 @@ pub(crate) struct Fields<'a> {
     keys: &'static [Key],
     /// The words in which they stand.
     words: Words<'a>,
-    /// Whether a field before these is wrong or missing.
-    is_wrong: bool,
-    /// Whether memory ran out at a field before these.
-    ran_out: bool,
+    /// What is noted of the fields before these.
+    noted: Noted,
 }
 
 impl<'a> Fields<'a> {
@@ -268,8 +257,7 @@ impl<'a> Fields<'a> {
             worker,
             keys,
             words,
-            is_wrong: false,
-            ran_out: false,
+            noted: Noted::nothing(),
         }
     }
 
@@ -278,12 +266,9 @@ impl<'a> Fields<'a> {
         requires { self.now.keys.now ≡ [] }
         ensures { EndsAs self.now result }
     {
-        if self.ran_out {
-            Err(FieldFail::OutOfMemory)
-        } else if self.is_wrong || !self.words.is_empty() {
-            Err(FieldFail::Wrong)
-        } else {
-            Ok(())
+        match self.noted.end() {
+            Ok(()) if !self.words.is_empty() => Err(FieldFail::Wrong),
+            ended => ended,
         }
     }
 
@@ -309,41 +294,6 @@ impl<'a> Fields<'a> {
         self.words.next()
     }
 
-    /// What was read; where nothing was, that is noted, and this is given.
-    #[inline(always)]
-    fn or_note<T: Copy>(&mut self, read: Option<T>, other: T) -> T
-        ensures { Notes {E = AllocError} (Ok read) self.old self.new result }
-    {
-        match read {
-            Some(value) => value,
-            None => {
-                self.is_wrong = true;
-                other
-            }
-        }
-    }
-
-    /// The same of what owns memory, which may run out.
-    #[inline(always)]
-    fn or_keep<T: Drop>(&mut self, read: Result<Option<T>, AllocError>, other: T) -> T
-        ensures { Notes read self.old self.new result }
-    {
-        match read {
-            Ok(Some(value)) => {
-                drop(other);
-                value
-            }
-            Ok(None) => {
-                self.is_wrong = true;
-                other
-            }
-            Err(AllocError) => {
-                self.ran_out = true;
-                other
-            }
-        }
-    }
-
     /// The bytes of the next field, or its options in bytes.
     #[inline(always)]
     pub(crate) fn bytes(&mut self, key: Key) -> Octets
@@ -354,7 +304,8 @@ impl<'a> Fields<'a> {
     {
         let alloc = self.draft.alloc();
         let text = self.next(key);
-        self.or_keep(octets_of(alloc, key, text), Octets::new(alloc))
+        self.noted
+            .or_keep(octets_of(alloc, key, text), Octets::new(alloc))
     }
 
     /// The number of the next field.
@@ -366,7 +317,7 @@ impl<'a> Fields<'a> {
         ensures value { Reads (value.Number result) self.old self.new }
     {
         let text = self.next(key);
-        self.or_note(number_of(key, text), 0)
+        self.noted.or_note(number_of(key, text), 0)
     }
 
     /// The parts of the next field, which has no usual value.
@@ -379,8 +330,8 @@ impl<'a> Fields<'a> {
     {
         let alloc = self.draft.alloc();
         match self.next(key) {
-            Some(text) => self.or_keep(parts_in(alloc, text), Parts::new(alloc)),
-            None => self.or_keep(Ok(None), Parts::new(alloc)),
+            Some(text) => self.noted.or_keep(parts_in(alloc, text), Parts::new(alloc)),
+            None => self.noted.or_keep(Ok(None), Parts::new(alloc)),
         }
     }
 
@@ -394,8 +345,8 @@ impl<'a> Fields<'a> {
     {
         let alloc = self.draft.alloc();
         match self.next(key) {
-            Some(text) => self.or_keep(sizes_in(alloc, text), Sizes::new(alloc)),
-            None => self.or_keep(Ok(None), Sizes::new(alloc)),
+            Some(text) => self.noted.or_keep(sizes_in(alloc, text), Sizes::new(alloc)),
+            None => self.noted.or_keep(Ok(None), Sizes::new(alloc)),
         }
     }
 
@@ -440,9 +391,9 @@ impl<'a> Fields<'a> {
         match self.next_word(key) {
             Some(text) => {
                 let read = self.name_in(key, text);
-                self.or_keep(read, other)
+                self.noted.or_keep(read, other)
             }
-            None => self.or_keep(Ok(None), other),
+            None => self.noted.or_keep(Ok(None), other),
         }
     }
 
@@ -472,9 +423,9 @@ impl<'a> Fields<'a> {
         match self.next_word(key) {
             Some(text) => {
                 let read = self.sequence_in(text);
-                self.or_keep(read, None)
+                self.noted.or_keep(read, None)
             }
-            None => self.or_keep(Ok(None), None),
+            None => self.noted.or_keep(Ok(None), None),
         }
     }
 
@@ -488,8 +439,8 @@ impl<'a> Fields<'a> {
         ensures value { Reads (value.Provider result) self.old self.new }
     {
         match self.next_word(key) {
-            Some(text) => self.or_note(provider_in(text), Prov::Other),
-            None => self.or_note(None, Prov::Other),
+            Some(text) => self.noted.or_note(provider_in(text), Prov::Other),
+            None => self.noted.or_note(None, Prov::Other),
         }
     }
 
@@ -502,6 +453,6 @@ impl<'a> Fields<'a> {
         ensures value { Reads (value.Mode result) self.old self.new }
     {
         let text = self.next_word(key);
-        self.or_note(mode_of(key, text), false)
+        self.noted.or_note(mode_of(key, text), false)
     }
 }
