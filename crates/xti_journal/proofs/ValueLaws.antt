@@ -283,9 +283,6 @@ mapped f (Some a) b e = (a, refl, some_is (f a) b e)
 
 -- ---- kind by kind
 
-number_full : (n : ℕ) → IsNumber n → value_in kind.Number (decimal n) ≡ Some (value.Number n)
-number_full n h = rw (number_complete n h) refl
-
 prov_full : (p : Prov) → provider_in (prov_name p) ≡ Some p
 unfolding provider_in
 prov_full Ticots = refl
@@ -304,9 +301,6 @@ two_names {A} word one two x y z e P f g = go (bytes_eq word one) refl (bytes_eq
     go true p b q e = f (is_word word one p) (some_is x z e)
     go false p true q e = g (is_word word two q) (some_is y z e)
     go false p false q e = none_is z e
-
-mode_text : Bool → List ℕ
-mode_text b = cond b (codes "nonblock") (codes "block")
 
 mode_full : (b : Bool) → mode_in (cond b (codes "nonblock") (codes "block")) ≡ Some b
 unfolding mode_in
