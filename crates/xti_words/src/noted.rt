@@ -11,6 +11,7 @@ use std::alloc::AllocError;
 pub enum FieldFail {
     /// One is wrong or missing, or a word is left.
     Wrong,
+    /// Memory ran out.
     OutOfMemory,
 }
 
