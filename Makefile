@@ -5,6 +5,8 @@
 # make clean           removes what make has built
 
 PREFIX ?= /usr/local
+# c/Makefile is run in another folder.
+override PREFIX := $(abspath $(PREFIX))
 SOURCES := $(wildcard crates/*/src/*.rt crates/*/src/*/*.rt crates.txt HANDLES)
 
 .PHONY: all library prove check install clean
