@@ -37,6 +37,15 @@ impl Reason {
         }
     }
 
+    /// That an input has more bytes than are read of it.
+    pub fn too_long(most: usize) -> Reason {
+        let mut reason = Reason::none();
+        reason.put("the input has more than ");
+        reason.put_number(most as u64);
+        reason.put(" bytes");
+        reason
+    }
+
     /// A reason that begins with the number of the line.
     pub(crate) fn at(line: u64) -> Reason {
         let mut reason = Reason::none();

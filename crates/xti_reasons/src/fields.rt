@@ -181,6 +181,9 @@ fn find_verb(version: Version, word: Option<&[u8]>, reason: &mut Reason) -> Opti
     }
     reason.put("unknown call ");
     reason.put_quoted(text);
+    if Verb::of_word(Version::Two, text).is_some() {
+        reason.put(", which version 2 has");
+    }
     let behind = text.strip_prefix(b"t_".as_slice()).unwrap_or(b"");
     if let Some(verb) = Verb::of_word(version, behind) {
         reason.put(", expected ");

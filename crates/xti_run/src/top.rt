@@ -376,13 +376,13 @@ fn words_answer(alloc: Global) -> Result<Answer, AllocError>
 }
 
 #[tactic(auto, unfolding(crate::specs::Program::refused_size))]
-fn size_answer(alloc: Global) -> Result<Answer, AllocError>
+fn size_answer(alloc: Global, most: usize) -> Result<Answer, AllocError>
     ensures { IfOk result (λ a. (a.status ≡ 2) × (a.text ≡ refused_size)) }
 {
     Ok(Answer {
         status: 2,
         text: Octets::copy_of(alloc, b"refused size\n")?,
-        reason: Reason::none(),
+        reason: Reason::too_long(most),
     })
 }
 
@@ -409,9 +409,10 @@ fn answer_from<T: Threads + Wait + Sync, R: Source, G: Gate>(
     ensures read { ReadsToLimit reading R.left source.old source.new }
     ensures later { R.faults source.old ≤ R.faults source.new }
 {
-    match read_all(alloc, source, most_bytes(reading)) {
+    let most = most_bytes(reading);
+    match read_all(alloc, source, most) {
         Ok(input) => Ok(answer_to(rt, alloc, reading, input, gate)?),
-        Err(ReadEnd::TooLong) => Ok(size_answer(alloc)?),
+        Err(ReadEnd::TooLong) => Ok(size_answer(alloc, most)?),
         Err(ReadEnd::Fault) => Err(Status(5)),
         Err(ReadEnd::OutOfMemory) => Err(Status(4)),
     }
@@ -460,8 +461,9 @@ fn hand_over<W: Sink>(sink: &mut W, text: &[u8], reason: &Reason) -> Result<(), 
 /// `replay` reads a script, makes the calls of its workers by turns, and writes the journal, or with `--summary` one line of
 /// numbers; `run` does the same, but the calls are made by threads; `check` reads a journal, and writes `legal N` or its first
 /// wrong line; `frames` reads TPI frames one after the other, and writes a line for each; `link` reads a link script, runs both
-/// ends of the link over datagrams, and writes the report; `gen --seed N` reads nothing and writes the script that is generated
-/// from the number, or with `--summary` makes its calls by turns and writes the line of numbers.
+/// ends of the link over datagrams, and writes the report; `sock` reads any bytes, copies them from one socket to another, and
+/// writes the journal or the line of numbers; `gen --seed N` reads nothing and writes the script that is generated from the
+/// number, or with `--summary` makes its calls by turns and writes the line of numbers.
 ///
 /// `run` makes worker 0's calls first, and then starts a thread for each other worker that has calls; at each step of theirs a
 /// thread may be held by the gate. Where a thread can't be started, or out of memory stops one, the calls that are left are
@@ -469,9 +471,9 @@ fn hand_over<W: Sink>(sink: &mut W, text: &[u8], reason: &Reason) -> Result<(), 
 /// each worker's calls stand in script order, each once; it ends only where each worker is finished or blocked; and what an
 /// end of a connection received is a prefix of what the other sent.
 ///
-/// The words are looked at first, then the source is read, and the whole text is made before the first write. Where a script, a
-/// journal or a link script is refused the sink is then told why, which no clause speaks of.
-/// Only `run` waits or makes threads, and all of its threads are finished when it returns.
+/// The words are looked at first, then the source is read, and the whole text is made before the first write. Where an input is
+/// too long, and where a script, a journal or a link script is refused, the sink is then told why, which no clause speaks of.
+/// Only `run` makes threads, and all of them are finished when it returns; of the others `sock` alone may wait.
 pub fn program<T: Threads + Wait + Sync, R: Source, W: Sink, G: Gate>(
     rt: &T,
     alloc: Global,
