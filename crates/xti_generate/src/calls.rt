@@ -6,7 +6,7 @@ ghost use Rattle.xti_generate.specs.Generated.{line, opening, binding, listening
 use crate::sizes::MOST_SENT;
 use std::alloc::{AllocError, Global};
 use xti_base::limits::{MOST_ADDRESS, MOST_CONNECT_DATA, MOST_OPTIONS};
-use xti_base::{Octets, Prov};
+use xti_base::{Octets, Prov, build_or_drop};
 use xti_model::{Line, Name, NamedCall};
 
 /// Appends a line.
@@ -35,24 +35,24 @@ pub(crate) fn bind(
 ) -> Result<NamedCall, AllocError>
     ensures { IfOk result (λ call. call ≡ binding name.now addr.now qlen) }
 {
-    Ok(NamedCall::TBind {
-        fd: Name::copy_of(alloc, name)?,
-        addr: Octets::copy_of(alloc, addr)?,
+    Ok(build_or_drop!(NamedCall::TBind {
         qlen,
-        amax: MOST_ADDRESS as u32,
-    })
+        amax: MOST_ADDRESS as u32;
+        fd: Name::copy_of(alloc, name),
+        addr: Octets::copy_of(alloc, addr),
+    }))
 }
 
 pub(crate) fn listen(alloc: Global, name: &[u8], seq: &[u8]) -> Result<NamedCall, AllocError>
     ensures { IfOk result (λ call. call ≡ listening name.now seq.now) }
 {
-    Ok(NamedCall::TListen {
-        fd: Name::copy_of(alloc, name)?,
-        name: Name::copy_of(alloc, seq)?,
+    Ok(build_or_drop!(NamedCall::TListen {
         amax: MOST_ADDRESS as u32,
         omax: MOST_OPTIONS as u32,
-        umax: MOST_CONNECT_DATA as u32,
-    })
+        umax: MOST_CONNECT_DATA as u32;
+        fd: Name::copy_of(alloc, name),
+        name: Name::copy_of(alloc, seq),
+    }))
 }
 
 pub(crate) fn accept(
@@ -63,27 +63,27 @@ pub(crate) fn accept(
 ) -> Result<NamedCall, AllocError>
     ensures { IfOk result (λ call. call ≡ accepting name.now resfd.now seq.now) }
 {
-    Ok(NamedCall::TAccept {
-        fd: Name::copy_of(alloc, name)?,
-        resfd: Name::copy_of(alloc, resfd)?,
-        seq: Name::copy_of(alloc, seq)?,
+    Ok(build_or_drop!(NamedCall::TAccept {
         opt: Octets::new(alloc),
-        udata: Octets::new(alloc),
-    })
+        udata: Octets::new(alloc);
+        fd: Name::copy_of(alloc, name),
+        resfd: Name::copy_of(alloc, resfd),
+        seq: Name::copy_of(alloc, seq),
+    }))
 }
 
 pub(crate) fn connect(alloc: Global, name: &[u8], addr: &[u8]) -> Result<NamedCall, AllocError>
     ensures { IfOk result (λ call. call ≡ connecting name.now addr.now) }
 {
-    Ok(NamedCall::TConnect {
-        fd: Name::copy_of(alloc, name)?,
-        addr: Octets::copy_of(alloc, addr)?,
+    Ok(build_or_drop!(NamedCall::TConnect {
         opt: Octets::new(alloc),
         udata: Octets::new(alloc),
         amax: MOST_ADDRESS as u32,
         omax: MOST_OPTIONS as u32,
-        umax: MOST_CONNECT_DATA as u32,
-    })
+        umax: MOST_CONNECT_DATA as u32;
+        fd: Name::copy_of(alloc, name),
+        addr: Octets::copy_of(alloc, addr),
+    }))
 }
 
 pub(crate) fn send(alloc: Global, name: &[u8], bytes: Octets) -> Result<NamedCall, AllocError>
