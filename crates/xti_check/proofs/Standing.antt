@@ -68,6 +68,12 @@ says_right past j new e g st left s small d b c p w q n l =
       },
     )
 
+-- the step of the entry's call is compared with what the entry says
+says_compared : (past : List Entry) (j new : Judge) (e : Entry) (g : Going) (st : Step) (left : Option Part) (text : Option (List ℕ)) → StandsAfter past j → e.worker ≤ LAST_WORKER → doing past e ≡ Some g → step_going j.world.providers (after j.world.providers past) g ≡ Some st → Compares st.outcome st.after e text
+    → new.world.providers ≡ j.world.providers → new.world.cells ≡ st.world → new.parts ≡ set j.parts e.worker left → new.entries.now ≡ j.entries.now → going_of j.entries.now left ≡ going_after (Some g.call) e.outcome → JudgesEntry past e j new text
+says_compared past j new e g st left None s small d b c p w q n l = says_right past j new e g st left s small d b c p w q n l
+says_compared past j new e g st left (Some text) s small d b c p w q n l = says_other past j new e g st text d b c
+
 -- what is left of the call of the entry at this place
 pub left_is : (entries past others : List Entry) (e : Entry) (x : Option Part) (g : Going) (place : ℕ) → entries ≡ past ++ e ∷ others → length past ≡ place → made_by (going_of entries x) e.act ≡ Some g → going_of entries (left_after (begun_at x e.act place) e.outcome) ≡ going_after (Some g.call) e.outcome
 left_is entries past others e x g place w p m = by_outcome e.outcome
@@ -97,11 +103,11 @@ get_at : (past others : List Entry) (e d : Entry) → get_or (past ++ e ∷ othe
 get_at [] others e d = refl
 get_at (x ∷ past) others e d = get_at past others e d
 
--- the entry at this place is right
-pub right_place : (j new : Judge) (place : ℕ) (r : Entry) (x : Option Part) (found called : Option Made) (m : Made) (a : Applied) (cells : World) (outcome : Outcome) (state : State) (left : Option Part) → place < length j.entries.now → HaveWorkers j.entries.now → r ≡ get_or j.entries.now place r
-    → x ≡ get_or j.parts r.worker None → made found ≡ going_of j.entries.now x → made called ≡ made_by (made found) r.act → called ≡ Some m → taken a cells ≡ step j.world.providers j.world.cells m.call.now m.go → a ≡ applied.Step outcome state → Compares outcome state r None
-    → new.world.providers ≡ j.world.providers → new.world.cells ≡ cells → new.parts ≡ set j.parts r.worker left → new.entries.now ≡ j.entries.now → left ≡ left_after (begun_at x r.act place) r.outcome → JudgesPlace place j new None
-right_place j new place r x found called m a cells outcome state left inside small at i f k q t b c p w ps n l = λ past others e whole here s.
+-- the step of the call of the entry at this place is compared with what stands there
+pub compared_place : (j new : Judge) (place : ℕ) (r : Entry) (x : Option Part) (found called : Option Made) (m : Made) (a : Applied) (cells : World) (outcome : Outcome) (state : State) (left : Option Part) (text : Option (List ℕ)) → place < length j.entries.now → HaveWorkers j.entries.now → r ≡ get_or j.entries.now place r
+    → x ≡ get_or j.parts r.worker None → made found ≡ going_of j.entries.now x → made called ≡ made_by (made found) r.act → called ≡ Some m → taken a cells ≡ step j.world.providers j.world.cells m.call.now m.go → a ≡ applied.Step outcome state → Compares outcome state r text
+    → new.world.providers ≡ j.world.providers → new.world.cells ≡ cells → new.parts ≡ set j.parts r.worker left → new.entries.now ≡ j.entries.now → left ≡ left_after (begun_at x r.act place) r.outcome → JudgesPlace place j new text
+compared_place j new place r x found called m a cells outcome state left text inside small at i f k q t b c p w ps n l = λ past others e whole here s.
     let same : r ≡ e = at ∙ ap (λ (es : List Entry). get_or es place r) whole ∙ ap (λ (k : ℕ). get_or (past ++ e ∷ others) k r) (sym here) ∙ get_at past others e r in
     let g : Going = record { call = m.call.now; so_far = m.go } in
     let st : Step = record { world = cells; outcome = outcome; after = state } in
@@ -111,8 +117,8 @@ right_place j new place r x found called m a cells outcome state left inside sma
     let d : doing past r ≡ Some g = found_call past j r.worker r.act x called s worker i act ∙ some in
     let made_step : step_going j.world.providers (after j.world.providers past) g ≡ Some st = step_is past j g (taken a cells) s t ∙ ap (λ (y : Applied). taken y cells) b in
     let rest : going_of j.entries.now left ≡ going_after (Some g.call) r.outcome = ap (going_of j.entries.now) l ∙ left_is j.entries.now past others r x g place (whole ∙ ap (λ (y : Entry). past ++ y ∷ others) (sym same)) here (sym act ∙ some) in
-    let h : JudgesEntry past r j new None = says_right past j new r g st left s worker d made_step c p w ps n rest in
-    subst (λ (y : Entry). JudgesEntry past y j new None) same h
+    let h : JudgesEntry past r j new text = says_compared past j new r g st left text s worker d made_step c p w ps n rest in
+    subst (λ (y : Entry). JudgesEntry past y j new text) same h
 
 -- ---- stall lines
 

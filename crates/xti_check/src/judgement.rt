@@ -1,14 +1,16 @@
 //! The judgement of an input.
 
-ghost use Rattle.std.specs.Prelude.{◌≡◌, ◌++◌, IfOk, OnOk};
+ghost use Rattle.std.specs.Prelude.{◌≡◌, ◌++◌, length, IfOk, OnOk};
 ghost use Rattle.xti_model.specs.declared.script.Journal.{Journal};
-ghost use Rattle.xti_journal.specs.Grammar.{IsJournal};
+ghost use Rattle.xti_journal.specs.Grammar.{HasText, IsJournal};
 ghost use Rattle.xti_check.specs.Judgements.{legal_text, wrong_text, IsJudgement, IsOfJournal};
+ghost use Rattle.xti_check.specs.Verdicts.{IsVerdict};
 
 use crate::verdict::{Verdict, check};
 use std::alloc::{AllocError, Global};
-use xti_base::Octets;
+use xti_base::{Octets, let_go};
 use xti_journal::{JournalFail, read_journal};
+use xti_model::Journal;
 use xti_text::{put_number, put_text};
 
 /// What is said of an input.
@@ -51,6 +53,42 @@ fn wrong_text(
     Ok(Octets::from_vec(out))
 }
 
+/// What is said of a journal with so many entries, of which this is the verdict.
+fn judgement_of(alloc: Global, count: u64, verdict: &Verdict) -> Result<Judgement, AllocError>
+    ensures { IfOk result (λ said.
+        (j : Journal) → count ≡ length j.entries → IsVerdict j verdict.now → IsOfJournal j said) }
+{
+    match verdict {
+        Verdict::Legal => match legal_text(alloc, count) {
+            Ok(text) => Ok(Judgement::Legal { text }),
+            Err(fail) => Err(fail),
+        },
+        Verdict::Wrong {
+            line,
+            expected,
+            found,
+        } => match wrong_text(alloc, *line, expected, found) {
+            Ok(text) => Ok(Judgement::Wrong { text }),
+            Err(fail) => Err(fail),
+        },
+    }
+}
+
+/// Judges the journal.
+fn judge_journal(alloc: Global, journal: &Journal) -> Result<Judgement, AllocError>
+    requires { HasText journal.now }
+    ensures { IfOk result (IsOfJournal journal.now) }
+{
+    match check(alloc, journal) {
+        Ok(verdict) => {
+            let said = judgement_of(alloc, journal.entries.len() as u64, &verdict);
+            let_go(verdict);
+            said
+        }
+        Err(fail) => Err(fail),
+    }
+}
+
 /// Reads the input as a journal and judges it; `Err` is out of memory.
 pub fn judge(alloc: Global, input: &[u8]) -> Result<Judgement, AllocError>
     // What is said is right.
@@ -58,21 +96,13 @@ pub fn judge(alloc: Global, input: &[u8]) -> Result<Judgement, AllocError>
     // A journal is judged as its verdict says, and never refused.
     ensures only { (j : Journal) → IsJournal j input.now → IfOk result (IsOfJournal j) }
 {
-    let journal = match read_journal(alloc, input) {
-        Ok(journal) => journal,
-        Err(JournalFail::Bad { line }) => return Ok(Judgement::Refused { line }),
-        Err(JournalFail::OutOfMemory) => return Err(AllocError),
-    };
-    match check(alloc, &journal)? {
-        Verdict::Legal => Ok(Judgement::Legal {
-            text: legal_text(alloc, journal.entries.len() as u64)?,
-        }),
-        Verdict::Wrong {
-            line,
-            expected,
-            found,
-        } => Ok(Judgement::Wrong {
-            text: wrong_text(alloc, line, &expected, &found)?,
-        }),
+    match read_journal(alloc, input) {
+        Ok(journal) => {
+            let said = judge_journal(alloc, &journal);
+            let_go(journal);
+            said
+        }
+        Err(JournalFail::Bad { line }) => Ok(Judgement::Refused { line }),
+        Err(JournalFail::OutOfMemory) => Err(AllocError),
     }
 }

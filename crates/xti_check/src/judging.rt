@@ -1,9 +1,11 @@
 //! Judging a journal, line by line.
 
-ghost use Rattle.std.specs.Prelude.{◌≡◌, ◌≤◌, ◌<◌, true, [], length, IfOk};
+ghost use Rattle.std.specs.Prelude.{◌≡◌, ◌≤◌, ◌<◌, true, [], length, Some, IfOk};
 ghost use Rattle.xti_base.specs.declared.limits.TheConstants.{LAST_WORKER};
 ghost use Rattle.xti_model.specs.declared.entry.Entry.{Entry};
 ghost use Rattle.xti_model.specs.Profile.{valid};
+ghost use Rattle.xti_journal_text.specs.JournalText.{answer_text};
+ghost use Rattle.xti_laws_texts.specs.Texts.{AreNumbers};
 ghost use Rattle.xti_check.specs.Judging.{StandsAfter, HaveWorkers, JudgesPlace, JudgesLine, Compares};
 ghost use Rattle.xti_check.specs.Verdicts.{wanted_act};
 
@@ -27,13 +29,36 @@ pub(crate) struct Judge<'a> {
     pub(crate) parts: [Option<Part>; WORKERS],
 }
 
-/// What stands in place of an act that doesn't go with the worker's call.
-fn wanted_act(alloc: Global, act: &Act) -> Result<Octets, AllocError>
-    ensures { IfOk result (λ text. text ≡ wanted_act act.now) }
+/// What should stand there.
+fn wanted(alloc: Global, text: &[u8]) -> Result<Option<Octets>, AllocError>
+    ensures { IfOk result (λ wanted. wanted ≡ Some text.now) }
+{
+    match Octets::copy_of(alloc, text) {
+        Ok(text) => Ok(Some(text)),
+        Err(fail) => Err(fail),
+    }
+}
+
+/// What should stand in place of an act that doesn't go with the worker's call.
+fn wanted_act(alloc: Global, act: &Act) -> Result<Option<Octets>, AllocError>
+    ensures { IfOk result (λ wanted. wanted ≡ Some (wanted_act act.now)) }
 {
     match act {
-        Act::Begin(_) => Octets::copy_of(alloc, b"more"),
-        Act::More => Octets::copy_of(alloc, b"no unfinished call"),
+        Act::Begin(_) => wanted(alloc, b"more"),
+        Act::More => wanted(alloc, b"no unfinished call"),
+    }
+}
+
+/// The text of the outcome, which is let go, and of the state.
+fn told(alloc: Global, outcome: Outcome, after: State) -> Result<Option<Octets>, AllocError>
+    ensures copy { IfOk result (λ text. text ≡ Some (answer_text outcome after)) }
+    ensures numbers { IfOk result (λ _. AreNumbers outcome) }
+{
+    let text = write_answer(alloc, &outcome, after);
+    let_go(outcome);
+    match text {
+        Ok(text) => Ok(Some(text)),
+        Err(fail) => Err(fail),
     }
 }
 
@@ -50,16 +75,7 @@ fn compare(
         let_go(outcome);
         return Ok(None);
     }
-    match write_answer(alloc, &outcome, after) {
-        Ok(text) => {
-            let_go(outcome);
-            Ok(Some(text))
-        }
-        Err(fail) => {
-            let_go(outcome);
-            Err(fail)
-        }
-    }
+    told(alloc, outcome, after)
 }
 
 impl<'a> Judge<'a> {
@@ -82,7 +98,8 @@ impl<'a> Judge<'a> {
         })
     }
 
-    /// `None` where the entry at this place is the step of its call; else what should stand there.
+    /// `None` where the entry at this place is the step of its call; else what should stand there, and the judge has done its
+    /// work.
     pub(crate) fn entry(&mut self, place: usize) -> Result<Option<Octets>, AllocError>
         requires place { place < length self.old.entries.now }
         requires worker { HaveWorkers self.old.entries.now }
@@ -94,18 +111,16 @@ impl<'a> Judge<'a> {
         let worker = entry.worker as usize;
         let part = self.parts[worker];
         let Some(going) = made_by(going_of(self.entries, part), &entry.act) else {
-            return Ok(Some(wanted_act(self.alloc, &entry.act)?));
+            return wanted_act(self.alloc, &entry.act);
         };
-        match self.world.step(going.call, going.go)? {
-            Applied::Blocked => Ok(Some(Octets::copy_of(self.alloc, b"blocked")?)),
-            Applied::Step { outcome, after } => {
-                if let Some(wanted) = compare(self.alloc, outcome, after, entry)? {
-                    return Ok(Some(wanted));
-                }
+        match self.world.step(going.call, going.go) {
+            Ok(Applied::Blocked) => wanted(self.alloc, b"blocked"),
+            Ok(Applied::Step { outcome, after }) => {
                 let begun = begun_at(part, &entry.act, place);
                 self.parts[worker] = left_after(begun, &entry.outcome);
-                Ok(None)
+                compare(self.alloc, outcome, after, entry)
             }
+            Err(fail) => Err(fail),
         }
     }
 
@@ -118,20 +133,12 @@ impl<'a> Judge<'a> {
     {
         let part = self.parts[stall.worker as usize];
         let Some(going) = made_by(going_of(self.entries, part), &stall.act) else {
-            return Ok(Some(wanted_act(self.alloc, &stall.act)?));
+            return wanted_act(self.alloc, &stall.act);
         };
-        match self.world.step(going.call, going.go)? {
-            Applied::Blocked => Ok(None),
-            Applied::Step { outcome, after } => match write_answer(self.alloc, &outcome, after) {
-                Ok(text) => {
-                    let_go(outcome);
-                    Ok(Some(text))
-                }
-                Err(fail) => {
-                    let_go(outcome);
-                    Err(fail)
-                }
-            },
+        match self.world.step(going.call, going.go) {
+            Ok(Applied::Blocked) => Ok(None),
+            Ok(Applied::Step { outcome, after }) => told(self.alloc, outcome, after),
+            Err(fail) => Err(fail),
         }
     }
 }

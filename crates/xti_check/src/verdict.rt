@@ -7,7 +7,7 @@ ghost use Rattle.xti_check.specs.Verdicts.{IsVerdict};
 
 use crate::judging::Judge;
 use std::alloc::{AllocError, Global};
-use xti_base::Octets;
+use xti_base::{Octets, let_go};
 use xti_journal_text::write_answer;
 use xti_model::Journal;
 
@@ -74,14 +74,32 @@ fn judge_stalls(judge: &mut Judge, journal: &Journal) -> Result<Verdict, AllocEr
     Ok(Verdict::Legal)
 }
 
+/// Judges the entries, and the stall lines where these are right.
+fn judge_journal(judge: &mut Judge, journal: &Journal) -> Result<Verdict, AllocError>
+    requires text { HasText journal.now }
+    requires first { StandsAfter [] judge.old }
+    requires same { judge.old.world.providers ≡ journal.now.providers }
+    requires entries { judge.old.entries.now ≡ journal.now.entries }
+    ensures { IfOk result (IsVerdict journal.now) }
+{
+    match judge_entries(judge, journal) {
+        Ok(Some(wrong)) => Ok(wrong),
+        Ok(None) => judge_stalls(judge, journal),
+        Err(fail) => Err(fail),
+    }
+}
+
 /// Judges the journal, which is one that has a text; `Err` is out of memory. Stall lines that are left out are not missed.
 pub fn check(alloc: Global, journal: &Journal) -> Result<Verdict, AllocError>
     requires { HasText journal.now }
     ensures { IfOk result (IsVerdict journal.now) }
 {
-    let mut judge = Judge::new(alloc, &journal.providers, journal.entries.as_slice())?;
-    match judge_entries(&mut judge, journal)? {
-        Some(wrong) => Ok(wrong),
-        None => judge_stalls(&mut judge, journal),
+    match Judge::new(alloc, &journal.providers, journal.entries.as_slice()) {
+        Ok(mut judge) => {
+            let verdict = judge_journal(&mut judge, journal);
+            let_go(judge);
+            verdict
+        }
+        Err(fail) => Err(fail),
     }
 }
