@@ -24,6 +24,11 @@ abbrev pub IsBad : List ℕ → JournalFail → Type 0
 IsBad text (Bad line) = IsRefusedAt text line
 IsBad text OutOfMemory = Unit {0}
 
+-- this is a journal with the text, or why there is none
+abbrev pub ReadsInto : {A : Type 0} → List ℕ → Journal → Result A JournalFail → Type 0
+ReadsInto text j (Ok read) = IsJournal j text
+ReadsInto text j (Err e) = IsBad text e
+
 -- a journal with this text, or why there is none
 abbrev pub ReadsText : List ℕ → Result Journal JournalFail → Type 0
 ReadsText text (Ok j) = IsJournal j text

@@ -1,6 +1,6 @@
 //! Reading a journal.
 
-ghost use Rattle.std.specs.Prelude.{◌≡◌, ◌++◌, true, IfOk, IfErr, IfSome, IfNone};
+ghost use Rattle.std.specs.Prelude.{◌≡◌, ◌++◌, [], true, IfOk, IfErr, IfSome, IfNone};
 ghost use Rattle.xti_journal_text.specs.JournalText.{head_text};
 ghost use Rattle.xti_model.specs.declared.script.Journal.{Journal};
 ghost use Rattle.xti_journal.specs.declared.journal_text.JournalFail.TheVariants.{OutOfMemory};
@@ -8,7 +8,7 @@ ghost use Rattle.xti_journal.specs.Grammar.{IsJournal};
 ghost use Rattle.xti_journal.specs.Head.{valid_profile, valid_head, fail_at, ReadsFirst, ReadsProvider, ReadsHead};
 ghost use Rattle.xti_journal.specs.Line.{IsCut, IsLine};
 ghost use Rattle.xti_words.specs.Texts.{words_of};
-ghost use Rattle.xti_journal.specs.Read.{IsReadAs, IsBad, ReadsText, ReadsNext};
+ghost use Rattle.xti_journal.specs.Read.{IsReadAs, IsBad, ReadsInto, ReadsText, ReadsNext};
 
 use crate::body::{Line, read_line, read_profile};
 use crate::draft::Draft;
@@ -16,7 +16,7 @@ use memchr::memchr;
 use std::alloc::{AllocError, Global};
 use std::mem;
 use thiserror::Error;
-use xti_base::{Prov, State};
+use xti_base::{Prov, State, let_go};
 use xti_model::{Act, Entry, Journal, Outcome, Profile, Providers, Reply, Version};
 use xti_words::FieldFail;
 
@@ -60,11 +60,6 @@ fn blank_entry() -> Entry {
     }
 }
 
-/// The place in which each entry is written. A local of its own would be let go part by part on each way out.
-fn entry_place(alloc: Global) -> Result<Box<Entry>, AllocError> {
-    Ok(Box::new(alloc, blank_entry())?)
-}
-
 /// Reads a line after the head, and adds it; false where it is the last line. An entry is written in `next` first.
 fn read_next(
     alloc: Global,
@@ -88,22 +83,26 @@ fn read_next(
     }
 }
 
-/// Reads the lines after the head.
-fn read_body(alloc: Global, providers: Providers, text: &[u8]) -> Result<Journal, JournalFail>
-    requires { valid_head providers ≡ true }
-    ensures { ReadsText (head_text providers ++ text.now) result }
+/// Reads the lines after the head into the draft, which has none yet. An entry is written in `next` first.
+fn read_lines(
+    alloc: Global,
+    draft: &mut Draft,
+    next: &mut Entry,
+    text: &[u8],
+) -> Result<(), JournalFail>
+    requires head { valid_head draft.old.providers ≡ true }
+    requires first { draft.old ≡ record { providers = draft.old.providers; entries = []; stalls = [] } }
+    ensures { ReadsInto (head_text draft.old.providers ++ text.now) draft.new result }
 {
-    let mut draft = Draft::new(alloc, providers);
-    let mut next = entry_place(alloc)?;
     let mut rest = text;
     let mut number = 5u64;
     while !rest.is_empty() {
         let Some((line, behind)) = take_line(rest) else {
             return Err(JournalFail::Bad { line: number });
         };
-        match read_next(alloc, &mut draft, &mut next, line) {
+        match read_next(alloc, draft, next, line) {
             Ok(true) => {}
-            Ok(false) if behind.is_empty() => return Ok(draft.finish()),
+            Ok(false) if behind.is_empty() => return Ok(()),
             Ok(false) => return Err(JournalFail::Bad { line: number + 1 }),
             Err(fail) => return Err(fail_at(number, fail)),
         }
@@ -111,6 +110,24 @@ fn read_body(alloc: Global, providers: Providers, text: &[u8]) -> Result<Journal
         number += 1;
     }
     Err(JournalFail::Bad { line: number })
+}
+
+/// Reads the lines after the head.
+fn read_body(alloc: Global, providers: Providers, text: &[u8]) -> Result<Journal, JournalFail>
+    requires { valid_head providers ≡ true }
+    ensures { ReadsText (head_text providers ++ text.now) result }
+{
+    let mut next = blank_entry();
+    let mut draft = Draft::new(alloc, providers);
+    let read = read_lines(alloc, &mut draft, &mut next, text);
+    let_go(next);
+    match read {
+        Ok(()) => Ok(draft.finish()),
+        Err(fail) => {
+            let_go(draft);
+            Err(fail)
+        }
+    }
 }
 
 /// Whether the values are within the bounds of the provider.
