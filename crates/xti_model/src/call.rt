@@ -4,8 +4,9 @@ ghost use Rattle.std.specs.Prelude.{◌≡◌, IfOk, IsTrue, option_map};
 ghost use Rattle.xti_model.specs.Families.{is_address_or_options, is_connection_request, is_connection_receipt, is_send, is_receive};
 ghost use Rattle.xti_model.specs.Touched.{fd_of};
 
+use crate::copying::{copy_three, copy_two};
 use std::alloc::AllocError;
-use xti_base::{Fd, Octets, Parts, Prov, Seq, Sizes, build_or_drop};
+use xti_base::{Fd, Octets, Parts, Prov, Seq, Sizes, let_go};
 
 /// A call (XNS, one variant a function). A limit of 0 for a returned field means that the caller doesn't take it.
 #[derive(Drop)]
@@ -196,7 +197,7 @@ fn copy_address_or_options(call: &Call) -> Result<Call, AllocError>
             amax,
         } => Ok(Call::TBind {
             fd: *fd,
-            addr: addr.copy()?,
+            addr: made!(addr.copy()),
             qlen: *qlen,
             amax: *amax,
         }),
@@ -213,7 +214,7 @@ fn copy_address_or_options(call: &Call) -> Result<Call, AllocError>
         } => Ok(Call::TOptMgmt {
             fd: *fd,
             action: *action,
-            opt: opt.copy()?,
+            opt: made!(opt.copy()),
             omax: *omax,
         }),
         _ => unreachable!(),
@@ -234,36 +235,42 @@ fn copy_connection_request(call: &Call) -> Result<Call, AllocError>
             amax,
             omax,
             umax,
-        } => Ok(build_or_drop!(Call::TConnect {
-            fd: *fd,
-            amax: *amax,
-            omax: *omax,
-            umax: *umax;
-            addr: addr.copy(),
-            opt: opt.copy(),
-            udata: udata.copy(),
-        })),
+        } => {
+            let (addr, opt, udata) = made!(copy_three(addr, opt, udata));
+            Ok(Call::TConnect {
+                fd: *fd,
+                addr,
+                opt,
+                udata,
+                amax: *amax,
+                omax: *omax,
+                umax: *umax,
+            })
+        }
         Call::TAccept {
             fd,
             resfd,
             seq,
             opt,
             udata,
-        } => Ok(build_or_drop!(Call::TAccept {
-            fd: *fd,
-            resfd: *resfd,
-            seq: *seq;
-            opt: opt.copy(),
-            udata: udata.copy(),
-        })),
+        } => {
+            let (opt, udata) = made!(copy_two(opt, udata));
+            Ok(Call::TAccept {
+                fd: *fd,
+                resfd: *resfd,
+                seq: *seq,
+                opt,
+                udata,
+            })
+        }
         Call::TSndDis { fd, seq, udata } => Ok(Call::TSndDis {
             fd: *fd,
             seq: *seq,
-            udata: udata.copy()?,
+            udata: made!(udata.copy()),
         }),
         Call::TSndRelData { fd, udata } => Ok(Call::TSndRelData {
             fd: *fd,
-            udata: udata.copy()?,
+            udata: made!(udata.copy()),
         }),
         _ => unreachable!(),
     }
@@ -317,12 +324,12 @@ fn copy_send(call: &Call) -> Result<Call, AllocError>
     match call {
         Call::TSnd { fd, bytes, flags } => Ok(Call::TSnd {
             fd: *fd,
-            bytes: bytes.copy()?,
+            bytes: made!(bytes.copy()),
             flags: *flags,
         }),
         Call::TSndV { fd, parts, flags } => Ok(Call::TSndV {
             fd: *fd,
-            parts: parts.copy()?,
+            parts: made!(parts.copy()),
             flags: *flags,
         }),
         Call::TSndUData {
@@ -330,23 +337,35 @@ fn copy_send(call: &Call) -> Result<Call, AllocError>
             addr,
             opt,
             bytes,
-        } => Ok(build_or_drop!(Call::TSndUData {
-            fd: *fd;
-            addr: addr.copy(),
-            opt: opt.copy(),
-            bytes: bytes.copy(),
-        })),
+        } => {
+            let (addr, opt, bytes) = made!(copy_three(addr, opt, bytes));
+            Ok(Call::TSndUData {
+                fd: *fd,
+                addr,
+                opt,
+                bytes,
+            })
+        }
         Call::TSndVUData {
             fd,
             addr,
             opt,
             parts,
-        } => Ok(build_or_drop!(Call::TSndVUData {
-            fd: *fd;
-            addr: addr.copy(),
-            opt: opt.copy(),
-            parts: parts.copy(),
-        })),
+        } => {
+            let parts = made!(parts.copy());
+            match copy_two(addr, opt) {
+                Ok((addr, opt)) => Ok(Call::TSndVUData {
+                    fd: *fd,
+                    addr,
+                    opt,
+                    parts,
+                }),
+                Err(fail) => {
+                    let_go(parts);
+                    Err(fail)
+                }
+            }
+        }
         _ => unreachable!(),
     }
 }
@@ -360,7 +379,7 @@ fn copy_receive(call: &Call) -> Result<Call, AllocError>
         Call::TRcv { fd, max } => Ok(Call::TRcv { fd: *fd, max: *max }),
         Call::TRcvV { fd, sizes } => Ok(Call::TRcvV {
             fd: *fd,
-            sizes: sizes.copy()?,
+            sizes: made!(sizes.copy()),
         }),
         Call::TRcvUData {
             fd,
@@ -380,7 +399,7 @@ fn copy_receive(call: &Call) -> Result<Call, AllocError>
             omax,
         } => Ok(Call::TRcvVUData {
             fd: *fd,
-            sizes: sizes.copy()?,
+            sizes: made!(sizes.copy()),
             amax: *amax,
             omax: *omax,
         }),

@@ -5,8 +5,9 @@ ghost use Rattle.xti_model.specs.Families.{is_connection_news, is_received};
 ghost use Rattle.xti_model.specs.History.{taken_before};
 
 use crate::call::Call;
+use crate::copying::{copy_three, copy_two};
 use std::alloc::AllocError;
-use xti_base::{Errno, Event, Fd, Info, Items, Octets, Seq, State, build_or_drop, let_go};
+use xti_base::{Errno, Event, Fd, Info, Items, Octets, Seq, State, let_go};
 
 /// What a call answers.
 #[derive(Drop)]
@@ -109,29 +110,31 @@ fn copy_connection_news(reply: &Reply) -> Result<Reply, AllocError>
     ensures { IfOk result (λ copy. copy ≡ reply.now) }
 {
     match reply {
-        Reply::Connected { addr, opt, udata } => Ok(build_or_drop!(Reply::Connected {
-            addr: addr.copy(),
-            opt: opt.copy(),
-            udata: udata.copy(),
-        })),
+        Reply::Connected { addr, opt, udata } => {
+            let (addr, opt, udata) = made!(copy_three(addr, opt, udata));
+            Ok(Reply::Connected { addr, opt, udata })
+        }
         Reply::Listened {
             seq,
             addr,
             opt,
             udata,
-        } => Ok(build_or_drop!(Reply::Listened {
-            seq: *seq;
-            addr: addr.copy(),
-            opt: opt.copy(),
-            udata: udata.copy(),
-        })),
+        } => {
+            let (addr, opt, udata) = made!(copy_three(addr, opt, udata));
+            Ok(Reply::Listened {
+                seq: *seq,
+                addr,
+                opt,
+                udata,
+            })
+        }
         Reply::Discon { reason, seq, udata } => Ok(Reply::Discon {
             reason: *reason,
             seq: *seq,
-            udata: udata.copy()?,
+            udata: made!(udata.copy()),
         }),
         Reply::RelData { udata } => Ok(Reply::RelData {
-            udata: udata.copy()?,
+            udata: made!(udata.copy()),
         }),
         _ => unreachable!(),
     }
@@ -144,7 +147,7 @@ fn copy_received(reply: &Reply) -> Result<Reply, AllocError>
 {
     match reply {
         Reply::Got { bytes, flags } => Ok(Reply::Got {
-            bytes: bytes.copy()?,
+            bytes: made!(bytes.copy()),
             flags: *flags,
         }),
         Reply::UData {
@@ -152,17 +155,23 @@ fn copy_received(reply: &Reply) -> Result<Reply, AllocError>
             opt,
             bytes,
             flags,
-        } => Ok(build_or_drop!(Reply::UData {
-            flags: *flags;
-            addr: addr.copy(),
-            opt: opt.copy(),
-            bytes: bytes.copy(),
-        })),
-        Reply::UDErr { addr, opt, code } => Ok(build_or_drop!(Reply::UDErr {
-            code: *code;
-            addr: addr.copy(),
-            opt: opt.copy(),
-        })),
+        } => {
+            let (addr, opt, bytes) = made!(copy_three(addr, opt, bytes));
+            Ok(Reply::UData {
+                addr,
+                opt,
+                bytes,
+                flags: *flags,
+            })
+        }
+        Reply::UDErr { addr, opt, code } => {
+            let (addr, opt) = made!(copy_two(addr, opt));
+            Ok(Reply::UDErr {
+                addr,
+                opt,
+                code: *code,
+            })
+        }
         _ => unreachable!(),
     }
 }
@@ -176,20 +185,20 @@ impl Reply {
             Reply::Plain => Ok(Reply::Plain),
             Reply::Opened { fd } => Ok(Reply::Opened { fd: *fd }),
             Reply::Bound { addr, qlen } => Ok(Reply::Bound {
-                addr: addr.copy()?,
+                addr: made!(addr.copy()),
                 qlen: *qlen,
             }),
             Reply::Sent { n } => Ok(Reply::Sent { n: *n }),
             Reply::Seen { event } => Ok(Reply::Seen { event: *event }),
             Reply::Stands { state } => Ok(Reply::Stands { state: *state }),
             Reply::Limits { info } => Ok(Reply::Limits { info: *info }),
-            Reply::Addresses { local, peer } => Ok(build_or_drop!(Reply::Addresses {
-                local: local.copy(),
-                peer: peer.copy(),
-            })),
+            Reply::Addresses { local, peer } => {
+                let (local, peer) = made!(copy_two(local, peer));
+                Ok(Reply::Addresses { local, peer })
+            }
             Reply::Options { result, opt } => Ok(Reply::Options {
                 result: *result,
-                opt: opt.copy()?,
+                opt: made!(opt.copy()),
             }),
             Reply::Refused { errno } => Ok(Reply::Refused { errno: *errno }),
             Reply::Look { event } => Ok(Reply::Look { event: *event }),
@@ -218,7 +227,7 @@ impl Act {
         ensures { IfOk result (λ copy. copy ≡ self.now) }
     {
         match self {
-            Act::Begin(call) => Ok(Act::Begin(call.copy()?)),
+            Act::Begin(call) => Ok(Act::Begin(made!(call.copy()))),
             Act::More => Ok(Act::More),
         }
     }
@@ -261,7 +270,7 @@ impl Outcome {
         ensures { IfOk result (λ copy. copy ≡ self.now) }
     {
         match self {
-            Outcome::Done(reply) => Ok(Outcome::Done(reply.copy()?)),
+            Outcome::Done(reply) => Ok(Outcome::Done(made!(reply.copy()))),
             Outcome::Part { taken } => Ok(Outcome::Part { taken: *taken }),
         }
     }
@@ -285,7 +294,7 @@ impl Entry {
     pub fn copy(&self) -> Result<Entry, AllocError>
         ensures { IfOk result (λ copy. copy ≡ self.now) }
     {
-        let act = self.act.copy()?;
+        let act = made!(self.act.copy());
         match self.outcome.copy() {
             Ok(outcome) => Ok(Entry {
                 worker: self.worker,
