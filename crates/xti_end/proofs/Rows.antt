@@ -1,23 +1,32 @@
 -- The plan of a call on an open endpoint, once its refusals are passed.
 use Rattle.std.proofs.Common.{◌≡◌, ℕ, Bool, true, false, ◌&&◌, eqb, cond, List, [], ◌∷◌, ◌++◌, take, Option, Some, None, refl, sym, ap, ◌∙◌}
-use Rattle.std.specs.Prelude.{is_some, is_none}
+use Rattle.std.specs.Prelude.{is_some, is_none, not, option_map}
 use Rattle.xti_base.specs.Kinds.{same_state}
 use Rattle.xti_base.specs.declared.kinds.State.TheVariants.{T_IDLE, T_INCON, T_OUTCON}
+use Rattle.xti_base.specs.declared.errno.Errno.TheVariants.{TBADDATA, TNODATA}
+use Rattle.xti_base.specs.declared.kinds.Event.{Event}
+use Rattle.xti_model.specs.Arguments.{is_too_many}
 use Rattle.xti_model.specs.declared.profile.Providers.{Providers}
 use Rattle.xti_model.specs.Endpoint.{Endpoint, address_of, ocnt}
-use Rattle.xti_model.specs.Events.{is_state, some_wait, connected_or_asking}
+use Rattle.xti_model.specs.Events.{is_state, some_wait, connected_or_asking, looked, looks_data, receiving}
 use Rattle.std.specs.List.{list_any}
 use Rattle.xti_model.specs.declared.entry.Outcome.TheVariants.{Done}
 use Rattle.xti_model.specs.declared.entry.Reply.{Reply}
-use Rattle.xti_model.specs.declared.entry.Reply.TheVariants.{Addresses}
+use Rattle.xti_model.specs.declared.entry.Reply.TheVariants.{Addresses, Overflow, Plain}
+use Rattle.xti_model.specs.Calls.Connect as Connect
+use Rattle.xti_model.specs.Calls.Datagrams as Datagrams
+use Rattle.xti_model.specs.Calls.Disconnect as Disconnect
+use Rattle.xti_model.specs.Calls.Listen as Listen
+use Rattle.xti_model.specs.Calls.Receive as Receive
 use Rattle.xti_model.specs.Calls.Release as Release
 use Rattle.xti_model.specs.Calls.Show as Show
-use Rattle.xti_model.specs.Plan.{Plan, Refusal, Row, answers, field, first, has_effect, is_too_long, trimmed, if_open, loses, overflows, plan_of}
+use Rattle.xti_model.specs.Plan.{Plan, Refusal, Row, answers, field, first, has_effect, is_too_long, not_ready, outside, refuses, shows, trimmed, without_connections, if_open, loses, overflows, plan_of}
 use Rattle.xti_model.specs.Provider.{has_connections, has_datagrams}
 use Rattle.xti_model.specs.Step.{made, step_by, step_of}
-use Rattle.xti_model.specs.World.{World, at_endpoint, changed, endpoint, place_of, generation_of}
-use Rattle.xti_end.specs.Held.{Held, alone, is_open_as, parts, parts_of}
-use Rattle.xti_end.specs.Taken.{confirmation_step, confirming, disconnect_step, receiving_disconnect, receiving_release_data, release_step, told_release, listening, request_step, error_step, receiving_error, showing_addresses}
+use Rattle.xti_model.specs.World.{World, Cell, endpoint_cell, at_endpoint, change_endpoint, changed, endpoint, place_of, generation_of}
+use Rattle.xti_end.specs.declared.receiving.Sizes.{Sizes}
+use Rattle.xti_end.specs.Held.{Held, alone, is_open_as, parts, parts_of, with_parts}
+use Rattle.xti_end.specs.Taken.{confirmation_overflows, error_fields, request_overflows, told_confirmation, told_disconnect, told_error, told_request, confirmation_step, confirming, disconnect_step, receiving_disconnect, receiving_data, receiving_release, receiving_release_data, release_step, told_release, listening, request_step, error_step, receiving_error, showing_addresses}
 
 and-parts : (a b : Bool) → (a && b) ≡ true → (a ≡ true) × (b ≡ true)
 and-parts true true h = (refl, refl)
@@ -35,13 +44,33 @@ alone-open p fd h o =
     let b = and-parts (is_some h.body) (eqb h.generation (generation_of p fd)) a.0 in
     rw (a.1, b.1) (some-parts h.body b.0)
 
+-- a change of the open endpoint, in the world of its cell alone
+cell-changed : (g generation : ℕ) (f : Endpoint → Endpoint) (o : Option Endpoint) → eqb g generation ≡ true → change_endpoint generation f (endpoint_cell g o) ≡ endpoint_cell g (option_map f o)
+cell-changed g generation f None e = refl
+cell-changed g generation f (Some x) e = rw e refl
+
+pub alone-changed : (p : Providers) (fd : ℕ) (h : Held) (f : Endpoint → Endpoint) → is_open_as p fd h ≡ true → changed p (alone h) (at_endpoint fd f ∷ []) ≡ alone (with_parts f h)
+alone-changed p fd h f o =
+    let a = and-parts (is_some h.body && eqb h.generation (generation_of p fd)) (eqb h.place (place_of p fd)) o in
+    let b = and-parts (is_some h.body) (eqb h.generation (generation_of p fd)) a.0 in
+    rw a.1 (ap (λ (c : Cell). record { number = h.place; cell = c } ∷ []) (cell-changed h.generation (generation_of p fd) f h.body b.1))
+
+-- fields that are too long are lost, and others told
+pub has-effect : (b : Bool) → has_effect (cond b (Some loses) None) ≡ true
+has-effect true = refl
+has-effect false = refl
+
 pub disconnect-told : (p : Providers) (h : Held) (fd umax : ℕ) → is_open_as p fd h ≡ true → has_connections (parts h).prov ≡ true → is_state connected_or_asking (parts h) ≡ true → some_wait (parts h).disconnects ≡ true
     → disconnect_step p (alone h) fd umax (parts h) ≡ step_of p (alone h) (receiving_disconnect fd umax p h)
 disconnect-told p h fd umax o a b c = rw (alone-open p fd h o, a, b, c) refl
 
-none-waits : {A : Type 0} (o : Option A) → is_some o ≡ true → is_none o ≡ false
+pub none-waits : {A : Type 0} (o : Option A) → is_some o ≡ true → is_none o ≡ false
 none-waits None h = cc
 none-waits (Some x) h = refl
+
+pub some-waits : {A : Type 0} (o : Option A) → is_some o ≡ false → is_none o ≡ true
+some-waits None h = refl
+some-waits (Some x) h = cc
 
 pub request-told : (p : Providers) (h : Held) (fd amax omax umax : ℕ) → is_open_as p fd h ≡ true → has_connections (parts h).prov ≡ true → is_state (T_IDLE ∷ T_INCON ∷ []) (parts h) ≡ true
     → eqb (parts h).qlen 0 ≡ false → eqb (ocnt (parts h)) (parts h).qlen ≡ false → some_wait (parts h).disconnects ≡ false → some_wait (parts h).pending ≡ true
@@ -102,6 +131,15 @@ refused-release-told p h fd umax told reply o e =
     let plan = λ (x : Endpoint). plan_of fd x (Release.receive_rows umax x) (at_endpoint fd Release.after_receive ∷ []) (Done (told x)) in
     sym (ap (step_by p (alone h) (Release.taking_plan p (alone h) fd umax told)) (release-refused p h fd umax told reply o e) ∙ ap (λ x. step_by p (alone h) (if_open fd x plan) (Some (answers reply))) (alone-open p fd h o))
 
+-- where nothing refuses it, and no data are asked for, it is taken
+pub release-dropped : (p : Providers) (h : Held) (fd : ℕ) → is_open_as p fd h ≡ true → None ≡ first (Release.receive_rows 0 (parts h))
+    → Some (made p fd (Done Plain) (alone (with_parts Release.after_receive h))) ≡ step_of p (alone h) (receiving_release fd p h)
+release-dropped p h fd o e =
+    let plan = λ (x : Endpoint). plan_of fd x (Release.receive_rows 0 x) (at_endpoint fd Release.after_receive ∷ []) (Done Plain) in
+    ap (λ w. Some (made p fd (Done Plain) w)) (sym (alone-changed p fd h Release.after_receive o)) ∙
+    (ap (step_by p (alone h) (plan (parts h))) e ∙
+    ap (λ x. step_of p (alone h) (if_open fd x plan)) (sym (alone-open p fd h o)))
+
 -- where nothing refuses it, only its data may be too long
 pub release-taken : (p : Providers) (h : Held) (fd umax : ℕ) (told : Endpoint → Reply) → is_open_as p fd h ≡ true → None ≡ first (Release.receive_rows 0 (parts h))
     → first (Release.taking_plan p (alone h) fd umax told).rows ≡ first (long_data umax (parts h) ∷ [])
@@ -120,3 +158,64 @@ taken-has-effect p h fd umax told o e = ap has_effect (release-taken p h fd umax
     either : (b : Bool) → has_effect (cond b (Some loses) None) ≡ true
     either true = refl
     either false = refl
+
+-- fields that are too long are lost with what was to be told, and else it is told
+pub request-lost : (p : Providers) (h : Held) (fd amax omax umax : ℕ) → is_open_as p fd h ≡ true → request_overflows amax omax umax (parts h) ≡ true
+    → Some (made p fd (Done (Overflow (record { 0 = (Listen.oldest (parts h)).number }))) (alone (with_parts Listen.listened h))) ≡ request_step p (alone h) fd amax omax umax (parts h)
+request-lost p h fd amax omax umax o t = ap (λ w. Some (made p fd (Done (Overflow (record { 0 = (Listen.oldest (parts h)).number }))) w)) (sym (alone-changed p fd h Listen.listened o)) ∙ rw t refl
+
+pub request-kept : (p : Providers) (h : Held) (fd amax omax umax : ℕ) → is_open_as p fd h ≡ true → request_overflows amax omax umax (parts h) ≡ false
+    → Some (made p fd (Done (told_request amax omax umax (parts h))) (alone (with_parts Listen.listened h))) ≡ request_step p (alone h) fd amax omax umax (parts h)
+request-kept p h fd amax omax umax o t = ap (λ w. Some (made p fd (Done (told_request amax omax umax (parts h))) w)) (sym (alone-changed p fd h Listen.listened o)) ∙ rw t refl
+
+pub confirmation-lost : (p : Providers) (h : Held) (fd amax omax umax : ℕ) → is_open_as p fd h ≡ true → confirmation_overflows amax omax umax (parts h) ≡ true
+    → Some (made p fd (Done (Overflow (record { 0 = 0 }))) (alone (with_parts Connect.confirmed h))) ≡ confirmation_step p (alone h) fd amax omax umax (parts h)
+confirmation-lost p h fd amax omax umax o t = ap (λ w. Some (made p fd (Done (Overflow (record { 0 = 0 }))) w)) (sym (alone-changed p fd h Connect.confirmed o)) ∙ rw t refl
+
+pub confirmation-kept : (p : Providers) (h : Held) (fd amax omax umax : ℕ) → is_open_as p fd h ≡ true → confirmation_overflows amax omax umax (parts h) ≡ false
+    → Some (made p fd (Done (told_confirmation amax omax umax (parts h))) (alone (with_parts Connect.confirmed h))) ≡ confirmation_step p (alone h) fd amax omax umax (parts h)
+confirmation-kept p h fd amax omax umax o t = ap (λ w. Some (made p fd (Done (told_confirmation amax omax umax (parts h))) w)) (sym (alone-changed p fd h Connect.confirmed o)) ∙ rw t refl
+
+pub disconnect-lost : (p : Providers) (h : Held) (fd umax : ℕ) → is_open_as p fd h ≡ true → is_too_long (field (Disconnect.oldest (parts h)).udata umax) ≡ true
+    → Some (made p fd (Done (Overflow (record { 0 = 0 }))) (alone (with_parts Disconnect.received h))) ≡ disconnect_step p (alone h) fd umax (parts h)
+disconnect-lost p h fd umax o t = ap (λ w. Some (made p fd (Done (Overflow (record { 0 = 0 }))) w)) (sym (alone-changed p fd h Disconnect.received o)) ∙ rw t refl
+
+pub disconnect-kept : (p : Providers) (h : Held) (fd umax : ℕ) → is_open_as p fd h ≡ true → is_too_long (field (Disconnect.oldest (parts h)).udata umax) ≡ false
+    → Some (made p fd (Done (told_disconnect umax (parts h))) (alone (with_parts Disconnect.received h))) ≡ disconnect_step p (alone h) fd umax (parts h)
+disconnect-kept p h fd umax o t = ap (λ w. Some (made p fd (Done (told_disconnect umax (parts h))) w)) (sym (alone-changed p fd h Disconnect.received o)) ∙ rw t refl
+
+pub error-lost : (p : Providers) (h : Held) (fd amax omax : ℕ) → is_open_as p fd h ≡ true → list_any is_too_long (error_fields amax omax (parts h)) ≡ true
+    → Some (made p fd (Done (Overflow (record { 0 = 0 }))) (alone (with_parts Datagrams.without_error h))) ≡ error_step p (alone h) fd amax omax (parts h)
+error-lost p h fd amax omax o t = ap (λ w. Some (made p fd (Done (Overflow (record { 0 = 0 }))) w)) (sym (alone-changed p fd h Datagrams.without_error o)) ∙ rw t refl
+
+pub error-kept : (p : Providers) (h : Held) (fd amax omax : ℕ) → is_open_as p fd h ≡ true → list_any is_too_long (error_fields amax omax (parts h)) ≡ false
+    → Some (made p fd (Done (told_error amax omax (parts h))) (alone (with_parts Datagrams.without_error h))) ≡ error_step p (alone h) fd amax omax (parts h)
+error-kept p h fd amax omax o t = ap (λ w. Some (made p fd (Done (told_error amax omax (parts h))) w)) (sym (alone-changed p fd h Datagrams.without_error o)) ∙ rw t refl
+
+pub addresses-effect : (p : Providers) (h : Held) (fd amax pmax : ℕ) → is_open_as p fd h ≡ true → has_effect (first (showing_addresses fd amax pmax p h).rows) ≡ true
+addresses-effect p h fd amax pmax o = rw (alone-open p fd h o) (has-effect (list_any is_too_long (Show.address_fields (parts h) amax pmax)))
+
+-- what is received of the open endpoint, and what refuses it before it is asked whether anything is there
+abbrev pub receive_of : Providers → ℕ → Sizes → Endpoint → Plan
+receive_of p fd s e = plan_of fd e (Receive.rows s.count e) (at_endpoint fd (Receive.received p s.total) ∷ []) (Done (Receive.got p (some_wait e.expedited) s.total e))
+
+passes : (x : Row) (xs : List Row) → x.holds ≡ false → first (x ∷ xs) ≡ first xs
+passes x xs e = ap (λ (b : Bool). cond b (Some x.refusal) (first xs)) e
+
+pub receive-first : (sizes : ℕ) (e : Endpoint) (o : Option Event) → has_connections e.prov ≡ true → is_state receiving e ≡ true → is_too_many sizes ≡ false → looked looks_data e ≡ o
+    → first (Receive.rows sizes e) ≡ first (shows o ∷ not_ready (Receive.has_nothing e) TNODATA ∷ [])
+receive-first sizes e o a b f l =
+    let last = not_ready (Receive.has_nothing e) TNODATA ∷ [] in
+    let many = refuses (is_too_many sizes) TBADDATA ∷ shows (looked looks_data e) ∷ last in
+    passes (without_connections e) (outside receiving e ∷ many) (ap not a) ∙
+    (passes (outside receiving e) many (ap not b) ∙
+    (passes (refuses (is_too_many sizes) TBADDATA) (shows (looked looks_data e) ∷ last) f ∙
+    ap (λ (x : Option Event). first (shows x ∷ last)) l))
+
+pub receive-by : (p : Providers) (h : Held) (fd : ℕ) (s : Sizes) (q : Option Refusal) → is_open_as p fd h ≡ true → first (Receive.rows s.count (parts h)) ≡ q
+    → step_by p (alone h) (receive_of p fd s (parts h)) q ≡ step_of p (alone h) (receiving_data fd s p h)
+receive-by p h fd s q o e = sym (ap (λ x. step_of p (alone h) (if_open fd x (receive_of p fd s))) (alone-open p fd h o) ∙ ap (step_by p (alone h) (receive_of p fd s (parts h))) e)
+
+pub receive-effect : (p : Providers) (h : Held) (fd : ℕ) (s : Sizes) (q : Option Refusal) → is_open_as p fd h ≡ true → first (Receive.rows s.count (parts h)) ≡ q
+    → has_effect (first (receiving_data fd s p h).rows) ≡ has_effect q
+receive-effect p h fd s q o e = ap (λ x. has_effect (first (if_open fd x (receive_of p fd s)).rows)) (alone-open p fd h o) ∙ ap has_effect e

@@ -1,4 +1,4 @@
-use Rattle.std.proofs.Common.{◌≡◌, ◌∙◌, ap, sym, refl, false, Some}
+use Rattle.std.proofs.Common.{◌≡◌, ◌∙◌, ap, sym, refl, true, false, Some}
 use Rattle.std.specs.List.{list_any}
 use Rattle.xti_model.specs.declared.entry.Outcome.TheVariants.{Done}
 use Rattle.xti_model.specs.declared.entry.Reply.TheVariants.{Addresses}
@@ -7,7 +7,7 @@ use Rattle.xti_model.specs.Endpoint.{address_of}
 use Rattle.xti_model.specs.Plan.{is_too_long, field, trimmed}
 use Rattle.xti_model.specs.Step.{made}
 use Rattle.xti_end.specs.Held.{alone, parts}
-use Rattle.xti_end.proofs.Rows.{addresses-told}
+use Rattle.xti_end.proofs.Rows.{addresses-effect, addresses-told}
 use Rattle.xti_end.proofs.endpoint.Endpoint.getprotaddr.Goals as goal
 
 pub returns-clause-step : goal.returns-clause-step
@@ -24,3 +24,15 @@ returns-clause-step c =
     (ap (λ x. Some (made p fd (Done (Addresses x c.in-Ok.made)) (alone h))) local ∙
     (ap (λ x. Some (made p fd (Done (Addresses (trimmed (address_of (parts h)) c.args.amax) x)) (alone h))) peer ∙
     addresses-told p h fd c.args.amax c.args.pmax (sym c.is.ensures ∙ c.if-not-is.false) fits))
+
+pub returns-in_err-local-clause-sure : goal.returns-in_err-local-clause-sure
+returns-in_err-local-clause-sure c =
+    λ none.
+    let no : true ≡ false = sym (addresses-effect c.args.p.now c.args.self.now c.args.fd.0 c.args.amax c.args.pmax (sym c.is.ensures ∙ c.if-not-is.false)) ∙ none in
+    cc no
+
+pub returns-in-Err-clause-sure : goal.returns-in-Err-clause-sure
+returns-in-Err-clause-sure c =
+    λ none.
+    let no : true ≡ false = sym (addresses-effect c.args.p.now c.args.self.now c.args.fd.0 c.args.amax c.args.pmax (sym c.is.ensures ∙ c.if-not-is.false)) ∙ none in
+    cc no
