@@ -1,10 +1,7 @@
-use Rattle.std.proofs.Common.{◌≡◌, ◌∙◌, [], ◌∷◌, refl, sym, true, false}
-use Rattle.std.specs.List.{list_any}
-use Rattle.xti_base.specs.Options.{options_bytes}
+use Rattle.std.proofs.Common.{◌∙◌, refl, sym, false}
 use Rattle.xti_model.specs.Calls.Show as Show
-use Rattle.xti_model.specs.Plan.{is_too_long, field}
 use Rattle.xti_end.specs.Held.{parts}
-use Rattle.xti_end.proofs.Rows.{alone-open, has-effect}
+use Rattle.xti_end.proofs.Rows.{alone-open}
 use Rattle.xti_end.proofs.endpoint.Endpoint.optmgmt.Goals as goal
 
 pub returns-in-Err-clause-step : goal.returns-in-Err-clause-step
