@@ -7,14 +7,16 @@ use Rattle.std.proofs.lemmas.Bool.Decides.{nat_tests}
 use Rattle.tpi_grammar.specs.declared.kind.Kind.TheVariants.{T_CONN_CON}
 use Rattle.tpi_prim.specs.Fields.{kind_in}
 use Rattle.xti_base.specs.declared.limits.TheConstants.{MOST_ADDRESS, MOST_CONNECT_DATA, MOST_OPTIONS}
+use Rattle.xti_base.specs.declared.errno.Errno.TheVariants.{TBADF}
 use Rattle.xti_base.specs.declared.kinds.State.TheVariants.{T_UNBND}
 use Rattle.xti_model.specs.declared.entry.Applied.{Applied}
 use Rattle.xti_model.specs.declared.entry.Outcome.TheVariants.{Done}
-use Rattle.xti_model.specs.declared.entry.Reply.TheVariants.{Plain}
+use Rattle.xti_model.specs.declared.entry.Reply.{Reply}
+use Rattle.xti_model.specs.declared.entry.Reply.TheVariants.{Plain, Refused}
 use Rattle.xti_model.specs.declared.profile.Providers.{Providers}
 use Rattle.xti_model.specs.Endpoint.{Endpoint, Indication, address_of, find_number}
 use Rattle.xti_model.specs.Events.{is_state}
-use Rattle.xti_model.specs.Plan.{Row, Refusal, first, if_open}
+use Rattle.xti_model.specs.Plan.{Row, Refusal, answers, first, has_effect, if_open}
 use Rattle.xti_model.specs.Step.{step_of, step_by, made}
 use Rattle.xti_model.specs.World.{World, Change, endpoint, changed}
 use Rattle.xti_model.specs.Calls.Listen as Listen
@@ -104,3 +106,27 @@ accepts l k fd resfd number options udata e r x a o q u y c same m =
     ∙ ap (λ (w : World). Some (made l.providers fd (Done Plain) w))
     (c ∙ ap (λ (cs : List Change). changed l.providers (cells l) cs) (linking-step fd resfd number e r (find_number number e.outstanding) options udata x s (found-number number e.outstanding) y))
     ∙ sym (accept-made l.providers (cells l) fd resfd number options udata e r o q u)
+
+-- a refusal is answered
+pub accept-refused : (p : Providers) (w : World) (fd resfd number : ℕ) (options udata : List ℕ) (e r : Endpoint) (reply : Reply) → endpoint p w fd ≡ Some e → endpoint p w resfd ≡ Some r
+    → Some (answers reply) ≡ first (Listen.accept_rows p fd resfd number options udata e r)
+    → Some (made p fd (Done reply) w) ≡ step_of p w (Listen.accept_plan p w fd resfd number options udata)
+accept-refused p w fd resfd number options udata e r reply o q u =
+    sym (ap (λ (x : Option Endpoint). step_of p w (if_open fd x (λ e. Listen.accept_with p fd resfd number options udata e (endpoint p w resfd)))) o
+    ∙ ap (λ (x : Option Endpoint). step_of p w (Listen.accept_with p fd resfd number options udata e x)) q
+    ∙ ap (step_by p w (Listen.accept_with p fd resfd number options udata e (Some r))) (sym u))
+
+-- no endpoint is open to answer
+pub accept-unopened : (p : Providers) (w : World) (fd resfd number : ℕ) (options udata : List ℕ) (e : Endpoint) → endpoint p w fd ≡ Some e → endpoint p w resfd ≡ None
+    → Some (made p fd (Done (Refused TBADF)) w) ≡ step_of p w (Listen.accept_plan p w fd resfd number options udata)
+accept-unopened p w fd resfd number options udata e o q =
+    sym (ap (λ (x : Option Endpoint). step_of p w (if_open fd x (λ e. Listen.accept_with p fd resfd number options udata e (endpoint p w resfd)))) o
+    ∙ ap (λ (x : Option Endpoint). step_of p w (Listen.accept_with p fd resfd number options udata e x)) q)
+
+-- what isn't refused has an effect
+pub accept-effect : (p : Providers) (w : World) (fd resfd number : ℕ) (options udata : List ℕ) (e r : Endpoint) → endpoint p w fd ≡ Some e → endpoint p w resfd ≡ Some r → Unrefused p fd resfd number options udata e r
+    → has_effect (first (Listen.accept_plan p w fd resfd number options udata).rows) ≡ true
+accept-effect p w fd resfd number options udata e r o q u =
+    ap (λ (x : Option Endpoint). has_effect (first (if_open fd x (λ e. Listen.accept_with p fd resfd number options udata e (endpoint p w resfd))).rows)) o
+    ∙ ap (λ (x : Option Endpoint). has_effect (first (Listen.accept_with p fd resfd number options udata e x).rows)) q
+    ∙ ap has_effect (sym u)

@@ -1,9 +1,10 @@
-use Rattle.std.proofs.Common.{sym}
+use Rattle.std.proofs.Common.{◌≡◌, ◌∙◌, sym, true, false}
 use Rattle.xti_model.specs.Endpoint.{find_number}
 use Rattle.xti_model.specs.World.{place_of}
 use Rattle.xti_end.specs.Held.{parts}
+use Rattle.xti_lent.specs.Lending.{cells}
 use Rattle.xti_lent.proofs.Sound.{short-source}
-use Rattle.xti_switch.proofs.Accepting.{Unrefused, request-there, short-options, short-data, short-answering, accepts-kind, accepts}
+use Rattle.xti_switch.proofs.Accepting.{Unrefused, request-there, short-options, short-data, short-answering, accept-effect, accept-refused, accept-unopened, accepts-kind, accepts}
 use Rattle.xti_switch.proofs.accept.accept.Goals as goal
 
 pub prepare-requires-clause-address : goal.prepare-requires-clause-address
@@ -31,3 +32,32 @@ returns-clause-step c =
     rw c.providers.ensures.providers at (c.in_default-accept_refusal.ensures c.args.fd.0 c.args.resfd.0 c.eq-is_same.ensures) in
     accepts c.args.lent.now c.link.new.lent c.args.fd.0 c.args.resfd.0 c.args.seq.0 c.args.opt.now c.args.udata.now (parts c.in-Some.e.now) (parts c.in-Some-open_endpoint.r.now) c.in_ok-acceptance.acceptance c.done-2.result
     (sym c.in-Some.ensures.endpoint) (sym c.in-Some-open_endpoint.ensures.endpoint) u c.in_ok-acceptance.ensures c.in_ok-link.ensures.ok c.in_ok-link.ensures.kept.providers c.done-2.ensures
+
+pub returns-in-Some-accept_refusal-clause-step : goal.returns-in-Some-accept_refusal-clause-step
+returns-in-Some-accept_refusal-clause-step c =
+    c.done.ensures ∙ accept-refused c.args.lent.now.providers (cells c.args.lent.now) c.args.fd.0 c.args.resfd.0 c.args.seq.0 c.args.opt.now c.args.udata.now (parts c.in-Some.e.now) (parts c.in-Some-open_endpoint.r.now) c.in-Some-accept_refusal.reply
+    (sym c.in-Some.ensures.endpoint) (sym c.in-Some-open_endpoint.ensures.endpoint) (rw c.providers.ensures.providers at (c.in-Some-accept_refusal.ensures c.args.fd.0 c.args.resfd.0 c.eq-is_same.ensures))
+
+pub returns-in_err-acceptance-clause-sure : goal.returns-in_err-acceptance-clause-sure
+returns-in_err-acceptance-clause-sure c = λ none.
+    let u : Unrefused c.args.lent.now.providers c.args.fd.0 c.args.resfd.0 c.args.seq.0 c.args.opt.now c.args.udata.now (parts c.in-Some.e.now) (parts c.in-Some-open_endpoint.r.now) =
+    rw c.providers.ensures.providers at (c.in_default-accept_refusal.ensures c.args.fd.0 c.args.resfd.0 c.eq-is_same.ensures) in
+    let no : true ≡ false = sym (accept-effect c.args.lent.now.providers (cells c.args.lent.now) c.args.fd.0 c.args.resfd.0 c.args.seq.0 c.args.opt.now c.args.udata.now (parts c.in-Some.e.now) (parts c.in-Some-open_endpoint.r.now) (sym c.in-Some.ensures.endpoint) (sym c.in-Some-open_endpoint.ensures.endpoint) u) ∙ none in
+    cc no
+
+pub returns-in_err-link-clause-sure : goal.returns-in_err-link-clause-sure
+returns-in_err-link-clause-sure c = λ none.
+    let u : Unrefused c.args.lent.now.providers c.args.fd.0 c.args.resfd.0 c.args.seq.0 c.args.opt.now c.args.udata.now (parts c.in-Some.e.now) (parts c.in-Some-open_endpoint.r.now) =
+    rw c.providers.ensures.providers at (c.in_default-accept_refusal.ensures c.args.fd.0 c.args.resfd.0 c.eq-is_same.ensures) in
+    let no : true ≡ false = sym (accept-effect c.args.lent.now.providers (cells c.args.lent.now) c.args.fd.0 c.args.resfd.0 c.args.seq.0 c.args.opt.now c.args.udata.now (parts c.in-Some.e.now) (parts c.in-Some-open_endpoint.r.now) (sym c.in-Some.ensures.endpoint) (sym c.in-Some-open_endpoint.ensures.endpoint) u) ∙ none in
+    cc no
+
+pub returns-clause-still : goal.returns-clause-still
+returns-clause-still c = λ none.
+    let no = sym c.done-2.ensures ∙ none in
+    cc no
+
+pub returns-in_default-open_endpoint-clause-step : goal.returns-in_default-open_endpoint-clause-step
+returns-in_default-open_endpoint-clause-step c =
+    c.refused-in_default-open_endpoint.ensures ∙ accept-unopened c.args.lent.now.providers (cells c.args.lent.now) c.args.fd.0 c.args.resfd.0 c.args.seq.0 c.args.opt.now c.args.udata.now (parts c.in-Some.e.now)
+    (sym c.in-Some.ensures.endpoint) (sym c.in_default-open_endpoint.ensures.endpoint)
