@@ -16,7 +16,7 @@ use crate::portions::{Portion, indication, next_portion};
 use crate::refusals::refusal;
 use crate::writes::{count_sent, mark_flow, push_data};
 use std::alloc::AllocError;
-use xti_base::{Errno, Fd, Octets};
+use xti_base::{Errno, Fd, Octets, let_go};
 use xti_end::Endpoint;
 use xti_lent::{Lent, done, refused, room, total, with_outcome};
 use xti_model::{Applied, Go, Outcome, Reply};
@@ -27,7 +27,10 @@ fn told(go: Go, reply: Reply) -> Reply
 {
     match go {
         Go::Begin => reply,
-        Go::More(n) => Reply::Sent { n },
+        Go::More(n) => {
+            let_go(reply);
+            Reply::Sent { n }
+        }
     }
 }
 
