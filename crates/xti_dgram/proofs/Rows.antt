@@ -15,7 +15,7 @@ use Rattle.xti_model.specs.Endpoint.{Endpoint}
 use Rattle.xti_model.specs.World.{World, endpoint, the_switch, changed, at_endpoint}
 use Rattle.xti_model.specs.Switch.{bound}
 use Rattle.xti_model.specs.Sending.{takes_datagram}
-use Rattle.xti_model.specs.Plan.{Row, Refusal, answers, waits, first, if_open}
+use Rattle.xti_model.specs.Plan.{Row, Refusal, answers, waits, first, has_effect, if_open}
 use Rattle.xti_model.specs.Step.{Step, step_of, step_by, made}
 use Rattle.xti_model.specs.Calls.Datagrams.{send_rows, send_plan, send_from, send_to, send_changes, mark_flow}
 use Rattle.xti_end.specs.Taken.{taken}
@@ -100,6 +100,13 @@ pub send-went : (p : Providers) (w : World) (fd : ℕ) (address options : List �
     → step_of p w (send_plan p w fd address options n bytes) ≡ Some (made p fd (Done Plain) (changed p w (send_changes fd address options bytes (bound (the_switch p w) e.prov address) e)))
 send-went p w fd address options n bytes e o u t = unready p w fd address options n bytes e true o u t
 
+-- then it has an effect
+pub send-effect : (p : Providers) (w : World) (fd : ℕ) (address options : List ℕ) (n : ℕ) (bytes : List ℕ) (e : Endpoint) → endpoint p w fd ≡ Some e → Unrefused p address options n bytes e → takes_datagram (there p w address e) ≡ true
+    → has_effect (first (send_plan p w fd address options n bytes).rows) ≡ true
+send-effect p w fd address options n bytes e o u t =
+    ap (λ (x : Option Endpoint). has_effect (first (if_open fd x (λ e. send_from p w fd address options n bytes e (bound (the_switch p w) e.prov address))).rows)) o
+    ∙ ap has_effect (first-last (front p address options n bytes e) (not (takes_datagram (there p w address e))) (waits (Refused TFLOW)) u ∙ ap (λ (x : Bool). cond (not x) (Some (waits (Refused TFLOW))) None) t)
+
 pub send-blocked : (p : Providers) (w : World) (fd : ℕ) (address options : List ℕ) (n : ℕ) (bytes : List ℕ) (e : Endpoint) → endpoint p w fd ≡ Some e → Unrefused p address options n bytes e → takes_datagram (there p w address e) ≡ false → e.nonblock ≡ false
     → step_of p w (send_plan p w fd address options n bytes) ≡ None
 send-blocked p w fd address options n bytes e o u t b = unready p w fd address options n bytes e false o u t ∙ rw b refl
@@ -120,3 +127,12 @@ flow-left l k fd address options n bytes e s a o u t b spot same c m =
     m ∙ ap (λ (p : Providers). Some (made p fd (Done (Refused TFLOW)) (cells k))) same.providers
     ∙ ap (λ (w : World). Some (made l.providers fd (Done (Refused TFLOW)) w)) (c ∙ ap (λ (x : List ℕ). changed l.providers (cells l) (at_endpoint fd (mark_flow (Some x)) ∷ [])) whole)
     ∙ sym (send-flow l.providers (cells l) fd address options n bytes e o u t b)
+
+-- the datagram went
+pub datagram-went : (l k : Lending) (fd : ℕ) (address options : List ℕ) (n : ℕ) (bytes : List ℕ) (e : Endpoint) (to : Option ℕ) (a : Applied) → endpoint l.providers (cells l) fd ≡ Some e → Unrefused l.providers address options n bytes e
+    → takes_datagram (there l.providers (cells l) address e) ≡ true → to ≡ bound (the_switch l.providers (cells l)) e.prov address → SameCells l k → cells k ≡ changed l.providers (cells l) (send_changes fd address options bytes to e)
+    → taken a (cells k) ≡ Some (made k.providers fd (Done Plain) (cells k)) → taken a (cells k) ≡ step_of l.providers (cells l) (send_plan l.providers (cells l) fd address options n bytes)
+datagram-went l k fd address options n bytes e to a o u t b same c m =
+    m ∙ ap (λ (p : Providers). Some (made p fd (Done Plain) (cells k))) same.providers
+    ∙ ap (λ (w : World). Some (made l.providers fd (Done Plain) w)) (c ∙ ap (λ (x : Option ℕ). changed l.providers (cells l) (send_changes fd address options bytes x e)) b)
+    ∙ sym (send-went l.providers (cells l) fd address options n bytes e o u t)
