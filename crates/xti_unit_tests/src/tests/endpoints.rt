@@ -325,35 +325,50 @@ static FLAGS: [Flags; 6] = [
     (Prov::Ticlts, true, true, 1),
 ];
 
-/// The flags of an open endpoint, where each provider has these values.
-fn flags(alloc: Global, prov: Prov, sendzero: bool, reldata: bool) -> Option<u32> {
-    if prov == Prov::Other {
-        return None;
-    }
+/// Providers that each have these values.
+fn providers(sendzero: bool, reldata: bool) -> Providers {
     let usual = Providers::usual();
     let profile = Profile {
         sendzero,
         reldata,
         ..usual.ticots
     };
-    let p = Providers {
+    Providers {
         ticots: profile,
         ticotsord: profile,
         ticlts: profile,
         ..usual
-    };
+    }
+}
+
+/// The flags that a step tells; `None` where it tells none.
+fn flags_told(applied: &Applied) -> Option<u32> {
+    match applied {
+        Applied::Step {
+            outcome: Outcome::Done(Reply::Limits { info }),
+            ..
+        } => Some(info.flags),
+        _ => None,
+    }
+}
+
+/// The flags of an open endpoint, where each provider has these values.
+fn flags(alloc: Global, prov: Prov, sendzero: bool, reldata: bool) -> Option<u32> {
+    if prov == Prov::Other {
+        return None;
+    }
+    let p = providers(sendzero, reldata);
     let mut e = Endpoint::closed(alloc, 0);
     e.open(prov, false, &p);
-    let found = match e.local(&Call::TGetInfo { fd: Fd(0) }, Go::Begin, &p) {
-        Ok(
-            Applied::Step {
-                outcome: Outcome::Done(Reply::Limits { info }),
-                ..
-            },
-        ) => Some(info.flags),
-        _ => None,
-    };
+    let call = Call::TGetInfo { fd: Fd(0) };
+    let told = e.local(&call, Go::Begin, &p);
+    drop(call);
     drop(e);
+    let found = match &told {
+        Ok(applied) => flags_told(applied),
+        Err(_) => None,
+    };
+    drop(told);
     found
 }
 
