@@ -151,77 +151,40 @@ impl Told for TCall {
     }
 }
 
-impl Told for (TCall, u32) {
-    fn tell(&self, log: &mut Log) {
-        self.0.tell(log);
-        log.number(" ", self.1 as u64);
-    }
-}
-
 impl Told for Octets {
     fn tell(&self, log: &mut Log) {
         log.bytes("", self.as_slice());
     }
 }
 
-impl Told for (Octets, u32) {
-    fn tell(&self, log: &mut Log) {
-        log.bytes("", self.0.as_slice());
-        log.number(" ", self.1 as u64);
-    }
-}
-
-impl Told for (u32, Octets) {
+impl Told for Seq {
     fn tell(&self, log: &mut Log) {
         log.number("", self.0 as u64);
-        log.bytes(" ", self.1.as_slice());
-    }
-}
-
-impl Told for (Octets, Octets) {
-    fn tell(&self, log: &mut Log) {
-        log.bytes("", self.0.as_slice());
-        log.bytes(" ", self.1.as_slice());
-    }
-}
-
-impl Told for (Octets, Octets, u32) {
-    fn tell(&self, log: &mut Log) {
-        log.bytes("", self.0.as_slice());
-        log.bytes(" ", self.1.as_slice());
-        log.number(" ", self.2 as u64);
-    }
-}
-
-impl Told for (u32, Seq, Octets) {
-    fn tell(&self, log: &mut Log) {
-        log.number("", self.0 as u64);
-        log.number(" ", self.1.0 as u64);
-        log.bytes(" ", self.2.as_slice());
     }
 }
 
 impl Told for Parts {
     fn tell(&self, log: &mut Log) {
-        for part in self.as_slice() {
-            log.bytes("", part.as_slice());
-            log.text(" ");
+        for (place, part) in self.as_slice().iter().enumerate() {
+            log.bytes(if place == 0 { "" } else { " " }, part.as_slice());
         }
     }
 }
 
-impl Told for (Parts, u32) {
-    fn tell(&self, log: &mut Log) {
-        self.0.tell(log);
-        log.number("", self.1 as u64);
-    }
-}
-
-impl Told for (TCall, Parts, u32) {
+impl<A: Told, B: Told> Told for (A, B) {
     fn tell(&self, log: &mut Log) {
         self.0.tell(log);
         log.text(" ");
         self.1.tell(log);
-        log.number("", self.2 as u64);
+    }
+}
+
+impl<A: Told, B: Told, C: Told> Told for (A, B, C) {
+    fn tell(&self, log: &mut Log) {
+        self.0.tell(log);
+        log.text(" ");
+        self.1.tell(log);
+        log.text(" ");
+        self.2.tell(log);
     }
 }

@@ -2,8 +2,8 @@
 
 use crate::asks::{Ask, Data, End, Endpoint, Look, MOST, Request};
 use crate::conversations::{Topic, talk_about};
-use std::test::*;
 use xti_base::{Fd, Seq};
+use xti_model::Providers;
 
 /// The listener, bound to `l`.
 pub(crate) const LISTENER: Fd = Fd(0);
@@ -245,7 +245,6 @@ TNOTSUPPORT
 ];
 
 #[test]
-fn connections(rt: HostRuntime) -> Result<(), Fail> {
-    talk_about(&rt, rt.alloc(), &TOPICS)?;
-    Ok(())
+fn connections(rt: HostRuntime) {
+    talk_about(&rt, rt.alloc(), &Providers::usual(), &TOPICS);
 }

@@ -2,9 +2,9 @@
 
 use crate::asks::{Ask, Datagram, Endpoint, Look, MOST};
 use crate::conversations::{Topic, talk_about};
-use std::test::*;
 use xti_base::Fd;
 use xti_calls::Max;
+use xti_model::Providers;
 
 const A: Fd = Fd(0);
 
@@ -148,7 +148,6 @@ none
 ];
 
 #[test]
-fn datagrams(rt: HostRuntime) -> Result<(), Fail> {
-    talk_about(&rt, rt.alloc(), &TOPICS)?;
-    Ok(())
+fn datagrams(rt: HostRuntime) {
+    talk_about(&rt, rt.alloc(), &Providers::usual(), &TOPICS);
 }

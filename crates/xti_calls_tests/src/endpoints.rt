@@ -2,8 +2,8 @@
 
 use crate::asks::{Ask, Endpoint, Look};
 use crate::conversations::{Topic, talk_about};
-use std::test::*;
 use xti_base::Fd;
+use xti_model::Providers;
 
 /// T_NEGOTIATE.
 const NEGOTIATE: u32 = 4;
@@ -169,7 +169,6 @@ TBADNAME
 ];
 
 #[test]
-fn endpoints(rt: HostRuntime) -> Result<(), Fail> {
-    talk_about(&rt, rt.alloc(), &TOPICS)?;
-    Ok(())
+fn endpoints(rt: HostRuntime) {
+    talk_about(&rt, rt.alloc(), &Providers::usual(), &TOPICS);
 }

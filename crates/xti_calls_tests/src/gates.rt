@@ -1,14 +1,14 @@
 //! A thread that is held at its gate holds up no step on other cells.
 
 use crate::answers::Log;
-use crate::asks::{Ask, Data, Datagram, Endpoint, Look, MOST, Request, converse, make_all};
+use crate::asks::{Ask, Data, Datagram, Endpoint, Look, MOST, Request, make_all};
+use crate::conversations::prepare;
 use crate::datagrams;
-use crate::library::{Stop, another_caller, finished, library};
+use crate::library::{Stop, finished, library};
 use std::alloc::{AllocError, Global};
 use std::process::Abort;
 use std::sync::Wait;
 use std::sync::atomic::{AtomicBool, Ordering};
-use std::test::*;
 use std::thread::{self, Threads};
 use xti_base::{Fd, Octets, Seq};
 use xti_calls::{Caller, Gate};
@@ -257,19 +257,6 @@ fn both_sides<R: Threads + Wait + Sync>(
     (answered && gate.in_time.load(Ordering::SeqCst), log)
 }
 
-/// Makes the calls before the threads start; the caller of the thread that is held.
-fn prepare<'a, R: Wait + Sync>(
-    alloc: Global,
-    first: &mut Caller<'a, R>,
-    before: &[&[Ask]],
-) -> Result<Caller<'a, R>, Stop> {
-    let mut log = Log::new(alloc);
-    let made = converse(alloc, first, &mut log, before);
-    drop(log);
-    made?;
-    another_caller(first)
-}
-
 /// A case by the first caller and one more.
 fn run_with<R: Threads + Wait + Sync>(
     rt: &R,
@@ -294,24 +281,22 @@ fn run<R: Threads + Wait + Sync>(rt: &R, alloc: Global, case: &Case) -> Result<(
     ran
 }
 
-/// Whether the held call of a case was answered and was let go in time. The test fails where the other calls answered
+/// The test fails where the held call of a case wasn't answered, or wasn't let go in time, or the other calls answered
 /// otherwise.
-fn is_in_time<R: Threads + Wait + Sync + Abort>(
-    rt: &R,
-    alloc: Global,
-    case: &Case,
-) -> Result<bool, Stop> {
-    let (in_time, log) = run(rt, alloc, case)?;
-    log.expect(rt, case.topic, case.wanted);
-    drop(log);
-    Ok(in_time)
+fn expect_in_time<R: Threads + Wait + Sync + Abort>(rt: &R, alloc: Global, case: &Case) {
+    match run(rt, alloc, case) {
+        Ok((in_time, log)) => {
+            log.expect(rt, case.topic, case.wanted);
+            drop(log);
+            assert!(rt; in_time, "{}", case.topic);
+        }
+        Err(stop) => panic!(rt; "{}: {stop:?}", case.topic),
+    }
 }
 
 #[test]
-fn gates(rt: HostRuntime) -> Result<(), Fail> {
+fn gates(rt: HostRuntime) {
     for case in &CASES {
-        let in_time = is_in_time(&rt, rt.alloc(), case)?;
-        assert!(rt; in_time, "{}", case.topic);
+        expect_in_time(&rt, rt.alloc(), case);
     }
-    Ok(())
 }

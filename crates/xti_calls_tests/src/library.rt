@@ -1,7 +1,6 @@
 //! Libraries and their seats, each ready for a call.
 
 ghost use Rattle.std.specs.Prelude.{◌≡◌, true, OnOk, IfOk};
-ghost use Rattle.xti_model.specs.Profile.{valid};
 ghost use Rattle.xti_hall.specs.Seats.{AreOfOneHall};
 ghost use Rattle.xti_calls.specs.Library.{IsFree, IsOf, MayCall, keeps_of};
 
@@ -31,13 +30,15 @@ impl From<AllocError> for Stop {
     }
 }
 
-/// A library with these providers that keeps its history, and its first seat.
+/// A library with these providers, if they are valid, that keeps its history, and its first seat.
 pub(crate) fn library_with(alloc: Global, providers: &Providers) -> Result<(Xti, Seat), Stop>
-    requires { valid providers.now ≡ true }
     ensures seat { IfOk result (λ r. IsOf r.0 r.1) }
     ensures keeps { IfOk result (λ r. keeps_of r.0 ≡ true) }
     ensures none { IfOk result (λ r. IsFree r.1) }
 {
+    if !providers.valid() {
+        return Err(Stop::NotValid);
+    }
     Ok(Xti::new(alloc, providers, true)?)
 }
 

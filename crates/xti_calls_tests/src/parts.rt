@@ -9,10 +9,10 @@ ghost use Rattle.xti_calls_tests.specs.Parts.{IsPart};
 use crate::answers::Log;
 use crate::asks::{Ask, converse};
 use crate::connections::{self, ANSWERER, CALLER};
-use crate::library::{Stop, another_caller, finished, library, library_with};
+use crate::conversations::{Topic, expect_made, talk_about};
+use crate::library::{Stop, another_caller, finished, library};
 use std::alloc::{AllocError, Global};
 use std::sync::Wait;
-use std::test::*;
 use xti_base::Octets;
 use xti_calls::{Caller, Fail as CallFail, Halt, NoGate};
 use xti_model::{Applied, Call, Go, Outcome, Providers, Reply};
@@ -123,23 +123,36 @@ const CONNECTED: &[&[Ask]] = &[
 ];
 
 /// A connection whose buffers are small.
-const SMALL_BUFFERS: &[&[Ask]] = &[
-    connections::OF_TICOTSORD,
-    connections::CONNECT,
-    connections::SMALL_BUFFERS,
-];
+static SMALL_BUFFERS: [Topic; 1] = [(
+    "small buffers",
+    &[
+        connections::OF_TICOTSORD,
+        connections::CONNECT,
+        connections::SMALL_BUFFERS,
+    ],
+    SMALL,
+)];
 
 /// A connection that is released with data, and one whose data are taken whole.
-const RELEASES: &[&[Ask]] = &[
-    connections::OF_TICOTSORD,
-    connections::CONNECT,
-    connections::RELEASE_DATA,
-];
-
-const WHOLE_RELEASES: &[&[Ask]] = &[
-    connections::OF_TICOTSORD,
-    connections::CONNECT,
-    connections::RELEASE_DATA_WHOLE,
+static RELEASES: [Topic; 2] = [
+    (
+        "releases with data",
+        &[
+            connections::OF_TICOTSORD,
+            connections::CONNECT,
+            connections::RELEASE_DATA,
+        ],
+        RELEASED,
+    ),
+    (
+        "releases with data that are taken whole",
+        &[
+            connections::OF_TICOTSORD,
+            connections::CONNECT,
+            connections::RELEASE_DATA_WHOLE,
+        ],
+        RELEASED_WHOLE,
+    ),
 ];
 
 /// The send.
@@ -321,53 +334,12 @@ fn by_steps<R: Wait + Sync>(
     receive(first, log)
 }
 
-/// Both sends, over a connection whose sender is the second caller.
-fn two_sends<R: Wait + Sync>(
-    alloc: Global,
-    first: &mut Caller<R>,
-    second: &mut Caller<R>,
-    log: &mut Log,
-    call: &Call,
-) -> Result<(), Stop> {
-    converse(alloc, first, log, CONNECTED)?;
-    first.rest();
-    by_calls(first, second, log, call)?;
-    by_steps(first, second, log, call)
-}
-
-/// Both sends, by the first caller of a library and one more.
-fn sends_with<R: Wait + Sync>(
-    alloc: Global,
-    first: &mut Caller<R>,
-    log: &mut Log,
-    call: &Call,
-) -> Result<(), Stop> {
-    let mut second = another_caller(first)?;
-    let made = two_sends(alloc, first, &mut second, log, call);
-    drop(second);
-    made
-}
-
-/// The same in a library of its own.
-fn sends_of<R: Wait + Sync>(rt: &R, alloc: Global, log: &mut Log, call: &Call) -> Result<(), Stop> {
-    let (xti, seat) = library(alloc)?;
-    let mut first = xti.caller(rt, alloc, seat);
-    let made = sends_with(alloc, &mut first, log, call);
-    drop(first);
-    drop(xti);
-    made
-}
-
 /// Begins the send by the second caller, which then makes another call, and writes down how many steps it made.
 fn begin_beside<R: Wait + Sync>(
-    alloc: Global,
-    first: &mut Caller<R>,
     second: &mut Caller<R>,
     log: &mut Log,
     call: &Call,
 ) -> Result<(), Stop> {
-    converse(alloc, first, log, CONNECTED)?;
-    first.rest();
     begin(second, log, call)?;
     log.note(second.t_look(CALLER));
     log.number("steps ", second.steps());
@@ -375,66 +347,70 @@ fn begin_beside<R: Wait + Sync>(
     Ok(())
 }
 
+/// What is made of a send over a connection whose sender is the second caller.
+#[derive(Clone, Copy)]
+enum Course {
+    /// It is made twice to its end, by calls and by steps.
+    Twice,
+    /// A call is made while it is unfinished.
+    Beside,
+}
+
+/// A course by both callers.
+fn take_course<R: Wait + Sync>(
+    alloc: Global,
+    first: &mut Caller<R>,
+    second: &mut Caller<R>,
+    log: &mut Log,
+    call: &Call,
+    course: Course,
+) -> Result<(), Stop> {
+    converse(alloc, first, log, CONNECTED)?;
+    first.rest();
+    match course {
+        Course::Twice => {
+            by_calls(first, second, log, call)?;
+            by_steps(first, second, log, call)
+        }
+        Course::Beside => begin_beside(second, log, call),
+    }
+}
+
 /// The same by the first caller of a library and one more.
-fn beside_with<R: Wait + Sync>(
+fn course_with<R: Wait + Sync>(
     alloc: Global,
     first: &mut Caller<R>,
     log: &mut Log,
     call: &Call,
+    course: Course,
 ) -> Result<(), Stop> {
     let mut second = another_caller(first)?;
-    let made = begin_beside(alloc, first, &mut second, log, call);
+    let made = take_course(alloc, first, &mut second, log, call, course);
     drop(second);
     made
 }
 
 /// The same in a library of its own.
-fn beside_of<R: Wait + Sync>(
+fn course_of<R: Wait + Sync>(
     rt: &R,
     alloc: Global,
     log: &mut Log,
     call: &Call,
+    course: Course,
 ) -> Result<(), Stop> {
     let (xti, seat) = library(alloc)?;
     let mut first = xti.caller(rt, alloc, seat);
-    let made = beside_with(alloc, &mut first, log, call);
+    let made = course_with(alloc, &mut first, log, call, course);
     drop(first);
     drop(xti);
     made
 }
 
-/// Writes down what a call answers that is made while the send is unfinished.
-fn beside<R: Wait + Sync>(rt: &R, alloc: Global, log: &mut Log) -> Result<(), Stop> {
+/// Writes down what the calls of a course answer.
+fn sends<R: Wait + Sync>(rt: &R, alloc: Global, log: &mut Log, course: Course) -> Result<(), Stop> {
     let call = send(alloc)?;
-    let made = beside_of(rt, alloc, log, &call);
+    let made = course_of(rt, alloc, log, &call, course);
     drop(call);
-    made
-}
-
-/// Writes down what both sends answer.
-fn sends<R: Wait + Sync>(rt: &R, alloc: Global, log: &mut Log) -> Result<(), Stop> {
-    let call = send(alloc)?;
-    let made = sends_of(rt, alloc, log, &call);
-    drop(call);
-    made
-}
-
-/// Writes down what the calls of these tables answer with these providers.
-fn talk_with<R: Wait + Sync>(
-    rt: &R,
-    alloc: Global,
-    log: &mut Log,
-    providers: Providers,
-    tables: &[&[Ask]],
-) -> Result<(), Stop> {
-    let Ok(providers) = providers.checked() else {
-        return Err(Stop::NotValid);
-    };
-    let (xti, seat) = library_with(alloc, &providers)?;
-    let mut caller = xti.caller(rt, alloc, seat);
-    let made = converse(alloc, &mut caller, log, tables);
-    drop(caller);
-    drop(xti);
     made
 }
 
@@ -453,41 +429,27 @@ fn with_release_data() -> Providers {
     providers
 }
 
-#[test]
-fn parts(rt: HostRuntime) -> Result<(), Fail> {
-    let mut log = Log::new(rt.alloc());
-    let made = sends(&rt, rt.alloc(), &mut log);
-    log.expect(&rt, "a send in parts", ANSWERS);
-    drop(log);
-    Ok(made?)
-}
+/// The courses, and what the calls answer.
+static COURSES: [(Course, &str, &str); 2] = [
+    (Course::Twice, "a send in parts", ANSWERS),
+    (Course::Beside, "a call beside an unfinished one", BESIDE),
+];
 
 #[test]
-fn a_call_beside_an_unfinished_one(rt: HostRuntime) -> Result<(), Fail> {
-    let mut log = Log::new(rt.alloc());
-    let made = beside(&rt, rt.alloc(), &mut log);
-    log.expect(&rt, "a call beside an unfinished one", BESIDE);
-    drop(log);
-    Ok(made?)
-}
-
-#[test]
-fn buffers(rt: HostRuntime) -> Result<(), Fail> {
-    let mut log = Log::new(rt.alloc());
-    let made = talk_with(&rt, rt.alloc(), &mut log, small(), SMALL_BUFFERS);
-    log.expect(&rt, "small buffers", SMALL);
-    drop(log);
-    Ok(made?)
-}
-
-#[test]
-fn releases(rt: HostRuntime) -> Result<(), Fail> {
-    for (tables, wanted) in [(RELEASES, RELEASED), (WHOLE_RELEASES, RELEASED_WHOLE)] {
+fn parts(rt: HostRuntime) {
+    for (course, topic, wanted) in &COURSES {
         let mut log = Log::new(rt.alloc());
-        let made = talk_with(&rt, rt.alloc(), &mut log, with_release_data(), tables);
-        log.expect(&rt, "releases with data", wanted);
-        drop(log);
-        made?;
+        let made = sends(&rt, rt.alloc(), &mut log, *course);
+        expect_made(&rt, log, made, topic, wanted);
     }
-    Ok(())
+}
+
+#[test]
+fn buffers(rt: HostRuntime) {
+    talk_about(&rt, rt.alloc(), &small(), &SMALL_BUFFERS);
+}
+
+#[test]
+fn releases(rt: HostRuntime) {
+    talk_about(&rt, rt.alloc(), &with_release_data(), &RELEASES);
 }

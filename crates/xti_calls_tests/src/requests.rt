@@ -2,9 +2,9 @@
 
 use crate::asks::{Ask, End, Endpoint, MOST, Request};
 use crate::conversations::{Topic, talk_about};
-use std::test::*;
 use xti_base::{Fd, Seq};
 use xti_calls::Max;
+use xti_model::Providers;
 
 /// The listener, bound to `l`.
 const LISTENER: Fd = Fd(0);
@@ -217,7 +217,6 @@ ok
 ];
 
 #[test]
-fn requests(rt: HostRuntime) -> Result<(), Fail> {
-    talk_about(&rt, rt.alloc(), &TOPICS)?;
-    Ok(())
+fn requests(rt: HostRuntime) {
+    talk_about(&rt, rt.alloc(), &Providers::usual(), &TOPICS);
 }

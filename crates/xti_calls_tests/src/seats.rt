@@ -6,6 +6,7 @@ ghost use Rattle.xti_calls.specs.Library.{IsOf, MayCall, keeps_of};
 
 use crate::answers::Log;
 use crate::asks::make_all;
+use crate::conversations::expect_made;
 use crate::datagrams;
 use crate::library::{Stop, another_caller, another_seat, library};
 use std::alloc::{AllocError, Global};
@@ -97,19 +98,18 @@ fn entries<R: Wait>(rt: &R, alloc: Global, xti: &Xti, seat: &mut Seat) -> Result
     Ok(length)
 }
 
-/// How many more seats the first gives, whether the seat with number 1 gives none, its number when it has met the
-/// first, and how many entries it then tells.
+/// How many more seats the first gives once it gave one, whether that seat, with number 1, gives none, its number when it
+/// has met the first, and how many entries it then tells.
 fn crowd<R: Wait>(
     rt: &R,
     alloc: Global,
     xti: &Xti,
     first: &mut Seat,
-    mut one: Seat,
 ) -> Result<(u32, bool, u32, usize), Stop>
     requires keeps { keeps_of xti.now ≡ true }
-    requires first { IsOf xti.now first.old }
-    requires one { IsOf xti.now one }
+    requires seat { MayCall xti.now first.old }
 {
+    let mut one = another_seat(rt, alloc, xti, first)?;
     let more = splits(rt, alloc, xti, first);
     let refused = given(rt, alloc, xti, &mut one).is_none();
     let mut one = xti.meet(one, first);
@@ -119,24 +119,10 @@ fn crowd<R: Wait>(
     Ok((more, refused, number, entries?))
 }
 
-/// The same of the first seat of a library, and of one that it gives.
-fn crowd_of<R: Wait>(
-    rt: &R,
-    alloc: Global,
-    xti: &Xti,
-    first: &mut Seat,
-) -> Result<(u32, bool, u32, usize), Stop>
-    requires keeps { keeps_of xti.now ≡ true }
-    requires seat { MayCall xti.now first.old }
-{
-    let one = another_seat(rt, alloc, xti, first)?;
-    crowd(rt, alloc, xti, first, one)
-}
-
 /// The same in a library of its own.
 fn crowded<R: Wait>(rt: &R, alloc: Global) -> Result<(u32, bool, u32, usize), Stop> {
     let (xti, mut first) = library(alloc)?;
-    let found = crowd_of(rt, alloc, &xti, &mut first);
+    let found = crowd(rt, alloc, &xti, &mut first);
     drop(first);
     drop(xti);
     found
@@ -236,19 +222,21 @@ fn numbers(rt: HostRuntime) -> Result<(), Fail> {
 }
 
 #[test]
-fn histories(rt: HostRuntime) -> Result<(), Fail> {
+fn histories(rt: HostRuntime) {
     let mut log = Log::new(rt.alloc());
     let made = talked(&rt, rt.alloc(), &mut log);
-    log.expect(&rt, "a datagram between two seats", ANSWERS);
-    drop(log);
-    Ok(made?)
+    expect_made(&rt, log, made, "a datagram between two seats", ANSWERS);
 }
 
 #[test]
-fn answers_without_a_history(rt: HostRuntime) -> Result<(), Fail> {
+fn answers_without_a_history(rt: HostRuntime) {
     let mut log = Log::new(rt.alloc());
     let made = talked_unkept(&rt, rt.alloc(), &mut log);
-    log.expect(&rt, "a datagram where no history is kept", ANSWERS_ALONE);
-    drop(log);
-    Ok(made?)
+    expect_made(
+        &rt,
+        log,
+        made,
+        "a datagram where no history is kept",
+        ANSWERS_ALONE,
+    );
 }

@@ -1,8 +1,8 @@
 //! Three callers, of which one rests and two wait for data that nobody sends: what each of these is told.
 
-use crate::answers::Log;
-use crate::asks::{Ask, converse};
+use crate::asks::Ask;
 use crate::connections::{self, ANSWERER};
+use crate::conversations::prepare;
 use crate::library::{Stop, another_caller, library};
 use std::alloc::Global;
 use std::sync::Wait;
@@ -54,24 +54,13 @@ fn receive_twice<R: Threads + Wait + Sync>(
     thread::join(rt, || receive(one), || receive(other))
 }
 
-/// Connects the endpoints; one more caller.
-fn prepare<'a, R: Wait + Sync>(
-    alloc: Global,
-    first: &mut Caller<'a, R>,
-) -> Result<Caller<'a, R>, Stop> {
-    let mut log = Log::new(alloc);
-    let made = converse(alloc, first, &mut log, CONNECTED);
-    drop(log);
-    made?;
-    another_caller(first)
-}
-
-/// A third caller, and the first rests while the two others receive.
-fn rest_beside<R: Threads + Wait + Sync>(
+/// Connects the endpoints, and the first caller of a library rests while two others receive.
+fn stall_with<R: Threads + Wait + Sync>(
     rt: &R,
+    alloc: Global,
     first: &mut Caller<R>,
-    one: Caller<R>,
 ) -> Result<(Option<Told>, Option<Told>), Stop> {
+    let one = prepare(alloc, first, CONNECTED)?;
     match another_caller(first) {
         Ok(other) => {
             first.rest();
@@ -82,16 +71,6 @@ fn rest_beside<R: Threads + Wait + Sync>(
             Err(stop)
         }
     }
-}
-
-/// The same of the first caller of a library.
-fn stall_with<R: Threads + Wait + Sync>(
-    rt: &R,
-    alloc: Global,
-    first: &mut Caller<R>,
-) -> Result<(Option<Told>, Option<Told>), Stop> {
-    let one = prepare(alloc, first)?;
-    rest_beside(rt, first, one)
 }
 
 /// The same in a library of its own.
