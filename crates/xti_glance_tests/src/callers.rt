@@ -88,13 +88,9 @@ impl Caller {
             call,
             Go::Begin,
         )?;
-        match applied {
-            Applied::Step { outcome, .. } => {
-                drop(outcome);
-                Ok(())
-            }
-            Applied::Blocked => Err(Stop::Blocked),
-        }
+        let is_made = matches!(applied, Applied::Step { .. });
+        drop(applied);
+        if is_made { Ok(()) } else { Err(Stop::Blocked) }
     }
 
     /// The call, which is to be made in one step.
