@@ -91,7 +91,8 @@ fn read_lines(
     text: &[u8],
 ) -> Result<(), JournalFail>
     requires head { valid_head draft.old.providers ≡ true }
-    requires first { draft.old ≡ record { providers = draft.old.providers; entries = []; stalls = [] } }
+    requires first { draft.old
+        ≡ record { providers = draft.old.providers; entries = []; stalls = [] } }
     ensures { ReadsInto (head_text draft.old.providers ++ text.now) draft.new result }
 {
     let mut rest = text;
