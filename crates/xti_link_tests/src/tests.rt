@@ -1,7 +1,0 @@
-//! The tests, a module for what each is about.
-
-mod carriers;
-mod cases;
-mod receivers;
-mod senders;
-mod wires;

@@ -1,7 +1,0 @@
-//! Tests of sockets.
-#![tactic(auto)]
-
-#[cfg(test)]
-mod callers;
-#[cfg(test)]
-mod rows;
