@@ -4,6 +4,8 @@
 # make install         the command, the library with its headers and xti.pc, and the manual pages, below PREFIX
 # make clean           removes what make has built
 
+# The command and the library for C are made beside each other.
+MAKEFLAGS += -j2
 PREFIX ?= /usr/local
 # c/Makefile is run in another folder.
 override PREFIX := $(abspath $(PREFIX))
