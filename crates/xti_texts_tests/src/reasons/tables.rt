@@ -24,8 +24,8 @@ xti-script 1\r~|line 1: expected 'xti-script 1' or 'xti-script 2', found 'xti-sc
 1  look a~|line 6: expected a call, found a space too many
 1 frob a~|line 6: unknown call 'frob'
 1 t_look a~|line 6: unknown call 't_look', expected look
-1 sndreldata a udata=t:bye~|line 6: unknown call 'sndreldata'
-1 rcvreldata a~|line 6: unknown call 'rcvreldata'
+1 sndreldata a udata=t:bye~|line 6: unknown call 'sndreldata', which version 2 has
+1 rcvreldata a~|line 6: unknown call 'rcvreldata', which version 2 has
 # \u{e9}~|line 6: a comment has a byte that is not ASCII
 1 bind a adr=t:x~|line 6: bind: unknown field 'adr', expected addr, qlen or amax
 1 bind a qlen=1 adr=t:x~|line 6: bind: unknown field 'adr', expected amax
@@ -216,8 +216,8 @@ end 1 2~|line 6: end: expected the end of the line, found '2'
 end 1~end 1~|line 7: nothing stands behind the line end
 2 33 look 0~|line 6: expected a worker from 0 to 32, found '33'
 2 0 frob 0~|line 6: unknown call 'frob'
-2 0 sndreldata 0 udata=x:62~|line 6: unknown call 'sndreldata'
-2 0 rcvreldata 0 umax=64~|line 6: unknown call 'rcvreldata'
+2 0 sndreldata 0 udata=x:62~|line 6: unknown call 'sndreldata', which version 2 has
+2 0 rcvreldata 0 umax=64~|line 6: unknown call 'rcvreldata', which version 2 has
 2 1 more => ok T_UNBND~|line 6: more: no step above begins a call of worker 1
 2 0 more =>~|line 6: open: answer: expected ok, err or part, found the end of the line
 2 0 bind 0 qlen=0~|line 6: bind: misplaced field 'qlen', expected addr
@@ -241,7 +241,7 @@ end 1~end 1~|line 7: nothing stands behind the line end
 2 0 getinfo 0 => ok 1 1 1 1 1 x~|line 6: getinfo: answer: expected a number of 32 bits, -1 or -2, found 'x'
 2 0 getinfo 0 => ok 1 1 1 1 1 1 4~|line 6: getinfo: answer: expected 1, 2 or 3, found '4'
 stall 0 frob~|line 6: stall: unknown call 'frob'
-stall 0 rcvreldata 0 umax=64~|line 6: stall: unknown call 'rcvreldata'
+stall 0 rcvreldata 0 umax=64~|line 6: stall: unknown call 'rcvreldata', which version 2 has
 stall 0 more x~|line 6: stall: open: expected the end of the line, found 'x'
 stall 0 more~2 0 look 0~|line 7: expected stall or end, found '2'
 stall 0 more~stall 0 more~|line 7: stall: worker 0 stalls alone, others stall in the order of their numbers
