@@ -10,9 +10,16 @@ use std::marker::Model;
 const INLINE: usize = 16;
 
 /// A list of bytes: an address, options or data (XNS, netbuf). Up to 16 bytes stand in the value itself and take no memory.
-#[derive(Drop)]
 pub struct Octets {
     bytes: SmallVec<u8, INLINE>,
+}
+
+// Written out, so that a crate that lets one go proves a call of this, and nothing of what is in it.
+impl Drop for Octets {
+    #[inline(always)]
+    fn drop(self) {
+        let Octets { bytes: _ } = self;
+    }
 }
 
 impl Model for Octets {

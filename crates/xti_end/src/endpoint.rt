@@ -17,13 +17,25 @@ use xti_model::Providers;
 
 /// A place, and the endpoint that is open there. Contracts see the place's cell, and how many more members each of its lists takes
 /// with no memory.
-#[derive(Drop)]
 pub struct Endpoint {
     pub(crate) alloc: Global,
     pub(crate) place: u32,
     pub(crate) generation: u32,
     pub(crate) body: Option<Parts>,
     pub(crate) waiting: Waiting,
+}
+
+// Written out, so that a crate that lets one go proves a call of this, and nothing of what is in it.
+impl Drop for Endpoint {
+    fn drop(self) {
+        let Endpoint {
+            alloc: _,
+            place: _,
+            generation: _,
+            body: _,
+            waiting: _,
+        } = self;
+    }
 }
 
 impl Model for Endpoint {

@@ -12,7 +12,6 @@ ghost use Rattle.xti_gather.specs.Lends.{KeepsBut, Lends};
 ghost use Rattle.xti_gather.specs.Orders.{AreCells, AllBelow, InOrder};
 
 use crate::cell::Cell;
-use crate::lending::lend_cell;
 use std::sync::Wait;
 use xti_hall::{Hall, Seat};
 use xti_lent::Lent;
@@ -37,7 +36,7 @@ pub fn enter<R: Wait>(rt: &R, hall: &Hall<Cell>, seat: &mut Seat<Cell>, lent: &m
         return;
     }
     let value = hall.enter(rt, seat, cell);
-    lend_cell(lent, cell, value);
+    value.lend_cell(lent, cell);
 }
 
 /// One try at a cell, which is lent where its turn is free; whether it is lent then, as it may have been before. Where the turn
@@ -60,7 +59,7 @@ pub fn try_enter(hall: &Hall<Cell>, seat: &mut Seat<Cell>, lent: &mut Lent, cell
     }
     match hall.try_enter(seat, cell) {
         Some(value) => {
-            lend_cell(lent, cell, value);
+            value.lend_cell(lent, cell);
             true
         }
         None => false,

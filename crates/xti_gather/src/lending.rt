@@ -22,23 +22,6 @@ pub fn nothing_lent(alloc: Global, p: &Providers) -> Lent
     Lent::new(alloc, p)
 }
 
-/// Lends a cell under its number, under which none may be lent. Takes no memory.
-pub(crate) fn lend_cell(lent: &mut Lent, cell: u32, value: Cell)
-    requires loan { IsLoan lent.old }
-    requires apart { cell_lent lent.old cell ≡ None }
-    requires stands { (m : MCell) × StandsFor lent.old.providers value ((cell, m) ∷ []) }
-    ensures providers { lent.new.providers ≡ lent.old.providers }
-    ensures loan { IsLoan lent.new }
-    ensures here { (m : MCell)
-        → StandsFor lent.old.providers value ((cell, m) ∷ []) → cell_lent lent.new cell ≡ Some m }
-    ensures others { (n : ℕ) → n ≢ cell → cell_lent lent.new n ≡ cell_lent lent.old n }
-{
-    match value {
-        Cell::End(e) => lent.lend(cell, e),
-        Cell::Switch(r) => lent.lend_registry(r),
-    }
-}
-
 /// Takes a cell back; `None` exactly where it is not lent. Takes no memory.
 pub(crate) fn take_cell(lent: &mut Lent, cell: u32) -> Option<Cell>
     requires loan { IsLoan lent.old }

@@ -23,13 +23,25 @@ use xti_model::Providers;
 use xti_registry::Registry;
 
 /// The cells that a step is lent: endpoints, each under the number of its place, and the switch's table.
-#[derive(Drop)]
 pub struct Lent {
     alloc: Global,
     providers: Providers,
     numbers: ArrayVec<u32, MOST_PLACES>,
     endpoints: ArrayVec<Slot, MOST_PLACES>,
     registry: Option<Box<Registry>>,
+}
+
+// Written out, so that a crate that lets one go proves a call of this, and nothing of what is in it.
+impl Drop for Lent {
+    fn drop(self) {
+        let Lent {
+            alloc: _,
+            providers: _,
+            numbers: _,
+            endpoints: _,
+            registry: _,
+        } = self;
+    }
 }
 
 impl Model for Lent {

@@ -277,7 +277,6 @@ impl Outcome {
 }
 
 /// A step of a history.
-#[derive(Drop)]
 pub struct Entry {
     /// The worker that made it.
     pub worker: u32,
@@ -287,6 +286,18 @@ pub struct Entry {
     pub outcome: Outcome,
     /// The state of the call's endpoint after it; T_UNINIT where that is not open.
     pub after: State,
+}
+
+// Written out, so that a crate that lets one go proves a call of this, and nothing of what is in it.
+impl Drop for Entry {
+    fn drop(self) {
+        let Entry {
+            worker: _,
+            act: _,
+            outcome: _,
+            after: _,
+        } = self;
+    }
 }
 
 impl Entry {

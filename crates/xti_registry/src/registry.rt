@@ -22,11 +22,21 @@ use xti_model::Providers;
 const LONGEST: usize = 21;
 
 /// The switch's table. Contracts see the switch, and how many more addresses can be given with no memory.
-#[derive(Drop)]
 pub struct Registry {
     places: Vec<Place>,
     addresses: Addresses,
     spare: usize,
+}
+
+// Written out, so that a crate that lets one go proves a call of this, and nothing of what is in it.
+impl Drop for Registry {
+    fn drop(self) {
+        let Registry {
+            places: _,
+            addresses: _,
+            spare: _,
+        } = self;
+    }
 }
 
 impl Model for Registry {

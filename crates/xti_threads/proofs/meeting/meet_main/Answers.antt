@@ -45,24 +45,6 @@ loop-seat-preserved c =
       );
     }
 
-pub loop-seat-preserved-in-Some : goal.loop-seat-preserved-in-Some
-loop-seat-preserved-in-Some c =
-    let i = c.loop-seat.invariant in
-    let n = i.known.0 in
-    let ended = c.args.ended.now in record {
-      ended = c.meet-seat.ensures.seat.1 ∙ i.ended;
-      known = (
-        n + 1,
-        omega (arith, i.known.1, c.in-Some.ensures.steps.1),
-        λ x p.
-            let k = i.known.2 x p in
-            let h = subst (EachFrom (CameBack x c.args._lines.now p.past) (n + 1)) c.in-Some.ensures.steps.0 k.0 in
-            let whole = subst (λ (s : SeatView). IsPrefix c.in-Some.seat.view.seen s.view.seen) i.ended c.meet-seat.ensures.whole in
-            let new = back-follows (n + 1) c.in-Some.seat c.loop-seat.ended.view c.meet-seat.result.view ended.view.seen p.set_up (omega arith) h.0 (leads-own ended p.leads) whole (ap (λ (s : SeatView). s.view.seen) i.ended) c.meet-seat.ensures.met c.meet-seat.ensures.standing in
-            (h.1, follow-more c.args._lines.now ended.view.seen n k.1 new),
-      );
-    }
-
 pub returns-clause-same : goal.returns-clause-same
 returns-clause-same c = c.loop-seat.invariant.ended
 

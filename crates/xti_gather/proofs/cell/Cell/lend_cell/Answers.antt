@@ -4,7 +4,7 @@ use Rattle.xti_core.specs.Standing.{IsLoan}
 use Rattle.xti_gather.specs.Cells.{StandsFor}
 use Rattle.xti_gather.proofs.Loans.{end-is, held-none, has-room, push-loan, push-cell, push-others}
 use Rattle.xti_model.proofs.PlaceNumbers.{most-places}
-use Rattle.xti_gather.proofs.lending.lend_cell.Goals as goal
+use Rattle.xti_gather.proofs.cell.Cell.lend_cell.Goals as goal
 
 pub lend-requires-clause-room : goal.lend-requires-clause-room
 lend-requires-clause-room c =
