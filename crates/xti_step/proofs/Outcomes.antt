@@ -34,17 +34,17 @@ use Rattle.xti_core.proofs.Settling.{stepped, same-at}
 use Rattle.xti_core.proofs.Stepping.{lent_or_kept, step-whole, touched-all}
 use Rattle.xti_hall_rule.specs.declared.setting.Setting.{Setting}
 use Rattle.xti_hall_rule.specs.declared.view.View.{View}
-use Rattle.xti_hall_rule.specs.declared.view.Mark.{Mark}
 use Rattle.xti_hall_rule.specs.declared.view.Mark.TheVariants.{Free}
 use Rattle.xti_hall_rule.specs.Histories.{part, cell_or_closed, own, after, Legal, Touches}
 use Rattle.xti_hall_rule.specs.Steps.{at, with_pen, without_pen, renew_from, Holds, Commits}
 use Rattle.xti_hall_rule.proofs.Laws.{own-append, own-mine, after-more, legal-more}
 use Rattle.xti_hall_rule.proofs.Lookups.{at_has}
+use Rattle.xti_hall.specs.Pens.{PenView}
 use Rattle.xti_hall.specs.Seats.{bare, entry_of, wrote_entry}
-use Rattle.xti_gather.specs.Lends.{Lends, Just}
+use Rattle.xti_gather.specs.Lends.{Lends}
 use Rattle.xti_gather.proofs.Loans.{lent-cell, loan-after}
 use Rattle.xti_gather.proofs.Wholes.{kept, whole-world, Of, sub-of}
-use Rattle.xti_step.specs.Steps.{MayGo, Made, Waits}
+use Rattle.xti_step.specs.Steps.{IsReady, MayGo, Made, Waits}
 
 -- a seat goes on lending while the journal comes and goes
 pub lends_same : (v v' : View) (l : Lending) → v'.setting ≡ v.setting → v'.held ≡ v.held → Lends v l → Lends v' l
@@ -109,23 +109,12 @@ begins-bytes : (g : Go) (c : Call) → SendsBytes c → BeginsBytes (act_of g c)
 begins-bytes Begin c h = h
 begins-bytes (More n) c h = tt
 
--- all that a step knows once it has the journal: the seat at first, with its cells, and with the journal
-pub record Ready (v0 v1 v2 : View) (l : Lending) (c : Call) (g : Go) (h : List Entry) (ms : List Mark) : Type 0 where
-  pub may : MayGo v0 c g
-  pub sends : SendsBytes c
-  pub rest : bare v1 ≡ bare v0
-  pub lends : Lends v1 l
-  pub just : Just l.providers (cell_lent l) c
-  pub pen : v2 ≡ with_pen v1 h ms
-  pub holds : Holds v2
-  pub numbered : v2.numbered ≡ true
-
-module _ {v0 v1 v2 : View} {l : Lending} {c : Call} {g : Go} {h : List Entry} {ms : List Mark} (r : Ready v0 v1 v2 l c g h ms) where
-  abbrev base : bare v2 ≡ bare (with_pen v0 h ms)
-  base = ap bare r.pen ∙ ap (λ (z : View). with_pen z h ms) r.rest
+module _ {v0 v2 : View} {l : Lending} {c : Call} {g : Go} {p : PenView} (may : MayGo v0 c g) (r : IsReady v0 v2 l c p) where
+  abbrev base : bare v2 ≡ bare (with_pen v0 p.history p.marks)
+  base = ap bare r.pen ∙ ap (λ (z : View). with_pen z p.history p.marks) r.rest
 
   pub ready_lent : Lends v2 l
-  ready_lent = lends_same v1 v2 l (ap (λ (z : View). z.setting) r.pen) (ap (λ (z : View). z.held) r.pen) r.lends
+  ready_lent = lends_same r.gathered v2 l (ap (λ (z : View). z.setting) r.pen) (ap (λ (z : View). z.held) r.pen) r.lends
 
   abbrev P : Providers
   P = l.providers
@@ -173,7 +162,7 @@ module _ {v0 v1 v2 : View} {l : Lending} {c : Call} {g : Go} {h : List Entry} {m
   number = ap (λ (z : View). z.number) base
 
   ready_doing : (k : ℕ) (o : Outcome) (s : State) → k ≡ v2.number → doing v2.history (entry k c g o s) ≡ Some (record { call = c; so_far = g })
-  ready_doing k o s is = ap (λ z. made_by (unfinished_from None None z) (act_of g c)) (ap (λ n. own n v2.history) is ∙ mine) ∙ r.may
+  ready_doing k o s is = ap (λ z. made_by (unfinished_from None None z) (act_of g c)) (ap (λ n. own n v2.history) is ∙ mine) ∙ may
 
   touched-same : touched v2.setting.providers W c ≡ touched P (cells l) c
   touched-same =

@@ -1,5 +1,5 @@
 -- What one step of a call tells its seat.
-use Rattle.std.specs.Prelude.{◌≡◌, ◌⊎◌, ℕ, ◌+◌, List, [], ◌∷◌, ◌++◌, length, Some, None, false}
+use Rattle.std.specs.Prelude.{◌≡◌, ◌⊎◌, ℕ, ◌+◌, List, [], ◌∷◌, ◌++◌, length, Some, None, true, false}
 use mathlib.Core.List.{IsPrefix}
 use Rattle.xti_base.specs.declared.kinds.State.{State}
 use Rattle.xti_model.specs.declared.call.Call.{Call}
@@ -10,11 +10,16 @@ use Rattle.xti_model.specs.declared.entry.Applied.{Applied}
 use Rattle.xti_model.specs.declared.entry.Applied.TheVariants as applied
 use Rattle.xti_model.specs.History.{made_by, unfinished_from, Fits}
 use Rattle.xti_model.specs.Robin.{act_of}
+use Rattle.xti_model.specs.SentBytes.{SendsBytes}
 use Rattle.xti_model.specs.Step.{step}
+use Rattle.xti_lent.specs.Lending.{Lending, cell_lent}
+use Rattle.xti_gather.specs.Lends.{Lends, Just}
 use Rattle.xti_hall_rule.specs.declared.view.Mark.TheVariants.{Free}
 use Rattle.xti_hall_rule.specs.declared.view.View.{View}
 use Rattle.xti_hall_rule.specs.Histories.{after}
-use Rattle.xti_hall.specs.Seats.{HoldsNone, entry_of}
+use Rattle.xti_hall_rule.specs.Steps.{Holds, with_pen}
+use Rattle.xti_hall.specs.Pens.{PenView}
+use Rattle.xti_hall.specs.Seats.{HoldsNone, bare, entry_of}
 
 -- a seat between two calls holds neither a cell nor the journal
 abbrev pub HoldsNothing : View → Type 0
@@ -34,6 +39,17 @@ pub record Later (v v' : View) : Type 0 where
 -- the call begins where the seat has none unfinished, or it is the unfinished one with so many bytes taken
 abbrev pub MayGo : View → Call → Go → Type 0
 MayGo v c g = made_by (unfinished_from None None v.mine) (act_of g c) ≡ Some (record { call = c; so_far = g })
+
+-- the seat is ready for a step of the call: it lends just the cells that the call touches, and holds the journal
+pub record IsReady (v v' : View) (l : Lending) (c : Call) (p : PenView) : Type 0 where
+  pub gathered : View
+  pub rest : bare gathered ≡ bare v
+  pub lends : Lends gathered l
+  pub just : Just l.providers (cell_lent l) c
+  pub pen : v' ≡ with_pen gathered p.history p.marks
+  pub holds : Holds v'
+  pub numbered : v'.numbered ≡ true
+  pub sends : SendsBytes c
 
 -- the entry is that of the definition's step after this history
 abbrev pub IsStepAfter : View → List Entry → Call → Go → Entry → Type 0

@@ -12,7 +12,7 @@ ghost use Rattle.xti_gather.specs.Lends.{Lends, IsEmpty};
 ghost use Rattle.xti_gather.specs.Orders.{AreCells};
 ghost use Rattle.xti_laws_sound.specs.Replies.{lengths_of, IsShortOutcome};
 ghost use Rattle.xti_step.specs.Copies.{AreCopies, IsCopy, entry_with};
-ghost use Rattle.xti_step.specs.Steps.{KeepsOrFreesMark, HoldsNothing, Later, MayGo, Tells, SeenAt};
+ghost use Rattle.xti_step.specs.Steps.{IsReady, KeepsOrFreesMark, HoldsNothing, Later, MayGo, Tells, SeenAt};
 
 use crate::gate::Gate;
 use crate::waking::concerned;
@@ -141,6 +141,45 @@ fn write(
     }
 }
 
+/// Enters the cells that the call touches, asks the gate, and takes the journal. Out of memory nothing is held or lent.
+#[inline(always)]
+fn begin<G: Gate, R: Wait + Sync>(
+    rt: &R,
+    hall: &Hall<Cell>,
+    seat: &mut Seat<Cell>,
+    lent: &mut Lent,
+    first: &mut Cells,
+    gate: &G,
+    worker: u32,
+    call: &Call,
+) -> Result<Pen<Cell>, AllocError>
+    requires hall { InHall hall.now seat.old lent.old.providers }
+    requires worker { worker ≡ seat.old.view.number }
+    requires standing { IsStanding seat.old.view }
+    requires idle { HoldsNothing seat.old.view }
+    requires empty { IsEmpty lent.old }
+    requires first { AreCells lent.old.providers first.old }
+    ensures hall { IsSameSeat seat.old seat.new }
+    ensures first { AreCells lent.old.providers first.new }
+    ensures providers { lent.new.providers ≡ lent.old.providers }
+    ensures ready { IfOk result (IsReady seat.old.view seat.new.view lent.new call.now) }
+    ensures pen { IfOk result (IsPenOf seat.new) }
+    ensures later { OnErr result (Later seat.old.view seat.new.view) }
+    ensures err { OnErr result (seat.new.view.mine ≡ seat.old.view.mine) }
+    ensures mark { OnErr result (KeepsOrFreesMark seat.old.view seat.new.view) }
+    ensures idle { OnErr result (HoldsNothing seat.new.view × IsEmpty lent.new) }
+    ensures standing { IsStanding seat.new.view }
+{
+    calls_send_bytes(call);
+    gather(rt, hall, seat, lent, call, first);
+    gate.pause(rt, worker, seat.steps(), seat, call);
+    let Ok(pen) = hall.begin(rt, seat) else {
+        leave_all(hall, seat, lent);
+        return Err(AllocError);
+    };
+    Ok(pen)
+}
+
 /// One step of a call by a seat that holds nothing, in a hall that has all cells. The call begins, or it is the seat's
 /// unfinished one with so many bytes taken.
 ///
@@ -175,16 +214,12 @@ pub fn step<G: Gate, R: Wait + Sync>(
     ensures err { OnErr result (seat.new.view.mine ≡ seat.old.view.mine) }
     ensures mark { OnErr result (KeepsOrFreesMark seat.old.view seat.new.view) }
 {
-    calls_send_bytes(call);
     let worker = seat.number();
     let copies = copies(alloc, hall, call, go)?;
-    gather(rt, hall, seat, lent, call, first);
-    gate.pause(rt, worker, seat.steps(), seat, call);
-    let Ok(pen) = hall.begin(rt, seat) else {
-        leave_all(hall, seat, lent);
-        let_go(copies);
-        return Err(AllocError);
-    };
+    let pen = or_drop!(
+        begin(rt, hall, seat, lent, first, gate, worker, call),
+        copies
+    );
     let at = pen.at();
     match apply(lent, call, go) {
         Err(error) => {

@@ -2,150 +2,65 @@ use Rattle.std.proofs.Common.{◌∙◌, ℕ, refl, sym, ap, subst}
 use Rattle.xti_base.specs.declared.kinds.State.{State}
 use Rattle.xti_model.specs.declared.entry.Applied.{Applied}
 use Rattle.xti_model.specs.declared.entry.Outcome.{Outcome}
-use Rattle.xti_model.specs.declared.profile.Providers.{Providers}
 use Rattle.xti_end.specs.Taken.{taken}
-use Rattle.xti_lent.specs.Lending.{Lending, cell_lent, cells}
+use Rattle.xti_lent.specs.Lending.{Lending, cells}
 use Rattle.xti_hall_rule.specs.declared.view.View.{View}
-use Rattle.xti_hall_rule.specs.Steps.{at}
 use Rattle.xti_hall.specs.Seats.{SeatView, bare}
-use Rattle.xti_gather.specs.Lends.{Lends, Just}
+use Rattle.xti_gather.specs.Lends.{Lends}
 use Rattle.xti_gather.proofs.Wholes.{lends-fit}
-use Rattle.xti_gather.proofs.Holdings.{just_held}
-use Rattle.xti_step.proofs.Outcomes.{Ready, lends_same, lends_unchanged, ready_lent, ready_short, ready_commits, ready_lends, ready_made, ready_waits}
+use Rattle.xti_step.proofs.Outcomes.{lends_unchanged, ready_lent, ready_short, ready_commits, ready_lends, ready_made, ready_waits}
 use Rattle.xti_step.proofs.Standings.{stands-still}
 use Rattle.xti_step.proofs.stepping.step.Goals as goal
 
-pub pause-requires-clause-cells : goal.pause-requires-clause-cells
-pause-requires-clause-cells g c =
-    let t = c.gather.ensures in
-    let v = c.gather.new.seat.view in
-    let just = subst (λ (p : Providers). Just p (cell_lent c.gather.new.lent) c.args.call.now) (sym t.providers) t.just in
-    subst (λ (p : Providers). Just p (at v) c.args.call.now) t.lends.providers (just_held v c.gather.new.lent c.gather.new.lent.providers c.args.call.now t.lends.held just)
-
-pub leave_all-requires-clause-lends : goal.leave_all-requires-clause-lends
-leave_all-requires-clause-lends g c =
-    let e = c.in_default.ensures.err in
-    lends_same c.gather.new.seat.view c.begin.new.seat.view c.gather.new.lent (ap (λ (z : View). z.setting) e.2) (ap (λ (z : View). z.held) e.2) c.gather.ensures.lends
-
 pub apply-requires-clause-fit : goal.apply-requires-clause-fit
-apply-requires-clause-fit g c = lends-fit c.gather.new.seat.view c.gather.new.lent c.gather.ensures.lends
+apply-requires-clause-fit g c = lends-fit c.begin.new.seat.view c.begin.new.lent (ready_lent c.requires.go c.in-Ok.ensures.ready)
 
 pub apply-requires-clause-lent : goal.apply-requires-clause-lent
-apply-requires-clause-lent g c = (subst (λ (p : Providers). Just p (cell_lent c.gather.new.lent) c.args.call.now) (sym c.gather.ensures.providers) c.gather.ensures.just).all
+apply-requires-clause-lent g c = c.in-Ok.ensures.ready.just.all
 
 pub give_up-requires-clause-lends : goal.give_up-requires-clause-lends
 give_up-requires-clause-lends g c =
-    let r : Ready c.args.seat.now.view c.gather.new.seat.view c.begin.new.seat.view c.gather.new.lent c.args.call.now c.args.go c.in-Ok.pen.history c.in-Ok.pen.marks = record {
-      may = c.requires.go;
-      sends = c.calls_send_bytes.ensures;
-      rest = c.gather.ensures.rest;
-      lends = c.gather.ensures.lends;
-      just = subst (λ (p : Providers). Just p (cell_lent c.gather.new.lent) c.args.call.now) (sym c.gather.ensures.providers) c.gather.ensures.just;
-      pen = c.in-Ok.ensures.ok;
-      holds = c.in-Ok.ensures.pen.0;
-      numbered = ap (λ (z : View). z.numbered) c.in-Ok.ensures.ok ∙ (ap (λ (z : View). z.numbered) c.gather.ensures.rest ∙ c.number-worker.ensures.standing.numbered);
-    } in
-    lends_unchanged c.begin.new.seat.view c.gather.new.lent c.apply.new.lent (ready_lent r) c.in-Err.ensures.kept c.in-Err.ensures.err
+    lends_unchanged c.begin.new.seat.view c.begin.new.lent c.apply.new.lent (ready_lent c.requires.go c.in-Ok.ensures.ready) c.in-Err-apply.ensures.kept c.in-Err-apply.ensures.err
 
 pub give_up-requires-in-Ok-Blocked-clause-lends : goal.give_up-requires-in-Ok-Blocked-clause-lends
 give_up-requires-in-Ok-Blocked-clause-lends g c =
-    let r : Ready c.args.seat.now.view c.gather.new.seat.view c.begin.new.seat.view c.gather.new.lent c.args.call.now c.args.go c.in-Ok.pen.history c.in-Ok.pen.marks = record {
-      may = c.requires.go;
-      sends = c.calls_send_bytes.ensures;
-      rest = c.gather.ensures.rest;
-      lends = c.gather.ensures.lends;
-      just = subst (λ (p : Providers). Just p (cell_lent c.gather.new.lent) c.args.call.now) (sym c.gather.ensures.providers) c.gather.ensures.just;
-      pen = c.in-Ok.ensures.ok;
-      holds = c.in-Ok.ensures.pen.0;
-      numbered = ap (λ (z : View). z.numbered) c.in-Ok.ensures.ok ∙ (ap (λ (z : View). z.numbered) c.gather.ensures.rest ∙ c.number-worker.ensures.standing.numbered);
-    } in
     let still = c.in-Ok-Blocked.ensures.still (ap (λ (z : Applied). taken z (cells c.apply.new.lent)) c.in-Ok-Blocked.field-0-is) in
-    subst (λ (z : Lending). Lends c.begin.new.seat.view z) (sym still) (ready_lent r)
+    subst (λ (z : Lending). Lends c.begin.new.seat.view z) (sym still) (ready_lent c.requires.go c.in-Ok.ensures.ready)
 
 pub write-rings-requires-clause-short : goal.write-rings-requires-clause-short
 write-rings-requires-clause-short g c =
-    let r : Ready c.args.seat.now.view c.gather.new.seat.view c.begin.new.seat.view c.gather.new.lent c.args.call.now c.args.go c.in-Ok.pen.history c.in-Ok.pen.marks = record {
-      may = c.requires.go;
-      sends = c.calls_send_bytes.ensures;
-      rest = c.gather.ensures.rest;
-      lends = c.gather.ensures.lends;
-      just = subst (λ (p : Providers). Just p (cell_lent c.gather.new.lent) c.args.call.now) (sym c.gather.ensures.providers) c.gather.ensures.just;
-      pen = c.in-Ok.ensures.ok;
-      holds = c.in-Ok.ensures.pen.0;
-      numbered = ap (λ (z : View). z.numbered) c.in-Ok.ensures.ok ∙ (ap (λ (z : View). z.numbered) c.gather.ensures.rest ∙ c.number-worker.ensures.standing.numbered);
-    } in
     let e = ap (λ (z : Applied). taken z (cells c.apply.new.lent)) (sym c.in-Ok-Step.field-0-is) ∙ c.in-Ok-Step.ensures.step in
-    ready_short r c.apply.new.lent c.in-Ok-Step.outcome c.in-Ok-Step.after c.in-Ok-Step.ensures.kept e
+    ready_short c.requires.go c.in-Ok.ensures.ready c.apply.new.lent c.in-Ok-Step.outcome c.in-Ok-Step.after c.in-Ok-Step.ensures.kept e
 
 pub write-rings-requires-clause-entry : goal.write-rings-requires-clause-entry
 write-rings-requires-clause-entry g c =
-    let r : Ready c.args.seat.now.view c.gather.new.seat.view c.begin.new.seat.view c.gather.new.lent c.args.call.now c.args.go c.in-Ok.pen.history c.in-Ok.pen.marks = record {
-      may = c.requires.go;
-      sends = c.calls_send_bytes.ensures;
-      rest = c.gather.ensures.rest;
-      lends = c.gather.ensures.lends;
-      just = subst (λ (p : Providers). Just p (cell_lent c.gather.new.lent) c.args.call.now) (sym c.gather.ensures.providers) c.gather.ensures.just;
-      pen = c.in-Ok.ensures.ok;
-      holds = c.in-Ok.ensures.pen.0;
-      numbered = ap (λ (z : View). z.numbered) c.in-Ok.ensures.ok ∙ (ap (λ (z : View). z.numbered) c.gather.ensures.rest ∙ c.number-worker.ensures.standing.numbered);
-    } in
     let k : ℕ = c.begin.new.seat.view.number in
     let o : Outcome = c.in-Ok-Step.outcome in
     let s : State = c.in-Ok-Step.after in
     let e = ap (λ (z : Applied). taken z (cells c.apply.new.lent)) (sym c.in-Ok-Step.field-0-is) ∙ c.in-Ok-Step.ensures.step in
-    ready_commits r c.apply.new.lent k o s refl c.in-Ok-Step.ensures.kept e
+    ready_commits c.requires.go c.in-Ok.ensures.ready c.apply.new.lent k o s refl c.in-Ok-Step.ensures.kept e
 
-pub leave_all-requires-in-Ok-Step-clause-lends : goal.leave_all-requires-in-Ok-Step-clause-lends
-leave_all-requires-in-Ok-Step-clause-lends g c =
-    let r : Ready c.args.seat.now.view c.gather.new.seat.view c.begin.new.seat.view c.gather.new.lent c.args.call.now c.args.go c.in-Ok.pen.history c.in-Ok.pen.marks = record {
-      may = c.requires.go;
-      sends = c.calls_send_bytes.ensures;
-      rest = c.gather.ensures.rest;
-      lends = c.gather.ensures.lends;
-      just = subst (λ (p : Providers). Just p (cell_lent c.gather.new.lent) c.args.call.now) (sym c.gather.ensures.providers) c.gather.ensures.just;
-      pen = c.in-Ok.ensures.ok;
-      holds = c.in-Ok.ensures.pen.0;
-      numbered = ap (λ (z : View). z.numbered) c.in-Ok.ensures.ok ∙ (ap (λ (z : View). z.numbered) c.gather.ensures.rest ∙ c.number-worker.ensures.standing.numbered);
-    } in
+pub leave_all-requires-clause-lends : goal.leave_all-requires-clause-lends
+leave_all-requires-clause-lends g c =
     let k : ℕ = c.begin.new.seat.view.number in
     let o : Outcome = c.in-Ok-Step.outcome in
     let s : State = c.in-Ok-Step.after in
     let e = ap (λ (z : Applied). taken z (cells c.apply.new.lent)) (sym c.in-Ok-Step.field-0-is) ∙ c.in-Ok-Step.ensures.step in
-    subst (λ (z : View). Lends z c.apply.new.lent) (sym c.write-rings.ensures.view) (ready_lends r c.apply.new.lent k o s refl e c.in-Ok-Step.ensures.kept)
+    subst (λ (z : View). Lends z c.apply.new.lent) (sym c.write-rings.ensures.view) (ready_lends c.requires.go c.in-Ok.ensures.ready c.apply.new.lent k o s refl e c.in-Ok-Step.ensures.kept)
 
 pub returns-in-Ok-Blocked-clause-ok : goal.returns-in-Ok-Blocked-clause-ok
 returns-in-Ok-Blocked-clause-ok g c =
-    let r : Ready c.args.seat.now.view c.gather.new.seat.view c.begin.new.seat.view c.gather.new.lent c.args.call.now c.args.go c.in-Ok.pen.history c.in-Ok.pen.marks = record {
-      may = c.requires.go;
-      sends = c.calls_send_bytes.ensures;
-      rest = c.gather.ensures.rest;
-      lends = c.gather.ensures.lends;
-      just = subst (λ (p : Providers). Just p (cell_lent c.gather.new.lent) c.args.call.now) (sym c.gather.ensures.providers) c.gather.ensures.just;
-      pen = c.in-Ok.ensures.ok;
-      holds = c.in-Ok.ensures.pen.0;
-      numbered = ap (λ (z : View). z.numbered) c.in-Ok.ensures.ok ∙ (ap (λ (z : View). z.numbered) c.gather.ensures.rest ∙ c.number-worker.ensures.standing.numbered);
-    } in
     let e = ap (λ (z : Applied). taken z (cells c.apply.new.lent)) (sym c.in-Ok-Blocked.field-0-is) ∙ c.in-Ok-Blocked.ensures.step in
-    ready_waits r c.apply.new.lent c.give_up-in-Ok-Blocked.new.seat.view c.in-Ok-Blocked.ensures.kept e c.give_up-in-Ok-Blocked.ensures.view
+    ready_waits c.requires.go c.in-Ok.ensures.ready c.apply.new.lent c.give_up-in-Ok-Blocked.new.seat.view c.in-Ok-Blocked.ensures.kept e c.give_up-in-Ok-Blocked.ensures.view
 
 pub returns-in-Ok-Step-clause-ok : goal.returns-in-Ok-Step-clause-ok
 returns-in-Ok-Step-clause-ok g c =
-    let r : Ready c.args.seat.now.view c.gather.new.seat.view c.begin.new.seat.view c.gather.new.lent c.args.call.now c.args.go c.in-Ok.pen.history c.in-Ok.pen.marks = record {
-      may = c.requires.go;
-      sends = c.calls_send_bytes.ensures;
-      rest = c.gather.ensures.rest;
-      lends = c.gather.ensures.lends;
-      just = subst (λ (p : Providers). Just p (cell_lent c.gather.new.lent) c.args.call.now) (sym c.gather.ensures.providers) c.gather.ensures.just;
-      pen = c.in-Ok.ensures.ok;
-      holds = c.in-Ok.ensures.pen.0;
-      numbered = ap (λ (z : View). z.numbered) c.in-Ok.ensures.ok ∙ (ap (λ (z : View). z.numbered) c.gather.ensures.rest ∙ c.number-worker.ensures.standing.numbered);
-    } in
     let k : ℕ = c.begin.new.seat.view.number in
     let o : Outcome = c.in-Ok-Step.outcome in
     let s : State = c.in-Ok-Step.after in
     let e = ap (λ (z : Applied). taken z (cells c.apply.new.lent)) (sym c.in-Ok-Step.field-0-is) ∙ c.in-Ok-Step.ensures.step in
-    let all = ap (λ (z : SeatView). bare z.view) c.wake.ensures ∙ (c.leave_all-in-Ok-Step.ensures.rest ∙ ap bare c.write-rings.ensures.view) in
-    ready_made r c.apply.new.lent k o o s c.wake.new.seat.view refl c.in-Ok-Step.ensures.kept e refl all
+    let all = ap (λ (z : SeatView). bare z.view) c.wake.ensures ∙ (c.leave_all.ensures.rest ∙ ap bare c.write-rings.ensures.view) in
+    ready_made c.requires.go c.in-Ok.ensures.ready c.apply.new.lent k o o s c.wake.new.seat.view refl c.in-Ok-Step.ensures.kept e refl all
 
 pub returns-in-Ok-Step-clause-standing : goal.returns-in-Ok-Step-clause-standing
-returns-in-Ok-Step-clause-standing g c = stands-still c.write-rings.new.seat.view c.wake.new.seat.view (ap (λ (z : SeatView). bare z.view) c.wake.ensures ∙ c.leave_all-in-Ok-Step.ensures.rest) c.write-rings.ensures.standing
+returns-in-Ok-Step-clause-standing g c = stands-still c.write-rings.new.seat.view c.wake.new.seat.view (ap (λ (z : SeatView). bare z.view) c.wake.ensures ∙ c.leave_all.ensures.rest) c.write-rings.ensures.standing
