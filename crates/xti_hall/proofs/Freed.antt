@@ -1,28 +1,27 @@
--- A mark that is cleared as the journal goes back.
+-- A mark that is set as the journal goes back, and how many entries are the seat's own.
 use Rattle.std.proofs.Common.{◌≡◌, ℕ, suc, ◌+◌, ◌<◌, ◌≤◌, ◌==◌, Bool, true, false, List, [], ◌∷◌, ◌++◌, length, set, if◌then◌else◌, ap, sym, subst, ◌∙◌, arith, length-set, length-append, get_or-set_same, get_or-set_other}
 use lib.ListN.{get_or}
 use Rattle.xti_model.specs.declared.entry.Entry.{Entry}
 use Rattle.xti_hall_rule.specs.Histories.{own}
 use Rattle.xti_hall_rule.proofs.Laws.{own-append, own-mine}
 use Rattle.xti_hall_rule.specs.declared.view.Mark.{Mark}
-use Rattle.xti_hall_rule.specs.declared.view.Mark.TheVariants.{Absent, Free}
+use Rattle.xti_hall_rule.specs.declared.view.Mark.TheVariants.{Absent}
 use Rattle.xti_hall_rule.specs.declared.view.View.{View}
 use Rattle.xti_hall_rule.specs.Rule.{mark_of, MarkFits}
 use Rattle.xti_hall_rule.specs.Steps.{Marked, Commits}
 
-pub freed : (v : View) (marks : List Mark) (k : ℕ) → k ≡ v.number → v.number < 33 → length v.marks ≡ 33 → marks ≡ v.marks → Marked v (set marks k Free)
-freed v marks k is lt many same = let n : ℕ = v.number in let long : length marks ≡ 33 = ap length same ∙ many in record {
-  many = length-set marks k Free ∙ long;
-  others = λ j ne. get_or-set_other marks k j Free Absent (λ e. ne (e ∙ is)) ∙ ap (λ (l : List Mark). mark_of l j) same;
-  fits = subst (MarkFits v.setting v.history) (sym (now_free v marks k is lt long)) tt;
-}
-  where
-    now_free : (v : View) (marks : List Mark) (k : ℕ) → k ≡ v.number → v.number < 33 → length marks ≡ 33 → mark_of (set marks k Free) v.number ≡ Free
-    now_free v marks k is lt long = ap (λ (j : ℕ). get_or (set marks k Free) j Absent) (sym is) ∙ get_or-set_same marks k Free Absent (let z : k ≡ v.number = is in omega arith)
+-- the seat's mark is the one that was set at its number
+pub mark-set : (v : View) (marks : List Mark) (k : ℕ) (mark : Mark) → k ≡ v.number → v.number < 33 → length v.marks ≡ 33 → marks ≡ v.marks → mark_of (set marks k mark) v.number ≡ mark
+mark-set v marks k mark is lt many same = let long : length marks ≡ 33 = ap length same ∙ many in
+    ap (λ (j : ℕ). get_or (set marks k mark) j Absent) (sym is) ∙ get_or-set_same marks k mark Absent (let z : k ≡ v.number = is in omega arith)
 
-pub is_free : (v : View) (marks : List Mark) (k : ℕ) → k ≡ v.number → v.number < 33 → length v.marks ≡ 33 → marks ≡ v.marks → mark_of (set marks k Free) v.number ≡ Free
-is_free v marks k is lt many same = let long : length marks ≡ 33 = ap length same ∙ many in
-    ap (λ (j : ℕ). get_or (set marks k Free) j Absent) (sym is) ∙ get_or-set_same marks k Free Absent (let z : k ≡ v.number = is in omega arith)
+-- the marks of others stay as they were
+pub marked-with : (v : View) (marks : List Mark) (k : ℕ) (mark : Mark) → k ≡ v.number → v.number < 33 → length v.marks ≡ 33 → marks ≡ v.marks → MarkFits v.setting v.history mark → Marked v (set marks k mark)
+marked-with v marks k mark is lt many same fit = let long : length marks ≡ 33 = ap length same ∙ many in record {
+  many = length-set marks k mark ∙ long;
+  others = λ j ne. get_or-set_other marks k j mark Absent (λ e. ne (e ∙ is)) ∙ ap (λ (l : List Mark). mark_of l j) same;
+  fits = subst (MarkFits v.setting v.history) (sym (mark-set v marks k mark is lt many same)) fit;
+}
 
 pub own_length : (k : ℕ) (h : List Entry) → length (own k h) ≤ length h
 own_length k [] = omega arith

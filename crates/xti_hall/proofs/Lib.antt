@@ -1,7 +1,9 @@
 mod Entering
 mod Fronts
 mod Freed
+mod Giving
 mod Hands
+mod Looking
 mod Lookups
 mod Stalls
 mod Unfinished

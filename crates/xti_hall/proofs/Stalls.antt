@@ -55,7 +55,7 @@ settled-total at (Resting ∷ ms) e = let ih = settled-total at ms e in let more
 out-count : (at : ℕ) (ms : List Mark) → list_all (is_settled at) ms ≡ true → count_by waits ms + count_by rests ms ≡ count_by is_out ms
 out-count at ms e = let t = settled-total at ms e in let a = total-is waits ms in let b = total-is rests ms in let c = total-is is_out ms in omega (arith, t, a, b, c)
 
-prefix-length : (xs ys : List Entry) → IsPrefix xs ys → length xs ≤ length ys
+pub prefix-length : (xs ys : List Entry) → IsPrefix xs ys → length xs ≤ length ys
 prefix-length xs ys p = let a = length-append xs p.0 in let b = ap length p.1 in omega (arith, a, b)
 
 pub is_stall : (v0 v1 v3 : View) (h : List Entry) (ms : List Mark) (want : Want) (at n ws rs : ℕ) → v1 ≡ with_pen v0 h ms → Holds v1 → v1.numbered ≡ true → v0.mark ≡ Waiting want at → at ≤ length v0.seen → n ≡ length h → n ≤ at
