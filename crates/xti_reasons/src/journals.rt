@@ -15,7 +15,7 @@ use xti_words::{Words, number_in};
 
 /// Whether a journal begins with this line.
 fn is_first(line: &[u8]) -> bool {
-    matches!(line, b"xti-journal 1" | b"xti-journal 2")
+    line == b"xti-journal 1".as_slice() || line == b"xti-journal 2".as_slice()
 }
 
 /// The keys of a provider's line with their signs, and what stands behind each. The last stands only where texts tell it.
@@ -30,10 +30,12 @@ static SETTINGS: [(&[u8], Value); 6] = [
 
 /// The number that a value of a provider is.
 fn signed_number(text: &[u8]) -> i64 {
-    match text {
-        b"-1" => -1,
-        b"-2" => -2,
-        _ => number_in(text).unwrap_or(0) as i64,
+    if text == b"-1".as_slice() {
+        -1
+    } else if text == b"-2".as_slice() {
+        -2
+    } else {
+        number_in(text).unwrap_or(0) as i64
     }
 }
 

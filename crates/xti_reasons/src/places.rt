@@ -39,7 +39,7 @@ fn start_of(text: &[u8], line: u64) -> usize {
 /// The version that the first line of a text tells; 1 where it tells none.
 fn version_of(text: &[u8]) -> Version {
     let is_two = match text.split(ends_line).next() {
-        Some(line) => matches!(line, b"xti-script 2" | b"xti-journal 2"),
+        Some(line) => line == b"xti-script 2".as_slice() || line == b"xti-journal 2".as_slice(),
         None => false,
     };
     if is_two { Version::Two } else { Version::One }

@@ -168,7 +168,7 @@ fn wanted_word(value: Value, text: &[u8]) -> Option<&'static str> {
         ),
         Value::Truth => (matches!(number, Some(0 | 1)), "0 or 1"),
         Value::Limit => (
-            number.is_some() || matches!(text, b"-1" | b"-2"),
+            number.is_some() || text == b"-1".as_slice() || text == b"-2".as_slice(),
             "a number of 32 bits, -1 or -2",
         ),
         Value::Service => (matches!(number, Some(1 | 2 | 3)), "1, 2 or 3"),
