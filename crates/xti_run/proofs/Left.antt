@@ -4,7 +4,8 @@ use Rattle.std.proofs.Common.{arith, refl, sym, subst, inl, inr}
 use Rattle.std.proofs.lemmas.List.{append-nil, length-append}
 use Rattle.xti_io.specs.Source.{Gives, GivesAll, GivesUpTo}
 use Rattle.xti_command.specs.declared.command.Reading.{Reading}
-use Rattle.xti_run.specs.Program.{IsLeft, IsRun, IsAnswered, limit_of, refused_size}
+use Rattle.xti_outputs.specs.Outputs.{IsAnswered, limit_of}
+use Rattle.xti_run.specs.Program.{IsLeft, IsRun, refused_size}
 
 pub gives_front : (most limit : ℕ) (before now : Option (List ℕ)) (all : List ℕ) → most ≡ limit → GivesAll before now all → length all ≤ most → GivesUpTo (limit + 1) before now
 gives_front most limit None now all e h of = ([], omega arith, tt)

@@ -9,7 +9,6 @@ use Rattle.xti_script_reader.specs.Grammar.{IsScript}
 use Rattle.xti_script_reader.specs.Refused.{IsRefusedAt}
 use Rattle.xti_model.specs.declared.script.Journal.{Journal}
 use Rattle.xti_journal.specs.Grammar.{IsJournal}
-use Rattle.xti_journal.specs.Refused.{IsRefusedAt as IsNoJournalAt}
 use Rattle.xti_gbn.specs.declared.events.LinkEvent.{LinkEvent}
 use Rattle.xti_link.specs.Grammar.{IsLinkScript}
 use Rattle.xti_link.specs.Refused.{IsRefusedAt as IsNoLinkScriptAt}
@@ -18,16 +17,15 @@ use Rattle.xti_command.specs.declared.command.Command.TheVariants.{Read, Gen}
 use Rattle.xti_command.specs.declared.command.Reading.{Reading}
 use Rattle.xti_command.specs.declared.command.Reading.TheVariants.{Replay, Run, Check, Frames, Link, Sock}
 use Rattle.xti_generate.specs.Generated.{generated}
-use Rattle.xti_run.specs.Program.{IsLeft, IsRun, IsAnswer, IsOutput, IsOutputOf, IsDone, HasInput, HasScript, HasJournal, HasFrames, HasLink, HasCopy, IsFinished, IsGenerated, IsWholeRun, status_with}
+use Rattle.xti_outputs.specs.Outputs.{IsGenerated, IsWholeRun, status_with}
+use Rattle.xti_run.specs.Program.{IsLeft, IsRun, IsAnswer, IsOutput, IsOutputOf, IsDone, HasInput, HasScript, HasJournal, HasFrames, HasLink, HasCopy, IsFinished}
+use Rattle.xti_outputs.proofs.Judged.{NoJournal}
 use Rattle.xti_base.specs.declared.limits.TheConstants.{MOST_INPUT}
 use Rattle.xti_command.specs.Words.{command_of}
 
 -- no text is a script and refused at a line, nor a journal, nor a link script, and no bytes are frames and wrong first at a place
 abbrev pub NoScript : Type 0
 NoScript = (text : List ℕ) (s : Script) (line : ℕ) → IsScript s text → IsRefusedAt text line → ⊥
-
-abbrev pub NoJournal : Type 0
-NoJournal = (text : List ℕ) (j : Journal) (line : ℕ) → IsJournal j text → IsNoJournalAt text line → ⊥
 
 abbrev pub NoFrames : Type 0
 NoFrames = (bs : List ℕ) (at : ℕ) → IsFirstWrong bs at → IsFrames bs → ⊥

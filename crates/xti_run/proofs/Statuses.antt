@@ -9,7 +9,8 @@ use Rattle.xti_command.specs.declared.command.Command.{Command}
 use Rattle.xti_command.specs.declared.command.Command.TheVariants.{Read, Gen}
 use Rattle.xti_command.specs.declared.command.Reading.{Reading}
 use Rattle.xti_command.specs.declared.command.Reading.TheVariants.{Replay, Run, Check, Frames, Link, Sock}
-use Rattle.xti_run.specs.Program.{IsWholeRun, IsAnswered, IsAnswer, IsGenerated, IsOutputOf, status_with}
+use Rattle.xti_outputs.specs.Outputs.{IsWholeRun, IsAnswered, IsGenerated, status_with}
+use Rattle.xti_run.specs.Program.{IsAnswer, IsOutputOf}
 
 -- no fault, and 1 only where there is no command
 pub record HasStatus (o : Option Command) (status : ℕ) : Type 0 where

@@ -1,5 +1,4 @@
 pub mod Program
-pub mod Entries
 pub use Rattle.xti_check.specs.Judgements
 pub use Rattle.xti_check.specs.Verdicts
 pub use Rattle.xti_command.specs.Words
@@ -10,5 +9,6 @@ pub use Rattle.xti_laws_streams.specs.Laws
 pub use Rattle.xti_model.specs.Complete
 pub use Rattle.xti_model.specs.History
 pub use Rattle.xti_model.specs.Robin
+pub use Rattle.xti_outputs.specs.Outputs
 pub use Rattle.xti_replay.specs.Few
 pub use Rattle.xti_replay.specs.Stalls

@@ -1,0 +1,5 @@
+pub mod Playable
+pub mod Answered
+pub mod Copied
+pub mod Reported
+pub mod Judged

@@ -1,0 +1,11 @@
+pub mod Outputs
+pub mod Entries
+pub use Rattle.xti_check.specs.Judgements
+pub use Rattle.xti_check.specs.Verdicts
+pub use Rattle.xti_laws_journals.specs.Runs
+pub use Rattle.xti_laws_streams.specs.Laws
+pub use Rattle.xti_model.specs.Complete
+pub use Rattle.xti_model.specs.History
+pub use Rattle.xti_model.specs.Robin
+pub use Rattle.xti_replay.specs.Few
+pub use Rattle.xti_replay.specs.Stalls

@@ -1,6 +1,0 @@
-use Rattle.std.proofs.Common.{rules}
-use Rattle.xti_run.proofs.Reported.{journal_more}
-use Rattle.xti_run.proofs.report.Report.add.Goals as goal
-
-pub returns-in-Journal : goal.returns-in-Journal
-returns-in-Journal c = search (rules, journal_more)
