@@ -8,13 +8,11 @@
 #[cfg(test)]
 mod alone;
 #[cfg(test)]
-mod asks;
-#[cfg(test)]
 mod beside;
 #[cfg(test)]
-mod callers;
-#[cfg(test)]
 mod connecting;
+#[cfg(test)]
+mod library;
 #[cfg(test)]
 mod polls;
 #[cfg(test)]

@@ -1,6 +1,5 @@
 //! Pairs that are put into a set and taken out.
 
-use std::alloc::Global;
 use std::test::*;
 use xti_calls::{Event, Fd};
 use xti_poll::{Asked, PollFail, PollSet};
@@ -8,36 +7,32 @@ use xti_poll::{Asked, PollFail, PollSet};
 /// A bit that is no event's number.
 const NO_EVENT: u32 = 0x020;
 
-/// A set of 64 descriptors, which are asked for data.
-fn full(alloc: Global) -> Result<PollSet, PollFail> {
-    let mut set = PollSet::new(alloc);
-    for fd in 0..64 {
-        set.set(Fd(fd), Event::T_DATA.number())?;
-    }
-    Ok(set)
-}
-
+/// The set has 64 descriptors, which are asked for data.
 #[test]
-fn refused(rt: HostRuntime) -> Result<(), Fail> {
-    let mut set = full(rt.alloc())?;
+fn refused(rt: HostRuntime) {
     let data = Event::T_DATA.number();
-    assert_eq!(rt; set.set(Fd(1), NO_EVENT), Err(PollFail::BadEvents));
-    assert_eq!(rt; set.set(Fd(1), data | NO_EVENT), Err(PollFail::BadEvents));
-    assert_eq!(rt; set.set(Fd(64), 0), Err(PollFail::BadEvents));
-    assert_eq!(rt; set.set(Fd(64), data), Err(PollFail::Full));
-    assert_eq!(rt; set.set(Fd(63), Event::T_LISTEN.number()), Ok(()));
-    assert_eq!(rt; set.drop_fd(Fd(64)), false);
-    assert_eq!(rt; set.drop_fd(Fd(63)), true);
-    assert_eq!(rt; set.set(Fd(64), data), Ok(()));
-    Ok(())
+    let mut set = PollSet::new(rt.alloc());
+    let mut is_taken = true;
+    for fd in 0..64 {
+        is_taken &= set.set(Fd(fd), data) == Ok(());
+    }
+    let no_event = set.set(Fd(1), NO_EVENT);
+    let also_no_event = set.set(Fd(1), data | NO_EVENT);
+    let nothing = set.set(Fd(64), 0);
+    let full = set.set(Fd(64), data);
+    let replaced = set.set(Fd(63), Event::T_LISTEN.number());
+    let dropped = [set.drop_fd(Fd(64)), set.drop_fd(Fd(63))];
+    let added = set.set(Fd(64), data);
+    drop(set);
+    assert!(rt; is_taken && dropped == [false, true]);
+    assert!(rt; [no_event, also_no_event, nothing] == [Err(PollFail::BadEvents); 3]);
+    assert!(rt; [full, replaced, added] == [Err(PollFail::Full), Ok(()), Ok(())]);
 }
 
 #[test]
-fn replaced_in_place(rt: HostRuntime) -> Result<(), Fail> {
+fn replaced_in_place(rt: HostRuntime) {
     let mut set = PollSet::new(rt.alloc());
-    set.set(Fd(5), 1)?;
-    set.set(Fd(7), 2)?;
-    set.set(Fd(5), 4)?;
+    let asked = [set.set(Fd(5), 1), set.set(Fd(7), 2), set.set(Fd(5), 4)];
     let pairs = [
         Asked {
             fd: Fd(5),
@@ -48,6 +43,7 @@ fn replaced_in_place(rt: HostRuntime) -> Result<(), Fail> {
             events: 2,
         },
     ];
-    assert_eq!(rt; set.pairs(), &pairs[..]);
-    Ok(())
+    let is_replaced = set.pairs() == pairs.as_slice();
+    drop(set);
+    assert!(rt; is_replaced && asked == [Ok(()); 3]);
 }

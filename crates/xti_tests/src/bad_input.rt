@@ -1,29 +1,19 @@
 //! Inputs that are no script, and the first line by which each is none.
 
-use crate::running::{NO_FAULTS, expect};
-use std::alloc::{AllocError, Global};
-use std::process::Abort;
-use std::sync::Wait;
-use std::test::*;
-use std::thread::Threads;
+use crate::running::{NO_FAULTS, Run, expect, holds};
+use xti_run::NoGate;
 
-/// Lines, each with what is after it, that are refused after the same lines before, and the output of each replay.
+/// Lines, what each replay writes, and what is refused after the lines: each with what is after it, and a bar between each two.
 ///
-/// Those that are UTF-8 stand in one text with a bar between each two: the larger a table of slices is, the more a proof
-/// over it takes for each of them.
-#[derive(Clone, Copy)]
-struct Group {
-    before: &'static [u8],
-    output: &'static str,
-    lines: &'static str,
-    others: &'static [&'static [u8]],
-}
+/// They stand in one text, as the larger a table of slices is, the more a proof over it takes for each of them. Those that are
+/// not UTF-8 are `runs`.
+type Group = (&'static [u8], &'static [u8], &'static str);
 
 static GROUPS: [Group; 5] = [
-    Group {
-        before: b"",
-        output: "2 refused line 1\n",
-        lines: concat!(
+    (
+        b"",
+        b"refused line 1\n",
+        concat!(
             "",
             "|\n",
             "|xti-script 3\n",
@@ -36,12 +26,11 @@ static GROUPS: [Group; 5] = [
             "|0 open a ticlts\n",
             "|xti-script 1\0\n",
         ),
-        others: &[],
-    },
-    Group {
-        before: b"xti-script 1\n",
-        output: "2 refused line 2\n",
-        lines: concat!(
+    ),
+    (
+        b"xti-script 1\n",
+        b"refused line 2\n",
+        concat!(
             "+++\n",
             "|0 open a  ticlts\n",
             "|0 open a\tticlts\n",
@@ -82,12 +71,11 @@ static GROUPS: [Group; 5] = [
             "|0 look a\n",
             "|0 look a\n0 open a ticlts\n",
         ),
-        others: &[b"\xff\n"],
-    },
-    Group {
-        before: b"xti-script 1\n+++\n",
-        output: "2 refused line 2\n",
-        lines: concat!(
+    ),
+    (
+        b"xti-script 1\n+++\n",
+        b"refused line 2\n",
+        concat!(
             "",
             "|[ticots]\n",
             "|+++ \n",
@@ -135,12 +123,11 @@ static GROUPS: [Group; 5] = [
             "|# \u{e9}\n+++\n",
             "|[ticots]\ntsdu = 0\n+++\n0 frob a\n",
         ),
-        others: &[b"\xff\n+++\n"],
-    },
-    Group {
-        before: b"xti-script 1\n+++\n[ticots]\n+++\n# x\n\n0 open a ticots\n#\n",
-        output: "2 refused line 9\n",
-        lines: concat!(
+    ),
+    (
+        b"xti-script 1\n+++\n[ticots]\n+++\n# x\n\n0 open a ticots\n#\n",
+        b"refused line 9\n",
+        concat!(
             "+++\n",
             "|+++\n+++\n",
             "|0 frob a\n",
@@ -148,12 +135,11 @@ static GROUPS: [Group; 5] = [
             "|0 look a # x\n",
             "|xti-script 1\n",
         ),
-        others: &[b"#\x80\n"],
-    },
-    Group {
-        before: b"xti-script 1\n0 open a ticlts\n1 open b ticlts\n",
-        output: "2 refused line 4\n",
-        lines: concat!(
+    ),
+    (
+        b"xti-script 1\n0 open a ticlts\n1 open b ticlts\n",
+        b"refused line 4\n",
+        concat!(
             "0 open a ticlts\n",
             "|1 open a ticlts\n",
             "|1 open b ticlts\n",
@@ -244,46 +230,29 @@ static GROUPS: [Group; 5] = [
             "|0 sync\n",
             "|0 unbind a addr=t:a\n",
         ),
-        others: &[b"0 bind a addr=t:\xff\n"],
-    },
+    ),
 ];
 
-/// The test fails where a line of the group is answered otherwise.
-fn expect_line<T: Threads + Wait + Sync + Abort>(
-    rt: &T,
-    alloc: Global,
-    group: &Group,
-    line: &'static [u8],
-) -> Result<(), AllocError> {
-    expect(
-        rt,
-        alloc,
-        "replay",
-        &[group.before, line],
-        NO_FAULTS,
-        group.output,
-    )
-}
-
-/// The same of all lines of the group.
-fn expect_all<T: Threads + Wait + Sync + Abort>(
-    rt: &T,
-    alloc: Global,
-    group: &Group,
-) -> Result<(), AllocError> {
-    for line in group.lines.split('|') {
-        expect_line(rt, alloc, group, line.as_bytes())?;
-    }
-    for line in group.others {
-        expect_line(rt, alloc, group, *line)?;
-    }
-    Ok(())
-}
-
 #[test]
-fn bad_lines(rt: HostRuntime) -> Result<(), Fail> {
-    for group in &GROUPS {
-        expect_all(&rt, rt.alloc(), group)?;
+fn bad_lines(rt: HostRuntime) {
+    let mut input = Vec::new(rt.alloc());
+    for (before, output, lines) in &GROUPS {
+        for line in lines.split('|') {
+            input.clear();
+            input.extend_from_slice(before).expect(&rt, "memory");
+            input
+                .extend_from_slice(line.as_bytes())
+                .expect(&rt, "memory");
+            let run = Run {
+                command: "replay",
+                input: input.as_slice(),
+                read: 7,
+                faults: NO_FAULTS,
+                status: 2,
+                output,
+            };
+            expect(&rt, holds(&rt, rt.alloc(), run, &NoGate), &line);
+        }
     }
-    Ok(())
+    drop(input);
 }

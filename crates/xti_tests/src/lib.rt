@@ -6,12 +6,8 @@ mod bad_input;
 #[cfg(test)]
 mod each_fault;
 #[cfg(test)]
-mod faults;
-#[cfg(test)]
-mod release_data;
-#[cfg(test)]
 mod running;
 #[cfg(test)]
-mod steps;
+mod runs;
 #[cfg(test)]
 mod threads;

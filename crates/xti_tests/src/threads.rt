@@ -1,13 +1,9 @@
 //! A run by threads, with a gate that tells whether the workers' steps are made beside each other.
 
-use crate::running::{NO_FAULTS, expect_at};
-use std::alloc::{AllocError, Global};
-use std::process::Abort;
+use crate::running::{NO_FAULTS, Run, expect, holds};
 use std::sync::Wait;
 use std::sync::atomic::{AtomicBool, Ordering};
-use std::test::*;
 use std::thread;
-use std::thread::Threads;
 use xti_gather::Cell;
 use xti_hall::Seat;
 use xti_model::Call;
@@ -65,7 +61,7 @@ const ENDPOINTS: &[u8] = b"xti-script 1
 2 look b
 ";
 
-const ENDPOINTS_SUMMARY: &str = "0 entries 5 ok 5 err 0 part 0 sent 0 got 0 stalled 0\n";
+const ENDPOINTS_SUMMARY: &[u8] = b"entries 5 ok 5 err 0 part 0 sent 0 got 0 stalled 0\n";
 
 /// Two workers, each of which sends on a connection of its own.
 const CONNECTIONS: &[u8] = b"xti-script 1
@@ -90,38 +86,33 @@ const CONNECTIONS: &[u8] = b"xti-script 1
 2 snd c data=t:three
 ";
 
-const CONNECTIONS_SUMMARY: &str = "0 entries 19 ok 17 err 2 part 0 sent 11 got 0 stalled 0\n";
+const CONNECTIONS_SUMMARY: &[u8] = b"entries 19 ok 17 err 2 part 0 sent 11 got 0 stalled 0\n";
 
-/// The test fails where a script's summary is another one, or its workers' steps aren't made beside each other.
-fn expect_beside<T: Threads + Wait + Sync + Abort>(
-    rt: &T,
-    alloc: Global,
-    script: &[u8],
-    summary: &str,
-) -> Result<(), AllocError> {
-    let gate = Beside {
-        came: AtomicBool::new(false),
-        gave_up: AtomicBool::new(false),
-    };
-    let words = ["run", "--summary"];
-    let ran = expect_at(rt, alloc, &words, &[script], NO_FAULTS, &gate, summary);
-    let came = gate.came.load(Ordering::SeqCst);
-    let gave_up = gate.gave_up.load(Ordering::SeqCst);
-    drop(gate);
-    ran?;
-    assert!(rt; came);
-    assert!(rt; !gave_up);
-    Ok(())
-}
+/// Scripts, each with its summary.
+static SCRIPTS: [(&'static [u8], &'static [u8]); 2] = [
+    (ENDPOINTS, ENDPOINTS_SUMMARY),
+    (CONNECTIONS, CONNECTIONS_SUMMARY),
+];
 
 #[test]
-fn looks_at_two_endpoints(rt: HostRuntime) -> Result<(), Fail> {
-    expect_beside(&rt, rt.alloc(), ENDPOINTS, ENDPOINTS_SUMMARY)?;
-    Ok(())
-}
-
-#[test]
-fn sends_on_two_connections(rt: HostRuntime) -> Result<(), Fail> {
-    expect_beside(&rt, rt.alloc(), CONNECTIONS, CONNECTIONS_SUMMARY)?;
-    Ok(())
+fn steps_beside_each_other(rt: HostRuntime) {
+    for (number, (script, summary)) in SCRIPTS.iter().enumerate() {
+        let gate = Beside {
+            came: AtomicBool::new(false),
+            gave_up: AtomicBool::new(false),
+        };
+        let run = Run {
+            command: "run --summary",
+            input: script,
+            read: 7,
+            faults: NO_FAULTS,
+            status: 0,
+            output: summary,
+        };
+        let holds = holds(&rt, rt.alloc(), run, &gate);
+        let came = gate.came.load(Ordering::SeqCst);
+        let gave_up = gate.gave_up.load(Ordering::SeqCst);
+        drop(gate);
+        expect(&rt, holds && came && !gave_up, &number);
+    }
 }

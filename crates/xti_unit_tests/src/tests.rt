@@ -10,4 +10,3 @@ mod queue;
 mod registry;
 mod send_parts;
 mod summary;
-mod texts;

@@ -48,13 +48,6 @@ fn is_unused(alloc: Global) -> bool {
     }
 }
 
-#[test]
-fn lists(rt: HostRuntime) {
-    let alloc = rt.alloc();
-    assert!(rt; is_copied(alloc, b"ab", 99, b"abc") && is_copied_part(alloc));
-    assert!(rt; is_copied_number(alloc) && is_unused(alloc));
-}
-
 /// Whether a copy of a copy has the same bytes.
 fn is_copied_twice(alloc: Global, bytes: &[u8]) -> bool {
     let Ok(first) = Octets::copy_of(alloc, bytes) else {
@@ -66,9 +59,14 @@ fn is_copied_twice(alloc: Global, bytes: &[u8]) -> bool {
 }
 
 #[test]
-fn bytes_of_each_length(rt: HostRuntime) {
+fn copies(rt: HostRuntime) {
     let bytes = [7; 100];
     for length in 0..=bytes.len() {
         expect(&rt, is_copied_twice(rt.alloc(), &bytes[..length]), &length);
     }
+    let are_copied = is_copied(rt.alloc(), b"ab", 99, b"abc")
+        && is_copied_part(rt.alloc())
+        && is_copied_number(rt.alloc())
+        && is_unused(rt.alloc());
+    assert!(rt; are_copied);
 }

@@ -5,45 +5,55 @@ use std::alloc::{AllocError, Global};
 use xti_base::{Room, is_option_list};
 use xti_opt::*;
 
-/// A value as a number of so many bytes, at most 8.
-type Value = (u64, usize);
+/// A value: its length, and its bytes as two numbers of four bytes each, filled up by zeros.
+type Value = (u32, u32, u32);
 
 /// An option's level, name and asked value, and the result and value that it is answered with.
 type Row = (u32, u32, Value, u32, Value);
 
-/// An action, how many options it has, the overall result and the sizes afterwards.
+/// An action, how many options it has, the overall result and the sizes of sends and receives afterwards.
 ///
 /// The options stand in a table of their own: the more slices a table has, the more a proof over it takes for each of them.
-type Case = (u32, usize, u32, (u32, u32));
+type Case = (u32, usize, u32, u32, u32);
 
 const G: u32 = XTI_GENERIC;
 
-const EMPTY: Value = (0, 0);
+const EMPTY: Value = (0, 0, 0);
 
-const SHORT: Value = (1, 3);
+/// The bytes 0, 0 and 1.
+const SHORT: Value = (3, 0x100, 0);
 
-const LONG: Value = (0x100, 5);
+/// The bytes 0, 0, 0, 1 and 0.
+const LONG: Value = (5, 1, 0);
 
-const ZERO: Value = (0, 4);
+const ZERO: Value = (4, 0, 0);
 
-const ONE: Value = (1, 4);
+const ONE: Value = (4, 1, 0);
 
-const FIVE: Value = (5, 4);
+const FIVE: Value = (4, 5, 0);
 
-const MOST: Value = (0x10000, 4);
+const MOST: Value = (4, 0x10000, 0);
 
-const OVER: Value = (0x10001, 4);
+const OVER: Value = (4, 0x10001, 0);
 
-const HUGE: Value = (0xffff_ffff, 4);
+const HUGE: Value = (4, 0xffff_ffff, 0);
 
 /// The current sizes, 1,000 and 2,000, and those that the provider started with, 8,192 and 16,384.
-const SENDS: Value = (1000, 4);
+const SENDS: Value = (4, 1000, 0);
 
-const RECEIVES: Value = (2000, 4);
+const RECEIVES: Value = (4, 2000, 0);
 
-const STARTS_SENDS: Value = (8192, 4);
+const STARTS_SENDS: Value = (4, 8192, 0);
 
-const STARTS_RECEIVES: Value = (16384, 4);
+const STARTS_RECEIVES: Value = (4, 16384, 0);
+
+/// What a request is to be answered with: the options, the overall result, and the settings afterwards.
+#[derive(Clone, Copy)]
+struct Wanted<'a> {
+    bytes: &'a [u8],
+    overall: u32,
+    after: Settings,
+}
 
 /// The options of all cases, those of each behind those of the one before.
 static ROWS: [Row; 65] = [
@@ -129,73 +139,53 @@ static ROWS: [Row; 65] = [
 ];
 
 static CASES: [Case; 15] = [
-    (T_NEGOTIATE, 11, T_FAILURE, (65536, 2000)),
-    (T_NEGOTIATE, 9, T_FAILURE, (1000, 5)),
-    (T_NEGOTIATE, 1, T_SUCCESS, (5, 2000)),
-    (T_NEGOTIATE, 2, T_PARTSUCCESS, (1, 65536)),
-    (T_NEGOTIATE, 5, T_READONLY, (1000, 2000)),
-    (T_NEGOTIATE, 4, T_NOTSUPPORT, (5, 2000)),
-    (T_CHECK, 9, T_FAILURE, (1000, 2000)),
-    (T_CHECK, 3, T_PARTSUCCESS, (1000, 2000)),
-    (T_CHECK, 5, T_READONLY, (1000, 2000)),
-    (T_CHECK, 3, T_NOTSUPPORT, (1000, 2000)),
-    (T_CURRENT, 4, T_SUCCESS, (1000, 2000)),
-    (T_DEFAULT, 4, T_SUCCESS, (1000, 2000)),
-    (T_CURRENT, 3, T_NOTSUPPORT, (1000, 2000)),
-    (T_DEFAULT, 2, T_READONLY, (1000, 2000)),
+    (T_NEGOTIATE, 11, T_FAILURE, 65536, 2000),
+    (T_NEGOTIATE, 9, T_FAILURE, 1000, 5),
+    (T_NEGOTIATE, 1, T_SUCCESS, 5, 2000),
+    (T_NEGOTIATE, 2, T_PARTSUCCESS, 1, 65536),
+    (T_NEGOTIATE, 5, T_READONLY, 1000, 2000),
+    (T_NEGOTIATE, 4, T_NOTSUPPORT, 5, 2000),
+    (T_CHECK, 9, T_FAILURE, 1000, 2000),
+    (T_CHECK, 3, T_PARTSUCCESS, 1000, 2000),
+    (T_CHECK, 5, T_READONLY, 1000, 2000),
+    (T_CHECK, 3, T_NOTSUPPORT, 1000, 2000),
+    (T_CURRENT, 4, T_SUCCESS, 1000, 2000),
+    (T_DEFAULT, 4, T_SUCCESS, 1000, 2000),
+    (T_CURRENT, 3, T_NOTSUPPORT, 1000, 2000),
+    (T_DEFAULT, 2, T_READONLY, 1000, 2000),
     // no option
-    (T_DEFAULT, 0, T_SUCCESS, (1000, 2000)),
+    (T_DEFAULT, 0, T_SUCCESS, 1000, 2000),
 ];
 
-fn settings() -> Settings {
-    Settings {
-        sndbuf: 1000,
-        rcvbuf: 2000,
-        start_sndbuf: 8192,
-        start_rcvbuf: 16384,
-    }
-}
+/// The sizes before each request.
+const SETTINGS: Settings = Settings {
+    sndbuf: 1000,
+    rcvbuf: 2000,
+    start_sndbuf: 8192,
+    start_rcvbuf: 16384,
+};
 
-/// What a request is to be answered with: the options, the overall result and the sizes afterwards.
-#[derive(Clone, Copy)]
-struct Wanted<'a> {
-    bytes: &'a [u8],
-    overall: u32,
-    sizes: (u32, u32),
-}
-
-impl Wanted<'_> {
-    /// Whether this is the overall result, and the settings afterwards; what the provider started with stays as it was.
-    fn is(&self, overall: u32, after: Settings) -> bool {
-        let (sndbuf, rcvbuf) = self.sizes;
-        let wanted = Settings {
-            sndbuf,
-            rcvbuf,
-            ..settings()
+/// Adds the options as they are asked, with a status that doesn't count, or as they are to be answered.
+fn add(bytes: &mut Vec<u8>, rows: &[Row], answered: bool) -> Result<(), AllocError> {
+    for (level, name, asked, result, answer) in rows {
+        let (status, value) = if answered {
+            (*result, *answer)
+        } else {
+            (77, *asked)
         };
-        overall == self.overall && after == wanted
-    }
-}
-
-/// Adds an option at the end.
-fn add(bytes: &mut Vec<u8>, words: [u32; 3], value: Value) -> Result<(), AllocError> {
-    let [level, name, status] = words;
-    let (number, length) = value;
-    let length = length.min(8);
-    let number = number.to_be_bytes();
-    let (_, value) = number.split_at(8 - length);
-    for word in [16 + length as u32, level, name, status] {
-        bytes.extend_from_slice(&word.to_be_bytes())?;
-    }
-    bytes.extend_from_slice(value)?;
-    bytes.extend_from_slice(&[0, 0, 0][..(4 - length % 4) % 4])
-}
-
-/// Adds the options as they are asked, with a status that doesn't count, and as they are to be answered.
-fn add_all(asked: &mut Vec<u8>, told: &mut Vec<u8>, rows: &[Row]) -> Result<(), AllocError> {
-    for (level, name, value, status, answer) in rows {
-        add(asked, [*level, *name, 77], *value)?;
-        add(told, [*level, *name, *status], *answer)?;
+        let (length, front, back) = value;
+        let words = [
+            length.saturating_add(16),
+            *level,
+            *name,
+            status,
+            front,
+            back,
+        ];
+        let count = 4 + length.min(8).div_ceil(4) as usize;
+        for word in &words[..count] {
+            bytes.extend_from_slice(&word.to_be_bytes())?;
+        }
     }
     Ok(())
 }
@@ -208,12 +198,12 @@ fn is_answered_in_bytes(alloc: Global, action: u32, request: &[u8], wanted: &Wan
     let Ok(mut room) = Room::new(alloc, size) else {
         return false;
     };
-    let mut after = settings();
-    let answered = negotiate_bytes(&mut after, action, request, &mut room);
+    let mut after = SETTINGS;
+    let overall = negotiate_bytes(&mut after, action, request, &mut room);
     let bytes = room.finish();
     let is_same = bytes.as_slice().len() == size && bytes.as_slice() == wanted.bytes;
     drop(bytes);
-    is_same && matches!(answered, Ok(overall) if wanted.is(overall, after))
+    is_same && overall == Ok(wanted.overall) && after == wanted.after
 }
 
 /// Whether the request is answered so as a list.
@@ -221,33 +211,35 @@ fn is_answered_as_list(alloc: Global, action: u32, request: &[u8], wanted: &Want
     let Ok(list) = read_options(alloc, request) else {
         return false;
     };
-    let mut after = settings();
+    let mut after = SETTINGS;
     let answered = negotiate(alloc, &mut after, action, &list);
     drop(list);
     let Ok((answers, overall)) = answered else {
         return false;
     };
-    let is_same = are_bytes(write_options(alloc, &answers), wanted.bytes);
+    let bytes = write_options(alloc, &answers);
     drop(answers);
-    is_same && wanted.is(overall, after)
+    are_bytes(bytes, wanted.bytes) && overall == wanted.overall && after == wanted.after
 }
 
-/// Whether the request is answered as the case is to be, as a list and in bytes.
-fn is_answered(alloc: Global, case: &Case, request: &[u8], answer: &[u8]) -> bool {
-    let wanted = Wanted {
-        bytes: answer,
-        overall: case.2,
-        sizes: case.3,
-    };
-    is_answered_as_list(alloc, case.0, request, &wanted)
-        && is_answered_in_bytes(alloc, case.0, request, &wanted)
-}
-
+/// Whether the options are answered as the case is to be, as a list and in bytes.
 fn holds(alloc: Global, case: &Case, rows: &[Row]) -> bool {
+    let (action, _, overall, sndbuf, rcvbuf) = *case;
     let mut asked = Vec::new(alloc);
     let mut told = Vec::new(alloc);
-    let holds = add_all(&mut asked, &mut told, rows).is_ok()
-        && is_answered(alloc, case, asked.as_slice(), told.as_slice());
+    let are_added = add(&mut asked, rows, false).is_ok() && add(&mut told, rows, true).is_ok();
+    let wanted = Wanted {
+        bytes: told.as_slice(),
+        overall,
+        after: Settings {
+            sndbuf,
+            rcvbuf,
+            ..SETTINGS
+        },
+    };
+    let holds = are_added
+        && is_answered_as_list(alloc, action, asked.as_slice(), &wanted)
+        && is_answered_in_bytes(alloc, action, asked.as_slice(), &wanted);
     drop(asked);
     drop(told);
     holds
@@ -279,105 +271,84 @@ const CUT: &[u8] =
 const MIXED: &[u8] =
     b"\0\0\0\x14\0\0\xff\xff\0\0\x10\x02\0\0\0\0\0\x01\x11\x70\0\0\0\x14\0\0\xff\xff\0\0\x10\x03\0\0\0\0\0\0\0\x05\0\0\0\x10\0\0\0\x06\0\0\0\x01\0\0\0\0";
 
-/// An action, a request, and what it is to be answered with.
-type Answered = (u32, &'static [u8], Wanted<'static>);
+/// An action, a request, the options that it is to be answered with, the overall result, and the size of receives afterwards.
+type Answered = (u32, &'static [u8], &'static [u8], u32, u32);
 
 static ANSWERS: [Answered; 4] = [
-    (
-        T_CURRENT,
-        b"",
-        Wanted {
-            bytes: b"",
-            overall: 32,
-            sizes: (1000, 2000),
-        },
-    ),
+    (T_CURRENT, b"", b"", 32, 2000),
     (
         T_NEGOTIATE,
         LARGE,
-        Wanted {
-            bytes: b"\0\0\0\x14\0\0\xff\xff\0\0\x10\x02\0\0\x01\0\0\x01\0\0\0\0\0\x14\0\0\xff\xff\0\0\x10\x03\0\0\x02\0\0\0\0\x01",
-            overall: 512,
-            sizes: (1000, 65536),
-        },
+        b"\0\0\0\x14\0\0\xff\xff\0\0\x10\x02\0\0\x01\0\0\x01\0\0\0\0\0\x14\0\0\xff\xff\0\0\x10\x03\0\0\x02\0\0\0\0\x01",
+        512,
+        65536,
     ),
     // a value of five bytes, filled up by zeros, and a check without a value
     (
         T_CHECK,
         b"\0\0\0\x15\0\0\xff\xff\0\0\x10\x01\0\0\0\x20\0\0\0\x07\x07\0\0\0\0\0\0\x10\0\0\xff\xff\0\0\x10\x02\0\0\0\0",
-        Wanted {
-            bytes: b"\0\0\0\x14\0\0\xff\xff\0\0\x10\x01\0\0\0\x40\0\0\x03\xe8\0\0\0\x10\0\0\xff\xff\0\0\x10\x02\0\0\0\x20",
-            overall: 64,
-            sizes: (1000, 2000),
-        },
+        b"\0\0\0\x14\0\0\xff\xff\0\0\x10\x01\0\0\0\x40\0\0\x03\xe8\0\0\0\x10\0\0\xff\xff\0\0\x10\x02\0\0\0\x20",
+        64,
+        2000,
     ),
     (
         T_NEGOTIATE,
         OTHER_LEVEL,
-        Wanted {
-            bytes: b"\0\0\0\x10\0\0\0\x06\0\0\0\x01\0\0\x04\0",
-            overall: 1024,
-            sizes: (1000, 2000),
-        },
+        b"\0\0\0\x10\0\0\0\x06\0\0\0\x01\0\0\x04\0",
+        1024,
+        2000,
     ),
 ];
 
 #[test]
 fn answers_in_bytes(rt: HostRuntime) {
-    for (number, (action, request, wanted)) in ANSWERS.iter().enumerate() {
-        let is_answered = is_answered_in_bytes(rt.alloc(), *action, request, wanted);
+    for (number, (action, request, bytes, overall, rcvbuf)) in ANSWERS.iter().enumerate() {
+        let wanted = Wanted {
+            bytes,
+            overall: *overall,
+            after: Settings {
+                rcvbuf: *rcvbuf,
+                ..SETTINGS
+            },
+        };
+        let is_answered = is_answered_in_bytes(rt.alloc(), *action, request, &wanted);
         expect(&rt, is_answered, &number);
     }
 }
 
-/// An action, a request, and why it is refused.
-type Refused = (u32, &'static [u8], OptRefusal);
+/// An action, a request, and why it is refused, in bytes and as a list.
+type Refused = (u32, &'static [u8], OptRefusal, OptFail);
 
 static REFUSALS: [Refused; 7] = [
-    (7, b"", OptRefusal::BadFlag),
-    (0, LARGE, OptRefusal::BadFlag),
+    (7, b"", OptRefusal::BadFlag, OptFail::BadFlag),
+    (0, LARGE, OptRefusal::BadFlag, OptFail::BadFlag),
     // the action is looked at first
-    (12, MIXED, OptRefusal::BadFlag),
-    (T_SUCCESS, CUT, OptRefusal::BadFlag),
+    (12, MIXED, OptRefusal::BadFlag, OptFail::BadFlag),
+    (T_SUCCESS, CUT, OptRefusal::BadFlag, OptFail::BadFlag),
     // a byte is missing, and two levels
-    (T_NEGOTIATE, CUT, OptRefusal::BadOption),
-    (T_CURRENT, MIXED, OptRefusal::BadOption),
-    (T_CHECK, MIXED, OptRefusal::BadOption),
+    (T_NEGOTIATE, CUT, OptRefusal::BadOption, OptFail::BadOption),
+    (T_CURRENT, MIXED, OptRefusal::BadOption, OptFail::BadOption),
+    (T_CHECK, MIXED, OptRefusal::BadOption, OptFail::BadOption),
 ];
 
-/// Whether the request is refused so, in bytes and, if it is a list of options, as a list.
-fn is_refused(alloc: Global, action: u32, request: &[u8], refusal: OptRefusal) -> bool {
-    answer_size(action, request) == Err(refusal) && is_refused_list(alloc, action, request, refusal)
-}
-
 /// Whether bytes that are a list of options are refused so as a list, and the settings stay as they were.
-fn is_refused_list(alloc: Global, action: u32, request: &[u8], refusal: OptRefusal) -> bool {
+fn is_refused(alloc: Global, action: u32, request: &[u8], fail: OptFail) -> bool {
     let Ok(list) = read_options(alloc, request) else {
         return !is_option_list(request);
     };
-    let expected = match refusal {
-        OptRefusal::BadFlag => OptFail::BadFlag,
-        OptRefusal::BadOption => OptFail::BadOption,
-    };
-    let mut after = settings();
+    let mut after = SETTINGS;
     let answered = negotiate(alloc, &mut after, action, &list);
     drop(list);
-    match answered {
-        Ok((answers, _)) => {
-            drop(answers);
-            false
-        }
-        Err(fail) => fail == expected && after == settings(),
-    }
+    let is_refused = matches!(&answered, Err(found) if *found == fail);
+    drop(answered);
+    is_refused && after == SETTINGS
 }
 
 #[test]
 fn refuses(rt: HostRuntime) {
-    for (number, (action, request, refusal)) in REFUSALS.iter().enumerate() {
-        expect(
-            &rt,
-            is_refused(rt.alloc(), *action, request, *refusal),
-            &number,
-        );
+    for (number, (action, request, refusal, fail)) in REFUSALS.iter().enumerate() {
+        let is_refused = answer_size(*action, request) == Err(*refusal)
+            && is_refused(rt.alloc(), *action, request, *fail);
+        expect(&rt, is_refused, &number);
     }
 }

@@ -4,6 +4,39 @@ use super::cases::expect;
 use xti_base::{Limit, Prov};
 use xti_model::{Profile, Providers};
 
+/// A message size, whether messages may be empty, whether an address may have several endpoints, the sizes of the buffers for
+/// sends and for receives, and whether ticots, ticotsord and ticlts may have these values.
+type Row = (Limit, bool, bool, u32, u32, [bool; 3]);
+
+static ROWS: [Row; 23] = [
+    // message sizes
+    (Limit::At(0), false, false, 512, 512, [false, true, false]),
+    (Limit::At(0), true, false, 512, 512, [false; 3]),
+    (Limit::At(1), true, false, 512, 512, [true; 3]),
+    (Limit::At(1), false, false, 512, 512, [true; 3]),
+    (Limit::At(65536), true, false, 512, 512, [true; 3]),
+    (Limit::At(65537), true, false, 512, 512, [false; 3]),
+    (Limit::At(65537), false, false, 512, 512, [false; 3]),
+    (Limit::At(4294967295), true, false, 512, 512, [false; 3]),
+    (Limit::Infinite, true, false, 512, 512, [true, true, false]),
+    (Limit::Infinite, false, false, 512, 512, [true, true, false]),
+    (Limit::Invalid, true, false, 512, 512, [false; 3]),
+    (Limit::Invalid, false, false, 512, 512, [false; 3]),
+    // buffers
+    (Limit::At(512), true, false, 0, 512, [false; 3]),
+    (Limit::At(512), true, false, 1, 512, [true; 3]),
+    (Limit::At(512), true, false, 65536, 512, [true; 3]),
+    (Limit::At(512), true, false, 65537, 512, [false; 3]),
+    (Limit::At(512), true, false, 4294967295, 512, [false; 3]),
+    (Limit::At(512), true, false, 512, 0, [false; 3]),
+    (Limit::At(512), true, false, 512, 1, [true; 3]),
+    (Limit::At(512), true, false, 512, 65536, [true; 3]),
+    (Limit::At(512), true, false, 512, 65537, [false; 3]),
+    (Limit::At(512), true, false, 512, 4294967295, [false; 3]),
+    // the same address is for connections
+    (Limit::At(512), true, true, 512, 512, [true, true, false]),
+];
+
 /// Whether the values are valid, as `valid` and `checked` say; where they aren't, this provider's are wrong.
 fn is_valid(p: Providers, prov: Prov) -> bool {
     match p.checked() {
@@ -34,82 +67,18 @@ fn may_have(profile: Profile) -> [bool; 3] {
     ]
 }
 
-/// A message size of 512 bytes, and buffers of as many.
-fn plain() -> Profile {
-    Profile {
-        tsdu: Limit::At(512),
-        sendzero: true,
-        same_addr: false,
-        sndbuf: 512,
-        rcvbuf: 512,
-        reldata: false,
-    }
-}
-
-/// A message size, whether messages may be empty, and whether ticots, ticotsord and ticlts may have these.
-type MessageSize = (Limit, bool, [bool; 3]);
-
-static MESSAGE_SIZES: [MessageSize; 12] = [
-    (Limit::At(0), false, [false, true, false]),
-    (Limit::At(0), true, [false, false, false]),
-    (Limit::At(1), true, [true, true, true]),
-    (Limit::At(1), false, [true, true, true]),
-    (Limit::At(65536), true, [true, true, true]),
-    (Limit::At(65537), true, [false, false, false]),
-    (Limit::At(65537), false, [false, false, false]),
-    (Limit::At(4294967295), true, [false, false, false]),
-    (Limit::Infinite, true, [true, true, false]),
-    (Limit::Infinite, false, [true, true, false]),
-    (Limit::Invalid, true, [false, false, false]),
-    (Limit::Invalid, false, [false, false, false]),
-];
-
 #[test]
-fn bounds_of_message_sizes(rt: HostRuntime) {
-    for (number, (tsdu, sendzero, wanted)) in MESSAGE_SIZES.iter().enumerate() {
+fn bounds(rt: HostRuntime) {
+    for (number, (tsdu, sendzero, same_addr, sndbuf, rcvbuf, wanted)) in ROWS.iter().enumerate() {
         let profile = Profile {
             tsdu: *tsdu,
             sendzero: *sendzero,
-            ..plain()
+            same_addr: *same_addr,
+            sndbuf: *sndbuf,
+            rcvbuf: *rcvbuf,
+            reldata: false,
         };
         expect(&rt, may_have(profile) == *wanted, &number);
     }
-}
-
-/// A size of a buffer, and whether each provider may have it.
-static BUFFERS: [(u32, bool); 5] = [
-    (0, false),
-    (1, true),
-    (65536, true),
-    (65537, false),
-    (4294967295, false),
-];
-
-#[test]
-fn bounds_of_buffers(rt: HostRuntime) {
-    for (size, is_valid) in &BUFFERS {
-        let sends = Profile {
-            sndbuf: *size,
-            ..plain()
-        };
-        let receives = Profile {
-            rcvbuf: *size,
-            ..plain()
-        };
-        expect(
-            &rt,
-            [may_have(sends), may_have(receives)] == [[*is_valid; 3]; 2],
-            size,
-        );
-    }
-}
-
-#[test]
-fn the_same_address_is_for_connections(rt: HostRuntime) {
-    let profile = Profile {
-        same_addr: true,
-        ..plain()
-    };
-    assert!(rt; may_have(profile) == [true, true, false]);
     assert!(rt; Providers::usual().valid());
 }

@@ -54,75 +54,48 @@ fn gives<R: Source>(alloc: Global, source: &mut R, bytes: &[u8]) -> bool {
     is_same
 }
 
-/// Whether a read that fails once is told as a fault, and the bytes are read then, in three reads in all.
-fn is_read_again(alloc: Global) -> bool {
-    let mut reader = CountedReader {
-        bytes: b"abc",
-        reads: 0,
-        fails: 1,
-    };
-    let mut source = StdSource::new(&mut reader);
-    let refused = read_all(alloc, &mut source, 3).err();
-    let is_read = gives(alloc, &mut source, b"abc");
-    refused == Some(ReadEnd::Fault) && is_read && reader.reads == 3
-}
-
 // No contract of `Read` and `Write` tells a call that is made again after an error from one call, nor a call for one byte
-// from a call for more: these tests do.
-#[test]
-fn an_error_of_a_read_is_a_fault(rt: HostRuntime) {
-    assert!(rt; is_read_again(rt.alloc()));
-}
+// from a call for more: these counts do.
 
-/// Whether a write that fails once is told as a fault, and the bytes are written then, in two writes in all.
-fn is_written_again(alloc: Global) -> bool {
-    let mut writer = CountedWriter {
-        bytes: Vec::new(alloc),
-        writes: 0,
-        fails: 1,
-    };
-    let mut sink = StdSink::new(&mut writer);
-    let refused = write_all(&mut sink, b"abc");
-    let written = write_all(&mut sink, b"abc");
-    let writes = writer.writes;
-    let is_kept = writer.bytes.as_slice() == b"abc".as_slice();
-    drop(writer);
-    refused == Err(WriteEnd::Fault { written: 0 }) && written.is_ok() && writes == 2 && is_kept
-}
-
-#[test]
-fn an_error_of_a_write_is_a_fault(rt: HostRuntime) {
-    assert!(rt; is_written_again(rt.alloc()));
-}
-
-/// In how many reads the bytes are read; `None` where others are.
-fn count_reads(alloc: Global, bytes: &[u8]) -> Option<u64> {
+/// In how many reads the bytes are read, once more where a read failed, which is told as a fault; `None` where others are.
+fn count_reads(alloc: Global, bytes: &[u8], fails: u64) -> Option<u64> {
     let mut reader = CountedReader {
         bytes,
         reads: 0,
-        fails: 0,
+        fails,
     };
     let mut source = StdSource::new(&mut reader);
-    if gives(alloc, &mut source, bytes) {
+    let is_told = fails == 0
+        || read_all(alloc, &mut source, bytes.len()).err() == Some(ReadEnd::Fault);
+    if is_told && gives(alloc, &mut source, bytes) {
         Some(reader.reads)
     } else {
         None
     }
 }
 
-/// In how many writes the bytes are written; `None` where others are.
-fn count_writes(alloc: Global, bytes: &[u8]) -> Option<u64> {
+/// In how many writes the bytes are written, once more where a write failed, which is told as a fault before any byte; `None`
+/// where others are.
+fn count_writes(alloc: Global, bytes: &[u8], fails: u64) -> Option<u64> {
     let mut writer = CountedWriter {
         bytes: Vec::new(alloc),
         writes: 0,
-        fails: 0,
+        fails,
     };
     let mut sink = StdSink::new(&mut writer);
-    let is_done = write_all(&mut sink, bytes).is_ok();
+    let is_told = fails == 0 || write_all(&mut sink, bytes) == Err(WriteEnd::Fault { written: 0 });
+    let is_done = is_told && write_all(&mut sink, bytes).is_ok();
     let is_whole = is_done && writer.bytes.as_slice() == bytes;
     let writes = writer.writes;
     drop(writer);
     if is_whole { Some(writes) } else { None }
+}
+
+#[test]
+fn an_error_is_a_fault(rt: HostRuntime) {
+    let reads = count_reads(rt.alloc(), b"abc", 1);
+    let writes = count_writes(rt.alloc(), b"abc", 1);
+    assert!(rt; reads == Some(3) && writes == Some(2));
 }
 
 /// Whether so many bytes are read, and are written, in at most ten calls.
@@ -130,15 +103,10 @@ fn are_calls_few(alloc: Global, length: usize) -> bool {
     let Ok(bytes) = vec![in alloc; 7u8; length] else {
         return false;
     };
-    let reads = count_reads(alloc, bytes.as_slice());
-    let writes = count_writes(alloc, bytes.as_slice());
+    let reads = count_reads(alloc, bytes.as_slice(), 0);
+    let writes = count_writes(alloc, bytes.as_slice(), 0);
     drop(bytes);
     matches!((reads, writes), (Some(0..=10), Some(0..=10)))
-}
-
-#[test]
-fn calls_are_few(rt: HostRuntime) {
-    assert!(rt; are_calls_few(rt.alloc(), 100_000));
 }
 
 /// Whether a sink in memory keeps these bytes.
@@ -163,6 +131,7 @@ fn is_given(alloc: Global, bytes: &[u8]) -> bool {
 }
 
 #[test]
-fn carries(rt: HostRuntime) {
-    assert!(rt; is_given(rt.alloc(), b"abc") && is_kept(rt.alloc(), b"abc"));
+fn calls_are_few(rt: HostRuntime) {
+    let are_few = are_calls_few(rt.alloc(), 100_000);
+    assert!(rt; are_few && is_given(rt.alloc(), b"abc") && is_kept(rt.alloc(), b"abc"));
 }

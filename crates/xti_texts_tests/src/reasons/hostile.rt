@@ -1,5 +1,6 @@
 //! Texts that pass a limit, and texts that are made to harm who reads the reason.
 
+use super::super::cases::expect;
 use super::cases::is_refused;
 use std::alloc::{AllocError, Global};
 use xti_base::limits::{MOST_ARGUMENT_BYTES, MOST_LINES, MOST_SEND};
@@ -50,8 +51,9 @@ static LONG: [Long; 4] = [
     },
 ];
 
-/// Adds the lines.
-fn add_lines(text: &mut Vec<u8>, long: &Long) -> Result<(), AllocError> {
+/// Makes a text of the lines.
+fn set(text: &mut Vec<u8>, long: &Long) -> Result<(), AllocError> {
+    text.clear();
     text.extend_from_slice(long.first)?;
     for _ in 0..long.count {
         text.extend_from_slice(long.line)?;
@@ -59,39 +61,26 @@ fn add_lines(text: &mut Vec<u8>, long: &Long) -> Result<(), AllocError> {
     Ok(())
 }
 
-/// Whether the text of these lines is refused for this reason.
-fn is_told(alloc: Global, long: &Long) -> bool {
-    let mut text = Vec::new(alloc);
-    let is_told = add_lines(&mut text, long).is_ok()
-        && is_refused(alloc, long.kind, text.as_slice(), long.wanted);
-    drop(text);
-    is_told
-}
-
 #[test]
 fn long_texts(rt: HostRuntime) {
+    let mut text = Vec::new(rt.alloc());
     for long in &LONG {
-        assert!(rt; is_told(rt.alloc(), long), "{}", long.wanted);
+        set(&mut text, long).expect(&rt, "memory");
+        let is_told = is_refused(&rt, rt.alloc(), long.kind, text.as_slice(), long.wanted);
+        expect(&rt, is_told, &long.wanted);
     }
+    drop(text);
 }
 
 /// Whether the reason has no byte but printable ASCII, and isn't too long.
 fn is_harmless(alloc: Global, kind: Kind, text: &[u8], line: u64) -> bool {
     let told = reason(alloc, kind, text, line);
     let bytes = told.as_bytes();
-    bytes.len() <= MOST_REASON && bytes.iter().all(|c| b' ' <= *c && *c <= b'~')
-}
-
-/// The same of each kind and of some lines.
-fn are_harmless(alloc: Global, text: &[u8]) -> bool {
-    for line in [0, 1, 2, 3, 6, u64::MAX] {
-        for kind in [Kind::Script, Kind::Journal, Kind::Link] {
-            if !is_harmless(alloc, kind, text, line) {
-                return false;
-            }
-        }
+    let mut is_harmless = bytes.len() <= MOST_REASON;
+    for c in bytes {
+        is_harmless = is_harmless && b' ' <= *c && *c <= b'~';
     }
-    true
+    is_harmless
 }
 
 static HOSTILE: [&[u8]; 8] = [
@@ -105,9 +94,15 @@ static HOSTILE: [&[u8]; 8] = [
     b"xti-journal 1\nprovider \x1b\nprovider ticotsord \x9b\n",
 ];
 
+/// Of each kind and of some lines.
 #[test]
 fn control_characters(rt: HostRuntime) {
-    for text in &HOSTILE {
-        assert!(rt; are_harmless(rt.alloc(), text));
+    for (number, text) in HOSTILE.iter().enumerate() {
+        for line in [0, 1, 2, 3, 6, u64::MAX] {
+            let are_harmless = is_harmless(rt.alloc(), Kind::Script, text, line)
+                && is_harmless(rt.alloc(), Kind::Journal, text, line)
+                && is_harmless(rt.alloc(), Kind::Link, text, line);
+            expect(&rt, are_harmless, &number);
+        }
     }
 }

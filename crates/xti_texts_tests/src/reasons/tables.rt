@@ -1,23 +1,33 @@
-//! The tables of refused texts.
+//! The table of refused texts.
 
-use super::cases::{Group, expect_all};
+use super::super::cases::expect;
+use super::cases::is_refused;
+use std::alloc::AllocError;
 use xti_reasons::Kind;
 
-static SCRIPTS: [Group; 6] = [
-    Group {
-        kind: Kind::Script,
-        before: "",
-        cases: "|line 1: expected 'xti-script 1' or 'xti-script 2', found the end of the input
+/// Texts that begin alike. Each line of the cases is what follows, `~` for LF, then a bar and the reason.
+type Group = (Kind, &'static str, &'static str);
+
+const HEAD: &str = "xti-journal 1
+provider ticots tsdu=65536 sendzero=1 same_addr=0 sndbuf=16384 rcvbuf=16384
+provider ticotsord tsdu=0 sendzero=0 same_addr=0 sndbuf=16384 rcvbuf=16384
+";
+
+static GROUPS: [Group; 14] = [
+    (
+        Kind::Script,
+        "",
+        "|line 1: expected 'xti-script 1' or 'xti-script 2', found the end of the input
 ~|line 1: expected 'xti-script 1' or 'xti-script 2', found ''
 xti-script 3~|line 1: expected 'xti-script 1' or 'xti-script 2', found 'xti-script 3'
 xti-script 1\r~|line 1: expected 'xti-script 1' or 'xti-script 2', found 'xti-script 1\\x0d'
 0 open a ticlts~|line 1: expected 'xti-script 1' or 'xti-script 2', found '0 open a ticlts'
 ",
-    },
-    Group {
-        kind: Kind::Script,
-        before: "xti-script 1\n0 open a ticots\n0 bind a qlen=1\n1 open b ticots\n1 listen a q\n",
-        cases: "x look a~|line 6: expected a worker from 0 to 32, found 'x'
+    ),
+    (
+        Kind::Script,
+        "xti-script 1\n0 open a ticots\n0 bind a qlen=1\n1 open b ticots\n1 listen a q\n",
+        "x look a~|line 6: expected a worker from 0 to 32, found 'x'
 33 look a~|line 6: expected a worker from 0 to 32, found '33'
  1 look a~|line 6: expected a worker from 0 to 32, found a space too many
 1~|line 6: expected a call, found the end of the line
@@ -63,11 +73,11 @@ xti-script 1\r~|line 1: expected 'xti-script 1' or 'xti-script 2', found 'xti-sc
 2 accept a a q~|line 6: accept: expected a request for which this worker or worker 0 listens above, found 'q'
 1 snddis a x~|line 6: snddis: expected - or a request for which this worker or worker 0 listens above, found 'x'
 ",
-    },
-    Group {
-        kind: Kind::Script,
-        before: "xti-script 1\n+++\n",
-        cases: "|line 2: head: there is no second line +++
+    ),
+    (
+        Kind::Script,
+        "xti-script 1\n+++\n",
+        "|line 2: head: there is no second line +++
 [ticots]~|line 2: head: there is no second line +++
 # \u{e9}~+++~|line 2: head: a byte is not ASCII
 [ticots]~tsdu =~+++~|line 2: head: no TOML at line 4: invalid value, expected a string, number, boolean, date-time, array or inline table
@@ -84,50 +94,47 @@ ticots = 1~+++~|line 2: head: ticots: expected a table
 [ticots]~sendzero = 1~+++~|line 2: head: ticots: sendzero: expected true or false
 [ticotsord]~sendzero = true~+++~|line 2: head: ticotsord: sendzero: expected no empty messages, as tsdu is 0
 ",
-    },
-    Group {
-        kind: Kind::Script,
-        before: "xti-script 1\n+++\n[ticots]\n+++\n# x\n\n0 open a ticots\n",
-        cases: "+++~|line 8: expected a worker from 0 to 32, found '+++'
+    ),
+    (
+        Kind::Script,
+        "xti-script 1\n+++\n[ticots]\n+++\n# x\n\n0 open a ticots\n",
+        "+++~|line 8: expected a worker from 0 to 32, found '+++'
 0 frob a|line 8: unknown call 'frob'
 0 look b|line 8: look: expected an endpoint that this worker or worker 0 opens above, found 'b'
 ",
-    },
-    Group {
-        kind: Kind::Script,
-        before: "xti-script 2\n+++\n",
-        cases: "[ticots]~reldata = true~+++~|line 2: head: ticots: unknown key 'reldata', expected tsdu, sendzero, same_addr, sndbuf or rcvbuf
+    ),
+    (
+        Kind::Script,
+        "xti-script 2\n+++\n",
+        "[ticots]~reldata = true~+++~|line 2: head: ticots: unknown key 'reldata', expected tsdu, sendzero, same_addr, sndbuf or rcvbuf
 [ticotsord]~size = 1~+++~|line 2: head: ticotsord: unknown key 'size', expected tsdu, sendzero, same_addr, sndbuf, rcvbuf or reldata
 [ticotsord]~reldata = 1~+++~|line 2: head: ticotsord: reldata: expected true or false
 [ticotsord]~reldata = true~sendzero = true~+++~|line 2: head: ticotsord: sendzero: expected no empty messages, as tsdu is 0
 ",
-    },
-    Group {
-        kind: Kind::Script,
-        before: "xti-script 2\n+++\n[ticotsord]\nreldata = true\n+++\n0 open a ticotsord\n",
-        cases: "0 sndreldata~|line 7: sndreldata: expected an endpoint that this worker or worker 0 opens above, found the end of the line
+    ),
+    (
+        Kind::Script,
+        "xti-script 2\n+++\n[ticotsord]\nreldata = true\n+++\n0 open a ticotsord\n",
+        "0 sndreldata~|line 7: sndreldata: expected an endpoint that this worker or worker 0 opens above, found the end of the line
 0 sndreldata a data=t:bye~|line 7: sndreldata: unknown field 'data', expected udata
 0 sndreldata a udata=bye~|line 7: sndreldata: udata: expected bytes after t:, x: or f:, found 'bye'
 0 rcvreldata a max=1~|line 7: rcvreldata: unknown field 'max', expected umax
 0 t_sndreldata a~|line 7: unknown call 't_sndreldata', expected sndreldata
 0 sndreldata a~0 rcvreldata a~0 frob a~|line 9: unknown call 'frob'
 ",
-    },
-];
-
-static LINKS: [Group; 2] = [
-    Group {
-        kind: Kind::Link,
-        before: "",
-        cases: "|line 1: expected 'xti-link 1', found the end of the input
+    ),
+    (
+        Kind::Link,
+        "",
+        "|line 1: expected 'xti-link 1', found the end of the input
 xti-script 1~|line 1: expected 'xti-link 1', found 'xti-script 1'
 xti-link 1|line 1: the last line has no LF at its end
 ",
-    },
-    Group {
-        kind: Kind::Link,
-        before: "xti-link 1\noffer t:a\n",
-        cases: "timeout|line 3: the last line has no LF at its end
+    ),
+    (
+        Kind::Link,
+        "xti-link 1\noffer t:a\n",
+        "timeout|line 3: the last line has no LF at its end
 ~|line 3: expected offer, timeout, data or ack, found a space too many
 send t:a~|line 3: expected offer, timeout, data or ack, found 'send'
 timeout 1~|line 3: timeout: expected the end of the line, found '1'
@@ -139,19 +146,11 @@ data~|line 3: data: expected a number, found the end of the line
 data x~|line 3: data: expected a number of 32 bits without sign and leading zeros, found 'x'
 ack 1 2~|line 3: ack: expected the end of the line, found '2'
 ",
-    },
-];
-
-const HEAD: &str = "xti-journal 1
-provider ticots tsdu=65536 sendzero=1 same_addr=0 sndbuf=16384 rcvbuf=16384
-provider ticotsord tsdu=0 sendzero=0 same_addr=0 sndbuf=16384 rcvbuf=16384
-";
-
-static JOURNALS: [Group; 6] = [
-    Group {
-        kind: Kind::Journal,
-        before: "",
-        cases: "|line 1: expected 'xti-journal 1' or 'xti-journal 2', found the end of the input
+    ),
+    (
+        Kind::Journal,
+        "",
+        "|line 1: expected 'xti-journal 1' or 'xti-journal 2', found the end of the input
 xti-journal 1|line 1: the last line has no LF at its end
 xti-script 1~|line 1: expected 'xti-journal 1' or 'xti-journal 2', found 'xti-script 1'
 xti-journal 1~|line 2: expected a provider's line, found the end of the input
@@ -166,49 +165,49 @@ xti-journal 1~provider ticots tsdu=1 sendzero=1 same_addr=0 sndbuf=1 rcvbuf=1 x~
 xti-journal 1~provider ticots tsdu=0 sendzero=1 same_addr=0 sndbuf=1 rcvbuf=1~|line 2: ticots: tsdu: expected a number from 1 to 65536, or -1
 xti-journal 1~provider ticots tsdu=1 sendzero=1 same_addr=0 sndbuf=0 rcvbuf=1~|line 2: ticots: sndbuf: expected a number from 1 to 65536
 ",
-    },
-    Group {
-        kind: Kind::Journal,
-        before: "xti-journal 1\nprovider ticots tsdu=65536 sendzero=1 same_addr=0 sndbuf=16384 rcvbuf=16384\n",
-        cases: "provider ticotsord tsdu=0 sendzero=1 same_addr=0 sndbuf=1 rcvbuf=1~|line 3: ticotsord: sendzero: expected no empty messages, as tsdu is 0
+    ),
+    (
+        Kind::Journal,
+        "xti-journal 1\nprovider ticots tsdu=65536 sendzero=1 same_addr=0 sndbuf=16384 rcvbuf=16384\n",
+        "provider ticotsord tsdu=0 sendzero=1 same_addr=0 sndbuf=1 rcvbuf=1~|line 3: ticotsord: sendzero: expected no empty messages, as tsdu is 0
 ",
-    },
-    Group {
-        kind: Kind::Journal,
-        before: HEAD,
-        cases: "provider ticlts tsdu=1 sendzero=1 same_addr=1 sndbuf=1 rcvbuf=1~|line 4: ticlts: same_addr: expected 0
+    ),
+    (
+        Kind::Journal,
+        HEAD,
+        "provider ticlts tsdu=1 sendzero=1 same_addr=1 sndbuf=1 rcvbuf=1~|line 4: ticlts: same_addr: expected 0
 ",
-    },
-    Group {
-        kind: Kind::Journal,
-        before: "xti-journal 2\nprovider ticots tsdu=65536 sendzero=1 same_addr=0 sndbuf=16384 rcvbuf=16384",
-        cases: " reldata=0~|line 2: ticots: expected the end of the line, found 'reldata=0'
+    ),
+    (
+        Kind::Journal,
+        "xti-journal 2\nprovider ticots tsdu=65536 sendzero=1 same_addr=0 sndbuf=16384 rcvbuf=16384",
+        " reldata=0~|line 2: ticots: expected the end of the line, found 'reldata=0'
 ~provider ticotsord tsdu=0 sendzero=0 same_addr=0 sndbuf=1 rcvbuf=1~|line 3: ticotsord: expected reldata, found the end of the line
 ~provider ticotsord tsdu=0 sendzero=0 same_addr=0 sndbuf=1 rcvbuf=1 reldata=2~|line 3: ticotsord: reldata: expected 0 or 1, found '2'
 ~provider ticotsord tsdu=0 sendzero=0 same_addr=0 sndbuf=1 rcvbuf=1 reldata=1 x~|line 3: ticotsord: expected the end of the line, found 'x'
 ",
-    },
-    Group {
-        kind: Kind::Journal,
-        before: "xti-journal 2
+    ),
+    (
+        Kind::Journal,
+        "xti-journal 2
 provider ticots tsdu=65536 sendzero=1 same_addr=0 sndbuf=16384 rcvbuf=16384
 provider ticotsord tsdu=0 sendzero=0 same_addr=0 sndbuf=16384 rcvbuf=16384 reldata=1
 ",
-        cases: "provider ticlts tsdu=1 sendzero=1 same_addr=0 sndbuf=1 rcvbuf=1 reldata=0~|line 4: ticlts: expected the end of the line, found 'reldata=0'
+        "provider ticlts tsdu=1 sendzero=1 same_addr=0 sndbuf=1 rcvbuf=1 reldata=0~|line 4: ticlts: expected the end of the line, found 'reldata=0'
 provider ticlts tsdu=1 sendzero=1 same_addr=0 sndbuf=1 rcvbuf=1~1 0 sndreldata 0~|line 5: sndreldata: field 'udata' is missing
 provider ticlts tsdu=1 sendzero=1 same_addr=0 sndbuf=1 rcvbuf=1~1 0 rcvreldata 0 umax=64 => ok T_IDLE~|line 5: rcvreldata: answer: expected bytes after x:, found 'T_IDLE'
 provider ticlts tsdu=1 sendzero=1 same_addr=0 sndbuf=1 rcvbuf=1~stall 0 sndreldata 0 udata=x: x~|line 5: stall: sndreldata: expected the end of the line, found 'x'
 ",
-    },
-    Group {
-        kind: Kind::Journal,
-        before: "xti-journal 1
+    ),
+    (
+        Kind::Journal,
+        "xti-journal 1
 provider ticots tsdu=65536 sendzero=1 same_addr=0 sndbuf=16384 rcvbuf=16384
 provider ticotsord tsdu=0 sendzero=0 same_addr=0 sndbuf=16384 rcvbuf=16384
 provider ticlts tsdu=8192 sendzero=1 same_addr=0 sndbuf=16384 rcvbuf=16384
 1 0 open ticlts block => ok 0 T_UNBND
 ",
-        cases: "|line 6: expected a step, a stall line or the line end, found the end of the input
+        "|line 6: expected a step, a stall line or the line end, found the end of the input
 2 0 look 0|line 6: the last line has no LF at its end
 3 0 look 0~|line 6: expected the number of the step, 2, or stall or end, found '3'
 end 2~|line 6: end: expected the number of steps, 1, found '2'
@@ -246,20 +245,29 @@ stall 0 more x~|line 6: stall: open: expected the end of the line, found 'x'
 stall 0 more~2 0 look 0~|line 7: expected stall or end, found '2'
 stall 0 more~stall 0 more~|line 7: stall: worker 0 stalls alone, others stall in the order of their numbers
 ",
-    },
+    ),
 ];
 
-#[test]
-fn scripts(rt: HostRuntime) {
-    expect_all(&rt, rt.alloc(), &SCRIPTS);
+/// Makes a text of its two parts.
+fn set(text: &mut Vec<u8>, before: &str, behind: &str) -> Result<(), AllocError> {
+    text.clear();
+    text.extend_from_slice(before.as_bytes())?;
+    for c in behind.as_bytes() {
+        text.push(if *c == b'~' { b'\n' } else { *c })?;
+    }
+    Ok(())
 }
 
 #[test]
-fn links(rt: HostRuntime) {
-    expect_all(&rt, rt.alloc(), &LINKS);
-}
-
-#[test]
-fn journals(rt: HostRuntime) {
-    expect_all(&rt, rt.alloc(), &JOURNALS);
+fn reasons(rt: HostRuntime) {
+    let mut text = Vec::new(rt.alloc());
+    for (kind, before, cases) in &GROUPS {
+        for case in cases.lines() {
+            let (behind, wanted) = case.split_once('|').expect(&rt, "a bar");
+            set(&mut text, before, behind).expect(&rt, "memory");
+            let holds = is_refused(&rt, rt.alloc(), *kind, text.as_slice(), wanted);
+            expect(&rt, holds, &case);
+        }
+    }
+    drop(text);
 }

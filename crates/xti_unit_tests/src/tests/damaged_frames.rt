@@ -3,7 +3,7 @@
 ghost use Rattle.std.specs.Prelude.{◌≤◌};
 
 use super::cases::expect;
-use super::frames::count_completed;
+use super::frames::feed;
 use std::alloc::Global;
 use tpi_prim::{Decoded, FeedFail, FrameReader, decode};
 
@@ -62,91 +62,23 @@ static DAMAGED: [Case; 8] = [
     ),
 ];
 
-/// Whether the input is a proper prefix of a frame.
-fn is_short(alloc: Global, input: &[u8]) -> bool {
-    let decoded = decode(alloc, input);
-    let is_short = matches!(decoded, Decoded::Short);
-    drop(decoded);
-    is_short
-}
-
-/// The place of the first wrong byte.
-fn wrong_place(alloc: Global, input: &[u8]) -> Option<usize> {
+/// The place of the first wrong byte, or `Some(None)` where the input is a proper prefix of a frame; `None` where it has a frame.
+fn wrong_place(alloc: Global, input: &[u8]) -> Option<Option<usize>> {
     let decoded = decode(alloc, input);
     let place = match &decoded {
-        Decoded::Bad { at } => Some(*at),
+        Decoded::Bad { at } => Some(Some(*at)),
+        Decoded::Short => Some(None),
         _ => None,
     };
     drop(decoded);
     place
 }
 
-/// The first length, of those up to this one, to which the input is cut and isn't short.
-fn first_not_short(alloc: Global, input: &[u8], length: usize) -> Option<usize> {
-    for cut in 0..input.len() {
+/// Whether the input is a proper prefix of a frame wherever it is cut before this length.
+fn is_short_before(alloc: Global, input: &[u8], length: usize) -> bool {
+    for cut in 0..length.min(input.len()) {
         let (front, _) = input.split_at(cut);
-        if cut <= length && !is_short(alloc, front) {
-            return Some(cut);
-        }
-    }
-    None
-}
-
-/// Whether the input is refused at its wrong byte, and not before.
-fn is_refused_at(alloc: Global, input: &[u8], place: usize) -> bool {
-    first_not_short(alloc, input, place).is_none() && wrong_place(alloc, input) == Some(place)
-}
-
-#[test]
-fn decodes_damaged_frames(rt: HostRuntime) {
-    for (_, input, place, case) in &DAMAGED {
-        expect(&rt, is_refused_at(rt.alloc(), input, *place), case);
-    }
-}
-
-/// Where the reader refuses the piece, and whatever comes after.
-fn place_refused(reader: &mut FrameReader, piece: &[u8]) -> Option<u64> {
-    let first = reader.feed(piece).err();
-    let again = reader.feed(REQUEST).err();
-    match (first, again) {
-        (Some(FeedFail::Bad { at }), Some(FeedFail::Bad { at: same })) if at == same => Some(at),
-        _ => None,
-    }
-}
-
-/// Where the reader refuses the input, of which it is fed pieces of this size; the pieces before the one that has the wrong
-/// byte are read, and complete nothing.
-fn place_found(reader: &mut FrameReader, input: &[u8], size: usize, place: usize) -> Option<u64>
-    requires { 1 ≤ size }
-{
-    let mut fed = 0usize;
-    for piece in input.chunks(size) {
-        fed = fed.saturating_add(piece.len());
-        if place < fed {
-            return place_refused(reader, piece);
-        }
-        if count_completed(reader, piece) != Some(0) {
-            return None;
-        }
-    }
-    None
-}
-
-/// Whether a reader of its own reads what is before, and finds the wrong byte in the input by pieces of this size.
-fn is_found(alloc: Global, before: &[u8], input: &[u8], size: usize, place: usize) -> bool
-    requires { 1 ≤ size }
-{
-    let mut reader = FrameReader::new(alloc);
-    let is_read = count_completed(&mut reader, before).is_some();
-    let found = place_found(&mut reader, input, size, place);
-    drop(reader);
-    is_read && found == Some((before.len() as u64).saturating_add(place as u64))
-}
-
-/// Whether it is found by pieces of each size.
-fn is_found_by_all(alloc: Global, before: &[u8], input: &[u8], place: usize) -> bool {
-    for size in 1..=input.len() {
-        if !is_found(alloc, before, input, size, place) {
+        if wrong_place(alloc, front) != Some(None) {
             return false;
         }
     }
@@ -154,37 +86,76 @@ fn is_found_by_all(alloc: Global, before: &[u8], input: &[u8], place: usize) -> 
 }
 
 #[test]
+fn decodes_damaged_frames(rt: HostRuntime) {
+    for (_, input, place, case) in &DAMAGED {
+        let is_refused = is_short_before(rt.alloc(), input, place.saturating_add(1))
+            && wrong_place(rt.alloc(), input) == Some(Some(*place));
+        expect(&rt, is_refused, case);
+    }
+    let is_short = is_short_before(rt.alloc(), REQUEST, REQUEST.len());
+    expect(&rt, is_short, &"a cut frame");
+}
+
+/// How many frames the pieces of this size complete, how many bytes are read before a piece is refused, and why it is.
+fn feed_all(reader: &mut FrameReader, input: &[u8], size: usize) -> (usize, usize, Option<FeedFail>)
+    requires { 1 ≤ size }
+{
+    let mut completed = 0usize;
+    let mut read = 0usize;
+    for piece in input.chunks(size) {
+        match feed(reader, piece) {
+            Ok(count) => {
+                completed = completed.saturating_add(count);
+                read = read.saturating_add(piece.len());
+            }
+            Err(fail) => return (completed, read, Some(fail)),
+        }
+    }
+    (completed, read, None)
+}
+
+/// Whether a reader of its own reads what is before, and finds the wrong byte in the input by pieces of this size: those before
+/// the one that has it are read, and complete nothing; it is refused, and whatever comes after.
+fn is_found(alloc: Global, before: &[u8], input: &[u8], size: usize, place: usize) -> bool
+    requires { 1 ≤ size }
+{
+    let mut reader = FrameReader::new(alloc);
+    let is_read = feed(&mut reader, before).is_ok();
+    let found = feed_all(&mut reader, input, size);
+    let again = feed(&mut reader, REQUEST);
+    drop(reader);
+    let at = (before.len() as u64).saturating_add(place as u64);
+    let wrong = FeedFail::Bad { at };
+    let read = place.saturating_sub(place % size);
+    is_read && found == (0, read, Some(wrong)) && again == Err(wrong)
+}
+
+#[test]
 fn feeds_damaged_frames(rt: HostRuntime) {
     for (before, input, place, case) in &DAMAGED {
-        expect(
-            &rt,
-            is_found_by_all(rt.alloc(), before, input, *place),
-            case,
-        );
+        for size in 1..=input.len() {
+            let is_found = is_found(rt.alloc(), before, input, size, *place);
+            expect(&rt, is_found, case);
+        }
     }
 }
 
-/// How many primitives the pieces of this size before the last complete, and how many the last one.
-fn counts(reader: &mut FrameReader, input: &[u8], size: usize) -> Option<(usize, usize)>
+/// Whether the last of the pieces of this size completes the request, and none before.
+fn is_completed(alloc: Global, size: usize) -> bool
     requires { 1 ≤ size }
 {
-    let mut before = 0usize;
-    let mut last = 0usize;
-    for piece in input.chunks(size) {
-        before = before.saturating_add(last);
-        last = count_completed(reader, piece)?;
-    }
-    Some((before, last))
+    let length = REQUEST.len().saturating_sub(1);
+    let (front, last) = REQUEST.split_at(length.saturating_sub(length % size));
+    let mut reader = FrameReader::new(alloc);
+    let before = feed_all(&mut reader, front, size);
+    let at_last = feed(&mut reader, last);
+    drop(reader);
+    before == (0, front.len(), None) && at_last == Ok(1)
 }
 
 #[test]
 fn feeds_pieces_of_each_size(rt: HostRuntime) {
     for size in 1..=REQUEST.len() {
-        let mut reader = FrameReader::new(rt.alloc());
-        let found = counts(&mut reader, REQUEST, size);
-        drop(reader);
-        expect(&rt, found == Some((0, 1)), &size);
+        expect(&rt, is_completed(rt.alloc(), size), &size);
     }
-    let wrong = first_not_short(rt.alloc(), REQUEST, REQUEST.len());
-    assert!(rt; wrong.is_none());
 }

@@ -5,7 +5,7 @@ use bytes::Bytes;
 use std::alloc::Global;
 use tpi_grammar::{Measure, measure_frame};
 use tpi_prim::primitive::Prim;
-use tpi_prim::{FrameReader, IndicationWriter, encode};
+use tpi_prim::{FeedFail, FrameReader, IndicationWriter, encode};
 
 /// T_DATA_IND, MORE_flag 0, two bytes of user data.
 const DATA: &[u8] = b"\0\0\0\x08\0\0\0\x02\0\0\0\x0e\0\0\0\0hi";
@@ -140,85 +140,19 @@ fn measures(rt: HostRuntime) {
     for (input, wanted, case) in &MEASURES {
         expect(&rt, measure_frame(input) == *wanted, case);
     }
-}
-
-#[test]
-fn cut_frames_are_short(rt: HostRuntime) {
     for length in 0..DATAGRAM.len() {
-        expect(
-            &rt,
-            measure_frame(&DATAGRAM[..length]) == Measure::Short,
-            &length,
-        );
+        let is_short = measure_frame(&DATAGRAM[..length]) == Measure::Short;
+        expect(&rt, is_short, &length);
     }
 }
 
 /// Whether the primitive's frame is these bytes.
-fn is_frame_of(alloc: Global, prim: &Prim, bytes: &[u8]) -> bool {
-    match encode(alloc, prim) {
-        Ok(frame) => {
-            let is_same = frame.bytes() == bytes;
-            drop(frame);
-            is_same
-        }
-        Err(_) => false,
-    }
-}
-
-#[test]
-fn encodes(rt: HostRuntime) {
-    let data = Prim::T_DATA_IND {
-        more: false,
-        user: Bytes::from_static(b"hi"),
-    };
-    let is_encoded = is_frame_of(rt.alloc(), &data, DATA);
-    drop(data);
-    assert!(rt; is_encoded);
-    let release = Prim::T_ORDREL_IND {
-        user: Bytes::from_static(b"bye"),
-    };
-    let is_encoded = is_frame_of(rt.alloc(), &release, RELEASE);
-    drop(release);
-    assert!(rt; is_encoded);
-}
-
-/// Three frames and the start of a fourth one, in these pieces, and how many frames each piece completes.
-static PIECES: [(&'static [u8], usize); 5] = [
-    (b"\0\0\0\x08\0", 0),
-    (b"\0\0\x02\0\0\0\x0e\0\0\0\0hi\0\0\0\x04", 1),
-    (b"", 0),
-    (b"\0\0\0\0\0\0\0\x07\0\0\0\x04\0\0\0\0\0\0\0\x07", 2),
-    (b"\0\0\0", 0),
-];
-
-/// How many frames the piece completes; `None` where it can't be read.
-pub(super) fn count_completed(reader: &mut FrameReader, piece: &[u8]) -> Option<usize> {
-    match reader.feed(piece) {
-        Ok(prims) => {
-            let count = prims.len();
-            drop(prims);
-            Some(count)
-        }
-        Err(fail) => {
-            drop(fail);
-            None
-        }
-    }
-}
-
-#[test]
-fn feeds(rt: HostRuntime) {
-    let mut reader = FrameReader::new(rt.alloc());
-    for (number, (piece, wanted)) in PIECES.iter().enumerate() {
-        expect(
-            &rt,
-            count_completed(&mut reader, piece) == Some(*wanted),
-            &number,
-        );
-    }
-    let rest = reader.rest();
-    drop(reader);
-    assert!(rt; rest == 3);
+fn is_encoded(alloc: Global, prim: Prim, bytes: &[u8]) -> bool {
+    let frame = encode(alloc, &prim);
+    drop(prim);
+    let is_same = matches!(&frame, Ok(frame) if frame.bytes() == bytes);
+    drop(frame);
+    is_same
 }
 
 /// Whether user data in pieces make the frame.
@@ -236,6 +170,48 @@ fn is_written(alloc: Global) -> bool {
 }
 
 #[test]
-fn user_data_in_pieces(rt: HostRuntime) {
-    assert!(rt; is_written(rt.alloc()));
+fn encodes(rt: HostRuntime) {
+    let data = Prim::T_DATA_IND {
+        more: false,
+        user: Bytes::from_static(b"hi"),
+    };
+    let is_data = is_encoded(rt.alloc(), data, DATA);
+    let release = Prim::T_ORDREL_IND {
+        user: Bytes::from_static(b"bye"),
+    };
+    let is_release = is_encoded(rt.alloc(), release, RELEASE);
+    assert!(rt; is_data && is_release && is_written(rt.alloc()));
+}
+
+/// Three frames and the start of a fourth one, in these pieces, and how many frames each piece completes.
+static PIECES: [(&'static [u8], usize); 5] = [
+    (b"\0\0\0\x08\0", 0),
+    (b"\0\0\x02\0\0\0\x0e\0\0\0\0hi\0\0\0\x04", 1),
+    (b"", 0),
+    (b"\0\0\0\0\0\0\0\x07\0\0\0\x04\0\0\0\0\0\0\0\x07", 2),
+    (b"\0\0\0", 0),
+];
+
+/// How many frames the piece completes, or why it is refused.
+pub(super) fn feed(reader: &mut FrameReader, piece: &[u8]) -> Result<usize, FeedFail> {
+    match reader.feed(piece) {
+        Ok(prims) => {
+            let count = prims.len();
+            drop(prims);
+            Ok(count)
+        }
+        Err(fail) => Err(fail),
+    }
+}
+
+#[test]
+fn feeds(rt: HostRuntime) {
+    let mut reader = FrameReader::new(rt.alloc());
+    for (number, (piece, wanted)) in PIECES.iter().enumerate() {
+        let found = feed(&mut reader, piece);
+        expect(&rt, found == Ok(*wanted), &number);
+    }
+    let rest = reader.rest();
+    drop(reader);
+    assert!(rt; rest == 3);
 }

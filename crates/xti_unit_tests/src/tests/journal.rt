@@ -2,7 +2,7 @@
 
 ghost use Rattle.xti_summary.specs.Counting.{HaveWorkers};
 
-use super::texts::expect_text;
+use super::cases::are_bytes;
 use std::alloc::{AllocError, Global};
 use xti_base::{Octets, Prov, State};
 use xti_journal_text::{JournalWriter, StallLine, write_entry, write_journal};
@@ -17,19 +17,8 @@ stall 32 more
 end 1
 ";
 
-/// An entry with a call and an answer that takes memory.
-fn entry(alloc: Global) -> Result<Entry, AllocError> {
-    let addr = Octets::copy_of(alloc, b"a")?;
-    Ok(Entry {
-        worker: 7,
-        act: Act::Begin(Call::TOpen {
-            prov: Prov::Ticlts,
-            nonblock: true,
-        }),
-        outcome: Outcome::Done(Reply::Bound { addr, qlen: 0 }),
-        after: State::T_IDLE,
-    })
-}
+/// The line of its entry.
+const LINE: &[u8] = b"2 7 open ticlts nonblock => ok x:61 0 T_IDLE\n";
 
 /// A journal without entries.
 pub(super) fn empty(alloc: Global) -> Journal
@@ -42,25 +31,28 @@ pub(super) fn empty(alloc: Global) -> Journal
     }
 }
 
-/// Adds an entry and a stall line.
+/// Adds an entry with a call and an answer that takes memory, and a stall line.
 fn fill(alloc: Global, journal: &mut Journal) -> Result<(), AllocError> {
-    journal.entries.push(entry(alloc)?)?;
+    let addr = Octets::copy_of(alloc, b"a")?;
+    journal.entries.push(Entry {
+        worker: 7,
+        act: Act::Begin(Call::TOpen {
+            prov: Prov::Ticlts,
+            nonblock: true,
+        }),
+        outcome: Outcome::Done(Reply::Bound { addr, qlen: 0 }),
+        after: State::T_IDLE,
+    })?;
     journal.stalls.push(StallLine {
         worker: 32,
         act: Act::More,
     })
 }
 
-fn add_all(writer: &mut JournalWriter, entries: &[Entry]) -> Result<(), AllocError> {
-    for entry in entries {
-        writer.add(entry)?;
-    }
-    Ok(())
-}
-
-fn written_by_entries(alloc: Global, j: &Journal) -> Result<Octets, AllocError> {
+/// The text that is made by its entries, of which this is the only one.
+fn written_by_entries(alloc: Global, j: &Journal, entry: &Entry) -> Result<Octets, AllocError> {
     let mut writer = JournalWriter::begin(Vec::new(alloc), &j.providers)?;
-    match add_all(&mut writer, j.entries.as_slice()) {
+    match writer.add(entry) {
         Ok(()) => writer.end(&j.stalls),
         Err(fail) => {
             drop(writer);
@@ -69,31 +61,23 @@ fn written_by_entries(alloc: Global, j: &Journal) -> Result<Octets, AllocError> 
     }
 }
 
-#[test]
-fn journals(rt: HostRuntime) {
-    let mut journal = empty(rt.alloc());
-    let is_filled = fill(rt.alloc(), &mut journal).is_ok();
-    let written = write_journal(rt.alloc(), &journal);
-    expect_text(&rt, written, TEXT);
-    let written = written_by_entries(rt.alloc(), &journal);
-    expect_text(&rt, written, TEXT);
-    drop(journal);
-    assert!(rt; is_filled);
-}
-
-fn first_line(alloc: Global, j: &Journal) -> Result<Octets, AllocError> {
-    match j.entries.as_slice().first() {
-        Some(entry) => write_entry(alloc, 2, entry),
-        None => Ok(Octets::new(alloc)),
+/// Whether the journal has one entry, and the text is right, whole, by entries, and of the entry as the second one.
+fn is_written(alloc: Global, j: &Journal) -> bool {
+    match j.entries.as_slice() {
+        [entry] => {
+            are_bytes(write_journal(alloc, j), TEXT)
+                && are_bytes(written_by_entries(alloc, j, entry), TEXT)
+                && are_bytes(write_entry(alloc, 2, entry), LINE)
+        }
+        _ => false,
     }
 }
 
 #[test]
-fn entries(rt: HostRuntime) {
+fn journals(rt: HostRuntime) {
     let mut journal = empty(rt.alloc());
     let is_filled = fill(rt.alloc(), &mut journal).is_ok();
-    let line = first_line(rt.alloc(), &journal);
+    let is_written = is_written(rt.alloc(), &journal);
     drop(journal);
-    expect_text(&rt, line, b"2 7 open ticlts nonblock => ok x:61 0 T_IDLE\n");
-    assert!(rt; is_filled);
+    assert!(rt; is_filled && is_written);
 }

@@ -8,72 +8,53 @@ use super::cases::expect;
 use bytes::Bytes;
 use std::alloc::Global;
 use tpi_prim::primitive::Prim;
-use tpi_prim::{EncodeFail, Frame, Kind, encode};
+use tpi_prim::{Frame, Kind, encode};
 use xti_queue::{Piece, ReadQueue};
 
-/// What waits as one frame: a datagram, or normal data with this MORE_flag.
-#[derive(Clone, Copy)]
-enum Sent {
-    Datagram,
-    Data(bool),
+/// What is done with the queue, or asked and answered.
+enum Step {
+    /// A datagram waits.
+    Datagram(&'static [u8]),
+    /// Normal data wait, with this MORE_flag.
+    Data(bool, &'static [u8]),
+    /// At most so many bytes are taken: these, and whether a message ends with them.
+    Take(usize, &'static [u8], bool),
+    /// Nothing waits.
+    Empty,
 }
 
-/// A take of at most so many bytes, the bytes that it gives, and whether a message ends with them.
-type Take = (usize, &'static [u8], bool);
+use Step::{Data, Datagram, Empty, Take};
 
-/// The frames that are pushed, and the takes.
-type Case = (&'static [(Sent, &'static [u8])], &'static [Take]);
-
-static CASES: [Case; 4] = [
+static STEPS: [Step; 24] = [
     // a datagram in two parts
-    (
-        &[(Sent::Datagram, b"hello")],
-        &[(3, b"hel", false), (3, b"lo", true)],
-    ),
+    Datagram(b"hello"),
+    Take(3, b"hel", false),
+    Take(3, b"lo", true),
+    Empty,
     // a message of three frames, and the start of another one
-    (
-        &[
-            (Sent::Data(true), b"ab"),
-            (Sent::Data(true), b"cd"),
-            (Sent::Data(false), b"e"),
-            (Sent::Data(true), b"f"),
-        ],
-        &[(3, b"abc", false), (9, b"de", true), (9, b"f", false)],
-    ),
+    Data(true, b"ab"),
+    Data(true, b"cd"),
+    Data(false, b"e"),
+    Data(true, b"f"),
+    Take(3, b"abc", false),
+    Take(9, b"de", true),
+    Take(9, b"f", false),
+    Empty,
     // a frame without bytes, and an end alone
-    (
-        &[
-            (Sent::Data(true), b""),
-            (Sent::Data(true), b"ab"),
-            (Sent::Data(false), b""),
-        ],
-        &[(1, b"a", false), (1, b"b", true), (1, b"", false)],
-    ),
+    Data(true, b""),
+    Data(true, b"ab"),
+    Data(false, b""),
+    Take(1, b"a", false),
+    Take(1, b"b", true),
+    Take(1, b"", false),
+    Empty,
     // no bytes are asked for
-    (
-        &[(Sent::Datagram, b""), (Sent::Datagram, b"a")],
-        &[(0, b"", true), (0, b"", false), (1, b"a", true)],
-    ),
+    Datagram(b""),
+    Datagram(b"a"),
+    Take(0, b"", true),
+    Take(0, b"", false),
+    Take(1, b"a", true),
 ];
-
-fn prim(sent: Sent, user: &'static [u8]) -> Prim {
-    let user = Bytes::from_static(user);
-    match sent {
-        Sent::Datagram => Prim::T_UNITDATA_IND {
-            src: Bytes::from_static(b"a"),
-            opt: Bytes::new(),
-            user,
-        },
-        Sent::Data(more) => Prim::T_DATA_IND { more, user },
-    }
-}
-
-fn frame(alloc: Global, sent: Sent, user: &'static [u8]) -> Result<Frame, EncodeFail> {
-    let prim = prim(sent, user);
-    let frame = encode(alloc, &prim);
-    drop(prim);
-    frame
-}
 
 fn can_wait(frame: &Frame) -> bool
     ensures { result ≡ can_wait (kind_in frame.now) }
@@ -84,8 +65,13 @@ fn can_wait(frame: &Frame) -> bool
     )
 }
 
-/// Pushes a frame that may wait, and says whether it does.
-fn push(queue: &mut ReadQueue, frame: Frame) -> bool {
+/// Whether the primitive's frame, which may wait, waits in the queue.
+fn push(alloc: Global, queue: &mut ReadQueue, prim: Prim) -> bool {
+    let frame = encode(alloc, &prim);
+    drop(prim);
+    let Ok(frame) = frame else {
+        return false;
+    };
     if can_wait(&frame) && queue.reserve(1).is_ok() {
         queue.push(frame);
         true
@@ -95,23 +81,8 @@ fn push(queue: &mut ReadQueue, frame: Frame) -> bool {
     }
 }
 
-/// Whether all frames wait in the queue.
-fn push_all(alloc: Global, queue: &mut ReadQueue, frames: &[(Sent, &'static [u8])]) -> bool {
-    for (sent, user) in frames {
-        let is_pushed = match frame(alloc, *sent, user) {
-            Ok(frame) => push(queue, frame),
-            Err(_) => false,
-        };
-        if !is_pushed {
-            return false;
-        }
-    }
-    true
-}
-
 /// Whether the queue gives just this.
-fn gives(queue: &mut ReadQueue, take: &Take) -> bool {
-    let (max, wanted, closes) = *take;
+fn gives(queue: &mut ReadQueue, max: usize, wanted: &[u8], closes: bool) -> bool {
     match queue.take(max) {
         Ok(Piece { bytes, ended }) => {
             let is_wanted = bytes.as_slice() == wanted && ended == closes;
@@ -122,27 +93,36 @@ fn gives(queue: &mut ReadQueue, take: &Take) -> bool {
     }
 }
 
-fn gives_all(queue: &mut ReadQueue, takes: &[Take]) -> bool {
-    for take in takes {
-        if !gives(queue, take) {
-            return false;
+/// Whether the step is done, or answered so.
+fn holds(alloc: Global, queue: &mut ReadQueue, step: &Step) -> bool {
+    match step {
+        Datagram(bytes) => {
+            let datagram = Prim::T_UNITDATA_IND {
+                src: Bytes::from_static(b"a"),
+                opt: Bytes::new(),
+                user: Bytes::from_static(bytes),
+            };
+            push(alloc, queue, datagram)
         }
+        Data(more, bytes) => {
+            let data = Prim::T_DATA_IND {
+                more: *more,
+                user: Bytes::from_static(bytes),
+            };
+            push(alloc, queue, data)
+        }
+        Take(max, bytes, closes) => gives(queue, *max, bytes, *closes),
+        Empty => queue.frames_len() == 0,
     }
-    true
-}
-
-/// Whether the takes give what the frames have, and nothing is left.
-fn holds(alloc: Global, case: &Case) -> bool {
-    let mut queue = ReadQueue::new(alloc);
-    let is_given = push_all(alloc, &mut queue, case.0) && gives_all(&mut queue, case.1);
-    let left = queue.frames_len();
-    drop(queue);
-    is_given && left == 0
 }
 
 #[test]
 fn takes(rt: HostRuntime) {
-    for (number, case) in CASES.iter().enumerate() {
-        expect(&rt, holds(rt.alloc(), case), &number);
+    let mut queue = ReadQueue::new(rt.alloc());
+    for (number, step) in STEPS.iter().enumerate() {
+        expect(&rt, holds(rt.alloc(), &mut queue, step), &number);
     }
+    let left = queue.frames_len();
+    drop(queue);
+    assert!(rt; left == 0);
 }

@@ -2,7 +2,6 @@
 
 use super::cases::expect;
 use std::alloc::Global;
-use std::process::Abort;
 use xti_base::{Fd, Octets, Prov};
 use xti_model::Providers;
 use xti_registry::Registry;
@@ -97,23 +96,15 @@ fn holds(alloc: Global, table: &mut Registry, step: &Step) -> bool {
     }
 }
 
-/// The test fails where a step, of these from an empty table on, doesn't hold.
-fn expect_steps<R: Abort>(rt: &R, alloc: Global, steps: &[Step]) {
-    let Ok(mut table) = Registry::fresh(alloc, &Providers::usual()) else {
-        panic!(rt; "out of memory");
-    };
-    for (number, step) in steps.iter().enumerate() {
-        expect(rt, holds(alloc, &mut table, step), &number);
+/// The steps hold, each list of them from an empty table on.
+#[test]
+fn finds_and_chooses(rt: HostRuntime) {
+    for steps in [FINDS.as_slice(), CHOOSES.as_slice()] {
+        let table = Registry::fresh(rt.alloc(), &Providers::usual());
+        let mut table = table.expect(&rt, "memory");
+        for (number, step) in steps.iter().enumerate() {
+            expect(&rt, holds(rt.alloc(), &mut table, step), &number);
+        }
+        drop(table);
     }
-    drop(table);
-}
-
-#[test]
-fn finds_the_least_descriptor(rt: HostRuntime) {
-    expect_steps(&rt, rt.alloc(), &FINDS);
-}
-
-#[test]
-fn chooses_addresses(rt: HostRuntime) {
-    expect_steps(&rt, rt.alloc(), &CHOOSES);
 }

@@ -1,7 +1,7 @@
 //! The line of a worked history.
 
+use super::cases::are_bytes;
 use super::journal::empty;
-use super::texts::expect_text;
 use std::alloc::{AllocError, Global};
 use xti_base::Octets;
 use xti_journal::read_journal;
@@ -45,19 +45,12 @@ fn counted(alloc: Global, journal: &Journal) -> Result<Octets, AllocError> {
 }
 
 #[test]
-fn a_history(rt: HostRuntime) {
-    let Ok(journal) = read_journal(rt.alloc(), HISTORY) else {
-        panic!(rt; "no journal is read");
-    };
+fn summaries(rt: HostRuntime) {
+    let journal = read_journal(rt.alloc(), HISTORY).expect(&rt, "a journal");
     let text = counted(rt.alloc(), &journal);
     drop(journal);
-    expect_text(&rt, text, LINE);
-}
-
-#[test]
-fn no_entries(rt: HostRuntime) {
-    let journal = empty(rt.alloc());
-    let text = summary(rt.alloc(), &journal);
-    drop(journal);
-    expect_text(&rt, text, NOTHING);
+    let nothing = empty(rt.alloc());
+    let no_entries = summary(rt.alloc(), &nothing);
+    drop(nothing);
+    assert!(rt; are_bytes(text, LINE) & are_bytes(no_entries, NOTHING));
 }
