@@ -2,30 +2,23 @@
 
 use std::alloc::AllocError;
 use std::{io, str};
-use thiserror::Error;
 use xti_base::{Errno, Event, Fd};
 use xti_model::{Applied, Outcome, Reply};
 
 /// Why a call has no answer.
-#[derive(Debug, Drop, Error)]
+#[derive(Clone, Copy)]
 pub enum Failure {
     /// The error that t_errno has in C.
-    #[error("refused")]
     Refused(Errno),
     /// TLOOK, with the event that t_look would tell.
-    #[error("an event is pending")]
     Look(Event),
     /// The step is blocked, or is a part of a call.
-    #[error("not done")]
     NotDone,
     /// The answer is that of another call.
-    #[error("an answer of another call")]
     OtherAnswer,
     /// Out of memory.
-    #[error("out of memory")]
     OutOfMemory,
     /// Printing failed.
-    #[error("printing failed")]
     Printing,
 }
 

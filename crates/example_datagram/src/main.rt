@@ -51,16 +51,13 @@ fn exchange<R: Print>(rt: &R, alloc: Global, world: &mut World) -> Result<(), Fa
     receive_one(rt, world, fd)
 }
 
-/// The same in a world of its own.
-fn run<R: Print + AllocGlobal>(rt: &R) -> Result<(), Failure> {
-    let mut world = World::fresh(rt.alloc(), &Providers::usual())?;
-    let ended = exchange(rt, rt.alloc(), &mut world);
-    drop(world);
-    ended
-}
-
 fn main(rt: HostRuntime) -> ExitCode {
-    match run(&rt) {
+    let Ok(mut world) = World::fresh(rt.alloc(), &Providers::usual()) else {
+        return ExitCode::FAILURE;
+    };
+    let ended = exchange(&rt, rt.alloc(), &mut world);
+    drop(world);
+    match ended {
         Ok(()) => ExitCode::SUCCESS,
         Err(_) => ExitCode::FAILURE,
     }
