@@ -154,18 +154,12 @@ pub enum NamedCall {
 }
 
 /// A line of a script: a worker, and a call that it makes.
+#[derive(Drop)]
 pub struct Line {
     /// The worker, from 0 to `LAST_WORKER`; worker 0 is the setup.
     pub worker: u32,
     /// The call.
     pub call: NamedCall,
-}
-
-// Written out, so that a crate that lets one go proves a call of this, and nothing of what is in it.
-impl Drop for Line {
-    fn drop(self) {
-        let Line { worker: _, call: _ } = self;
-    }
 }
 
 /// Lines of a script.
