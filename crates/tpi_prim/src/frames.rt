@@ -109,12 +109,8 @@ pub(crate) fn word_at(bytes: &[u8], place: usize) -> u32
     requires { place + 4 ≤ length bytes.now }
     ensures { result ≡ word_in bytes.now place }
 {
-    u32::from_be_bytes([
-        bytes[place],
-        bytes[place + 1],
-        bytes[place + 2],
-        bytes[place + 3],
-    ])
+    let word = &bytes[place..place + 4];
+    u32::from_be_bytes([word[0], word[1], word[2], word[3]])
 }
 
 /// The part whose length stands at a place, and its offset after it.
