@@ -30,8 +30,10 @@ enum xti_end xti_step(const struct xti_asked *asked, const struct input *in, str
     int has_room = in->data_room != NULL;
     uint32_t end;
 
-    if (xti_is_recording)
+    if (xti_is_recording) {
+        xti_hold_off_cancellation();
         xti_place_step(asked, &place);
+    }
     end = xti_c_step(world, &kept, asked, bytes_at(in->addr, in->addr_len), in->addr_len, bytes_at(in->opt, in->opt_len),
         in->opt_len, bytes_at(in->data, in->data_len), in->data_len, in->sizes_len ? in->sizes : no_sizes, in->sizes_len, &a->told,
         a->addr, sizeof a->addr, a->opt, sizeof a->opt, has_room ? (uint8_t *)in->data_room : a->data,
@@ -63,12 +65,10 @@ static int is_one_of_datagrams(uint32_t call)
     return call == XTI_SNDUDATA || call == XTI_SNDVUDATA || call == XTI_RCVUDATA || call == XTI_RCVVUDATA;
 }
 
-/* Those that a step may touch by links that it may end; one that moves data ends none. */
-static places linked_before(const struct xti_asked *asked)
+/* Whether a step may end links; one that moves data ends none. */
+static int may_unlink(uint32_t call)
 {
-    if (!xti_is_anybody_there() || is_one_of_data(asked->call) || is_one_of_datagrams(asked->call))
-        return NO_PLACES;
-    return xti_linked(asked);
+    return !is_one_of_data(call) && !is_one_of_datagrams(call);
 }
 
 /* Data that were moved on a connection, or were received, change nothing that is noted here. */
@@ -111,13 +111,12 @@ static void tell(struct endpoint *e, const struct xti_asked *asked)
     xti_wake(xti_place_of(e), 1, for_room);
 }
 
-static void stepped(const struct xti_asked *asked, const struct input *input, const struct answer *answer, places touched)
+/* After a step; `before` are those that were linked before it, of one that may end links. */
+static void note(const struct xti_asked *asked, const struct input *input, const struct answer *answer, const places *before)
 {
     struct endpoint *e;
-    places linked;
+    places touched = *before, linked;
 
-    if (!(is_to_be_noted(asked->call) || xti_is_anybody_there()) || !has_changed(asked, &answer->told))
-        return;
     if (asked->call == XTI_CLOSE) {
         xti_wake((int)(asked->fd % XTI_PLACES), 1, 1);
         xti_set_open(xti_of_number(asked->fd), 0);
@@ -130,6 +129,12 @@ static void stepped(const struct xti_asked *asked, const struct input *input, co
     xti_keep_places(&touched, &xti_open_places);
     while ((e = xti_take_first(&touched)))
         tell(e, asked);
+}
+
+static void stepped(const struct xti_asked *asked, const struct input *input, const struct answer *answer, const places *before)
+{
+    if ((is_to_be_noted(asked->call) || xti_is_anybody_there()) && has_changed(asked, &answer->told))
+        note(asked, input, answer, before);
 }
 
 static int may_wait(uint32_t call)
@@ -148,7 +153,7 @@ static int take_mode(const struct xti_asked *asked)
     if (flags < 0 || e->is_nonblocking == (int)mode.number || xti_step(&mode, &xti_no_input, &a) != XTI_DONE)
         return 0;
     e->is_nonblocking = (int)mode.number;
-    stepped(&mode, &xti_no_input, &a, NO_PLACES);
+    stepped(&mode, &xti_no_input, &a, &NO_PLACES);
     return 1;
 }
 
@@ -207,12 +212,16 @@ static int wait_for_step(const struct xti_asked *asked, const struct input *inpu
 
     if (asked->call == XTI_SNDUDATA || asked->call == XTI_SNDVUDATA)
         other = xti_destination(input);
-    xti_write_journal();
+    if (xti_is_recording) {
+        xti_hold_off_cancellation();
+        xti_write_journal();
+    }
     return xti_wait(place, other < 0 ? place : other, what);
 }
 
 static int make_world(void)
 {
+    xti_hold_off_cancellation();
     if (!xti_c_make(&world))
         return xti_system_fail(ENOMEM);
     xti_record_by_environment();
@@ -233,18 +242,19 @@ int xti_make_call_locked(struct xti_asked *asked, const struct input *input, str
     if (!world.at && make_world() < 0)
         return -1;
     for (;;) {
-        places touched;
+        places before = NO_PLACES;
         if (must_know_mode(asked))
             take_mode(asked);
-        touched = linked_before(asked);
+        if (may_unlink(asked->call) && xti_is_anybody_there())
+            before = xti_linked(asked);
         switch (xti_step(asked, input, a)) {
         case XTI_DONE:
             if (asked->call != XTI_CONNECT && found_nothing(&a->told) && take_mode(asked))
                 break;
-            stepped(asked, input, a, touched);
+            stepped(asked, input, a, &before);
             return result_of(&a->told);
         case XTI_PART:
-            stepped(asked, input, a, touched);
+            stepped(asked, input, a, &before);
             asked->more = 1;
             asked->taken = a->told.number;
             break;
@@ -262,7 +272,7 @@ int xti_make_call(int fd, struct xti_asked *asked, const struct input *input, st
 {
     int result;
 
-    xti_enter();
+    xti_enter_to_step();
     asked->fd = xti_number_of(fd);
     result = xti_make_call_locked(asked, input, a);
     xti_leave();

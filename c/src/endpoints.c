@@ -1,6 +1,7 @@
 /* The table of endpoints. An endpoint's descriptor is that of an eventfd: its number is no file's, fcntl sets its O_NONBLOCK, and
    poll, select and epoll wait for it, since it is readable while an event is pending. */
 #include "endpoints.h"
+#include "waiting.h"
 #include "watching.h"
 #include <errno.h>
 #include <fcntl.h>
@@ -24,14 +25,21 @@ void xti_set_open(const struct endpoint *e, int is_open)
         xti_remove_place(&xti_open_places, xti_place_of(e));
 }
 
+/* The endpoint that was last found by a descriptor with this remainder is looked at first. */
 struct endpoint *xti_of_descriptor(int fd)
 {
+    static uint8_t last_found[XTI_PLACES];
+    uint8_t *last = &last_found[(unsigned int)fd % XTI_PLACES];
     places left = xti_open_places;
-    struct endpoint *e;
+    struct endpoint *e = &xti_endpoints[*last];
 
+    if (e->fd == fd && xti_has_place(&xti_open_places, *last))
+        return e;
     while ((e = xti_take_first(&left)))
-        if (e->fd == fd)
+        if (e->fd == fd) {
+            *last = (uint8_t)xti_place_of(e);
             break;
+        }
     return e;
 }
 
@@ -132,6 +140,7 @@ void xti_show_events(struct endpoint *e, int is_pending)
 
     if (is_pending == e->is_readable || !xti_is_watched)
         return;
+    xti_hold_off_cancellation();
     if (is_pending ? write(e->signal, &count, sizeof count) == sizeof count : clear(e->signal))
         e->is_readable = is_pending;
 }

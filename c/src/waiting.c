@@ -21,9 +21,23 @@ struct waiter {
 };
 
 static pthread_mutex_t lock = PTHREAD_MUTEX_INITIALIZER;
-static int cancel_state;
+/* Whether the thread that has the lock holds off cancellation, and the state that it goes back to. */
+static int is_held_off, cancel_state;
 static struct link *queues[XTI_PLACES];
 static unsigned int waiters;
+
+void xti_enter_to_step(void)
+{
+    pthread_mutex_lock(&lock);
+}
+
+void xti_hold_off_cancellation(void)
+{
+    if (is_held_off)
+        return;
+    pthread_setcancelstate(PTHREAD_CANCEL_DISABLE, &cancel_state);
+    is_held_off = 1;
+}
 
 void xti_enter(void)
 {
@@ -32,14 +46,17 @@ void xti_enter(void)
     pthread_setcancelstate(PTHREAD_CANCEL_DISABLE, &old);
     pthread_mutex_lock(&lock);
     cancel_state = old;
+    is_held_off = 1;
 }
 
 void xti_leave(void)
 {
-    int old = cancel_state;
+    int was_held_off = is_held_off, old = cancel_state;
 
+    is_held_off = 0;
     pthread_mutex_unlock(&lock);
-    pthread_setcancelstate(old, &old);
+    if (was_held_off)
+        pthread_setcancelstate(old, &old);
 }
 
 static void join_queue(struct waiter *w, int i)

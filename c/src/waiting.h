@@ -7,6 +7,9 @@ enum waits_for { WAITS_FOR_CHANGE, WAITS_FOR_ROOM };
 
 /* Takes the lock; the thread isn't cancelled while it has it, but in xti_wait. */
 void xti_enter(void);
+/* The same at less cost, for steps: who then does what may be a cancellation point holds off cancellation before, until xti_leave. */
+void xti_enter_to_step(void);
+void xti_hold_off_cancellation(void);
 void xti_leave(void);
 /* Waits for a wake at one of two places, with the lock held; whether a signal came first. */
 int xti_wait(int place, int other_place, enum waits_for what);

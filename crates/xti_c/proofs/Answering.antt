@@ -1,5 +1,5 @@
 -- A step that is made answers what C asked.
-use Rattle.std.proofs.Common.{◌≡◌, ◌≤◌, ◌<◌, ℕ, refl, sym, subst, ap, arith, ◌∙◌}
+use Rattle.std.proofs.Common.{◌≡◌, ◌≤◌, ◌<◌, ℕ, List, refl, sym, subst, ap, arith, ◌∙◌}
 use Rattle.std.specs.Prelude.{Some, None, false}
 use Rattle.std.specs.Option.{MatchOption}
 use Rattle.xti_base.specs.declared.kinds.State.{State}
@@ -16,7 +16,7 @@ use Rattle.xti_flat.specs.declared.told.Told.{Told}
 use Rattle.xti_verbs.specs.Verbs.{verb_of}
 use Rattle.xti_flat.specs.Calls.{Asks, AsksNoCall, CopiesNone, CopiesTakeNone, go_of}
 use Rattle.xti_flat.specs.Answers.{Rooms, told_of, end_of, filled}
-use Rattle.xti_c.specs.Answers.{Answers, IsSure, Leaves, Places, RunsOutRightly, Steps, TellsNoCall}
+use Rattle.xti_c.specs.Answers.{Answers, IsSure, Leaves, Places, RunsOutRightly, Steps, TellsNoCall, places_of}
 
 pub small : (o : Outcome) → end_of o ≤ 1
 small (Done r) = omega arith
@@ -56,6 +56,14 @@ unmade_steps w w' c g t ew = record {
   end = omega arith;
   providers = ap (λ (v : Standing). v.providers) ew;
 }
+
+-- what a branch leaves is what is left behind it
+pub left_steps : (w w' : Standing) (c : Call) (g : Go) (n m : ℕ) (t : Places) (told told' : Told) (addr addr' opt opt' udata udata' : List ℕ)
+    → n ≡ m → told ≡ told' → addr ≡ addr' → opt ≡ opt' → udata ≡ udata'
+    → Steps c g w w' m t (places_of told' addr' opt' udata') → Steps c g w w' n t (places_of told addr opt udata)
+left_steps w w' c g n m t told told' addr addr' opt opt' udata udata' en et ea eo eu s =
+    let places : places_of told' addr' opt' udata' ≡ places_of told addr opt udata = cc in
+    subst (λ (k : ℕ). Steps c g w w' k t (places_of told addr opt udata)) (sym en) (subst (λ p. Steps c g w w' m t p) places s)
 
 -- the step of the call that is asked for answers what C asked
 pub step_answers : (a : Asked) (b : Bytes) (w w' : Standing) (c : Call) (g : Go) (n : ℕ) (t t' : Places)

@@ -1,12 +1,11 @@
 -- A step that is made tells its line.
 use Rattle.std.proofs.Common.{◌≡◌, ◌≤◌, ◌<◌, ℕ, List, refl, sym, subst, arith}
-use Rattle.std.specs.Prelude.{Some, None}
+use Rattle.std.specs.Prelude.{Option, Some, None}
 use Rattle.xti_base.specs.declared.kinds.State.{State}
 use Rattle.xti_model.specs.declared.call.Call.{Call}
-use Rattle.xti_model.specs.declared.entry.Act.{Act}
 use Rattle.xti_model.specs.declared.entry.Go.{Go}
 use Rattle.xti_model.specs.declared.entry.Outcome.{Outcome}
-use Rattle.xti_model.specs.Step.{step}
+use Rattle.xti_model.specs.Step.{Step, step}
 use Rattle.xti_core.specs.Standing.{Standing}
 use Rattle.xti_flat.specs.declared.asked.Asked.{Asked}
 use Rattle.xti_flat.specs.declared.bytes.Bytes.{Bytes}
@@ -15,34 +14,32 @@ use Rattle.xti_flat.specs.Answers.{end_of}
 use Rattle.xti_journal_text.specs.JournalText.{entry_text}
 use Rattle.xti_c.specs.declared.recording.Place.{Place}
 use Rattle.xti_c.specs.declared.stepping.Ended.{Ended}
-use Rattle.xti_c.specs.Lines.{TellsEntry, TellsLine, TellsStep, TellsText, act_of}
+use Rattle.xti_c.specs.Lines.{TellsEntry, TellsLine, TellsStep, TellsText, entry_of}
 use Rattle.xti_c.proofs.Answering.{small}
 
 -- the line of a step that is made is that of its entry
-pub made_tells : (p : Place) (c : Call) (g : Go) (w w' : Standing) (a : Act) (o : Outcome) (after : State) (n size : ℕ) (room room' : List ℕ)
-    → Some (record { outcome = o; after = after; world = w'.cells }) ≡ step w.providers w.cells c g → n ≡ end_of o → a ≡ act_of c g
-    → TellsText (entry_text p.number (record { worker = p.worker; act = a; outcome = o; after = after })) size room room'
+pub made_tells : (p : Place) (c : Call) (g : Go) (w w' : Standing) (o : Outcome) (after : State) (n size : ℕ) (room room' : List ℕ)
+    → Some (record { outcome = o; after = after; world = w'.cells }) ≡ step w.providers w.cells c g → n ≡ end_of o
+    → TellsText (entry_text p.number (entry_of p c g o after)) size room room'
     → TellsStep p c g w (record { end = n; line = size }) room room'
-made_tells p c g w w' a o after n size room room' es en ea told =
+made_tells p c g w w' o after n size room room' es en told =
     let few : n ≤ 1 = subst (λ (m : ℕ). m ≤ 1) (sym en) (small o) in
-    let line = subst (λ (b : Act). TellsText (entry_text p.number (record { worker = p.worker; act = b; outcome = o; after = after })) size room room') ea told in
     record {
-      made = λ _. subst (λ s. TellsEntry p c g s size room room') es line;
+      made = λ _. subst (λ s. TellsEntry p c g s size room room') es told;
       not_made = λ (l : 3 ≤ n). let no : ⊥ = omega arith in absurd no;
     }
 
--- a blocked step has no line
-pub blocked_tells : (p : Place) (c : Call) (g : Go) (w : Standing) (room : List ℕ)
-    → None ≡ step w.providers w.cells c g → TellsStep p c g w (record { end = 2; line = 0 }) room room
-blocked_tells p c g w room es = record {
-  made = λ _. subst (λ s. TellsEntry p c g s 0 room room) es (refl, refl);
-  not_made = λ (l : 3 ≤ 2). let no : ⊥ = omega arith in absurd no;
+-- a step whose line isn't told
+pub untold_entry : (p : Place) (c : Call) (g : Go) (s : Option Step) (room : List ℕ) → TellsEntry p c g s 0 room room
+untold_entry p c g None room = (refl, refl)
+untold_entry p c g (Some s) room = record {
+  told = λ (l : 0 < 0). let no : ⊥ = omega arith in absurd no;
+  untold = λ _. refl;
 }
 
--- out of memory has none
-pub unmade_tells : (p : Place) (c : Call) (g : Go) (w : Standing) (room : List ℕ) → TellsStep p c g w (record { end = 3; line = 0 }) room room
-unmade_tells p c g w room = record {
-  made = λ (f : 3 < 3). let no : ⊥ = omega arith in absurd no;
+pub untold_tells : (p : Place) (c : Call) (g : Go) (w : Standing) (n : ℕ) (room : List ℕ) → TellsStep p c g w (record { end = n; line = 0 }) room room
+untold_tells p c g w n room = record {
+  made = λ _. untold_entry p c g (step w.providers w.cells c g) room;
   not_made = λ _. (refl, refl);
 }
 

@@ -1,11 +1,13 @@
 -- What C is told of a journal.
 use Rattle.std.specs.Prelude.{◌≡◌, ◌<◌, ◌≤◌, ℕ, List, [], length, Option, Some, None}
+use Rattle.xti_base.specs.declared.kinds.State.{State}
 use Rattle.xti_model.specs.declared.call.Call.{Call}
 use Rattle.xti_model.specs.declared.entry.Act.{Act}
 use Rattle.xti_model.specs.declared.entry.Act.TheVariants as act
 use Rattle.xti_model.specs.declared.entry.Entry.{Entry}
 use Rattle.xti_model.specs.declared.entry.Go.{Go}
 use Rattle.xti_model.specs.declared.entry.Go.TheVariants.{Begin, More}
+use Rattle.xti_model.specs.declared.entry.Outcome.{Outcome}
 use Rattle.xti_model.specs.declared.script.Journal.{Journal}
 use Rattle.xti_model.specs.Step.{Step, step}
 use Rattle.xti_core.specs.Standing.{Standing}
@@ -23,6 +25,10 @@ abbrev pub act_of : Call → Go → Act
 act_of c Begin = act.Begin c
 act_of c (More taken) = act.More
 
+-- the entry of a step of the call, at this place of the journal
+abbrev pub entry_of : Place → Call → Go → Outcome → State → Entry
+entry_of p c g o after = record { worker = p.worker; act = act_of c g; outcome = o; after = after }
+
 -- a run in which no step is made
 abbrev pub no_steps : Journal
 no_steps = record { providers = c_providers; entries = []; stalls = [] }
@@ -35,7 +41,7 @@ pub record TellsText (text : List ℕ) (size : ℕ) (room room' : List ℕ) : Ty
 -- the line of the step that the call makes, at this place of the journal; of no step nothing is told
 abbrev pub TellsEntry : Place → Call → Go → Option Step → ℕ → List ℕ → List ℕ → Type 0
 TellsEntry p c g None size room room' = (size ≡ 0) × (room' ≡ room)
-TellsEntry p c g (Some s) size room room' = TellsText (entry_text p.number (record { worker = p.worker; act = act_of c g; outcome = s.outcome; after = s.after })) size room room'
+TellsEntry p c g (Some s) size room room' = TellsText (entry_text p.number (entry_of p c g s.outcome s.after)) size room room'
 
 -- The line of the step, where one is made. Out of memory: nothing is told.
 pub record TellsStep (p : Place) (c : Call) (g : Go) (w : Standing) (e : Ended) (room room' : List ℕ) : Type 0 where

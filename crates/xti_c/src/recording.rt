@@ -2,13 +2,14 @@
 
 ghost use Rattle.std.specs.Prelude.{◌≡◌};
 ghost use Rattle.xti_journal_text.specs.JournalText.{entry_text, journal_text};
-ghost use Rattle.xti_c.specs.Lines.{TellsText, act_of, no_steps};
+ghost use Rattle.xti_c.specs.Lines.{TellsText, act_of, entry_of, no_steps};
 
 use crate::providers::providers;
 use std::alloc::Global;
+use xti_base::{State, let_go};
 use xti_flat::give;
 use xti_journal_text::{Entries, Entry, Journal, Stalls, write_entry, write_journal};
-use xti_model::{Act, Call, Go};
+use xti_model::{Act, Call, Go, Outcome};
 
 /// Where a step stands in a journal.
 #[derive(Clone, Copy)]
@@ -25,19 +26,35 @@ pub(crate) fn act_of(call: Call, go: Go) -> Act
 {
     match go {
         Go::Begin => Act::Begin(call),
-        Go::More(_) => Act::More,
+        Go::More(_) => {
+            let_go(call);
+            Act::More
+        }
     }
 }
 
-/// Writes as much of the entry's line as the room holds; the whole line's length. 0: no room was given, or out of memory, and the
-/// room is as before.
-pub(crate) fn tell_entry(alloc: Global, number: u64, entry: &Entry, room: &mut [u8]) -> usize
-    ensures { TellsText (entry_text number entry.now) result room.old room.new }
+/// Writes as much of the step's line as the room holds; the whole line's length. 0: out of memory, and the room is as before. It
+/// is not a part of its caller, whose steps mostly have no line.
+#[inline(never)]
+pub(crate) fn tell_step(
+    alloc: Global,
+    place: Place,
+    call: Call,
+    go: Go,
+    outcome: Outcome,
+    after: State,
+    room: &mut [u8],
+) -> usize
+    ensures { TellsText (entry_text place.number (entry_of place call go outcome after))
+        result room.old room.new }
 {
-    if room.is_empty() {
-        return 0;
-    }
-    match write_entry(alloc, number, entry) {
+    let entry = Entry {
+        worker: place.worker,
+        act: act_of(call, go),
+        outcome,
+        after,
+    };
+    match write_entry(alloc, place.number, &entry) {
         Ok(line) => {
             give(line.as_slice(), room);
             line.as_slice().len()

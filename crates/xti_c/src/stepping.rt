@@ -4,12 +4,12 @@ ghost use Rattle.std.specs.Prelude.{◌≡◌};
 ghost use Rattle.xti_c.specs.Answers.{places_of, Answers, IsSure, RunsOutRightly, Steps, TellsNoCall};
 ghost use Rattle.xti_c.specs.Lines.{TellsLine, TellsStep};
 
-use crate::recording::{Place, act_of, tell_entry};
+use crate::recording::{Place, tell_step};
 use std::alloc::Global;
+use xti_base::{State, let_go};
 use xti_core::World;
 use xti_flat::{Asked, Bytes, Told, call_of, go_of, tell};
-use xti_journal_text::Entry;
-use xti_model::{Applied, Call, Go};
+use xti_model::{Call, Go, Outcome};
 
 /// How a step ended, and how many bytes its line in the journal has; 0 where no line is told.
 #[derive(Clone, Copy)]
@@ -38,21 +38,20 @@ fn step_call(
     ensures line { TellsStep place call go world.old result room.old room.new }
     ensures sure { IsSure call go world.old result.end }
 {
-    match world.step(&call, go) {
-        Ok(Applied::Step { outcome, after }) => {
-            let end = tell(&outcome, after, told, addr, opt, udata);
-            let entry = Entry {
-                worker: place.worker,
-                act: act_of(call, go),
-                outcome,
-                after,
-            };
-            let line = tell_entry(alloc, place.number, &entry, room);
-            Ended { end, line }
-        }
-        Ok(Applied::Blocked) => Ended { end: 2, line: 0 },
-        Err(_) => Ended { end: 3, line: 0 },
+    let mut outcome = Outcome::Part { taken: 0 };
+    let mut after = State::T_UNINIT;
+    let end = match world.step_into(&call, go, &mut outcome, &mut after) {
+        Ok(true) => tell(&outcome, after, told, addr, opt, udata),
+        Ok(false) => 2,
+        Err(_) => 3,
+    };
+    if end > 1 || room.is_empty() {
+        let_go(outcome);
+        let_go(call);
+        return Ended { end, line: 0 };
     }
+    let line = tell_step(alloc, place, call, go, outcome, after, room);
+    Ended { end, line }
 }
 
 /// One step of the call that is asked for. 0: the call is done; 1: a part of it is made; 2: it is blocked; 3: out of memory; 4: no

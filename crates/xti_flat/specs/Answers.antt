@@ -1,5 +1,5 @@
 -- What C is told of a step's outcome.
-use Rattle.std.specs.Prelude.{ℕ, List, [], ◌∷◌, ◌++◌, length, take, drop, pos, Option, Some, None}
+use Rattle.std.specs.Prelude.{ℕ, List, [], ◌++◌, length, take, drop, pos, Some}
 use Rattle.xti_base.specs.declared.kinds.State.{State}
 use Rattle.xti_base.specs.Errno.{errno_number}
 use Rattle.xti_base.specs.Kinds.{event_number, state_number, service_number}

@@ -1,5 +1,5 @@
 -- Which call the numbers and bytes ask for.
-use Rattle.std.specs.Prelude.{◌≡◌, ◌≤◌, ℕ, length, List, [], ◌∷◌, take, drop, Bool, ◌==◌, not, if◌then◌else◌, Option, Some, None}
+use Rattle.std.specs.Prelude.{◌≡◌, ◌≤◌, ℕ, length, List, [], ◌∷◌, take, drop, ◌==◌, not, if◌then◌else◌, Option, Some, None}
 use Rattle.std.specs.Option.{MatchOption}
 use Rattle.xti_base.specs.declared.kinds.Prov.{Prov}
 use Rattle.xti_base.specs.declared.kinds.Prov.TheVariants.{Ticots, Ticotsord, Ticlts, Other}

@@ -1,43 +1,63 @@
-use Rattle.std.proofs.Common.{◌≡◌, refl, arith}
+use Rattle.std.proofs.Common.{◌≡◌, ◌∙◌, arith}
 use Rattle.std.proofs.lemmas.Bool.{false≢true}
-use Rattle.xti_c.proofs.Answering.{small, made_steps, blocked_steps, unmade_steps}
-use Rattle.xti_c.proofs.Lining.{made_tells, blocked_tells, unmade_tells}
+use Rattle.xti_c.proofs.Answering.{small, made_steps, blocked_steps, unmade_steps, left_steps}
+use Rattle.xti_c.proofs.Lining.{made_tells, untold_tells}
 use Rattle.xti_c.proofs.stepping.step_call.Goals as goal
+use Rattle.xti_c.proofs.stepping.step_call.Goals.{in-Ok-true, in-Ok-false, in-Err}
 
-pub returns-in-Ok-Step-clause-steps : goal.returns-in-Ok-Step-clause-steps
-returns-in-Ok-Step-clause-steps c =
-    let made = rw c.in-Ok-Step.field-0-is at c.in-Ok-Step.ensures.step in
-    made_steps c.args.world.now c.step.new.self c.args.call c.args.go c.in-Ok-Step.outcome c.in-Ok-Step.after c.tell-end.result
-    c.args.told.now c.tell-end.new.told _ _ made c.step.ensures.providers c.tell-end.ensures.end c.tell-end.ensures.told c.tell-end.ensures.rooms
+pub returns-then-end-gt1-clause-steps : goal.returns-then-end-gt1-clause-steps
+returns-then-end-gt1-clause-steps c = elim c.match-step_into.branch [
+  | in-Ok-true w ↦
+      left_steps c.args.world.now c.step_into.new.self c.args.call c.args.go _ _ _ _ _ _ _ _ _ _ _ w.end-is w.told-is w.addr-is w.opt-is w.udata-is
+      (made_steps c.args.world.now c.step_into.new.self c.args.call c.args.go c.step_into.new.outcome c.step_into.new.after w.tell-end.result
+      c.args.told.now w.tell-end.new.told _ _ (rw w.in-Ok-true.field-0-test at w.in-Ok-true.ensures.step) c.step_into.ensures.providers
+      w.tell-end.ensures.end w.tell-end.ensures.told w.tell-end.ensures.rooms)
+  | in-Ok-false w ↦
+      left_steps c.args.world.now c.step_into.new.self c.args.call c.args.go _ _ _ _ _ _ _ _ _ _ _ w.end-is w.told-is w.addr-is w.opt-is w.udata-is
+      (blocked_steps c.args.world.now c.step_into.new.self c.args.call c.args.go _ (rw w.in-Ok-false.field-0-test at w.in-Ok-false.ensures.step)
+      (w.in-Ok-false.ensures.still w.in-Ok-false.field-0-test))
+  | in-Err w ↦
+      left_steps c.args.world.now c.step_into.new.self c.args.call c.args.go _ _ _ _ _ _ _ _ _ _ _ w.end-is w.told-is w.addr-is w.opt-is w.udata-is
+      (unmade_steps c.args.world.now c.step_into.new.self c.args.call c.args.go _ w.in-Err.ensures.err)
+]
 
-pub returns-in-Ok-Step-clause-line : goal.returns-in-Ok-Step-clause-line
-returns-in-Ok-Step-clause-line c =
-    let made = rw c.in-Ok-Step.field-0-is at c.in-Ok-Step.ensures.step in
-    made_tells c.args.place c.args.call c.args.go c.args.world.now c.step.new.self c.act_of.result c.in-Ok-Step.outcome c.in-Ok-Step.after
-    c.tell-end.result c.tell_entry-line.result _ _ made c.tell-end.ensures.end c.act_of.ensures c.tell_entry-line.ensures
+pub returns-then-end-gt1-clause-line : goal.returns-then-end-gt1-clause-line
+returns-then-end-gt1-clause-line c = untold_tells c.args.place c.args.call c.args.go c.args.world.now c.match-step_into.end _
 
-pub returns-in-Ok-Step-clause-sure : goal.returns-in-Ok-Step-clause-sure
-returns-in-Ok-Step-clause-sure c = λ no (e : c.tell-end.result ≡ 3). let few = small c.in-Ok-Step.outcome in let end = c.tell-end.ensures.end in omega arith
+pub returns-then-end-gt1-clause-sure : goal.returns-then-end-gt1-clause-sure
+returns-then-end-gt1-clause-sure c = elim c.match-step_into.branch [
+  | in-Ok-true w ↦
+      λ no (e : c.match-step_into.end ≡ 3).
+      let few = small c.step_into.new.outcome in let end = w.tell-end.ensures.end in let is = w.end-is in omega arith
+  | in-Ok-false w ↦ λ no (e : c.match-step_into.end ≡ 3). let is = w.end-is in omega arith
+  | in-Err w ↦ λ no e. false≢true (w.in-Err.ensures.sure no)
+]
 
-pub returns-in-Ok-Blocked-clause-steps : goal.returns-in-Ok-Blocked-clause-steps
-returns-in-Ok-Blocked-clause-steps c =
-    let blocked = rw c.in-Ok-Blocked.field-0-is at c.in-Ok-Blocked.ensures.step in
-    let still = rw c.in-Ok-Blocked.field-0-is at c.in-Ok-Blocked.ensures.still in
-    blocked_steps c.args.world.now c.step.new.self c.args.call c.args.go _ blocked (still refl)
+pub returns-clause-steps : goal.returns-clause-steps
+returns-clause-steps c = elim c.match-step_into.branch [
+  | in-Ok-true w ↦
+      left_steps c.args.world.now c.step_into.new.self c.args.call c.args.go _ _ _ _ _ _ _ _ _ _ _ w.end-is w.told-is w.addr-is w.opt-is w.udata-is
+      (made_steps c.args.world.now c.step_into.new.self c.args.call c.args.go c.step_into.new.outcome c.step_into.new.after w.tell-end.result
+      c.args.told.now w.tell-end.new.told _ _ (rw w.in-Ok-true.field-0-test at w.in-Ok-true.ensures.step) c.step_into.ensures.providers
+      w.tell-end.ensures.end w.tell-end.ensures.told w.tell-end.ensures.rooms)
+  | in-Ok-false w ↦
+      left_steps c.args.world.now c.step_into.new.self c.args.call c.args.go _ _ _ _ _ _ _ _ _ _ _ w.end-is w.told-is w.addr-is w.opt-is w.udata-is
+      (blocked_steps c.args.world.now c.step_into.new.self c.args.call c.args.go _ (rw w.in-Ok-false.field-0-test at w.in-Ok-false.ensures.step)
+      (w.in-Ok-false.ensures.still w.in-Ok-false.field-0-test))
+  | in-Err w ↦
+      left_steps c.args.world.now c.step_into.new.self c.args.call c.args.go _ _ _ _ _ _ _ _ _ _ _ w.end-is w.told-is w.addr-is w.opt-is w.udata-is
+      (unmade_steps c.args.world.now c.step_into.new.self c.args.call c.args.go _ w.in-Err.ensures.err)
+]
 
-pub returns-in-Ok-Blocked-clause-line : goal.returns-in-Ok-Blocked-clause-line
-returns-in-Ok-Blocked-clause-line c =
-    let blocked = rw c.in-Ok-Blocked.field-0-is at c.in-Ok-Blocked.ensures.step in
-    blocked_tells c.args.place c.args.call c.args.go c.args.world.now _ blocked
+pub returns-clause-line : goal.returns-clause-line
+returns-clause-line c = elim c.match-step_into.branch [
+  | in-Ok-true w ↦
+      made_tells c.args.place c.args.call c.args.go c.args.world.now c.step_into.new.self c.step_into.new.outcome c.step_into.new.after
+      c.match-step_into.end c.tell_step-line.result _ _ (rw w.in-Ok-true.field-0-test at w.in-Ok-true.ensures.step)
+      (w.end-is ∙ w.tell-end.ensures.end) c.tell_step-line.ensures
+  | in-Ok-false w ↦ let is = w.end-is in let few = c.if-end-gt1.false in absurd (omega arith)
+  | in-Err w ↦ let is = w.end-is in let few = c.if-end-gt1.false in absurd (omega arith)
+]
 
-pub returns-in-Ok-Blocked-clause-sure : goal.returns-in-Ok-Blocked-clause-sure
-returns-in-Ok-Blocked-clause-sure c = λ no (e : 2 ≡ 3). omega arith
-
-pub returns-in-Err-clause-steps : goal.returns-in-Err-clause-steps
-returns-in-Err-clause-steps c = unmade_steps c.args.world.now c.step.new.self c.args.call c.args.go _ c.in-Err.ensures.err
-
-pub returns-in-Err-clause-line : goal.returns-in-Err-clause-line
-returns-in-Err-clause-line c = unmade_tells c.args.place c.args.call c.args.go c.args.world.now _
-
-pub returns-in-Err-clause-sure : goal.returns-in-Err-clause-sure
-returns-in-Err-clause-sure c = λ no e. false≢true (c.in-Err.ensures.sure no)
+pub returns-clause-sure : goal.returns-clause-sure
+returns-clause-sure c = λ no (e : c.match-step_into.end ≡ 3). let few = c.if-end-gt1.false in omega arith
