@@ -12,6 +12,9 @@ use xti_base::{Octets, Prov, State};
 use xti_model::{Entry, Journal, Outcome, Profile, Providers, StallLine, Version};
 use xti_text::{put_number, put_text};
 
+// A line with few data has no more bytes, so that its room is taken once.
+const USUAL_LINE: usize = 256;
+
 fn put_profile(out: &mut Vec<u8>, p: &Profile) -> Result<(), AllocError>
     ensures { OnOk result (out.new.items ≡ out.old.items ++ profile_text p.now) }
 {
@@ -152,7 +155,7 @@ pub fn write_journal(alloc: Global, j: &Journal) -> Result<Octets, AllocError>
 pub fn write_entry(alloc: Global, n: u64, e: &Entry) -> Result<Octets, AllocError>
     ensures { IfOk result (λ text. text ≡ entry_text n e.now) }
 {
-    let mut out = Vec::new(alloc);
+    let mut out = Vec::with_capacity(alloc, USUAL_LINE)?;
     put_entry(&mut out, n, e)?;
     Ok(Octets::from_vec(out))
 }
