@@ -8,3 +8,7 @@ mod Lookups
 mod Stalls
 mod Unfinished
 mod Committing
+mod Ending
+mod Adding
+mod Opening
+mod Endings

@@ -77,11 +77,9 @@ impl<C: Stands> Hall<C> {
         ensures err { OnErr result (LookedAt seat.old.view seat.new.view) }
         ensures standing { IsStanding seat.new.view }
     {
-        self.take_pen(rt, &mut seat.pass);
-        let mut journal = self.take_journal(&mut seat.pass);
+        let mut journal = self.look(rt, seat);
         if !reserve(&mut journal) {
-            journal.marks[seat.number as usize] = Mark::Free;
-            self.give_pen(&mut seat.pass, journal);
+            self.give_marked(seat, journal, Mark::Free);
             return Err(AllocError);
         }
         Ok(Pen::of(seat, journal))

@@ -50,8 +50,7 @@ impl<C: Stands> Hall<C> {
             return Err(NoSeat);
         }
         let mut fresh = self.cut(seat);
-        self.take_pen(rt, &mut fresh.pass);
-        let mut journal = self.take_journal(&mut fresh.pass);
+        let mut journal = self.look(rt, &mut fresh);
         journal.marks[fresh.number as usize] = Mark::Free;
         self.give_pen_unseen(&mut fresh.pass, journal);
         Ok(fresh)

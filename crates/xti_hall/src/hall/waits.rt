@@ -26,6 +26,7 @@ impl<C: Stands> Hall<C> {
         ensures look { TakesJournal seat.old.view result.value seat.new.view }
         ensures log { HasLog seat.new.view.setting result.value seat.new.view.history }
         ensures holds { Holds seat.new.view × (seat.new.view.numbered ≡ true) }
+        ensures standing { IsStanding seat.new.view }
     {
         self.take_pen(rt, &mut seat.pass);
         self.take_journal(&mut seat.pass)
