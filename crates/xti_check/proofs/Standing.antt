@@ -103,12 +103,15 @@ get_at : (past others : List Entry) (e d : Entry) → get_or (past ++ e ∷ othe
 get_at [] others e d = refl
 get_at (x ∷ past) others e d = get_at past others e d
 
+stands_there : (j : Judge) (past others : List Entry) (e r : Entry) (place : ℕ) → r ≡ get_or j.entries.now place r → j.entries.now ≡ past ++ e ∷ others → length past ≡ place → r ≡ e
+stands_there j past others e r place at whole here = at ∙ ap (λ (es : List Entry). get_or es place r) whole ∙ ap (λ (k : ℕ). get_or (past ++ e ∷ others) k r) (sym here) ∙ get_at past others e r
+
 -- the step of the call of the entry at this place is compared with what stands there
 pub compared_place : (j new : Judge) (place : ℕ) (r : Entry) (x : Option Part) (found called : Option Made) (m : Made) (a : Applied) (cells : World) (outcome : Outcome) (state : State) (left : Option Part) (text : Option (List ℕ)) → place < length j.entries.now → HaveWorkers j.entries.now → r ≡ get_or j.entries.now place r
     → x ≡ get_or j.parts r.worker None → made found ≡ going_of j.entries.now x → made called ≡ made_by (made found) r.act → called ≡ Some m → taken a cells ≡ step j.world.providers j.world.cells m.call.now m.go → a ≡ applied.Step outcome state → Compares outcome state r text
     → new.world.providers ≡ j.world.providers → new.world.cells ≡ cells → new.parts ≡ set j.parts r.worker left → new.entries.now ≡ j.entries.now → left ≡ left_after (begun_at x r.act place) r.outcome → JudgesPlace place j new text
 compared_place j new place r x found called m a cells outcome state left text inside small at i f k q t b c p w ps n l = λ past others e whole here s.
-    let same : r ≡ e = at ∙ ap (λ (es : List Entry). get_or es place r) whole ∙ ap (λ (k : ℕ). get_or (past ++ e ∷ others) k r) (sym here) ∙ get_at past others e r in
+    let same : r ≡ e = stands_there j past others e r place at whole here in
     let g : Going = record { call = m.call.now; so_far = m.go } in
     let st : Step = record { world = cells; outcome = outcome; after = state } in
     let worker : r.worker ≤ LAST_WORKER = subst (λ (y : Entry). y.worker ≤ LAST_WORKER) (sym at) (small place r inside) in
@@ -119,6 +122,28 @@ compared_place j new place r x found called m a cells outcome state left text in
     let rest : going_of j.entries.now left ≡ going_after (Some g.call) r.outcome = ap (going_of j.entries.now) l ∙ left_is j.entries.now past others r x g place (whole ∙ ap (λ (y : Entry). past ++ y ∷ others) (sym same)) here (sym act ∙ some) in
     let h : JudgesEntry past r j new text = says_compared past j new r g st left text s worker d made_step c p w ps n rest in
     subst (λ (y : Entry). JudgesEntry past y j new text) same h
+
+-- the act of the entry at this place doesn't go with its worker's call
+pub act_place : (j new : Judge) (place : ℕ) (r : Entry) (x : Option Part) (found called : Option Made) (text : Option (List ℕ)) → place < length j.entries.now → HaveWorkers j.entries.now → r ≡ get_or j.entries.now place r
+    → x ≡ get_or j.parts r.worker None → made found ≡ going_of j.entries.now x → made called ≡ made_by (made found) r.act → called ≡ None → text ≡ Some (wanted_act r.act) → JudgesPlace place j new text
+act_place j new place r x found called text inside small at i f k q t = λ past others e whole here s.
+    let worker : r.worker ≤ LAST_WORKER = subst (λ (y : Entry). y.worker ≤ LAST_WORKER) (sym at) (small place r inside) in
+    let act : made called ≡ made_by (going_of j.entries.now x) r.act = k ∙ ap (λ (u : Option Going). made_by u r.act) f in
+    let d : doing past r ≡ None = found_call past j r.worker r.act x called s worker i act ∙ ap made q in
+    let h : JudgesEntry past r j new text = subst (λ (y : Option (List ℕ)). JudgesEntry past r j new y) (sym t) (says_act past j new r (wanted_act r.act) d refl) in
+    subst (λ (y : Entry). JudgesEntry past y j new text) (stands_there j past others e r place at whole here) h
+
+-- the step of the call of the entry at this place is blocked
+pub blocked_place : (j new : Judge) (place : ℕ) (r : Entry) (x : Option Part) (found called : Option Made) (m : Made) (a : Applied) (cells : World) (text : Option (List ℕ)) → place < length j.entries.now → HaveWorkers j.entries.now → r ≡ get_or j.entries.now place r
+    → x ≡ get_or j.parts r.worker None → made found ≡ going_of j.entries.now x → made called ≡ made_by (made found) r.act → called ≡ Some m → taken a cells ≡ step j.world.providers j.world.cells m.call.now m.go → a ≡ applied.Blocked → text ≡ Some (codes "blocked") → JudgesPlace place j new text
+blocked_place j new place r x found called m a cells text inside small at i f k q b c t = λ past others e whole here s.
+    let g : Going = record { call = m.call.now; so_far = m.go } in
+    let worker : r.worker ≤ LAST_WORKER = subst (λ (y : Entry). y.worker ≤ LAST_WORKER) (sym at) (small place r inside) in
+    let act : made called ≡ made_by (going_of j.entries.now x) r.act = k ∙ ap (λ (u : Option Going). made_by u r.act) f in
+    let d : doing past r ≡ Some g = found_call past j r.worker r.act x called s worker i act ∙ ap made q in
+    let blocked : step_going j.world.providers (after j.world.providers past) g ≡ None = step_is past j g (taken a cells) s b ∙ ap (λ (y : Applied). taken y cells) c in
+    let h : JudgesEntry past r j new text = subst (λ (y : Option (List ℕ)). JudgesEntry past r j new y) (sym t) (says_blocked past j new r g (codes "blocked") d blocked refl) in
+    subst (λ (y : Entry). JudgesEntry past y j new text) (stands_there j past others e r place at whole here) h
 
 -- ---- stall lines
 

@@ -1,2 +1,4 @@
 pub mod Outcomes
 pub mod Standings
+pub mod Afters
+pub mod Looked

@@ -36,7 +36,7 @@ use Rattle.xti_hall_rule.specs.declared.setting.Setting.{Setting}
 use Rattle.xti_hall_rule.specs.declared.view.View.{View}
 use Rattle.xti_hall_rule.specs.declared.view.Mark.TheVariants.{Free}
 use Rattle.xti_hall_rule.specs.Histories.{part, cell_or_closed, own, after, Legal, Touches}
-use Rattle.xti_hall_rule.specs.Steps.{at, with_pen, without_pen, renew_from, Holds, Commits}
+use Rattle.xti_hall_rule.specs.Steps.{at, with_pen, without_pen, renew_from, Commits}
 use Rattle.xti_hall_rule.proofs.Laws.{own-append, own-mine, after-more, legal-more}
 use Rattle.xti_hall_rule.proofs.Lookups.{at_has}
 use Rattle.xti_hall.specs.Pens.{PenView}

@@ -21,7 +21,7 @@ use Rattle.xti_laws.proofs.Touched.{within-named}
 use Rattle.xti_laws.proofs.TouchedAgain.{named-some}
 use Rattle.xti_laws_sound.specs.Invariant.{SoundWorld}
 use Rattle.xti_laws_sound.proofs.Steps.{after-sound}
-use Rattle.xti_lent.specs.Lending.{Lending, cell_lent, cells, cells_by}
+use Rattle.xti_lent.specs.Lending.{Lending, cell_lent, cells_by}
 use Rattle.xti_core.specs.Looks.{events_by, events_in, events_among}
 use Rattle.xti_core.proofs.SomeCells.{Sub, there_and, there-among, there-only, those-within}
 use Rattle.xti_hall_rule.specs.declared.view.View.{View}

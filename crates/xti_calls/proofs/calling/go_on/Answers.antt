@@ -2,7 +2,7 @@ use Rattle.std.proofs.Common.{◌∙◌, ap, sym, subst}
 use Rattle.xti_hall.specs.Stalls.{waits}
 use Rattle.xti_model.specs.declared.entry.Applied.{Applied}
 use Rattle.xti_step.specs.Steps.{Tells, SeenAt}
-use Rattle.xti_calls.proofs.Going.{goes-done, goes-part, goes-on, goes-stopped, looks-idle, looks-later, still-blocked, waits-no-more}
+use Rattle.xti_calls.proofs.Going.{goes-done, goes-part, goes-on, goes-stopped, later-still, looks-idle, looks-later, still-blocked, waits-no-more}
 use Rattle.xti_calls.proofs.calling.go_on.Goals as goal
 
 pub returns-in-Done-clause-made : goal.returns-in-Done-clause-made
@@ -62,3 +62,80 @@ returns-in-Stalled-clause-made g c =
 
 pub returns-in-Err-clause-mark : goal.returns-in-Err-clause-mark
 returns-in-Err-clause-mark g c = λ w. waits-no-more c.loop.seat.view.mark c.step.new.seat.view.mark c.in-Err.ensures.mark (c.loop.invariant.mark w)
+
+pub returns-in-Err-clause-hall : goal.returns-in-Err-clause-hall
+returns-in-Err-clause-hall g c = (c.step.ensures.hall.0 ∙ c.loop.invariant.hall, c.step.ensures.hall.1 ∙ c.loop.invariant.id)
+
+pub returns-in-Err-clause-idle : goal.returns-in-Err-clause-idle
+returns-in-Err-clause-idle g c = c.step.ensures.idle
+
+pub returns-in-Err-clause-empty : goal.returns-in-Err-clause-empty
+returns-in-Err-clause-empty g c = (c.step.ensures.empty.0, c.step.ensures.empty.1 ∙ c.loop.invariant.providers)
+
+pub returns-in-Err-clause-first : goal.returns-in-Err-clause-first
+returns-in-Err-clause-first g c = c.step.ensures.first
+
+pub returns-in-Err-clause-later : goal.returns-in-Err-clause-later
+returns-in-Err-clause-later g c = later-still c.args.seat.now.view c.loop.seat.view c.step.new.seat.view c.loop.invariant.goes.later c.step.ensures.later
+
+pub returns-in-Err-clause-standing : goal.returns-in-Err-clause-standing
+returns-in-Err-clause-standing g c = c.step.ensures.standing
+
+pub returns-in-Done-clause-hall : goal.returns-in-Done-clause-hall
+returns-in-Done-clause-hall g c = (c.step.ensures.hall.0 ∙ c.loop.invariant.hall, c.step.ensures.hall.1 ∙ c.loop.invariant.id)
+
+pub returns-in-Done-clause-idle : goal.returns-in-Done-clause-idle
+returns-in-Done-clause-idle g c = c.step.ensures.idle
+
+pub returns-in-Done-clause-empty : goal.returns-in-Done-clause-empty
+returns-in-Done-clause-empty g c = (c.step.ensures.empty.0, c.step.ensures.empty.1 ∙ c.loop.invariant.providers)
+
+pub returns-in-Done-clause-first : goal.returns-in-Done-clause-first
+returns-in-Done-clause-first g c = c.step.ensures.first
+
+pub returns-in-Done-clause-later : goal.returns-in-Done-clause-later
+returns-in-Done-clause-later g c = later-still c.args.seat.now.view c.loop.seat.view c.step.new.seat.view c.loop.invariant.goes.later c.step.ensures.later
+
+pub returns-in-Done-clause-standing : goal.returns-in-Done-clause-standing
+returns-in-Done-clause-standing g c = c.step.ensures.standing
+
+pub returns-in-Err-clause-made : goal.returns-in-Err-clause-made
+returns-in-Err-clause-made g c = goes-stopped (goes-on c.loop.invariant.goes c.in-Err.ensures.err c.step.ensures.later) c.taken_before.result c.taken_before.ensures
+
+pub returns-in-Done-clause-mark : goal.returns-in-Done-clause-mark
+returns-in-Done-clause-mark g c = λ _. ap waits c.in-Ok-Step-default.ensures.free
+
+pub returns-in-Stalled-clause-hall : goal.returns-in-Stalled-clause-hall
+returns-in-Stalled-clause-hall g c =
+    (c.wait.ensures.hall.0 ∙ (c.step.ensures.hall.0 ∙ c.loop.invariant.hall), c.wait.ensures.hall.1 ∙ (c.step.ensures.hall.1 ∙ c.loop.invariant.id))
+
+pub returns-in-Stalled-clause-idle : goal.returns-in-Stalled-clause-idle
+returns-in-Stalled-clause-idle g c = looks-idle c.step.new.seat.view c.wait.new.seat.view c.step.ensures.idle c.wait.ensures.looks
+
+pub returns-in-Stalled-clause-empty : goal.returns-in-Stalled-clause-empty
+returns-in-Stalled-clause-empty g c = (c.step.ensures.empty.0, c.step.ensures.empty.1 ∙ c.loop.invariant.providers)
+
+pub returns-in-Stalled-clause-first : goal.returns-in-Stalled-clause-first
+returns-in-Stalled-clause-first g c = c.step.ensures.first
+
+pub returns-in-Stalled-clause-later : goal.returns-in-Stalled-clause-later
+returns-in-Stalled-clause-later g c =
+    let v = c.step.new.seat.view in
+    let v' = c.wait.new.seat.view in
+    later-still c.args.seat.now.view v v' (later-still c.args.seat.now.view c.loop.seat.view v c.loop.invariant.goes.later c.step.ensures.later) (looks-later v v' c.wait.ensures.looks)
+
+pub returns-in-Stalled-clause-standing : goal.returns-in-Stalled-clause-standing
+returns-in-Stalled-clause-standing g c = c.wait.ensures.standing
+
+pub returns-in-Stalled-clause-mark : goal.returns-in-Stalled-clause-mark
+returns-in-Stalled-clause-mark g c = λ _. ap waits c.in-Stalled.ensures.waited.2
+
+pub wait-requires-clause-hall : goal.wait-requires-clause-hall
+wait-requires-clause-hall g c =
+    (c.step.ensures.hall.0 ∙ (c.loop.invariant.hall ∙ c.requires.hall.0.0), c.step.ensures.later.setting ∙ (c.loop.invariant.goes.later.setting ∙ c.requires.hall.0.1))
+
+pub wait-requires-clause-free : goal.wait-requires-clause-free
+wait-requires-clause-free g c = c.step.ensures.idle.0
+
+pub wait-requires-clause-nothing : goal.wait-requires-clause-nothing
+wait-requires-clause-nothing g c = c.step.ensures.idle.1

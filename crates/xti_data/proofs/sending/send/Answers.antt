@@ -1,5 +1,5 @@
-use Rattle.std.proofs.Common.{◌≡◌, ◌∙◌, ◌+◌, ℕ, true, false, Option, sym, ap, subst, length, Some}
-use Rattle.std.specs.Prelude.{IfSome}
+use Rattle.std.proofs.Common.{◌≡◌, ◌∙◌, refl, ◌+◌, ℕ, true, false, Option, sym, ap, subst, length, Some}
+use Rattle.std.specs.Prelude.{IfSome, is_some}
 use Rattle.std.specs.List.{concat}
 use Rattle.xti_model.specs.Arguments.{is_expedited}
 use Rattle.xti_model.specs.Calls.Send as Send
@@ -106,3 +106,66 @@ returns-in-None-2-clause-step c =
     let link : seen c.linked_with.result ≡ linked l.providers (cells l) c.args.fd.0 e = c.linked_with.ensures.linked ∙ ap (linked_with l c.args.fd.0) peer in
     let t : ready_for (is_expedited c.args.flags) e (linked l.providers (cells l) c.args.fd.0 e) ≡ false = rw (link, c.is_expedited.ensures) at (sym c.in-None-2.ensures.ready) in
     sym (send-blocked l.providers (cells l) c.args.fd.0 (length c.args.parts.now) (concat c.args.parts.now) c.args.flags c.args.go e (sym c.in-Some.ensures.endpoint) u t (sym c.nonblock.ensures ∙ c.if-nonblock.false))
+
+pub returns-in_default-clause-still : goal.returns-in_default-clause-still
+returns-in_default-clause-still c = λ _. refl
+
+pub returns-in-Some-refusal-clause-still : goal.returns-in-Some-refusal-clause-still
+returns-in-Some-refusal-clause-still c = λ _. refl
+
+pub returns-in-None-2-clause-still : goal.returns-in-None-2-clause-still
+returns-in-None-2-clause-still c = λ _. refl
+
+pub returns-in_default-clause-sure : goal.returns-in_default-clause-sure
+returns-in_default-clause-sure c = λ _. refl
+
+pub returns-in_default-clause-err : goal.returns-in_default-clause-err
+returns-in_default-clause-err c = tt
+
+pub returns-in-Some-refusal-clause-sure : goal.returns-in-Some-refusal-clause-sure
+returns-in-Some-refusal-clause-sure c = λ _. refl
+
+pub returns-in-Some-refusal-clause-err : goal.returns-in-Some-refusal-clause-err
+returns-in-Some-refusal-clause-err c = tt
+
+pub returns-in_ok-give-in-Some-room-clause-sure : goal.returns-in_ok-give-in-Some-room-clause-sure
+returns-in_ok-give-in-Some-room-clause-sure c = λ _. refl
+
+pub returns-in_ok-give-in-Some-room-clause-err : goal.returns-in_ok-give-in-Some-room-clause-err
+returns-in_ok-give-in-Some-room-clause-err c = tt
+
+pub returns-in-None-clause-sure : goal.returns-in-None-clause-sure
+returns-in-None-clause-sure c = λ _. refl
+
+pub returns-in-None-clause-err : goal.returns-in-None-clause-err
+returns-in-None-clause-err c = tt
+
+pub returns-in-None-2-clause-sure : goal.returns-in-None-2-clause-sure
+returns-in-None-2-clause-sure c = λ _. refl
+
+pub returns-in-None-2-clause-err : goal.returns-in-None-2-clause-err
+returns-in-None-2-clause-err c = tt
+
+pub returns-in_ok-give-in-Some-room-clause-kept : goal.returns-in_ok-give-in-Some-room-clause-kept
+returns-in_ok-give-in-Some-room-clause-kept c = c.in_ok-give-in-Some-room.ensures.kept
+
+pub returns-in_err-give-in-Some-room-clause-kept : goal.returns-in_err-give-in-Some-room-clause-kept
+returns-in_err-give-in-Some-room-clause-kept c = c.in_err-give-in-Some-room.ensures.kept
+
+pub returns-in-None-clause-kept : goal.returns-in-None-clause-kept
+returns-in-None-clause-kept c = c.refuse_flow.ensures.kept
+
+pub room-requires-clause-peer : goal.room-requires-clause-peer
+room-requires-clause-peer c = c.linked_with.ensures.open
+
+pub give-requires-clause-own : goal.give-requires-clause-own
+give-requires-clause-own c = c.requires.fit.places
+
+pub refuse_flow-requires-clause-own : goal.refuse_flow-requires-clause-own
+refuse_flow-requires-clause-own c = c.requires.fit.places
+
+pub give-requires-clause-sender : goal.give-requires-clause-sender
+give-requires-clause-sender c = ap is_some c.in-Some.ensures.held
+
+pub refuse_flow-requires-clause-there : goal.refuse_flow-requires-clause-there
+refuse_flow-requires-clause-there c = ap is_some c.in-Some.ensures.held

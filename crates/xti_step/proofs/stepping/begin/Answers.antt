@@ -5,7 +5,9 @@ use Rattle.xti_hall_rule.specs.declared.view.View.{View}
 use Rattle.xti_hall_rule.specs.Steps.{at}
 use Rattle.xti_gather.specs.Lends.{Just}
 use Rattle.xti_gather.proofs.Holdings.{just_held}
+use Rattle.xti_step.proofs.Looked.{looked_later, looked_mine, looked_mark, looked_idle}
 use Rattle.xti_step.proofs.Outcomes.{lends_same}
+use Rattle.xti_step.proofs.Standings.{stands-still}
 use Rattle.xti_step.proofs.stepping.begin.Goals as goal
 
 pub pause-requires-clause-cells : goal.pause-requires-clause-cells
@@ -31,3 +33,49 @@ returns-clause-ready g c = record {
   numbered = ap (λ (z : View). z.numbered) c.in-Ok.ensures.ok ∙ (ap (λ (z : View). z.numbered) c.gather.ensures.rest ∙ c.requires.standing.numbered);
   sends = c.calls_send_bytes.ensures;
 }
+
+pub returns-in_default-clause-hall : goal.returns-in_default-clause-hall
+returns-in_default-clause-hall g c = (c.leave_all.ensures.hall.0 ∙ (c.begin.ensures.hall.0 ∙ c.gather.ensures.hall.0), c.leave_all.ensures.hall.1 ∙ (c.begin.ensures.hall.1 ∙ c.gather.ensures.hall.1))
+
+pub returns-in_default-clause-first : goal.returns-in_default-clause-first
+returns-in_default-clause-first g c = c.gather.ensures.first
+
+pub returns-in_default-clause-providers : goal.returns-in_default-clause-providers
+returns-in_default-clause-providers g c =
+    let e = c.in_default.ensures.err in
+    c.leave_all.ensures.lends.providers ∙ (ap (λ (z : View). z.setting.providers) c.leave_all.ensures.rest ∙ (ap (λ (z : View). z.setting.providers) e.2 ∙ (sym c.gather.ensures.lends.providers ∙ c.gather.ensures.providers)))
+
+pub returns-in_default-clause-later : goal.returns-in_default-clause-later
+returns-in_default-clause-later g c =
+    let e = c.in_default.ensures.err in
+    looked_later c.args.seat.now.view c.gather.new.seat.view c.begin.new.seat.view c.leave_all.new.seat.view c.gather.ensures.rest e.0 e.1 e.2 e.3 c.leave_all.ensures.rest
+
+pub returns-in_default-clause-err : goal.returns-in_default-clause-err
+returns-in_default-clause-err g c =
+    let e = c.in_default.ensures.err in
+    looked_mine c.args.seat.now.view c.gather.new.seat.view c.begin.new.seat.view c.leave_all.new.seat.view c.gather.ensures.rest e.0 e.1 e.2 e.3 c.leave_all.ensures.rest
+
+pub returns-in_default-clause-mark : goal.returns-in_default-clause-mark
+returns-in_default-clause-mark g c =
+    let e = c.in_default.ensures.err in
+    looked_mark c.args.seat.now.view c.gather.new.seat.view c.begin.new.seat.view c.leave_all.new.seat.view c.gather.ensures.rest e.0 e.1 e.2 e.3 c.leave_all.ensures.rest
+
+pub returns-in_default-clause-idle : goal.returns-in_default-clause-idle
+returns-in_default-clause-idle g c =
+    let e = c.in_default.ensures.err in
+    (looked_idle c.args.seat.now.view c.gather.new.seat.view c.begin.new.seat.view c.leave_all.new.seat.view c.gather.ensures.rest e.0 e.1 e.2 e.3 c.leave_all.ensures.rest c.leave_all.ensures.none, c.leave_all.ensures.empty)
+
+pub returns-in_default-clause-standing : goal.returns-in_default-clause-standing
+returns-in_default-clause-standing g c = stands-still c.begin.new.seat.view c.leave_all.new.seat.view c.leave_all.ensures.rest c.in_default.ensures.standing
+
+pub returns-clause-hall : goal.returns-clause-hall
+returns-clause-hall g c = (c.begin.ensures.hall.0 ∙ c.gather.ensures.hall.0, c.begin.ensures.hall.1 ∙ c.gather.ensures.hall.1)
+
+pub returns-clause-first : goal.returns-clause-first
+returns-clause-first g c = c.gather.ensures.first
+
+pub returns-clause-providers : goal.returns-clause-providers
+returns-clause-providers g c = c.gather.ensures.providers
+
+pub returns-clause-standing : goal.returns-clause-standing
+returns-clause-standing g c = c.in-Ok.ensures.standing

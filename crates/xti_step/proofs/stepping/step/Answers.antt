@@ -1,14 +1,15 @@
-use Rattle.std.proofs.Common.{◌∙◌, ℕ, refl, sym, ap, subst}
+use Rattle.std.proofs.Common.{◌∙◌, ℕ, inr, length, refl, sym, ap, subst}
 use Rattle.xti_base.specs.declared.kinds.State.{State}
 use Rattle.xti_model.specs.declared.entry.Applied.{Applied}
 use Rattle.xti_model.specs.declared.entry.Outcome.{Outcome}
 use Rattle.xti_end.specs.Taken.{taken}
 use Rattle.xti_lent.specs.Lending.{Lending, cells}
 use Rattle.xti_hall_rule.specs.declared.view.View.{View}
-use Rattle.xti_hall.specs.Seats.{SeatView, bare}
+use Rattle.xti_hall.specs.Seats.{SeatView, HoldsNone, bare}
 use Rattle.xti_gather.specs.Lends.{Lends}
 use Rattle.xti_gather.proofs.Wholes.{lends-fit}
 use Rattle.xti_step.proofs.Outcomes.{lends_unchanged, ready_lent, ready_short, ready_commits, ready_lends, ready_made, ready_waits}
+use Rattle.xti_step.proofs.Afters.{unmade-later, unmade-mine, unmade-stands, made-later, made-at}
 use Rattle.xti_step.proofs.Standings.{stands-still}
 use Rattle.xti_step.proofs.stepping.step.Goals as goal
 
@@ -64,3 +65,53 @@ returns-in-Ok-Step-clause-ok g c =
 
 pub returns-in-Ok-Step-clause-standing : goal.returns-in-Ok-Step-clause-standing
 returns-in-Ok-Step-clause-standing g c = stands-still c.write-rings.new.seat.view c.wake.new.seat.view (ap (λ (z : SeatView). bare z.view) c.wake.ensures ∙ c.leave_all.ensures.rest) c.write-rings.ensures.standing
+
+pub returns-in-Err-apply-clause-later : goal.returns-in-Err-apply-clause-later
+returns-in-Err-apply-clause-later g c = unmade-later c.in-Ok.ensures.ready c.give_up.new.seat.view c.give_up.ensures.view
+
+pub returns-in-Err-apply-clause-standing : goal.returns-in-Err-apply-clause-standing
+returns-in-Err-apply-clause-standing g c = unmade-stands c.in-Ok.ensures.ready c.give_up.new.seat.view c.give_up.ensures.view c.begin.ensures.standing
+
+pub returns-in-Err-apply-clause-idle : goal.returns-in-Err-apply-clause-idle
+returns-in-Err-apply-clause-idle g c = (ap (λ (z : View). z.journal) c.give_up.ensures.view, c.give_up.ensures.none)
+
+pub returns-in-Err-apply-clause-err : goal.returns-in-Err-apply-clause-err
+returns-in-Err-apply-clause-err g c = unmade-mine c.in-Ok.ensures.ready c.give_up.new.seat.view c.give_up.ensures.view
+
+pub returns-in-Err-apply-clause-mark : goal.returns-in-Err-apply-clause-mark
+returns-in-Err-apply-clause-mark g c = inr (ap (λ (z : View). z.mark) c.give_up.ensures.view)
+
+pub returns-in-Ok-Blocked-clause-later : goal.returns-in-Ok-Blocked-clause-later
+returns-in-Ok-Blocked-clause-later g c = unmade-later c.in-Ok.ensures.ready c.give_up-in-Ok-Blocked.new.seat.view c.give_up-in-Ok-Blocked.ensures.view
+
+pub returns-in-Ok-Blocked-clause-standing : goal.returns-in-Ok-Blocked-clause-standing
+returns-in-Ok-Blocked-clause-standing g c = unmade-stands c.in-Ok.ensures.ready c.give_up-in-Ok-Blocked.new.seat.view c.give_up-in-Ok-Blocked.ensures.view c.begin.ensures.standing
+
+pub returns-in-Ok-Blocked-clause-idle : goal.returns-in-Ok-Blocked-clause-idle
+returns-in-Ok-Blocked-clause-idle g c = (ap (λ (z : View). z.journal) c.give_up-in-Ok-Blocked.ensures.view, c.give_up-in-Ok-Blocked.ensures.none)
+
+pub returns-in-Ok-Blocked-clause-free : goal.returns-in-Ok-Blocked-clause-free
+returns-in-Ok-Blocked-clause-free g c = ap (λ (z : View). z.mark) c.give_up-in-Ok-Blocked.ensures.view
+
+pub returns-in-Ok-Blocked-clause-at : goal.returns-in-Ok-Blocked-clause-at
+returns-in-Ok-Blocked-clause-at g c = ap (λ (z : View). length z.seen) c.give_up-in-Ok-Blocked.ensures.view ∙ sym (c.at-at.ensures ∙ ap length c.in-Ok.ensures.pen.3)
+
+pub returns-in-Ok-Step-clause-later : goal.returns-in-Ok-Step-clause-later
+returns-in-Ok-Step-clause-later g c =
+    let all = ap (λ (z : SeatView). bare z.view) c.wake.ensures ∙ (c.leave_all.ensures.rest ∙ ap bare c.write-rings.ensures.view) in
+    made-later c.in-Ok.ensures.ready c.wake.new.seat.view _ all
+
+pub returns-in-Ok-Step-clause-idle : goal.returns-in-Ok-Step-clause-idle
+returns-in-Ok-Step-clause-idle g c =
+    let all = ap (λ (z : SeatView). bare z.view) c.wake.ensures ∙ (c.leave_all.ensures.rest ∙ ap bare c.write-rings.ensures.view) in
+    (ap (λ (z : View). z.journal) all, subst (λ (z : SeatView). HoldsNone z.view) (sym c.wake.ensures) c.leave_all.ensures.none)
+
+pub returns-in-Ok-Step-clause-free : goal.returns-in-Ok-Step-clause-free
+returns-in-Ok-Step-clause-free g c =
+    let all = ap (λ (z : SeatView). bare z.view) c.wake.ensures ∙ (c.leave_all.ensures.rest ∙ ap bare c.write-rings.ensures.view) in
+    ap (λ (z : View). z.mark) all
+
+pub returns-in-Ok-Step-clause-at : goal.returns-in-Ok-Step-clause-at
+returns-in-Ok-Step-clause-at g c =
+    let all = ap (λ (z : SeatView). bare z.view) c.wake.ensures ∙ (c.leave_all.ensures.rest ∙ ap bare c.write-rings.ensures.view) in
+    made-at c.in-Ok.ensures.ready c.wake.new.seat.view _ c.at-at.result all c.at-at.ensures c.in-Ok.ensures.pen.3

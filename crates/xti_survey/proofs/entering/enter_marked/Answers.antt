@@ -1,9 +1,8 @@
-use Rattle.std.proofs.Common.{◌≡◌, ◌∙◌, ◌<◌, ◌+◌, refl, sym, ap, subst, arith}
-use Rattle.xti_model.specs.declared.profile.Providers.{Providers}
+use Rattle.std.proofs.Common.{◌∙◌, refl, sym, ap, arith}
 use Rattle.xti_model.specs.World.{places}
 use Rattle.xti_hall_rule.specs.declared.view.View.{View}
 use Rattle.xti_gather.proofs.Holdings.{same-providers, still-of}
-use Rattle.xti_survey.proofs.Marks.{entered-none, entered-below, entered-one, entered-past, entered-all}
+use Rattle.xti_survey.proofs.Marks.{entered-none, entered-below, entered-one, entered-past}
 use Rattle.xti_survey.proofs.entering.enter_marked.Goals as goal
 use Rattle.xti_survey.proofs.entering.enter_marked.Goals.{then-is_marked, else-is_marked}
 

@@ -1,4 +1,4 @@
-use Rattle.std.proofs.Common.{◌≡◌, ◌∙◌, ◌<◌, ◌+◌, arith}
+use Rattle.std.proofs.Common.{◌∙◌, arith}
 use Rattle.xti_survey.specs.Marks.{AreFor}
 use Rattle.xti_survey.proofs.Marks.{all-at, marked-looks}
 use Rattle.xti_survey.proofs.marking.mark_looks.Goals as goal

@@ -1,4 +1,4 @@
-use Rattle.std.proofs.Common.{◌≡◌, ◌≤◌, ◌+◌, ◌-◌, ◌++◌, length, map, take}
+use Rattle.std.proofs.Common.{◌≡◌, ◌+◌, ◌++◌, map, take}
 use Rattle.std.specs.Prelude.{vec_len, vec_capacity}
 use Rattle.xti_base.specs.declared.kinds.Fd.{Fd}
 use Rattle.xti_core.specs.Looks.{events_among}
