@@ -14,8 +14,8 @@ use crate::round_robin::texts_are_playable;
 use std::alloc::{AllocError, Global};
 use std::sync::Wait;
 use std::thread::Threads;
-use xti_base::Octets;
 use xti_base::limits::MOST_STEPS;
+use xti_base::{Octets, let_go};
 use xti_carrier::show_link;
 use xti_check::{Judgement, judge};
 use xti_command::Reading;
@@ -119,15 +119,16 @@ fn whole_run(
     runs_make_journals();
     whole_runs_make_legal_journals();
     let mut report = Report::begin(summary, room, &script.providers)?;
-    report_history(&mut report, history)?;
-    let mut run = Run::after(alloc, script, history)?;
-    report_entries(&mut run, &mut report)?;
-    let stalls = run.stalls()?;
+    or_drop!(report_history(&mut report, history), report);
+    let mut run = or_drop!(Run::after(alloc, script, history), report);
+    or_drop!(report_entries(&mut run, &mut report), run, report);
+    let stalls = or_drop!(run.stalls(), report);
     let status = journal_status(&stalls);
-    let text = report.end(alloc, &stalls)?;
+    let text = report.end(alloc, &stalls);
+    let_go(stalls);
     Ok(Answer {
         status,
-        text,
+        text: text?,
         reason: Reason::none(),
     })
 }
@@ -313,13 +314,17 @@ fn sock_answer<R: Wait + Sync>(
     copies_are_legal();
     copies_copy_their_input();
     copies_have_texts();
-    let history = copy(rt, alloc, input.as_slice())?;
-    let mut report = Report::begin(summary, input, &Providers::usual())?;
-    report_history(&mut report, history.as_slice())?;
-    let text = report.end(alloc, &Stalls::new(alloc))?;
+    let history = or_drop!(copy(rt, alloc, input.as_slice()), input);
+    let mut report = or_drop!(Report::begin(summary, input, &Providers::usual()), history);
+    let reported = report_history(&mut report, history.as_slice());
+    let_go(history);
+    or_drop!(reported, report);
+    let stalls = Stalls::new(alloc);
+    let text = report.end(alloc, &stalls);
+    let_go(stalls);
     Ok(Answer {
         status: 0,
-        text,
+        text: text?,
         reason: Reason::none(),
     })
 }

@@ -1,6 +1,19 @@
 //! What each command answers to what it reads: runs of scripts, verdicts, and what is told of frames, links and copies.
 #![tactic(auto)]
 
+/// What was made; where it wasn't, what is owned is let go by calls, and the function ends with that error.
+macro_rules! or_drop {
+    ($made:expr, $($owned:ident),+) => {
+        match $made {
+            Ok(made) => made,
+            Err(error) => {
+                $(xti_base::let_go($owned);)+
+                return Err(error);
+            }
+        }
+    };
+}
+
 mod answers;
 mod laws;
 pub mod limits;
