@@ -6,8 +6,8 @@ use std::alloc::AllocError;
 use std::io::{Eprint, Print};
 use std::process::ExitCode;
 use std::sync::Wait;
+use std::thread;
 use std::thread::Threads;
-use std::{str, thread};
 use xti_calls::{Caller, Event, Fail, Fd, Max, Providers, State, Xti};
 
 /// The provider, of connections with orderly release.
@@ -79,29 +79,31 @@ fn take_part<R: Wait + Sync>(mut caller: Caller<R>, listener: Option<Fd>) -> Sid
     Side { received, ended }
 }
 
-/// Both sides, the caller's in a thread of its own: how the listener's ended, and how the caller's did.
-fn both_sides<'a, R: Threads + Wait + Sync>(
-    rt: &'a R,
-    listening: Caller<'a, R>,
-    fd: Fd,
-    calling: Caller<'a, R>,
-) -> Result<(Side, Side), AllocError> {
-    thread::scope(thread::scope_env(), rt, |scope| {
-        let thread = scope.spawn(move || take_part(calling, None))?;
-        let listener = take_part(listening, Some(fd));
-        Ok((listener, thread.join(rt)))
-    })
+/// The listener's endpoint, bound.
+fn bound<R: Wait + Sync>(caller: &mut Caller<R>) -> Result<Fd, Fail> {
+    let fd = caller.t_open(PROVIDER, false)?;
+    drop(caller.t_bind(fd, LISTENER, 1, Max::ALL.addr)?);
+    Ok(fd)
 }
 
-/// Binds the listener's endpoint before the caller's thread starts, and runs both sides.
+/// Both sides, the caller's in a thread of its own, which starts once the listener's endpoint is bound: how the listener's ended,
+/// and how the caller's did.
 fn meet<'a, R: Threads + Wait + Sync>(
     rt: &'a R,
     mut listening: Caller<'a, R>,
     calling: Caller<'a, R>,
 ) -> Result<(Side, Side), Fail> {
-    let fd = listening.t_open(PROVIDER, false)?;
-    listening.t_bind(fd, LISTENER, 1, Max::ALL.addr)?;
-    Ok(both_sides(rt, listening, fd, calling)?)
+    let fd = bound(&mut listening)?;
+    let sides = thread::scope(
+        thread::scope_env(),
+        rt,
+        |scope| -> Result<(Side, Side), AllocError> {
+            let thread = scope.spawn(move || take_part(calling, None))?;
+            let listener = take_part(listening, Some(fd));
+            Ok((listener, thread.join(rt)))
+        },
+    );
+    Ok(sides?)
 }
 
 /// Both sides in a library of their own, which keeps no history.
@@ -117,16 +119,13 @@ fn exchange<R: Threads + Wait + Sync + AllocGlobal>(rt: &R) -> Result<(Side, Sid
 
 /// Prints how a side ended; whether it ended well, and that was printed.
 fn report<R: Print + Eprint>(rt: &R, name: &str, side: &Side) -> bool {
-    match (&side.ended, str::from_utf8(side.received.as_slice())) {
-        (Ok(state), Ok(received)) => {
+    let received = side.received.as_slice().escape_ascii();
+    match side.ended {
+        Ok(state) => {
             let state = state.name();
-            println!(rt; "{name} received {received:?} and ended in {state}").is_ok()
+            println!(rt; "{name} received \"{received}\" and ended in {state}").is_ok()
         }
-        (Ok(_), Err(_)) => {
-            let _ = eprintln!(rt; "{name}: no text");
-            false
-        }
-        (Err(fail), _) => {
+        Err(fail) => {
             let _ = eprintln!(rt; "{name}: {fail}");
             false
         }

@@ -1,10 +1,10 @@
 //! A server that polls: a listener and three connections, served by one thread, which prints what each poll finds.
 #![tactic(auto)]
 
+use std::alloc::AllocError;
 use std::io::{self, Print};
 use std::process::ExitCode;
 use std::sync::Wait;
-use thiserror::Error;
 use xti_calls::{Caller, Errno, Event, Fail, Fd, Max, Providers, Xti};
 use xti_poll::{Found, PollFail, PollSet};
 
@@ -18,31 +18,44 @@ const SERVER: &[u8] = b"server";
 const WORDS: [&str; 3] = ["one", "two", "three"];
 
 /// Why the program gave up.
-#[derive(Debug, Drop, Error)]
+#[derive(Clone, Copy)]
 enum Failure {
-    #[error("printing failed")]
-    Printing(#[from] io::Error),
-    #[error("{0}")]
-    Call(#[from] Fail),
-    #[error("{0}")]
-    Set(#[from] PollFail),
+    /// Printing failed.
+    Printing,
+    /// A call was refused, or stopped.
+    Call(Fail),
+    /// No more events could be asked for.
+    Set(PollFail),
+}
+
+impl From<io::Error> for Failure {
+    fn from(_error: io::Error) -> Failure {
+        Failure::Printing
+    }
+}
+
+impl From<AllocError> for Failure {
+    fn from(error: AllocError) -> Failure {
+        Failure::Call(Fail::Memory(error))
+    }
+}
+
+impl From<Fail> for Failure {
+    fn from(fail: Fail) -> Failure {
+        Failure::Call(fail)
+    }
+}
+
+impl From<PollFail> for Failure {
+    fn from(fail: PollFail) -> Failure {
+        Failure::Set(fail)
+    }
 }
 
 /// An endpoint with O_NONBLOCK that is bound to the address.
 fn bound<R: Wait + Sync>(caller: &mut Caller<R>, addr: &[u8], qlen: u32) -> Result<Fd, Fail> {
     let fd = caller.t_open(PROVIDER, true)?;
     drop(caller.t_bind(fd, addr, qlen, Max::ALL.addr)?);
-    Ok(fd)
-}
-
-/// A client's endpoint, which asks for a connection.
-fn ask<R: Wait + Sync>(caller: &mut Caller<R>) -> Result<Fd, Fail> {
-    let fd = bound(caller, b"", 0)?;
-    match caller.t_connect(fd, SERVER, b"", b"", Max::ALL) {
-        Ok(answer) => drop(answer),
-        Err(Fail::Err(Errno::TNODATA)) => {}
-        Err(fail) => return Err(fail),
-    }
     Ok(fd)
 }
 
@@ -92,7 +105,7 @@ fn serve<R: Wait + Sync + Print>(
     set: &mut PollSet,
 ) -> Result<(), Failure> {
     for _ in rt.forever() {
-        match set.poll(caller).map_err(Fail::from)? {
+        match set.poll(caller)? {
             Found::Event { fd, event } => answer(rt, caller, set, fd, event)?,
             Found::Gone { fd } => {
                 set.drop_fd(fd);
@@ -102,6 +115,23 @@ fn serve<R: Wait + Sync + Print>(
         }
     }
     unreachable!()
+}
+
+/// A client's endpoint with a connection, for which it asks; it takes the answer once the server has accepted.
+fn connect<R: Wait + Sync + Print>(
+    rt: &R,
+    caller: &mut Caller<R>,
+    set: &mut PollSet,
+) -> Result<Fd, Failure> {
+    let fd = bound(caller, b"", 0)?;
+    match caller.t_connect(fd, SERVER, b"", b"", Max::ALL) {
+        Ok(answer) => drop(answer),
+        Err(Fail::Err(Errno::TNODATA)) => {}
+        Err(fail) => return Err(fail.into()),
+    }
+    serve(rt, caller, set)?;
+    drop(caller.t_rcvconnect(fd, Max::ALL)?);
+    Ok(fd)
 }
 
 /// Clients connect, send a word each and close, and the server serves them in between.
@@ -114,16 +144,14 @@ fn converse<R: Wait + Sync + Print>(
     set.set(listener, Event::T_LISTEN.number())?;
     let mut clients = [listener; 3];
     for client in &mut clients {
-        *client = ask(caller)?;
-        serve(rt, caller, set)?;
-        drop(caller.t_rcvconnect(*client, Max::ALL)?);
+        *client = connect(rt, caller, set)?;
     }
-    for (client, word) in clients.iter().zip(WORDS) {
-        caller.t_snd(*client, word.as_bytes(), 0)?;
+    for place in 0..3 {
+        caller.t_snd(clients[place], WORDS[place].as_bytes(), 0)?;
     }
     serve(rt, caller, set)?;
-    for client in clients {
-        caller.t_close(client)?;
+    for client in &clients {
+        caller.t_close(*client)?;
     }
     serve(rt, caller, set)
 }
@@ -131,7 +159,7 @@ fn converse<R: Wait + Sync + Print>(
 /// The same in a library of its own, which keeps no history.
 fn run<R: Wait + Sync + Print + AllocGlobal>(rt: &R) -> Result<(), Failure> {
     let mut set = PollSet::new(rt.alloc());
-    let (xti, seat) = Xti::new(rt.alloc(), &Providers::usual(), false).map_err(Fail::from)?;
+    let (xti, seat) = Xti::new(rt.alloc(), &Providers::usual(), false)?;
     let mut caller = xti.caller(rt, rt.alloc(), seat);
     let served = converse(rt, &mut caller, &mut set);
     drop(caller);
@@ -140,9 +168,11 @@ fn run<R: Wait + Sync + Print + AllocGlobal>(rt: &R) -> Result<(), Failure> {
 }
 
 fn main(rt: HostRuntime) -> ExitCode {
-    let Err(failure) = run(&rt) else {
-        return ExitCode::SUCCESS;
+    let _ = match run(&rt) {
+        Ok(()) => return ExitCode::SUCCESS,
+        Err(Failure::Call(fail)) => eprintln!(rt; "{fail}"),
+        Err(Failure::Set(fail)) => eprintln!(rt; "{fail}"),
+        Err(Failure::Printing) => eprintln!(rt; "printing failed"),
     };
-    let _ = eprintln!(rt; "{failure}");
     ExitCode::FAILURE
 }

@@ -6,9 +6,8 @@ use std::alloc::AllocError;
 use std::io::{Eprint, Print};
 use std::process::ExitCode;
 use std::sync::Wait;
-use std::thread::{Scope, Threads};
-use std::{io, str, thread};
-use thiserror::Error;
+use std::thread;
+use std::thread::Threads;
 use xti_calls::{Caller, Event, Fail, Fd, Max, Providers, Seq, Xti};
 
 /// The provider, of connections with orderly release.
@@ -22,57 +21,20 @@ const NAMES: [&str; 8] = [
     "Ada", "Blaise", "Charles", "Donald", "Edsger", "Frances", "Grace", "Haskell",
 ];
 
-/// Why the program gave up.
-#[derive(Debug, Drop, Error)]
-enum Failure {
-    /// Printing failed.
-    #[error("printing failed")]
-    Printing(#[from] io::Error),
-    /// No thread could be started.
-    #[error("no thread")]
-    NoThread,
-    /// A call of the server was refused, or stopped, or memory ran out.
-    #[error("{0}")]
-    Server(#[from] Fail),
-}
-
-impl From<AllocError> for Failure {
-    fn from(error: AllocError) -> Failure {
-        Failure::Server(Fail::Memory(error))
-    }
-}
-
-/// A client: its caller, which makes its calls, and its name.
+/// A client: its caller, which makes its calls, its name, what it was told, and why it gave up, if it did.
 #[derive(Drop)]
 struct Client<'a, R> {
     caller: Caller<'a, R>,
-    name: &'static str,
-}
-
-/// What a client was told, and why it gave up, if it did.
-#[derive(Drop)]
-struct Visit {
     name: &'static str,
     greeting: Vec<u8>,
     ended: Result<(), Fail>,
 }
 
-/// Adds what one receive gives; whether more may come, as the other side hasn't released.
-fn receive<R: Wait + Sync>(
-    caller: &mut Caller<R>,
-    fd: Fd,
-    received: &mut Vec<u8>,
-) -> Result<bool, Fail> {
-    match caller.t_rcv(fd, 1024) {
-        Ok((bytes, _flags)) => {
-            let added = received.extend_from_slice(bytes.as_slice());
-            drop(bytes);
-            added?;
-            Ok(true)
-        }
-        Err(Fail::Look(Event::T_ORDREL)) => Ok(false),
-        Err(fail) => Err(fail),
-    }
+/// An endpoint that is bound to the address, with a queue of this length.
+fn bound<R: Wait + Sync>(caller: &mut Caller<R>, addr: &[u8], qlen: u32) -> Result<Fd, Fail> {
+    let fd = caller.t_open(PROVIDER, false)?;
+    drop(caller.t_bind(fd, addr, qlen, Max::ALL.addr)?);
+    Ok(fd)
 }
 
 /// Adds all that comes until the other side releases, and takes the release.
@@ -82,69 +44,66 @@ fn receive_all<R: Wait + Sync>(
     received: &mut Vec<u8>,
 ) -> Result<(), Fail> {
     for _ in caller.rt().forever() {
-        if !receive(caller, fd, received)? {
-            return caller.t_rcvrel(fd);
-        }
-    }
-    unreachable!()
-}
-
-/// The number of the oldest request in the queue, for which it waits where there is none.
-fn take<R: Wait + Sync>(caller: &mut Caller<R>, listener: Fd) -> Result<Seq, Fail> {
-    let request = caller.t_listen(listener, Max::ALL)?;
-    let seq = request.seq;
-    drop(request);
-    Ok(seq)
-}
-
-/// Keeps the number of a request.
-fn keep(requests: &mut Vec<Seq>, seq: Seq) -> Result<(), AllocError> {
-    requests.push(seq)?;
-    Ok(())
-}
-
-/// Accepts a request, on an endpoint of its own. XTI refuses that while further requests are in the queue: these are taken
-/// first, and their numbers kept.
-fn accept<R: Wait + Sync>(
-    caller: &mut Caller<R>,
-    listener: Fd,
-    requests: &mut Vec<Seq>,
-) -> Result<Fd, Fail> {
-    let seq = match requests.pop() {
-        Some(seq) => seq,
-        None => take(caller, listener)?,
-    };
-    let fd = caller.t_open(PROVIDER, false)?;
-    for _ in caller.rt().forever() {
-        match caller.t_accept(listener, fd, seq, b"", b"") {
-            Ok(()) => return Ok(fd),
-            Err(Fail::Look(Event::T_LISTEN)) => keep(requests, take(caller, listener)?)?,
+        match caller.t_rcv(fd, 1024) {
+            Ok((bytes, _flags)) => received.extend_from_slice(bytes.as_slice())?,
+            Err(Fail::Look(Event::T_ORDREL)) => return caller.t_rcvrel(fd),
             Err(fail) => return Err(fail),
         }
     }
     unreachable!()
 }
 
-/// Greets the client at the other end by its name, which is all that it sends before it releases, and releases too.
-fn greet<R: Wait + Sync>(caller: &mut Caller<R>, fd: Fd, name: &mut Vec<u8>) -> Result<(), Fail> {
-    name.clear();
-    receive_all(caller, fd, name)?;
-    caller.t_snd(fd, b"welcome, ", 0)?;
-    caller.t_snd(fd, name.as_slice(), 0)?;
-    caller.t_sndrel(fd)?;
-    caller.t_close(fd)
+/// Takes the next request from the queue, for which it waits where there is none, and keeps its number.
+fn take<R: Wait + Sync>(
+    caller: &mut Caller<R>,
+    listener: Fd,
+    requests: &mut Vec<Seq>,
+) -> Result<(), Fail> {
+    let request = caller.t_listen(listener, Max::ALL)?;
+    let kept = requests.extend_from_slice(&[request.seq]);
+    drop(request);
+    Ok(kept?)
 }
 
-/// Greets as many clients as there are, one after the other.
+/// Accepts the oldest request on an endpoint. XTI refuses that while further requests are in the queue: these are taken first.
+fn accept<R: Wait + Sync>(
+    caller: &mut Caller<R>,
+    listener: Fd,
+    fd: Fd,
+    requests: &mut Vec<Seq>,
+) -> Result<(), Fail> {
+    for _ in caller.rt().forever() {
+        if let Some(oldest) = requests.first() {
+            match caller.t_accept(listener, fd, *oldest, b"", b"") {
+                Ok(()) => {
+                    requests.remove(0);
+                    return Ok(());
+                }
+                Err(Fail::Look(Event::T_LISTEN)) => {}
+                Err(fail) => return Err(fail),
+            }
+        }
+        take(caller, listener, requests)?;
+    }
+    unreachable!()
+}
+
+/// Greets as many clients as there are, one after the other on the same endpoint, each by its name: that is all that a client
+/// sends before it releases. The server releases too then.
 fn serve<R: Wait + Sync>(
     caller: &mut Caller<R>,
     listener: Fd,
     requests: &mut Vec<Seq>,
     name: &mut Vec<u8>,
 ) -> Result<(), Fail> {
-    for _client in NAMES {
-        let fd = accept(caller, listener, requests)?;
-        greet(caller, fd, name)?;
+    let fd = caller.t_open(PROVIDER, false)?;
+    for _client in 0..NAMES.len() {
+        accept(caller, listener, fd, requests)?;
+        name.clear();
+        receive_all(caller, fd, name)?;
+        caller.t_snd(fd, b"welcome, ", 0)?;
+        caller.t_snd(fd, name.as_slice(), 0)?;
+        caller.t_sndrel(fd)?;
     }
     Ok(())
 }
@@ -156,134 +115,102 @@ fn server_side<R: Wait + Sync>(mut caller: Caller<R>, listener: Fd) -> Result<()
     let served = serve(&mut caller, listener, &mut requests, &mut name);
     caller.rest();
     drop(caller);
-    drop(name);
     served
 }
 
-/// An endpoint with a connection to the server.
-fn connect<R: Wait + Sync>(caller: &mut Caller<R>) -> Result<Fd, Fail> {
-    let fd = caller.t_open(PROVIDER, false)?;
-    drop(caller.t_bind(fd, b"", 0, Max::ALL.addr)?);
-    drop(caller.t_connect(fd, SERVER, b"", b"", Max::ALL)?);
-    Ok(fd)
-}
-
-/// Tells the server a name, and adds the greeting that comes.
+/// Connects to the server, tells it a name, and adds the greeting that comes.
 fn be_greeted<R: Wait + Sync>(
     caller: &mut Caller<R>,
     name: &str,
     greeting: &mut Vec<u8>,
 ) -> Result<(), Fail> {
-    let fd = connect(caller)?;
+    let fd = bound(caller, b"", 0)?;
+    drop(caller.t_connect(fd, SERVER, b"", b"", Max::ALL)?);
     caller.t_snd(fd, name.as_bytes(), 0)?;
     caller.t_sndrel(fd)?;
     receive_all(caller, fd, greeting)
 }
 
 /// A client's thread, whose caller rests at the end too.
-fn client_side<R: Wait + Sync>(client: Client<R>) -> Visit {
-    let Client { mut caller, name } = client;
-    let mut greeting = Vec::new(caller.alloc());
-    let ended = be_greeted(&mut caller, name, &mut greeting);
-    caller.rest();
-    drop(caller);
-    Visit {
-        name,
-        greeting,
-        ended,
-    }
+fn client_side<R: Wait + Sync>(client: &mut Client<R>) {
+    client.ended = be_greeted(&mut client.caller, client.name, &mut client.greeting);
+    client.caller.rest();
 }
 
-/// A client for each name, by callers that the first one splits off.
-fn clients<'a, R: Wait>(first: &mut Caller<'a, R>) -> Result<Vec<Client<'a, R>>, AllocError> {
-    let mut clients = Vec::with_capacity(first.alloc(), NAMES.len())?;
+/// Adds a client for each name, with a caller that the first one splits off.
+fn add_clients<'a, R: Wait>(
+    first: &mut Caller<'a, R>,
+    clients: &mut Vec<Client<'a, R>>,
+) -> Result<(), AllocError> {
     for name in NAMES {
         if let Ok(caller) = first.split() {
-            clients.push(Client { caller, name })?;
+            let greeting = Vec::new(caller.alloc());
+            clients.push(Client {
+                caller,
+                name,
+                greeting,
+                ended: Ok(()),
+            })?;
         }
     }
-    Ok(clients)
+    Ok(())
 }
 
-/// Binds the server's endpoint, whose queue has room for a request of each client.
-fn listen<R: Wait + Sync>(first: &mut Caller<R>) -> Result<Fd, Fail> {
-    let listener = first.t_open(PROVIDER, false)?;
-    drop(first.t_bind(listener, SERVER, NAMES.len() as u32, Max::ALL.addr)?);
-    Ok(listener)
-}
-
-/// All threads: the visits, in the order of the names.
-fn all_sides<'s, E, R: Threads + Wait + Sync>(
-    scope: &Scope<'s, E>,
-    rt: &'s R,
-    server: Caller<'s, R>,
-    listener: Fd,
-    clients: Vec<Client<'s, R>>,
-) -> Result<Vec<Visit>, Failure> {
-    let Ok(serving) = scope.spawn(move || server_side(server, listener)) else {
-        return Err(Failure::NoThread);
-    };
-    let visits = thread::map_vec(rt, clients, &|client| client_side(client));
-    serving.join(rt)?;
-    Ok(visits?)
-}
-
-/// The same, once the server's endpoint is bound.
-fn meet_by<'a, R: Threads + Wait + Sync>(
+/// Binds the server's endpoint, whose queue has room for a request of each client, and runs the server's thread and those of the
+/// clients: how the server ended.
+fn meet<'a, R: Threads + Wait + Sync>(
     rt: &'a R,
     mut server: Caller<'a, R>,
-) -> Result<Vec<Visit>, Failure> {
-    let listener = listen(&mut server)?;
-    let clients = clients(&mut server)?;
-    thread::scope(thread::scope_env(), rt, |scope| {
-        all_sides(scope, rt, server, listener, clients)
-    })
+    clients: &mut Vec<Client<'a, R>>,
+) -> Result<(), Fail> {
+    let listener = bound(&mut server, SERVER, NAMES.len() as u32)?;
+    add_clients(&mut server, clients)?;
+    thread::scope(
+        thread::scope_env(),
+        rt,
+        |scope| -> Result<Result<(), Fail>, AllocError> {
+            let serving = scope.spawn(move || server_side(server, listener))?;
+            let visit = |_place, client: &mut Client<R>| client_side(client);
+            thread::for_each_mut(rt, clients.as_mut_slice(), NAMES.len(), &visit);
+            Ok(serving.join(rt))
+        },
+    )?
 }
 
-/// The same in a library of their own, which keeps no history.
-fn meet<R: Threads + Wait + Sync + AllocGlobal>(rt: &R) -> Result<Vec<Visit>, Failure> {
-    let (xti, seat) = Xti::new(rt.alloc(), &Providers::usual(), false)?;
-    let visits = meet_by(rt, xti.caller(rt, rt.alloc(), seat));
-    drop(xti);
-    visits
-}
-
-/// Prints what a client was told; whether it was greeted.
-fn report<R: Print + Eprint>(rt: &R, visit: &Visit) -> io::Result<bool> {
-    let name = visit.name;
-    match (&visit.ended, str::from_utf8(visit.greeting.as_slice())) {
-        (Ok(()), Ok(greeting)) => println!(rt; "{name} was told {greeting:?}")?,
-        (Ok(()), Err(_)) => eprintln!(rt; "{name}: no text")?,
-        (Err(fail), _) => eprintln!(rt; "{name}: {fail}")?,
+/// Prints what each client was told, or why it gave up; whether all were greeted, and that was printed.
+fn report<R: Print + Eprint>(rt: &R, clients: &[Client<R>]) -> bool {
+    let mut greeted = true;
+    for client in clients {
+        let name = client.name;
+        let printed = match client.ended {
+            Ok(()) => {
+                println!(rt;
+                    "{name} was told \"{}\"",
+                    client.greeting.as_slice().escape_ascii()
+                )
+            }
+            Err(fail) => eprintln!(rt; "{name}: {fail}"),
+        };
+        greeted &= printed.is_ok() && client.ended.is_ok();
     }
-    Ok(visit.ended.is_ok())
-}
-
-/// Prints what all of them were told; whether each was greeted.
-fn report_all<R: Print + Eprint>(rt: &R, visits: &[Visit]) -> io::Result<bool> {
-    let mut greeted = visits.len() == NAMES.len();
-    for visit in visits {
-        greeted &= report(rt, visit)?;
-    }
-    Ok(greeted)
-}
-
-/// All of it; whether each client was greeted.
-fn run<R: Threads + Wait + Sync + Print + Eprint + AllocGlobal>(rt: &R) -> Result<bool, Failure> {
-    let visits = meet(rt)?;
-    let reported = report_all(rt, visits.as_slice());
-    drop(visits);
-    Ok(reported?)
+    greeted
 }
 
 fn main(rt: HostRuntime) -> ExitCode {
-    let greeted = match run(&rt) {
-        Ok(greeted) => greeted,
-        Err(failure) => {
-            let _ = eprintln!(rt; "{failure}");
+    // A library of their own, which keeps no history.
+    let Ok((xti, seat)) = Xti::new(rt.alloc(), &Providers::usual(), false) else {
+        return ExitCode::FAILURE;
+    };
+    let mut clients = Vec::new(rt.alloc());
+    let greeted = match meet(&rt, xti.caller(&rt, rt.alloc(), seat), &mut clients) {
+        Ok(()) => report(&rt, clients.as_slice()),
+        Err(fail) => {
+            let _ = eprintln!(rt; "{fail}");
             false
         }
     };
+    drop(clients);
+    drop(xti);
     if greeted {
         ExitCode::SUCCESS
     } else {
