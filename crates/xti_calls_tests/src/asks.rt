@@ -1,17 +1,13 @@
 //! Calls as tables tell them, and what makes them and writes down what they answer.
 
-ghost use Rattle.xti_hall.specs.Seats.{AreOfOneHall};
-
-use crate::answers::Log;
-use crate::library::{Stop, finished};
-use std::alloc::{AllocError, Global};
+use crate::answers::{note, note_bytes};
 use std::sync::Wait;
-use xti_base::{Fd, Parts, Seq, Sizes};
-use xti_calls::{Caller, Fail, Max, TCall};
+use xti_base::{Fd, Seq, Sizes, let_go};
+use xti_calls::{Caller, Fail as CallFail, Max, TCall};
 use xti_data::SendParts;
 
-/// The most bytes that the callers take.
-pub(crate) const MOST: Max = Max {
+/// How many bytes of an address, of options, and of data with a request the callers take at most.
+const MOST: Max = Max {
     addr: 64,
     opt: 256,
     udata: 64,
@@ -20,312 +16,189 @@ pub(crate) const MOST: Max = Max {
 /// The options of each call but `t_optmgmt`, and the data of each request, answer and disconnect.
 const NOTHING: &[u8] = b"";
 
-/// A call with its arguments.
+/// In place of the descriptor where an endpoint is opened.
+pub(crate) const NEW: Fd = Fd(0);
+
+/// The descriptor, and the call.
+pub(crate) type Row = (Fd, Ask);
+
+/// A call with its other arguments.
 pub(crate) enum Ask {
-    /// A call that changes an endpoint alone.
-    Endpoint(Endpoint),
-    /// A call that tells of an endpoint.
-    Look(Look),
-    /// A call that makes a connection.
-    Request(Request),
-    /// A call that ends one.
-    End(End),
-    /// A call that moves data over one.
-    Data(Data),
-    /// A call of datagrams.
-    Datagram(Datagram),
-}
-
-/// Calls that change an endpoint alone.
-pub(crate) enum Endpoint {
+    /// `t_open`: the provider, and O_NONBLOCK.
     Open(&'static [u8], bool),
-    Close(Fd),
-    Bind(Fd, &'static [u8], u32, u32),
-    Unbind(Fd),
-    Mode(Fd, bool),
+    /// A call that answers no more than that it is done.
+    Do(Do),
+    /// A call that gives an address, or data.
+    Give(Give),
+    /// A call that tells of an endpoint.
+    Tell(Tell),
+    /// A call that answers who is at the other end.
+    Request(Request),
+    /// A call that takes what waits.
+    Take(Take),
+    /// Parts that are sent over a connection, or to an address.
+    SendParts(Option<&'static [u8]>, &'static [&'static [u8]]),
+    /// Buffers of these sizes for what waits, and whether that is a datagram.
+    ReceiveParts(bool, &'static [u32]),
 }
 
-/// Calls that tell of an endpoint.
-pub(crate) enum Look {
-    Event(Fd),
-    State(Fd),
-    Sync(Fd),
-    Info(Fd),
-    Addresses(Fd, u32, u32),
-    Options(Fd, u32, &'static [u8], u32),
+/// Calls that answer no more than that they are done.
+pub(crate) enum Do {
+    Close,
+    Unbind,
+    Mode(bool),
+    Accept(Fd, Seq),
+    Disconnect(Seq),
+    Release,
+    TakeRelease,
 }
 
-/// Calls that make a connection.
+/// Calls that give an address, with a queue length, or data: with flags, with a release, to an address.
+pub(crate) enum Give {
+    Address(&'static [u8], u32),
+    Bytes(&'static [u8], u32),
+    Release(&'static [u8]),
+    Datagram(&'static [u8], &'static [u8]),
+}
+
+/// Calls that tell of an endpoint; `t_optmgmt` with its action and its options.
+pub(crate) enum Tell {
+    Event,
+    State,
+    Sync,
+    Info,
+    Addresses,
+    Options(u32, &'static [u8]),
+}
+
+/// Calls that answer who is at the other end: `t_connect` with the address, `t_rcvconnect`, and `t_listen` with how many bytes
+/// of the address the caller takes at most.
 pub(crate) enum Request {
-    Connect(Fd, &'static [u8], Max),
-    Confirm(Fd, Max),
-    Listen(Fd, Max),
-    Accept(Fd, Fd, Seq),
+    Connect(&'static [u8]),
+    Confirm,
+    Listen(u32),
 }
 
-/// Calls that end a connection.
-pub(crate) enum End {
-    Disconnect(Fd, Seq),
-    Disconnected(Fd, u32),
-    Release(Fd),
-    Released(Fd),
-    ReleaseWith(Fd, &'static [u8]),
-    ReleasedWith(Fd, u32),
+/// Calls that take what waits; of bytes, with how many the caller takes at most.
+pub(crate) enum Take {
+    Disconnect,
+    Release(u32),
+    Bytes(u32),
+    Datagram(u32),
+    DatagramError,
 }
 
-/// Calls that move data over a connection.
-pub(crate) enum Data {
-    Send(Fd, &'static [u8], u32),
-    Receive(Fd, u32),
-    SendParts(Fd, &'static [&'static [u8]], u32),
-    ReceiveParts(Fd, &'static [u32]),
-}
-
-/// Calls of datagrams.
-pub(crate) enum Datagram {
-    Send(Fd, &'static [u8], &'static [u8]),
-    Receive(Fd, Max),
-    SendParts(Fd, &'static [u8], &'static [&'static [u8]]),
-    ReceiveParts(Fd, &'static [u32], u32, u32),
-    Error(Fd, u32, u32),
-}
-
-/// Adds these parts.
-fn add_parts(joined: &mut SendParts, parts: &[&[u8]]) -> Result<(), AllocError> {
-    for part in parts {
-        joined.add(part)?;
-    }
-    Ok(())
-}
-
-/// These parts.
-fn joined(alloc: Global, parts: &[&[u8]]) -> Result<SendParts, AllocError> {
-    let mut joined = SendParts::new(alloc);
-    match add_parts(&mut joined, parts) {
-        Ok(()) => Ok(joined),
-        Err(error) => {
-            drop(joined);
-            Err(error)
-        }
+/// Makes a call that answers no more than that it is done.
+fn done<R: Wait + Sync>(caller: &mut Caller<R>, fd: Fd, call: &Do) -> Result<(), CallFail> {
+    let none = NOTHING;
+    match *call {
+        Do::Close => caller.t_close(fd),
+        Do::Unbind => caller.t_unbind(fd),
+        Do::Mode(nonblock) => caller.set_mode(fd, nonblock),
+        Do::Accept(resfd, seq) => caller.t_accept(fd, resfd, seq, none, none),
+        Do::Disconnect(seq) => caller.t_snddis(fd, seq, none),
+        Do::Release => caller.t_sndrel(fd),
+        Do::TakeRelease => caller.t_rcvrel(fd),
     }
 }
 
-/// Adds these sizes.
-fn add_sizes(sizes: &mut Sizes, all: &[u32]) -> Result<(), AllocError> {
-    for size in all {
-        sizes.push(*size)?;
-    }
-    Ok(())
-}
-
-/// These sizes.
-fn sizes(alloc: Global, all: &[u32]) -> Result<Sizes, AllocError> {
-    let mut sizes = Sizes::new(alloc);
-    match add_sizes(&mut sizes, all) {
-        Ok(()) => Ok(sizes),
-        Err(error) => {
-            drop(sizes);
-            Err(error)
-        }
+/// Makes a call that gives an address or data.
+fn make_give<R: Wait + Sync>(caller: &mut Caller<R>, log: &mut String, fd: Fd, call: &Give) {
+    match *call {
+        Give::Address(addr, qlen) => note_bytes(log, caller.t_bind(fd, addr, qlen, MOST.addr)),
+        Give::Bytes(bytes, flags) => note(log, caller.t_snd(fd, bytes, flags)),
+        Give::Release(udata) => note(log, caller.t_sndreldata(fd, udata)),
+        Give::Datagram(addr, bytes) => note(log, caller.t_sndudata(fd, addr, NOTHING, bytes)),
     }
 }
 
-/// A call that changes an endpoint alone.
-fn change_endpoint<R: Wait + Sync>(caller: &mut Caller<R>, log: &mut Log, ask: &Endpoint)
-    ensures { AreOfOneHall caller.old caller.new }
-{
-    match *ask {
-        Endpoint::Open(name, nonblock) => log.note(caller.t_open(name, nonblock)),
-        Endpoint::Close(fd) => log.note(caller.t_close(fd)),
-        Endpoint::Bind(fd, addr, qlen, amax) => log.note(caller.t_bind(fd, addr, qlen, amax)),
-        Endpoint::Unbind(fd) => log.note(caller.t_unbind(fd)),
-        Endpoint::Mode(fd, nonblock) => log.note(caller.set_mode(fd, nonblock)),
+/// Makes a call that tells of an endpoint.
+fn make_tell<R: Wait + Sync>(caller: &mut Caller<R>, log: &mut String, fd: Fd, call: &Tell) {
+    match *call {
+        Tell::Event => note(log, caller.t_look(fd)),
+        Tell::State => note(log, caller.t_getstate(fd)),
+        Tell::Sync => note(log, caller.t_sync(fd)),
+        Tell::Info => note(log, caller.t_getinfo(fd)),
+        Tell::Addresses => note_bytes(log, caller.t_getprotaddr(fd, MOST.addr, MOST.addr)),
+        Tell::Options(action, opt) => note_bytes(log, caller.t_optmgmt(fd, action, opt, MOST.opt)),
     }
 }
 
-/// A call that tells of an endpoint.
-fn tell_endpoint<R: Wait + Sync>(caller: &mut Caller<R>, log: &mut Log, ask: &Look)
-    ensures { AreOfOneHall caller.old caller.new }
-{
-    match *ask {
-        Look::Event(fd) => log.note(caller.t_look(fd)),
-        Look::State(fd) => log.note(caller.t_getstate(fd)),
-        Look::Sync(fd) => log.note(caller.t_sync(fd)),
-        Look::Info(fd) => log.note(caller.t_getinfo(fd)),
-        Look::Addresses(fd, amax, pmax) => log.note(caller.t_getprotaddr(fd, amax, pmax)),
-        Look::Options(fd, action, opt, omax) => log.note(caller.t_optmgmt(fd, action, opt, omax)),
+/// Makes a call that answers who is at the other end.
+fn make_request<R: Wait + Sync>(
+    caller: &mut Caller<R>,
+    fd: Fd,
+    call: &Request,
+) -> Result<TCall, CallFail> {
+    match *call {
+        Request::Connect(addr) => caller.t_connect(fd, addr, NOTHING, NOTHING, MOST),
+        Request::Confirm => caller.t_rcvconnect(fd, MOST),
+        Request::Listen(addr) => caller.t_listen(fd, Max { addr, ..MOST }),
     }
 }
 
-/// A call that makes a connection.
-fn make_connection<R: Wait + Sync>(caller: &mut Caller<R>, log: &mut Log, ask: &Request)
-    ensures { AreOfOneHall caller.old caller.new }
-{
-    match *ask {
-        Request::Connect(fd, addr, max) => log.note(caller.t_connect(
-            fd, addr, NOTHING, NOTHING, max,
-        )),
-        Request::Confirm(fd, max) => log.note(caller.t_rcvconnect(fd, max)),
-        Request::Listen(fd, max) => log.note(caller.t_listen(fd, max)),
-        Request::Accept(fd, resfd, seq) => log.note(caller.t_accept(
-            fd, resfd, seq, NOTHING, NOTHING,
-        )),
+/// Makes a call that takes what waits.
+fn make_take<R: Wait + Sync>(caller: &mut Caller<R>, log: &mut String, fd: Fd, call: &Take) {
+    match *call {
+        Take::Disconnect => note_bytes(log, caller.t_rcvdis(fd, MOST.udata)),
+        Take::Release(max) => note_bytes(log, caller.t_rcvreldata(fd, max)),
+        Take::Bytes(max) => note_bytes(log, caller.t_rcv(fd, max)),
+        Take::Datagram(udata) => note(log, caller.t_rcvudata(fd, Max { udata, ..MOST })),
+        Take::DatagramError => note_bytes(log, caller.t_rcvuderr(fd, MOST.addr, MOST.opt)),
     }
 }
 
-/// A call that ends a connection.
-fn end_connection<R: Wait + Sync>(caller: &mut Caller<R>, log: &mut Log, ask: &End)
-    ensures { AreOfOneHall caller.old caller.new }
-{
-    match *ask {
-        End::Disconnect(fd, seq) => log.note(caller.t_snddis(fd, seq, NOTHING)),
-        End::Disconnected(fd, umax) => log.note(caller.t_rcvdis(fd, umax)),
-        End::Release(fd) => log.note(caller.t_sndrel(fd)),
-        End::Released(fd) => log.note(caller.t_rcvrel(fd)),
-        End::ReleaseWith(fd, udata) => log.note(caller.t_sndreldata(fd, udata)),
-        End::ReleasedWith(fd, umax) => log.note(caller.t_rcvreldata(fd, umax)),
-    }
-}
-
-/// Sends parts over a connection.
+/// Sends these parts; fewer where memory runs out.
 fn send_parts<R: Wait + Sync>(
-    alloc: Global,
     caller: &mut Caller<R>,
+    log: &mut String,
     fd: Fd,
-    parts: &[&[u8]],
-    flags: u32,
-) -> Result<u32, Fail>
-    ensures { AreOfOneHall caller.old caller.new }
-{
-    let parts = joined(alloc, parts)?;
-    let sent = caller.t_sndv(fd, &parts, flags);
-    drop(parts);
-    sent
+    to: Option<&[u8]>,
+    all: &[&[u8]],
+) {
+    let mut parts = SendParts::new(caller.alloc());
+    for part in all {
+        let _ = parts.add(part);
+    }
+    match to {
+        None => note(log, caller.t_sndv(fd, &parts, 0)),
+        Some(addr) => note(log, caller.t_sndvudata(fd, addr, NOTHING, &parts)),
+    }
+    let_go(parts);
 }
 
-/// Receives into buffers of these sizes.
+/// Receives into buffers of these sizes; into fewer where memory runs out.
 fn receive_parts<R: Wait + Sync>(
-    alloc: Global,
     caller: &mut Caller<R>,
+    log: &mut String,
     fd: Fd,
+    is_datagram: bool,
     all: &[u32],
-) -> Result<(Parts, u32), Fail>
-    ensures { AreOfOneHall caller.old caller.new }
-{
-    let sizes = sizes(alloc, all)?;
-    let received = caller.t_rcvv(fd, &sizes);
-    drop(sizes);
-    received
-}
-
-/// A call that moves data over a connection.
-fn move_data<R: Wait + Sync>(alloc: Global, caller: &mut Caller<R>, log: &mut Log, ask: &Data)
-    ensures { AreOfOneHall caller.old caller.new }
-{
-    match *ask {
-        Data::Send(fd, bytes, flags) => log.note(caller.t_snd(fd, bytes, flags)),
-        Data::Receive(fd, max) => log.note(caller.t_rcv(fd, max)),
-        Data::SendParts(fd, parts, flags) => log.note(send_parts(alloc, caller, fd, parts, flags)),
-        Data::ReceiveParts(fd, all) => log.note(receive_parts(alloc, caller, fd, all)),
+) {
+    let mut sizes = Sizes::new(caller.alloc());
+    for size in all {
+        let _ = sizes.push(*size);
     }
-}
-
-/// Sends a datagram of parts.
-fn send_datagram<R: Wait + Sync>(
-    alloc: Global,
-    caller: &mut Caller<R>,
-    fd: Fd,
-    addr: &[u8],
-    parts: &[&[u8]],
-) -> Result<(), Fail>
-    ensures { AreOfOneHall caller.old caller.new }
-{
-    let parts = joined(alloc, parts)?;
-    let sent = caller.t_sndvudata(fd, addr, NOTHING, &parts);
-    drop(parts);
-    sent
-}
-
-/// Receives a datagram into buffers of these sizes.
-fn receive_datagram<R: Wait + Sync>(
-    alloc: Global,
-    caller: &mut Caller<R>,
-    fd: Fd,
-    all: &[u32],
-    amax: u32,
-    omax: u32,
-) -> Result<(TCall, Parts, u32), Fail>
-    ensures { AreOfOneHall caller.old caller.new }
-{
-    let sizes = sizes(alloc, all)?;
-    let received = caller.t_rcvvudata(fd, &sizes, amax, omax);
-    drop(sizes);
-    received
-}
-
-/// A call of datagrams.
-fn move_datagram<R: Wait + Sync>(
-    alloc: Global,
-    caller: &mut Caller<R>,
-    log: &mut Log,
-    ask: &Datagram,
-)
-    ensures { AreOfOneHall caller.old caller.new }
-{
-    match *ask {
-        Datagram::Send(fd, addr, bytes) => log.note(caller.t_sndudata(fd, addr, NOTHING, bytes)),
-        Datagram::Receive(fd, max) => log.note(caller.t_rcvudata(fd, max)),
-        Datagram::SendParts(fd, addr, parts) => log.note(send_datagram(
-            alloc, caller, fd, addr, parts,
-        )),
-        Datagram::ReceiveParts(fd, all, amax, omax) => log.note(receive_datagram(
-            alloc, caller, fd, all, amax, omax,
-        )),
-        Datagram::Error(fd, amax, omax) => log.note(caller.t_rcvuderr(fd, amax, omax)),
+    if is_datagram {
+        note_bytes(log, caller.t_rcvvudata(fd, &sizes, MOST.addr, MOST.opt));
+    } else {
+        note_bytes(log, caller.t_rcvv(fd, &sizes));
     }
+    let_go(sizes);
 }
 
-/// One call.
-fn make<R: Wait + Sync>(alloc: Global, caller: &mut Caller<R>, log: &mut Log, ask: &Ask)
-    ensures { AreOfOneHall caller.old caller.new }
-{
+/// Makes a call, and writes down what it answers.
+pub(crate) fn make<R: Wait + Sync>(caller: &mut Caller<R>, log: &mut String, fd: Fd, ask: &Ask) {
     match ask {
-        Ask::Endpoint(ask) => change_endpoint(caller, log, ask),
-        Ask::Look(ask) => tell_endpoint(caller, log, ask),
-        Ask::Request(ask) => make_connection(caller, log, ask),
-        Ask::End(ask) => end_connection(caller, log, ask),
-        Ask::Data(ask) => move_data(alloc, caller, log, ask),
-        Ask::Datagram(ask) => move_datagram(alloc, caller, log, ask),
+        Ask::Open(name, nonblock) => note(log, caller.t_open(name, *nonblock)),
+        Ask::Do(call) => note(log, done(caller, fd, call)),
+        Ask::Give(call) => make_give(caller, log, fd, call),
+        Ask::Tell(call) => make_tell(caller, log, fd, call),
+        Ask::Request(call) => note(log, make_request(caller, fd, call)),
+        Ask::Take(call) => make_take(caller, log, fd, call),
+        Ask::SendParts(to, parts) => send_parts(caller, log, fd, *to, parts),
+        Ask::ReceiveParts(is_datagram, sizes) => {
+            receive_parts(caller, log, fd, *is_datagram, sizes)
+        }
     }
-}
-
-/// All calls of a table, each of which is finished.
-pub(crate) fn make_all<R: Wait + Sync>(
-    alloc: Global,
-    caller: &mut Caller<R>,
-    log: &mut Log,
-    asks: &[Ask],
-) -> Result<(), Stop>
-    ensures { AreOfOneHall caller.old caller.new }
-{
-    for ask in asks {
-        make(alloc, caller, log, ask);
-        finished(caller)?;
-    }
-    Ok(())
-}
-
-/// All calls of these tables.
-pub(crate) fn converse<R: Wait + Sync>(
-    alloc: Global,
-    caller: &mut Caller<R>,
-    log: &mut Log,
-    tables: &[&[Ask]],
-) -> Result<(), Stop>
-    ensures { AreOfOneHall caller.old caller.new }
-{
-    for asks in tables {
-        make_all(alloc, caller, log, asks)?;
-    }
-    Ok(())
 }

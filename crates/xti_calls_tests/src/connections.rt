@@ -1,12 +1,13 @@
 //! Connections, from their requests to their ends.
 
-use crate::asks::{Ask, Data, End, Endpoint, Look, MOST, Request};
-use crate::conversations::{Topic, talk_about};
+use crate::asks::{Ask, Do, Give, NEW, Request, Row, Take, Tell};
+use crate::conversations::{Part, Topic, talk_about};
+use std::test::*;
 use xti_base::{Fd, Seq};
-use xti_model::Providers;
+use xti_calls::Providers;
 
 /// The listener, bound to `l`.
-pub(crate) const LISTENER: Fd = Fd(0);
+const LISTENER: Fd = Fd(0);
 
 /// The endpoint that asks for a connection.
 pub(crate) const CALLER: Fd = Fd(1);
@@ -14,44 +15,88 @@ pub(crate) const CALLER: Fd = Fd(1);
 /// The endpoint onto which the request is accepted.
 pub(crate) const ANSWERER: Fd = Fd(2);
 
+/// What is answered where a listener and two endpoints are opened.
+const OPENED: &str = "Fd(0)
+ [108] 1
+Fd(1)
+ [35, 48] 0
+Fd(2)
+";
+
 /// A listener of the provider without orderly release, and two endpoints with O_NONBLOCK.
-pub(crate) const OF_TICOTS: &[Ask] = &[
-    Ask::Endpoint(Endpoint::Open(b"ticots", false)),
-    Ask::Endpoint(Endpoint::Bind(LISTENER, b"l", 1, 64)),
-    Ask::Endpoint(Endpoint::Open(b"ticots", true)),
-    Ask::Endpoint(Endpoint::Bind(CALLER, b"", 0, 64)),
-    Ask::Endpoint(Endpoint::Open(b"ticots", true)),
-];
+pub(crate) const OF_TICOTS: Part = (
+    &[
+        (NEW, Ask::Open(b"ticots", false)),
+        (LISTENER, Ask::Give(Give::Address(b"l", 1))),
+        (NEW, Ask::Open(b"ticots", true)),
+        (CALLER, Ask::Give(Give::Address(b"", 0))),
+        (NEW, Ask::Open(b"ticots", true)),
+    ],
+    OPENED,
+);
 
 /// A listener of the provider with orderly release, and two endpoints with O_NONBLOCK.
-pub(crate) const OF_TICOTSORD: &[Ask] = &[
-    Ask::Endpoint(Endpoint::Open(b"ticotsord", false)),
-    Ask::Endpoint(Endpoint::Bind(LISTENER, b"l", 1, 64)),
-    Ask::Endpoint(Endpoint::Open(b"ticotsord", true)),
-    Ask::Endpoint(Endpoint::Bind(CALLER, b"", 0, 64)),
-    Ask::Endpoint(Endpoint::Open(b"ticotsord", true)),
-];
+pub(crate) const OF_TICOTSORD: Part = (
+    &[
+        (NEW, Ask::Open(b"ticotsord", false)),
+        (LISTENER, Ask::Give(Give::Address(b"l", 1))),
+        (NEW, Ask::Open(b"ticotsord", true)),
+        (CALLER, Ask::Give(Give::Address(b"", 0))),
+        (NEW, Ask::Open(b"ticotsord", true)),
+    ],
+    OPENED,
+);
 
 /// A connection from the caller to the answerer.
-pub(crate) const CONNECT: &[Ask] = &[
-    Ask::Request(Request::Connect(CALLER, b"l", MOST)),
-    Ask::Request(Request::Listen(LISTENER, MOST)),
-    Ask::Request(Request::Accept(LISTENER, ANSWERER, Seq(1))),
-    Ask::Request(Request::Confirm(CALLER, MOST)),
-];
+pub(crate) const CONNECT: Part = (
+    &[
+        (CALLER, Ask::Request(Request::Connect(b"l"))),
+        (LISTENER, Ask::Request(Request::Listen(64))),
+        (LISTENER, Ask::Do(Do::Accept(ANSWERER, Seq(1)))),
+        (CALLER, Ask::Request(Request::Confirm)),
+    ],
+    "Err(TNODATA)
+TCall { seq: Seq(1), addr: [35, 48], opt: [], udata: [] }
+()
+TCall { seq: Seq(0), addr: [108], opt: [], udata: [] }
+",
+);
+
+/// The endpoints without O_NONBLOCK.
+pub(crate) const BLOCKING: Part = (
+    &[
+        (CALLER, Ask::Do(Do::Mode(false))),
+        (ANSWERER, Ask::Do(Do::Mode(false))),
+    ],
+    "()
+()
+",
+);
 
 /// Messages and expedited data.
-pub(crate) const MESSAGES: &[Ask] = &[
-    Ask::Data(Data::Send(CALLER, b"abcd", 3)),
-    Ask::Data(Data::Send(CALLER, b"n", 0)),
-    Ask::Data(Data::Receive(ANSWERER, 2)),
-    Ask::Data(Data::Receive(ANSWERER, 2)),
-    Ask::Data(Data::Receive(ANSWERER, 2)),
-    Ask::Look(Look::Event(ANSWERER)),
-    Ask::Data(Data::Send(CALLER, b"ef", 2)),
-    Ask::Data(Data::Receive(ANSWERER, 9)),
-    Ask::Data(Data::Receive(ANSWERER, 9)),
-];
+const MESSAGES: Part = (
+    &[
+        (CALLER, Ask::Give(Give::Bytes(b"abcd", 3))),
+        (CALLER, Ask::Give(Give::Bytes(b"n", 0))),
+        (ANSWERER, Ask::Take(Take::Bytes(2))),
+        (ANSWERER, Ask::Take(Take::Bytes(2))),
+        (ANSWERER, Ask::Take(Take::Bytes(2))),
+        (ANSWERER, Ask::Tell(Tell::Event)),
+        (CALLER, Ask::Give(Give::Bytes(b"ef", 2))),
+        (ANSWERER, Ask::Take(Take::Bytes(9))),
+        (ANSWERER, Ask::Take(Take::Bytes(9))),
+    ],
+    "4
+1
+ [97, 98] 3
+ [99, 100] 3
+Err(TNODATA)
+None
+2
+ [101, 102] 2
+ [110] 0
+",
+);
 
 /// One byte more than a release may carry.
 const TOO_LONG: &[u8] = b"01234567890123456789012345678901234567890123456789012345678901234";
@@ -63,188 +108,211 @@ const SEVENTEEN: &[&[u8]] = &[
 ];
 
 /// An empty message, a message that is sent in parts and received by buffers, and too many parts.
-pub(crate) const VECTORS: &[Ask] = &[
-    Ask::Data(Data::Send(CALLER, b"", 0)),
-    Ask::Data(Data::Receive(ANSWERER, 9)),
-    Ask::Data(Data::SendParts(CALLER, &[b"ab", b"c"], 0)),
-    Ask::Data(Data::ReceiveParts(ANSWERER, &[1, 9])),
-    Ask::Data(Data::SendParts(CALLER, SEVENTEEN, 0)),
-];
+const VECTORS: Part = (
+    &[
+        (CALLER, Ask::Give(Give::Bytes(b"", 0))),
+        (ANSWERER, Ask::Take(Take::Bytes(9))),
+        (CALLER, Ask::SendParts(None, &[b"ab", b"c"])),
+        (ANSWERER, Ask::ReceiveParts(false, &[1, 9])),
+        (CALLER, Ask::SendParts(None, SEVENTEEN)),
+    ],
+    "0
+ [] 0
+3
+ [97] [98, 99] 0
+Err(TBADDATA)
+",
+);
 
 /// What is told of both ends, and a disconnect before the data are received.
-pub(crate) const DISCONNECT: &[Ask] = &[
-    Ask::Look(Look::Addresses(ANSWERER, 64, 64)),
-    Ask::Look(Look::State(LISTENER)),
-    Ask::End(End::Release(CALLER)),
-    Ask::Data(Data::Send(CALLER, b"hi", 0)),
-    Ask::End(End::Disconnect(CALLER, Seq(0))),
-    Ask::Data(Data::Receive(ANSWERER, 9)),
-    Ask::End(End::Disconnected(ANSWERER, 64)),
-    Ask::Endpoint(Endpoint::Close(ANSWERER)),
-    Ask::Look(Look::State(ANSWERER)),
-];
+const DISCONNECT: Part = (
+    &[
+        (ANSWERER, Ask::Tell(Tell::Addresses)),
+        (LISTENER, Ask::Tell(Tell::State)),
+        (CALLER, Ask::Do(Do::Release)),
+        (CALLER, Ask::Give(Give::Bytes(b"hi", 0))),
+        (CALLER, Ask::Do(Do::Disconnect(Seq(0)))),
+        (ANSWERER, Ask::Take(Take::Bytes(9))),
+        (ANSWERER, Ask::Take(Take::Disconnect)),
+        (ANSWERER, Ask::Do(Do::Close)),
+        (ANSWERER, Ask::Tell(Tell::State)),
+    ],
+    " [108] [35, 48]
+T_IDLE
+Err(TNOTSUPPORT)
+2
+()
+Look(T_DISCONNECT)
+ 4 Seq(0) []
+()
+Err(TBADF)
+",
+);
 
 /// Data, an orderly release from both sides, and the states afterwards.
-pub(crate) const RELEASE: &[Ask] = &[
-    Ask::Look(Look::State(CALLER)),
-    Ask::Data(Data::Send(CALLER, b"", 0)),
-    Ask::Data(Data::Send(CALLER, b"hi", 0)),
-    Ask::End(End::Release(CALLER)),
-    Ask::End(End::Released(ANSWERER)),
-    Ask::Data(Data::Receive(ANSWERER, 9)),
-    Ask::Data(Data::Receive(ANSWERER, 9)),
-    Ask::End(End::Released(ANSWERER)),
-    Ask::End(End::Release(ANSWERER)),
-    Ask::End(End::Released(CALLER)),
-    Ask::Look(Look::State(CALLER)),
-    Ask::Look(Look::State(ANSWERER)),
+const RELEASE: Part = (
+    &[
+        (CALLER, Ask::Tell(Tell::State)),
+        (CALLER, Ask::Give(Give::Bytes(b"", 0))),
+        (CALLER, Ask::Give(Give::Bytes(b"hi", 0))),
+        (CALLER, Ask::Do(Do::Release)),
+        (ANSWERER, Ask::Do(Do::TakeRelease)),
+        (ANSWERER, Ask::Take(Take::Bytes(9))),
+        (ANSWERER, Ask::Take(Take::Bytes(9))),
+        (ANSWERER, Ask::Do(Do::TakeRelease)),
+        (ANSWERER, Ask::Do(Do::Release)),
+        (CALLER, Ask::Do(Do::TakeRelease)),
+        (CALLER, Ask::Tell(Tell::State)),
+        (ANSWERER, Ask::Tell(Tell::State)),
+    ],
+    "T_DATAXFER
+Err(TBADDATA)
+2
+()
+Err(TNOREL)
+ [104, 105] 0
+Look(T_ORDREL)
+()
+()
+()
+T_IDLE
+T_IDLE
+",
+);
+
+/// A release with data in one direction, and without any in the other; data that are too long for a release, or for what is
+/// asked.
+const WITH_DATA: &[Row] = &[
+    (CALLER, Ask::Tell(Tell::Info)),
+    (CALLER, Ask::Give(Give::Release(TOO_LONG))),
+    (CALLER, Ask::Give(Give::Release(b"bye"))),
+    (ANSWERER, Ask::Take(Take::Release(2))),
+    (ANSWERER, Ask::Give(Give::Release(b""))),
+    (CALLER, Ask::Take(Take::Release(64))),
+    (CALLER, Ask::Tell(Tell::State)),
+    (ANSWERER, Ask::Tell(Tell::State)),
 ];
 
-/// A release with data in one direction, and without any in the other; data that are too long for a release, or for what is asked.
-pub(crate) const RELEASE_DATA: &[Ask] = &[
-    Ask::Look(Look::Info(CALLER)),
-    Ask::End(End::ReleaseWith(CALLER, TOO_LONG)),
-    Ask::End(End::ReleaseWith(CALLER, b"bye")),
-    Ask::End(End::ReleasedWith(ANSWERER, 2)),
-    Ask::End(End::ReleaseWith(ANSWERER, b"")),
-    Ask::End(End::ReleasedWith(CALLER, 64)),
-    Ask::Look(Look::State(CALLER)),
-    Ask::Look(Look::State(ANSWERER)),
-];
+/// What they answer where releases may carry data: those are lost that are too long for what is asked.
+const RELEASED: Part = (
+    WITH_DATA,
+    "Info { addr: At(64), options: At(256), tsdu: At(0), etsdu: At(128), connect: At(64), discon: At(64), servtype: T_COTS_ORD, flags: 2 }
+Err(TBADDATA)
+()
+Overflow(Seq(0))
+()
+ []
+T_IDLE
+T_IDLE
+",
+);
+
+/// What they answer where releases carry none.
+const RELEASED_WITHOUT: Part = (
+    WITH_DATA,
+    "Info { addr: At(64), options: At(256), tsdu: At(0), etsdu: At(128), connect: At(64), discon: At(64), servtype: T_COTS_ORD, flags: 0 }
+Err(TBADDATA)
+Err(TBADDATA)
+Err(TNOREL)
+()
+ []
+T_INREL
+T_OUTREL
+",
+);
 
 /// The same data that are asked for whole.
-pub(crate) const RELEASE_DATA_WHOLE: &[Ask] = &[
-    Ask::End(End::ReleasedWith(ANSWERER, 64)),
-    Ask::End(End::ReleaseWith(CALLER, b"bye")),
-    Ask::End(End::ReleasedWith(ANSWERER, 64)),
-    Ask::End(End::ReleaseWith(ANSWERER, b"and you")),
-    Ask::End(End::Released(CALLER)),
+const WHOLE: &[Row] = &[
+    (ANSWERER, Ask::Take(Take::Release(64))),
+    (CALLER, Ask::Give(Give::Release(b"bye"))),
+    (ANSWERER, Ask::Take(Take::Release(64))),
+    (ANSWERER, Ask::Give(Give::Release(b"and you"))),
+    (CALLER, Ask::Do(Do::TakeRelease)),
 ];
 
-/// The endpoints without O_NONBLOCK.
-pub(crate) const BLOCKING: &[Ask] = &[
-    Ask::Endpoint(Endpoint::Mode(CALLER, false)),
-    Ask::Endpoint(Endpoint::Mode(ANSWERER, false)),
-];
+/// What they answer where releases may carry data: one is taken with its data and one without.
+const RELEASED_WHOLE: Part = (
+    WHOLE,
+    "Err(TNOREL)
+()
+ [98, 121, 101]
+()
+()
+",
+);
+
+/// What they answer where there are no releases.
+const NOT_RELEASED: Part = (
+    WHOLE,
+    "Err(TNOTSUPPORT)
+Err(TNOTSUPPORT)
+Err(TNOTSUPPORT)
+Err(TNOTSUPPORT)
+Err(TNOTSUPPORT)
+",
+);
 
 /// A send until there is no room, and the event that there is room again, in buffers of two and of three bytes.
-pub(crate) const SMALL_BUFFERS: &[Ask] = &[
-    Ask::Data(Data::Send(CALLER, b"\x00\x01\x02\x03\x04", 0)),
-    Ask::Data(Data::Send(CALLER, b"z", 0)),
-    Ask::Look(Look::Event(CALLER)),
-    Ask::Data(Data::Receive(ANSWERER, 1)),
-    Ask::Look(Look::Event(CALLER)),
-    Ask::Look(Look::Event(CALLER)),
-];
+const SMALL_BUFFERS: Part = (
+    &[
+        (CALLER, Ask::Give(Give::Bytes(b"\x00\x01\x02\x03\x04", 0))),
+        (CALLER, Ask::Give(Give::Bytes(b"z", 0))),
+        (CALLER, Ask::Tell(Tell::Event)),
+        (ANSWERER, Ask::Take(Take::Bytes(1))),
+        (CALLER, Ask::Tell(Tell::Event)),
+        (CALLER, Ask::Tell(Tell::Event)),
+    ],
+    "5
+Err(TFLOW)
+None
+ [0] 0
+Some(T_GODATA)
+None
+",
+);
 
 static TOPICS: [Topic; 4] = [
     (
         "messages",
         &[OF_TICOTS, CONNECT, MESSAGES, VECTORS, DISCONNECT],
-        "0
-x:6c 1
-1
-x:2330 0
-2
-TNODATA
-1 x:2330 x: x:
-ok
-0 x:6c x: x:
-4
-1
-x:6162 3
-x:6364 3
-TNODATA
-none
-2
-x:6566 2
-x:6e 0
-0
-x: 0
-3
-x:61 x:6263 0
-TBADDATA
-x:6c x:2330
-T_IDLE
-TNOTSUPPORT
-2
-ok
-TLOOK T_DISCONNECT
-4 0 x:
-ok
-TBADF
-",
     ),
-    (
-        "a release",
-        &[OF_TICOTSORD, CONNECT, RELEASE],
-        "0
-x:6c 1
-1
-x:2330 0
-2
-TNODATA
-1 x:2330 x: x:
-ok
-0 x:6c x: x:
-T_DATAXFER
-TBADDATA
-2
-ok
-TNOREL
-x:6869 0
-TLOOK T_ORDREL
-ok
-ok
-ok
-T_IDLE
-T_IDLE
-",
-    ),
+    ("a release", &[OF_TICOTSORD, CONNECT, RELEASE]),
     (
         "a release without data, as the provider has none",
-        &[OF_TICOTSORD, CONNECT, RELEASE_DATA],
-        "0
-x:6c 1
-1
-x:2330 0
-2
-TNODATA
-1 x:2330 x: x:
-ok
-0 x:6c x: x:
-64 256 0 128 64 64 T_COTS_ORD 0
-TBADDATA
-TBADDATA
-TNOREL
-ok
-x:
-T_INREL
-T_OUTREL
-",
+        &[OF_TICOTSORD, CONNECT, RELEASED_WITHOUT],
     ),
     (
         "a release of a provider without it",
-        &[OF_TICOTS, CONNECT, RELEASE_DATA_WHOLE],
-        "0
-x:6c 1
-1
-x:2330 0
-2
-TNODATA
-1 x:2330 x: x:
-ok
-0 x:6c x: x:
-TNOTSUPPORT
-TNOTSUPPORT
-TNOTSUPPORT
-TNOTSUPPORT
-TNOTSUPPORT
-",
+        &[OF_TICOTS, CONNECT, NOT_RELEASED],
+    ),
+];
+
+static OF_SMALL_BUFFERS: [Topic; 1] = [("small buffers", &[OF_TICOTSORD, CONNECT, SMALL_BUFFERS])];
+
+static RELEASES: [Topic; 2] = [
+    ("releases with data", &[OF_TICOTSORD, CONNECT, RELEASED]),
+    (
+        "releases with data that are taken whole",
+        &[OF_TICOTSORD, CONNECT, RELEASED_WHOLE],
     ),
 ];
 
 #[test]
 fn connections(rt: HostRuntime) {
     talk_about(&rt, rt.alloc(), &Providers::usual(), &TOPICS);
+}
+
+#[test]
+fn buffers(rt: HostRuntime) {
+    let mut providers = Providers::usual();
+    providers.ticotsord.sndbuf = 2;
+    providers.ticotsord.rcvbuf = 3;
+    talk_about(&rt, rt.alloc(), &providers, &OF_SMALL_BUFFERS);
+}
+
+#[test]
+fn releases(rt: HostRuntime) {
+    let mut providers = Providers::usual();
+    providers.ticotsord.reldata = true;
+    talk_about(&rt, rt.alloc(), &providers, &RELEASES);
 }

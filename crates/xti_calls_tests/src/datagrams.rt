@@ -1,149 +1,115 @@
 //! Datagrams.
 
-use crate::asks::{Ask, Datagram, Endpoint, Look, MOST};
-use crate::conversations::{Topic, talk_about};
+use crate::asks::{Ask, Do, Give, NEW, Row, Take, Tell};
+use crate::conversations::{Part, Topic, talk_about};
+use std::test::*;
 use xti_base::Fd;
-use xti_calls::Max;
-use xti_model::Providers;
+use xti_calls::Providers;
 
 const A: Fd = Fd(0);
 
 const B: Fd = Fd(1);
 
-/// Three bytes of data at most.
-const THREE_BYTES: Max = Max {
-    addr: 64,
-    opt: 256,
-    udata: 3,
-};
-
 /// Two endpoints, bound to `a` and `b`.
-pub(crate) const TWO_ENDPOINTS: &[Ask] = &[
-    Ask::Endpoint(Endpoint::Open(b"ticlts", false)),
-    Ask::Endpoint(Endpoint::Bind(A, b"a", 0, 64)),
-    Ask::Endpoint(Endpoint::Open(b"ticlts", false)),
-    Ask::Endpoint(Endpoint::Bind(B, b"b", 0, 64)),
-];
-
-/// A datagram that is received in two parts.
-pub(crate) const TWO_PARTS: &[Ask] = &[
-    Ask::Datagram(Datagram::Send(A, b"b", b"hello")),
-    Ask::Datagram(Datagram::Receive(B, THREE_BYTES)),
-    Ask::Datagram(Datagram::Receive(B, THREE_BYTES)),
-];
+pub(crate) const TWO_ENDPOINTS: Part = (
+    &[
+        (NEW, Ask::Open(b"ticlts", false)),
+        (A, Ask::Give(Give::Address(b"a", 0))),
+        (NEW, Ask::Open(b"ticlts", false)),
+        (B, Ask::Give(Give::Address(b"b", 0))),
+    ],
+    "Fd(0)
+ [97] 0
+Fd(1)
+ [98] 0
+",
+);
 
 /// A datagram to nobody, whose error waits, and one to the sender itself.
-pub(crate) const TO_NOBODY: &[Ask] = &[
-    Ask::Endpoint(Endpoint::Open(b"ticlts", false)),
-    Ask::Endpoint(Endpoint::Bind(A, b"a", 0, 64)),
-    Ask::Datagram(Datagram::Send(A, b"zz", b"x")),
-    Ask::Datagram(Datagram::Send(A, b"zz", b"x")),
-    Ask::Look(Look::Event(A)),
-    Ask::Datagram(Datagram::Error(A, 64, 256)),
-    Ask::Datagram(Datagram::Send(A, b"a", b"x")),
-    Ask::Datagram(Datagram::Error(A, 64, 256)),
-];
+const TO_NOBODY: Part = (
+    &[
+        (NEW, Ask::Open(b"ticlts", false)),
+        (A, Ask::Give(Give::Address(b"a", 0))),
+        (A, Ask::Give(Give::Datagram(b"zz", b"x"))),
+        (A, Ask::Give(Give::Datagram(b"zz", b"x"))),
+        (A, Ask::Tell(Tell::Event)),
+        (A, Ask::Take(Take::DatagramError)),
+        (A, Ask::Give(Give::Datagram(b"a", b"x"))),
+        (A, Ask::Take(Take::DatagramError)),
+    ],
+    "Fd(0)
+ [97] 0
+()
+Look(T_UDERR)
+Some(T_UDERR)
+ [122, 122] [] 1
+()
+Err(TNOUDERR)
+",
+);
 
 /// A datagram of two parts, received by buffers.
-pub(crate) const IN_PARTS: &[Ask] = &[
-    Ask::Datagram(Datagram::SendParts(A, b"b", &[b"ab", b"cde"])),
-    Ask::Datagram(Datagram::ReceiveParts(B, &[2, 1], 64, 256)),
-    Ask::Datagram(Datagram::ReceiveParts(B, &[9], 64, 256)),
-];
+const IN_PARTS: Part = (
+    &[
+        (A, Ask::SendParts(Some(b"b"), &[b"ab", b"cde"])),
+        (B, Ask::ReceiveParts(true, &[2, 1])),
+        (B, Ask::ReceiveParts(true, &[9])),
+    ],
+    "()
+ TCall { seq: Seq(0), addr: [97], opt: [], udata: [] } [97, 98] [99] 1
+ TCall { seq: Seq(0), addr: [], opt: [], udata: [] } [100, 101] 0
+",
+);
 
 /// A receive for which nothing waits, without O_NONBLOCK and with it.
-pub(crate) const NOTHING_WAITS: &[Ask] = &[
-    Ask::Datagram(Datagram::Receive(B, MOST)),
-    Ask::Endpoint(Endpoint::Mode(B, true)),
-    Ask::Datagram(Datagram::Receive(B, MOST)),
-];
+const NOTHING_WAITS: Part = (
+    &[
+        (B, Ask::Take(Take::Datagram(64))),
+        (B, Ask::Do(Do::Mode(true))),
+        (B, Ask::Take(Take::Datagram(64))),
+    ],
+    "Halt(Stalled { taken: 0, at: 4, waiting: 1, resting: 0 })
+()
+Err(TNODATA)
+",
+);
 
 /// O_NONBLOCK for the sender.
-pub(crate) const NONBLOCK: &[Ask] = &[Ask::Endpoint(Endpoint::Mode(A, true))];
+const NONBLOCK: Part = (&[(A, Ask::Do(Do::Mode(true)))], "()\n");
 
 /// One datagram more.
-const ONE_MORE: Ask = Ask::Datagram(Datagram::Send(A, b"b", b"x"));
+const ONE_MORE: Row = (A, Ask::Give(Give::Datagram(b"b", b"x")));
 
 /// As many datagrams as there is room for.
-pub(crate) const SIXTEEN_MORE: &[Ask] = &[ONE_MORE; 16];
+const SIXTEEN_MORE: Part = (
+    &[ONE_MORE; 16],
+    "()\n()\n()\n()\n()\n()\n()\n()\n()\n()\n()\n()\n()\n()\n()\n()\n",
+);
 
 /// A datagram for which there is no room, and the event that there is room again.
-pub(crate) const FLOW: &[Ask] = &[
-    ONE_MORE,
-    Ask::Look(Look::Event(A)),
-    Ask::Datagram(Datagram::Receive(B, MOST)),
-    Ask::Look(Look::Event(A)),
-    Ask::Look(Look::Event(A)),
-];
+const FLOW: Part = (
+    &[
+        ONE_MORE,
+        (A, Ask::Tell(Tell::Event)),
+        (B, Ask::Take(Take::Datagram(64))),
+        (A, Ask::Tell(Tell::Event)),
+        (A, Ask::Tell(Tell::Event)),
+    ],
+    "Err(TFLOW)
+None
+(TCall { seq: Seq(0), addr: [97], opt: [], udata: [120] }, 0)
+Some(T_GODATA)
+None
+",
+);
 
 static TOPICS: [Topic; 4] = [
-    (
-        "a datagram to nobody",
-        &[TO_NOBODY],
-        "0
-x:61 0
-ok
-TLOOK T_UDERR
-T_UDERR
-x:7a7a x: 1
-ok
-TNOUDERR
-",
-    ),
-    (
-        "a datagram in parts",
-        &[TWO_ENDPOINTS, IN_PARTS],
-        "0
-x:61 0
-1
-x:62 0
-ok
-0 x:61 x: x: x:6162 x:63 1
-0 x: x: x: x:6465 0
-",
-    ),
-    (
-        "nothing waits",
-        &[TWO_ENDPOINTS, NOTHING_WAITS],
-        "0
-x:61 0
-1
-x:62 0
-stalled at 4 waiting 1 resting 0 taken 0
-ok
-TNODATA
-",
-    ),
+    ("a datagram to nobody", &[TO_NOBODY]),
+    ("a datagram in parts", &[TWO_ENDPOINTS, IN_PARTS]),
+    ("nothing waits", &[TWO_ENDPOINTS, NOTHING_WAITS]),
     (
         "the flow of datagrams",
         &[TWO_ENDPOINTS, NONBLOCK, SIXTEEN_MORE, FLOW],
-        "0
-x:61 0
-1
-x:62 0
-ok
-ok
-ok
-ok
-ok
-ok
-ok
-ok
-ok
-ok
-ok
-ok
-ok
-ok
-ok
-ok
-ok
-TFLOW
-none
-0 x:61 x: x:78 0
-T_GODATA
-none
-",
     ),
 ];
 

@@ -1,9 +1,10 @@
 //! Endpoints by themselves: what they tell, their options, and how many there may be.
 
-use crate::asks::{Ask, Endpoint, Look};
-use crate::conversations::{Topic, talk_about};
+use crate::asks::{Ask, Do, Give, NEW, Row, Tell};
+use crate::conversations::{Part, Topic, talk_about};
+use std::test::*;
 use xti_base::Fd;
-use xti_model::Providers;
+use xti_calls::Providers;
 
 /// T_NEGOTIATE.
 const NEGOTIATE: u32 = 4;
@@ -17,155 +18,99 @@ const SIZES: &[u8] =
     b"\0\0\0\x14\0\0\xff\xff\0\0\x10\x02\0\0\0\0\0\x01\x11\x70\0\0\0\x14\0\0\xff\xff\0\0\x10\x03\0\0\0\0\0\0\0\x05";
 
 /// What the three providers tell.
-pub(crate) const TOLD: &[Ask] = &[
-    Ask::Endpoint(Endpoint::Open(b"ticots", false)),
-    Ask::Endpoint(Endpoint::Open(b"ticotsord", false)),
-    Ask::Endpoint(Endpoint::Open(b"ticlts", false)),
-    Ask::Look(Look::Info(Fd(0))),
-    Ask::Look(Look::Info(Fd(1))),
-    Ask::Look(Look::Info(Fd(2))),
-    Ask::Look(Look::Sync(Fd(0))),
-];
+const TOLD: Part = (
+    &[
+        (NEW, Ask::Open(b"ticots", false)),
+        (NEW, Ask::Open(b"ticotsord", false)),
+        (NEW, Ask::Open(b"ticlts", false)),
+        (Fd(0), Ask::Tell(Tell::Info)),
+        (Fd(1), Ask::Tell(Tell::Info)),
+        (Fd(2), Ask::Tell(Tell::Info)),
+        (Fd(0), Ask::Tell(Tell::Sync)),
+    ],
+    "Fd(0)
+Fd(1)
+Fd(2)
+Info { addr: At(64), options: At(256), tsdu: At(65536), etsdu: At(128), connect: At(64), discon: At(64), servtype: T_COTS, flags: 1 }
+Info { addr: At(64), options: At(256), tsdu: At(0), etsdu: At(128), connect: At(64), discon: At(64), servtype: T_COTS_ORD, flags: 0 }
+Info { addr: At(64), options: At(256), tsdu: At(8192), etsdu: Invalid, connect: Invalid, discon: Invalid, servtype: T_CLTS, flags: 1 }
+T_UNBND
+",
+);
 
 /// Options of two levels, sizes of buffers out of their limits, and an action that there isn't.
-pub(crate) const OPTIONS: &[Ask] = &[
-    Ask::Look(Look::Options(Fd(0), NEGOTIATE, TWO_LEVELS, 256)),
-    Ask::Look(Look::Options(Fd(0), NEGOTIATE, SIZES, 256)),
-    Ask::Look(Look::Options(Fd(0), 7, b"", 256)),
-];
+const OPTIONS: Part = (
+    &[
+        (Fd(0), Ask::Tell(Tell::Options(NEGOTIATE, TWO_LEVELS))),
+        (Fd(0), Ask::Tell(Tell::Options(NEGOTIATE, SIZES))),
+        (Fd(0), Ask::Tell(Tell::Options(7, b""))),
+    ],
+    "Err(TBADOPT)
+ 512 [0, 0, 0, 20, 0, 0, 255, 255, 0, 0, 16, 2, 0, 0, 1, 0, 0, 1, 0, 0, 0, 0, 0, 20, 0, 0, 255, 255, 0, 0, 16, 3, 0, 0, 2, 0, 0, 0, 0, 1]
+Err(TBADFLAG)
+",
+);
 
 /// One more endpoint.
-const ONE_MORE: Ask = Ask::Endpoint(Endpoint::Open(b"ticlts", false));
+const ONE_MORE: Row = (NEW, Ask::Open(b"ticlts", false));
 
 /// As many endpoints as there may be.
-pub(crate) const ALL: &[Ask] = &[ONE_MORE; 64];
+const ALL: Part = (
+    &[ONE_MORE; 64],
+    "Fd(0)\nFd(1)\nFd(2)\nFd(3)\nFd(4)\nFd(5)\nFd(6)\nFd(7)\nFd(8)\nFd(9)\nFd(10)\nFd(11)\n\
+     Fd(12)\nFd(13)\nFd(14)\nFd(15)\nFd(16)\nFd(17)\nFd(18)\nFd(19)\nFd(20)\nFd(21)\nFd(22)\n\
+     Fd(23)\nFd(24)\nFd(25)\nFd(26)\nFd(27)\nFd(28)\nFd(29)\nFd(30)\nFd(31)\nFd(32)\nFd(33)\n\
+     Fd(34)\nFd(35)\nFd(36)\nFd(37)\nFd(38)\nFd(39)\nFd(40)\nFd(41)\nFd(42)\nFd(43)\nFd(44)\n\
+     Fd(45)\nFd(46)\nFd(47)\nFd(48)\nFd(49)\nFd(50)\nFd(51)\nFd(52)\nFd(53)\nFd(54)\nFd(55)\n\
+     Fd(56)\nFd(57)\nFd(58)\nFd(59)\nFd(60)\nFd(61)\nFd(62)\nFd(63)\n",
+);
 
 /// One endpoint too many, an endpoint at a place that was given back, and a name of no provider.
-pub(crate) const TOO_MANY: &[Ask] = &[
-    ONE_MORE,
-    Ask::Endpoint(Endpoint::Close(Fd(5))),
-    ONE_MORE,
-    Ask::Look(Look::State(Fd(5))),
-    Ask::Endpoint(Endpoint::Open(b"other", false)),
-];
+const TOO_MANY: Part = (
+    &[
+        ONE_MORE,
+        (Fd(5), Ask::Do(Do::Close)),
+        ONE_MORE,
+        (Fd(5), Ask::Tell(Tell::State)),
+        (NEW, Ask::Open(b"other", false)),
+    ],
+    "Err(TSYSERR)
+()
+Fd(69)
+Err(TBADF)
+Err(TBADNAME)
+",
+);
 
 /// Addresses that another endpoint has.
-pub(crate) const BOUND_ADDRESSES: &[Ask] = &[
-    Ask::Endpoint(Endpoint::Open(b"ticots", false)),
-    Ask::Endpoint(Endpoint::Open(b"ticots", false)),
-    Ask::Endpoint(Endpoint::Bind(Fd(0), b"l", 1, 64)),
-    Ask::Endpoint(Endpoint::Bind(Fd(1), b"l", 1, 64)),
-    Ask::Endpoint(Endpoint::Bind(Fd(1), b"l", 0, 64)),
-    Ask::Endpoint(Endpoint::Open(b"ticlts", false)),
-    Ask::Endpoint(Endpoint::Open(b"ticlts", false)),
-    Ask::Endpoint(Endpoint::Bind(Fd(2), b"a", 0, 64)),
-    Ask::Endpoint(Endpoint::Bind(Fd(3), b"a", 0, 64)),
-];
+const BOUND_ADDRESSES: Part = (
+    &[
+        (NEW, Ask::Open(b"ticots", false)),
+        (NEW, Ask::Open(b"ticots", false)),
+        (Fd(0), Ask::Give(Give::Address(b"l", 1))),
+        (Fd(1), Ask::Give(Give::Address(b"l", 1))),
+        (Fd(1), Ask::Give(Give::Address(b"l", 0))),
+        (NEW, Ask::Open(b"ticlts", false)),
+        (NEW, Ask::Open(b"ticlts", false)),
+        (Fd(2), Ask::Give(Give::Address(b"a", 0))),
+        (Fd(3), Ask::Give(Give::Address(b"a", 0))),
+    ],
+    "Fd(0)
+Fd(1)
+ [108] 1
+Err(TADDRBUSY)
+ [108] 0
+Fd(2)
+Fd(3)
+ [97] 0
+Err(TADDRBUSY)
+",
+);
 
 static TOPICS: [Topic; 3] = [
-    (
-        "what endpoints tell",
-        &[TOLD, OPTIONS],
-        "0
-1
-2
-64 256 65536 128 64 64 T_COTS 1
-64 256 0 128 64 64 T_COTS_ORD 0
-64 256 8192 -2 -2 -2 T_CLTS 1
-T_UNBND
-TBADOPT
-512 x:000000140000ffff000010020000010000010000000000140000ffff000010030000020000000001
-TBADFLAG
-",
-    ),
-    (
-        "addresses that are bound",
-        &[BOUND_ADDRESSES],
-        "0
-1
-x:6c 1
-TADDRBUSY
-x:6c 0
-2
-3
-x:61 0
-TADDRBUSY
-",
-    ),
-    (
-        "too many endpoints",
-        &[ALL, TOO_MANY],
-        "0
-1
-2
-3
-4
-5
-6
-7
-8
-9
-10
-11
-12
-13
-14
-15
-16
-17
-18
-19
-20
-21
-22
-23
-24
-25
-26
-27
-28
-29
-30
-31
-32
-33
-34
-35
-36
-37
-38
-39
-40
-41
-42
-43
-44
-45
-46
-47
-48
-49
-50
-51
-52
-53
-54
-55
-56
-57
-58
-59
-60
-61
-62
-63
-TSYSERR
-ok
-69
-TBADF
-TBADNAME
-",
-    ),
+    ("what endpoints tell", &[TOLD, OPTIONS]),
+    ("addresses that are bound", &[BOUND_ADDRESSES]),
+    ("too many endpoints", &[ALL, TOO_MANY]),
 ];
 
 #[test]

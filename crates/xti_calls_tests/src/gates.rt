@@ -1,20 +1,16 @@
 //! A thread that is held at its gate holds up no step on other cells.
 
-use crate::answers::Log;
-use crate::asks::{Ask, Data, Datagram, Endpoint, Look, MOST, Request, make_all};
-use crate::conversations::prepare;
+use crate::asks::{Ask, Do, Give, NEW, Request, Take, Tell};
+use crate::conversations::{Part, another_caller, expect_free, holds, library};
 use crate::datagrams;
-use crate::library::{Stop, finished, library};
-use std::alloc::{AllocError, Global};
 use std::process::Abort;
 use std::sync::Wait;
 use std::sync::atomic::{AtomicBool, Ordering};
+use std::test::*;
 use std::thread::{self, Threads};
-use xti_base::{Fd, Octets, Seq};
-use xti_calls::{Caller, Gate};
-use xti_gather::Cell;
+use xti_base::{Fd, Octets, Seq, let_go};
+use xti_calls::{Call, Caller, Cell, Gate};
 use xti_hall::Seat as HallSeat;
-use xti_model::Call;
 
 /// How often a thread looks whether another has come so far, before it gives up.
 const TRIES: u32 = 10_000_000;
@@ -38,17 +34,6 @@ struct Holding {
     in_time: AtomicBool,
 }
 
-impl Holding {
-    /// Nobody is held yet.
-    fn new() -> Holding {
-        Holding {
-            held: AtomicBool::new(false),
-            freed: AtomicBool::new(false),
-            in_time: AtomicBool::new(false),
-        }
-    }
-}
-
 impl Gate for Holding {
     fn pause<R: Wait + Sync>(
         &self,
@@ -64,6 +49,144 @@ impl Gate for Holding {
     }
 }
 
+/// A third endpoint of datagrams.
+const THIRD: Part = (
+    &[
+        (NEW, Ask::Open(b"ticlts", false)),
+        (Fd(2), Ask::Give(Give::Address(b"c", 0))),
+    ],
+    "Fd(2)
+ [99] 0
+",
+);
+
+/// Calls of two endpoints, and a datagram between them.
+const ON_ENDPOINTS: Part = (
+    &[
+        (Fd(0), Ask::Tell(Tell::State)),
+        (Fd(0), Ask::Give(Give::Datagram(b"b", b"hello"))),
+        (Fd(1), Ask::Take(Take::Datagram(64))),
+        (Fd(1), Ask::Tell(Tell::State)),
+        (Fd(0), Ask::Tell(Tell::State)),
+    ],
+    "T_IDLE
+()
+(TCall { seq: Seq(0), addr: [97], opt: [], udata: [104, 101, 108, 108, 111] }, 0)
+T_IDLE
+T_IDLE
+",
+);
+
+/// A connection between two more endpoints, a listener and a caller, which get these descriptors.
+macro_rules! connection {
+    ($listener:expr, $caller:expr, $address:expr, $wanted:expr) => {
+        (
+            &[
+                (NEW, Ask::Open(b"ticots", true)),
+                ($listener, Ask::Give(Give::Address($address, 1))),
+                (NEW, Ask::Open(b"ticots", true)),
+                ($caller, Ask::Give(Give::Address(b"", 0))),
+                ($caller, Ask::Request(Request::Connect($address))),
+                ($listener, Ask::Request(Request::Listen(64))),
+                ($listener, Ask::Do(Do::Accept($listener, Seq(1)))),
+                ($caller, Ask::Request(Request::Confirm)),
+            ],
+            $wanted,
+        )
+    };
+}
+
+const FIRST_CONNECTION: Part = connection!(
+    Fd(0),
+    Fd(1),
+    b"1",
+    "Fd(0)
+ [49] 1
+Fd(1)
+ [35, 48] 0
+Err(TNODATA)
+TCall { seq: Seq(1), addr: [35, 48], opt: [], udata: [] }
+()
+TCall { seq: Seq(0), addr: [49], opt: [], udata: [] }
+"
+);
+
+const SECOND_CONNECTION: Part = connection!(
+    Fd(2),
+    Fd(3),
+    b"2",
+    "Fd(2)
+ [50] 1
+Fd(3)
+ [35, 49] 0
+Err(TNODATA)
+TCall { seq: Seq(1), addr: [35, 49], opt: [], udata: [] }
+()
+TCall { seq: Seq(0), addr: [50], opt: [], udata: [] }
+"
+);
+
+const THIRD_CONNECTION: Part = connection!(
+    Fd(4),
+    Fd(5),
+    b"3",
+    "Fd(4)
+ [51] 1
+Fd(5)
+ [35, 50] 0
+Err(TNODATA)
+TCall { seq: Seq(1), addr: [35, 50], opt: [], udata: [] }
+()
+TCall { seq: Seq(0), addr: [51], opt: [], udata: [] }
+"
+);
+
+/// A listener and two endpoints that ask it for connections, with descriptors from 6 on.
+const TWO_REQUESTS: Part = (
+    &[
+        (NEW, Ask::Open(b"ticots", true)),
+        (Fd(6), Ask::Give(Give::Address(b"l", 2))),
+        (NEW, Ask::Open(b"ticots", true)),
+        (Fd(7), Ask::Give(Give::Address(b"", 0))),
+        (NEW, Ask::Open(b"ticots", true)),
+        (Fd(8), Ask::Give(Give::Address(b"", 0))),
+        (Fd(7), Ask::Request(Request::Connect(b"l"))),
+        (Fd(8), Ask::Request(Request::Connect(b"l"))),
+    ],
+    "Fd(6)
+ [108] 2
+Fd(7)
+ [35, 51] 0
+Fd(8)
+ [35, 52] 0
+Err(TNODATA)
+Err(TNODATA)
+",
+);
+
+/// Data on two connections, a step that touches both, and one that touches those that are asked for.
+const ON_CONNECTIONS: Part = (
+    &[
+        (Fd(1), Ask::Give(Give::Bytes(b"hi", 0))),
+        (Fd(0), Ask::Take(Take::Bytes(9))),
+        (Fd(3), Ask::Give(Give::Bytes(b"hi", 0))),
+        (Fd(2), Ask::Take(Take::Bytes(9))),
+        (Fd(0), Ask::Do(Do::Accept(Fd(2), Seq(1)))),
+        (Fd(6), Ask::Do(Do::Close)),
+        (Fd(7), Ask::Tell(Tell::Event)),
+        (Fd(8), Ask::Tell(Tell::Event)),
+    ],
+    "2
+ [104, 105] 0
+2
+ [104, 105] 0
+Err(TOUTSTATE)
+()
+Some(T_DISCONNECT)
+Some(T_DISCONNECT)
+",
+);
+
 /// What a thread is held at.
 #[derive(Clone, Copy)]
 enum Held {
@@ -73,230 +196,91 @@ enum Held {
     Connection,
 }
 
-/// What is held, what the endpoints are before, the other thread's calls meanwhile, and what they answer.
-struct Case {
-    topic: &'static str,
-    held: Held,
-    before: &'static [&'static [Ask]],
-    asks: &'static [Ask],
-    wanted: &'static str,
-}
-
-static CASES: [Case; 2] = [
-    Case {
-        topic: "held on an endpoint",
-        held: Held::Endpoint,
-        before: &[datagrams::TWO_ENDPOINTS, THIRD],
-        asks: ON_ENDPOINTS,
-        wanted: "T_IDLE
-ok
-0 x:61 x: x:68656c6c6f 0
-T_IDLE
-T_IDLE
-",
-    },
-    Case {
-        topic: "held on a connection",
-        held: Held::Connection,
-        before: &[
+/// What is talked about, what is held, what the endpoints are before, and the other thread's calls meanwhile.
+static CASES: [(&str, Held, &[Part], Part); 2] = [
+    (
+        "held on an endpoint",
+        Held::Endpoint,
+        &[datagrams::TWO_ENDPOINTS, THIRD],
+        ON_ENDPOINTS,
+    ),
+    (
+        "held on a connection",
+        Held::Connection,
+        &[
             FIRST_CONNECTION,
             SECOND_CONNECTION,
             THIRD_CONNECTION,
             TWO_REQUESTS,
         ],
-        asks: ON_CONNECTIONS,
-        wanted: "2
-x:6869 0
-2
-x:6869 0
-TOUTSTATE
-ok
-T_DISCONNECT
-T_DISCONNECT
-",
-    },
-];
-
-/// A third endpoint of datagrams.
-const THIRD: &[Ask] = &[
-    Ask::Endpoint(Endpoint::Open(b"ticlts", false)),
-    Ask::Endpoint(Endpoint::Bind(Fd(2), b"c", 0, 64)),
-];
-
-/// A connection between two more endpoints, a listener and a caller, which get these descriptors.
-macro_rules! connection {
-    ($listener:expr, $caller:expr, $address:expr) => {
-        &[
-            Ask::Endpoint(Endpoint::Open(b"ticots", true)),
-            Ask::Endpoint(Endpoint::Bind($listener, $address, 1, 64)),
-            Ask::Endpoint(Endpoint::Open(b"ticots", true)),
-            Ask::Endpoint(Endpoint::Bind($caller, b"", 0, 64)),
-            Ask::Request(Request::Connect($caller, $address, MOST)),
-            Ask::Request(Request::Listen($listener, MOST)),
-            Ask::Request(Request::Accept($listener, $listener, Seq(1))),
-            Ask::Request(Request::Confirm($caller, MOST)),
-        ]
-    };
-}
-
-const FIRST_CONNECTION: &[Ask] = connection!(Fd(0), Fd(1), b"1");
-
-const SECOND_CONNECTION: &[Ask] = connection!(Fd(2), Fd(3), b"2");
-
-const THIRD_CONNECTION: &[Ask] = connection!(Fd(4), Fd(5), b"3");
-
-/// A listener and two endpoints that ask it for connections, with descriptors from 6 on.
-const TWO_REQUESTS: &[Ask] = &[
-    Ask::Endpoint(Endpoint::Open(b"ticots", true)),
-    Ask::Endpoint(Endpoint::Bind(Fd(6), b"l", 2, 64)),
-    Ask::Endpoint(Endpoint::Open(b"ticots", true)),
-    Ask::Endpoint(Endpoint::Bind(Fd(7), b"", 0, 64)),
-    Ask::Endpoint(Endpoint::Open(b"ticots", true)),
-    Ask::Endpoint(Endpoint::Bind(Fd(8), b"", 0, 64)),
-    Ask::Request(Request::Connect(Fd(7), b"l", MOST)),
-    Ask::Request(Request::Connect(Fd(8), b"l", MOST)),
-];
-
-/// Calls of two endpoints, and a datagram between them.
-const ON_ENDPOINTS: &[Ask] = &[
-    Ask::Look(Look::State(Fd(0))),
-    Ask::Datagram(Datagram::Send(Fd(0), b"b", b"hello")),
-    Ask::Datagram(Datagram::Receive(Fd(1), MOST)),
-    Ask::Look(Look::State(Fd(1))),
-    Ask::Look(Look::State(Fd(0))),
-];
-
-/// Data on two connections, a step that touches both, and one that touches those that are asked for.
-const ON_CONNECTIONS: &[Ask] = &[
-    Ask::Data(Data::Send(Fd(1), b"hi", 0)),
-    Ask::Data(Data::Receive(Fd(0), 9)),
-    Ask::Data(Data::Send(Fd(3), b"hi", 0)),
-    Ask::Data(Data::Receive(Fd(2), 9)),
-    Ask::Request(Request::Accept(Fd(0), Fd(2), Seq(1))),
-    Ask::Endpoint(Endpoint::Close(Fd(6))),
-    Ask::Look(Look::Event(Fd(7))),
-    Ask::Look(Look::Event(Fd(8))),
+        ON_CONNECTIONS,
+    ),
 ];
 
 /// The call of the thread that is held.
-fn held_call(alloc: Global, held: Held) -> Result<Call, AllocError> {
+fn held_call<R: Abort>(caller: &Caller<R>, held: Held) -> Call {
     match held {
-        Held::Endpoint => Ok(Call::TGetState { fd: Fd(2) }),
-        Held::Connection => Ok(Call::TSnd {
+        Held::Endpoint => Call::TGetState { fd: Fd(2) },
+        Held::Connection => Call::TSnd {
             fd: Fd(5),
-            bytes: Octets::copy_of(alloc, b"hi")?,
+            bytes: Octets::copy_of(caller.alloc(), b"hi").expect(caller.rt(), "memory"),
             flags: 0,
-        }),
+        },
     }
 }
 
 /// Makes the call, held at the gate; whether it was answered.
-fn make_held<R: Wait + Sync>(
-    alloc: Global,
-    caller: &mut Caller<R>,
-    gate: &Holding,
-    held: Held,
-) -> bool {
-    let Ok(()) = finished(caller) else {
-        return false;
-    };
-    let Ok(call) = held_call(alloc, held) else {
-        return false;
-    };
+fn held_side<R: Wait + Sync + Abort>(caller: &mut Caller<R>, gate: &Holding, held: Held) -> bool {
+    let call = held_call(caller, held);
+    expect_free(caller);
     let answer = caller.call(gate, &call);
-    drop(call);
-    let answered = answer.is_ok();
-    drop(answer);
-    answered
+    let is_answered = answer.is_ok();
+    let_go((call, answer));
+    is_answered
 }
 
-/// The same by a caller that nobody has afterwards.
-fn held_side<R: Wait + Sync>(
-    alloc: Global,
-    mut caller: Caller<R>,
-    gate: &Holding,
-    held: Held,
-) -> bool {
-    let answered = make_held(alloc, &mut caller, gate, held);
-    drop(caller);
-    answered
-}
-
-/// Makes these calls once the other thread is held, and then lets it go; what they answered. Where nobody is held it
-/// makes none.
-fn free_side<R: Wait + Sync>(
-    alloc: Global,
-    mut caller: Caller<R>,
-    gate: &Holding,
-    asks: &[Ask],
-) -> Log {
-    let mut log = Log::new(alloc);
-    if comes(&gate.held) {
-        let _ = make_all(alloc, &mut caller, &mut log, asks);
-    }
+/// Makes these calls once the other thread is held, and then lets it go; whether they answered so. Where nobody is held it makes
+/// none.
+fn free_side<R: Wait + Sync + Abort>(caller: &mut Caller<R>, gate: &Holding, part: Part) -> bool {
+    let holds = comes(&gate.held) && holds(caller, &[part]);
     gate.freed.store(true, Ordering::SeqCst);
-    drop(caller);
-    log
+    holds
 }
 
-/// Both threads: whether the held call was answered and was let go in time, and what the other calls answered.
-fn both_sides<R: Threads + Wait + Sync>(
+/// Whether the held call was answered, and let go in time, and the other calls answered so.
+fn goes_on<R: Threads + Wait + Sync + Abort>(
     rt: &R,
-    alloc: Global,
-    holding: Caller<R>,
-    free: Caller<R>,
+    free: &mut Caller<R>,
     held: Held,
-    asks: &[Ask],
-) -> (bool, Log) {
-    let gate = Holding::new();
-    let (answered, log) = thread::join(
+    before: &[Part],
+    part: Part,
+) -> bool {
+    let is_prepared = holds(free, before);
+    let mut holding = another_caller(free);
+    let gate = Holding {
+        held: AtomicBool::new(false),
+        freed: AtomicBool::new(false),
+        in_time: AtomicBool::new(false),
+    };
+    let (is_answered, holds) = thread::join(
         rt,
-        || held_side(alloc, holding, &gate, held),
-        || free_side(alloc, free, &gate, asks),
+        || held_side(&mut holding, &gate, held),
+        || free_side(free, &gate, part),
     );
-    (answered && gate.in_time.load(Ordering::SeqCst), log)
-}
-
-/// A case by the first caller and one more.
-fn run_with<R: Threads + Wait + Sync>(
-    rt: &R,
-    alloc: Global,
-    mut first: Caller<R>,
-    case: &Case,
-) -> Result<(bool, Log), Stop> {
-    match prepare(alloc, &mut first, case.before) {
-        Ok(holding) => Ok(both_sides(rt, alloc, holding, first, case.held, case.asks)),
-        Err(stop) => {
-            drop(first);
-            Err(stop)
-        }
-    }
-}
-
-/// The same in a library of its own.
-fn run<R: Threads + Wait + Sync>(rt: &R, alloc: Global, case: &Case) -> Result<(bool, Log), Stop> {
-    let (xti, seat) = library(alloc)?;
-    let ran = run_with(rt, alloc, xti.caller(rt, alloc, seat), case);
-    drop(xti);
-    ran
-}
-
-/// The test fails where the held call of a case wasn't answered, or wasn't let go in time, or the other calls answered
-/// otherwise.
-fn expect_in_time<R: Threads + Wait + Sync + Abort>(rt: &R, alloc: Global, case: &Case) {
-    match run(rt, alloc, case) {
-        Ok((in_time, log)) => {
-            log.expect(rt, case.topic, case.wanted);
-            drop(log);
-            assert!(rt; in_time, "{}", case.topic);
-        }
-        Err(stop) => panic!(rt; "{}: {stop:?}", case.topic),
-    }
+    let_go(holding);
+    is_prepared && is_answered && holds && gate.in_time.load(Ordering::SeqCst)
 }
 
 #[test]
 fn gates(rt: HostRuntime) {
-    for case in &CASES {
-        expect_in_time(&rt, rt.alloc(), case);
+    for (topic, held, before, part) in &CASES {
+        let (xti, seat) = library(&rt, rt.alloc(), true);
+        let mut free = xti.caller(&rt, rt.alloc(), seat);
+        let goes_on = goes_on(&rt, &mut free, *held, before, *part);
+        let_go(free);
+        let_go(xti);
+        if !goes_on {
+            rt.panic(topic);
+        }
     }
 }

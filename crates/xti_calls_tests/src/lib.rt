@@ -1,8 +1,8 @@
 //! Tests of the library: its calls in their own types, with worked values from outside, and threads that are held at
 //! gates.
 //!
-//! A value of many parts, as a seat or a call, is let go by `drop`: that is proved once for its type, and not once for
-//! each place where it is let go.
+//! A value of many parts, as a seat or a call, is let go by a call: that is proved once for its type, and not once for each
+//! place where it is let go.
 #![tactic(auto)]
 
 #[cfg(test)]
@@ -19,8 +19,6 @@ mod datagrams;
 mod endpoints;
 #[cfg(test)]
 mod gates;
-#[cfg(test)]
-mod library;
 #[cfg(test)]
 mod parts;
 #[cfg(test)]

@@ -1,9 +1,7 @@
 //! Structures and their buffers, the names of errors, and what the system sets.
 
-use std::alloc::Global;
-use std::process::Abort;
 use std::test::*;
-use xti_base::{Errno, Info, Limit, ServType};
+use xti_base::{Errno, Info, Limit, ServType, let_go};
 use xti_calls::{AllocFail, Bufs, StructKind, t_alloc, t_strerror, t_sysconf};
 
 /// What the provider of datagrams tells.
@@ -30,60 +28,26 @@ const CONNECTIONS: Info = Info {
     flags: 1,
 };
 
-/// How many bytes of address, options and data there are, and whether those of the address are zero.
-fn sizes(bufs: &Bufs) -> (usize, usize, usize, bool) {
-    (
-        bufs.addr.as_slice().len(),
-        bufs.opt.as_slice().len(),
-        bufs.udata.as_slice().len(),
-        bufs.addr.as_slice().iter().all(|byte| *byte == 0),
-    )
+/// Whether there is room for an address alone, which is zero.
+fn is_room_for_address(bufs: &Bufs) -> bool {
+    bufs.addr.as_slice() == [0; 64].as_slice()
+        && bufs.opt.as_slice().is_empty()
+        && bufs.udata.as_slice().is_empty()
 }
 
-/// The same of the buffers of a structure.
-fn sizes_of(made: Result<Bufs, AllocFail>) -> Result<(usize, usize, usize, bool), AllocFail> {
-    let bufs = made?;
-    let sizes = sizes(&bufs);
-    drop(bufs);
-    Ok(sizes)
-}
-
-/// The sizes of a request, which the provider of datagrams has none of.
-fn request_sizes(alloc: Global) -> Result<(usize, usize, usize, bool), AllocFail> {
-    sizes_of(t_alloc(alloc, &DATAGRAMS, StructKind::Call))
-}
-
-/// The sizes of an address of connections.
-fn address_sizes(alloc: Global) -> Result<(usize, usize, usize, bool), AllocFail> {
-    sizes_of(t_alloc(alloc, &CONNECTIONS, StructKind::Bind))
-}
-
-/// The test fails where other sizes are wanted.
-fn expect_sizes<R: Abort>(
-    rt: &R,
-    found: Result<(usize, usize, usize, bool), AllocFail>,
-    wanted: Result<(usize, usize, usize, bool), AllocFail>,
-) {
-    assert_eq!(rt; found, wanted);
-}
-
-/// The test fails where the error has another name.
-fn expect_name<R: Abort>(rt: &R, number: u32, wanted: &str) {
-    assert_eq!(rt; t_strerror(number), wanted);
-}
-
-/// The test fails where the system sets another limit.
-fn expect_limit<R: Abort>(rt: &R, name: u32, wanted: Result<u32, Errno>) {
-    assert_eq!(rt; t_sysconf(name), wanted);
+/// A request, which the provider of datagrams has none of, and an address of connections.
+#[test]
+fn structures(rt: HostRuntime) {
+    let request = t_alloc(rt.alloc(), &DATAGRAMS, StructKind::Call);
+    let address = t_alloc(rt.alloc(), &CONNECTIONS, StructKind::Bind);
+    let is_refused = matches!(&request, Err(AllocFail::NoStructType));
+    let is_room = matches!(&address, Ok(bufs) if is_room_for_address(bufs));
+    let_go((request, address));
+    assert!(rt; is_refused && is_room);
 }
 
 #[test]
-fn structures(rt: HostRuntime) {
-    let alloc = rt.alloc();
-    expect_sizes(&rt, request_sizes(alloc), Err(AllocFail::NoStructType));
-    expect_sizes(&rt, address_sizes(alloc), Ok((64, 0, 0, true)));
-    expect_name(&rt, 9, "TLOOK");
-    expect_name(&rt, 30, "unknown");
-    expect_limit(&rt, 0, Ok(16));
-    expect_limit(&rt, 1, Err(Errno::TBADFLAG));
+fn names_and_limits(rt: HostRuntime) {
+    assert!(rt; [t_strerror(9), t_strerror(30)] == ["TLOOK", "unknown"]);
+    assert!(rt; [t_sysconf(0), t_sysconf(1)] == [Ok(16), Err(Errno::TBADFLAG)]);
 }
