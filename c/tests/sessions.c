@@ -94,6 +94,8 @@ static void *call_and_talk(void *at)
         struct t_discon discon = { { 0, 0, NULL }, 0, 0 };
         if (!CHECK(t_errno == TLOOK && t_rcvdis(fd, &discon) == 0 && (discon.reason == 2 || discon.reason == 3)))
             return NULL;
+        /* The listener needs its turn: without a pause a caller may ask a million times. */
+        usleep(1000);
     }
     ANSWERS(t_snd(fd, &session, 1, 0), 1);
     send_all(fd, session);
