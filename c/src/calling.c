@@ -55,41 +55,50 @@ int xti_first_event(const struct endpoint *e)
     return is_open ? (int)seen.event : 0;
 }
 
-static int is_one_of_data(uint32_t call)
+/* What is told apart of calls here: those that move data of a connection, and datagrams; those whose next step has to know the mode,
+   since without waiting a request is made and not waited for, and a send that finds no room leaves a mark (of other calls the mode is
+   looked at once they can't go on); others that may wait; and those that change nothing. */
+enum { IS_DATA = 1, IS_DATAGRAM = 2, KNOWS_MODE = 4, MAY_WAIT = 8, ASKS = 16 };
+
+static const uint8_t kinds[] = {
+    [XTI_SND] = IS_DATA | KNOWS_MODE,
+    [XTI_SNDV] = IS_DATA | KNOWS_MODE,
+    [XTI_RCV] = IS_DATA,
+    [XTI_RCVV] = IS_DATA,
+    [XTI_SNDUDATA] = IS_DATAGRAM | KNOWS_MODE,
+    [XTI_SNDVUDATA] = IS_DATAGRAM | KNOWS_MODE,
+    [XTI_RCVUDATA] = IS_DATAGRAM,
+    [XTI_RCVVUDATA] = IS_DATAGRAM,
+    [XTI_CONNECT] = MAY_WAIT | KNOWS_MODE,
+    [XTI_RCVCONNECT] = MAY_WAIT,
+    [XTI_LISTEN] = MAY_WAIT,
+    [XTI_OPEN] = ASKS,
+    [XTI_GETSTATE] = ASKS,
+    [XTI_SYNC] = ASKS,
+    [XTI_GETINFO] = ASKS,
+    [XTI_GETPROTADDR] = ASKS,
+    [XTI_RCVRELDATA] = 0,
+};
+
+static int is(const struct xti_asked *asked, int kind)
 {
-    return call == XTI_SND || call == XTI_SNDV || call == XTI_RCV || call == XTI_RCVV;
+    return (kinds[asked->call] & kind) != 0;
 }
 
-static int is_one_of_datagrams(uint32_t call)
+/* Data that were moved on a connection, or were received, change nothing that is noted here; nor do datagrams that were sent, as long
+   as none found no room. */
+static int is_to_be_noted(const struct xti_asked *asked, const struct xti_told *told)
 {
-    return call == XTI_SNDUDATA || call == XTI_SNDVUDATA || call == XTI_RCVUDATA || call == XTI_RCVVUDATA;
-}
-
-/* Whether a step may end links; one that moves data ends none. */
-static int may_unlink(uint32_t call)
-{
-    return !is_one_of_data(call) && !is_one_of_datagrams(call);
-}
-
-/* Data that were moved on a connection, or were received, change nothing that is noted here. */
-static int is_to_be_noted(uint32_t call)
-{
-    return !is_one_of_data(call) && call != XTI_RCVUDATA && call != XTI_RCVVUDATA;
+    if (is(asked, IS_DATAGRAM))
+        return is(asked, KNOWS_MODE) && (told->reply == XTI_REFUSED || xti_has_flow_destinations);
+    return !is(asked, IS_DATA);
 }
 
 /* Whether a step has changed anything that others, or poll, can see. */
 static int has_changed(const struct xti_asked *asked, const struct xti_told *told)
 {
-    switch (asked->call) {
-    case XTI_OPEN:
-    case XTI_GETSTATE:
-    case XTI_SYNC:
-    case XTI_GETINFO:
-    case XTI_GETPROTADDR:
+    if (is(asked, ASKS))
         return 0;
-    default:
-        break;
-    }
     if (told->reply == XTI_LOOKED)
         return 0;
     return told->reply != XTI_REFUSED || told->error == TFLOW || (told->error == TNODATA && asked->call == XTI_CONNECT && !asked->more);
@@ -106,7 +115,7 @@ static void tell(struct endpoint *e, const struct xti_asked *asked)
         return;
     if (asked->call == XTI_SND || asked->call == XTI_SNDV)
         for_room = 0;
-    else if (is_one_of_data(asked->call) && is_own)
+    else if (is(asked, IS_DATA) && is_own)
         for_room = event == T_ORDREL || event == T_DISCONNECT;
     xti_wake(xti_place_of(e), 1, for_room);
 }
@@ -133,19 +142,14 @@ static void note(const struct xti_asked *asked, const struct input *input, const
 
 static void stepped(const struct xti_asked *asked, const struct input *input, const struct answer *answer, const places *before)
 {
-    if ((is_to_be_noted(asked->call) || xti_is_anybody_there()) && has_changed(asked, &answer->told))
+    if ((is_to_be_noted(asked, &answer->told) || xti_is_anybody_there()) && has_changed(asked, &answer->told))
         note(asked, input, answer, before);
-}
-
-static int may_wait(uint32_t call)
-{
-    return call == XTI_CONNECT || call == XTI_RCVCONNECT || call == XTI_LISTEN || is_one_of_data(call) || is_one_of_datagrams(call);
 }
 
 /* Takes over O_NONBLOCK where fcntl has changed it; whether it has. */
 static int take_mode(const struct xti_asked *asked)
 {
-    struct endpoint *e = may_wait(asked->call) ? xti_of_number(asked->fd) : NULL;
+    struct endpoint *e = is(asked, IS_DATA | IS_DATAGRAM | MAY_WAIT) ? xti_of_number(asked->fd) : NULL;
     int flags = e ? fcntl(e->signal, F_GETFL) : -1;
     struct xti_asked mode = { .call = XTI_MODE, .fd = asked->fd, .number = (flags & O_NONBLOCK) != 0 };
     struct answer a;
@@ -157,23 +161,11 @@ static int take_mode(const struct xti_asked *asked)
     return 1;
 }
 
-/* Whether the next step has to know the mode: without waiting, a request is made and not waited for, and a send that finds no room
-   leaves a mark. Of other calls the mode is looked at once they can't go on. */
 static int must_know_mode(const struct xti_asked *asked)
 {
-    const struct endpoint *e;
+    const struct endpoint *e = is(asked, KNOWS_MODE) ? xti_of_number(asked->fd) : NULL;
 
-    switch (asked->call) {
-    case XTI_CONNECT:
-    case XTI_SND:
-    case XTI_SNDV:
-    case XTI_SNDUDATA:
-    case XTI_SNDVUDATA:
-        e = xti_of_number(asked->fd);
-        return e && e->is_nonblocking;
-    default:
-        return 0;
-    }
+    return e && e->is_nonblocking;
 }
 
 static int found_nothing(const struct xti_told *told)
@@ -245,7 +237,8 @@ int xti_make_call_locked(struct xti_asked *asked, const struct input *input, str
         places before = NO_PLACES;
         if (must_know_mode(asked))
             take_mode(asked);
-        if (may_unlink(asked->call) && xti_is_anybody_there())
+        /* One that moves data ends no links. */
+        if (!is(asked, IS_DATA | IS_DATAGRAM) && xti_is_anybody_there())
             before = xti_linked(asked);
         switch (xti_step(asked, input, a)) {
         case XTI_DONE:

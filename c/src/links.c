@@ -5,6 +5,8 @@
 
 enum { CONNECTIONLESS = 2, MOST_QUEUE = 8 };
 
+int xti_has_flow_destinations;
+
 /* An accept was done whose caller wasn't found. */
 static int are_links_unknown;
 
@@ -114,8 +116,10 @@ static void note_datagram(struct endpoint *e, const struct input *input, const s
 {
     int to = xti_is_anybody_there() ? xti_destination(input) : -1;
 
-    if (answer->told.reply == XTI_REFUSED)
+    if (answer->told.reply == XTI_REFUSED) {
         xti_set_address(&e->flow_destination, input->addr, input->addr_len);
+        xti_has_flow_destinations = 1;
+    }
     else
         e->flow_destination.len = 0;
     if (to >= 0)

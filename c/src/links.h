@@ -11,6 +11,8 @@
 places xti_linked(const struct xti_asked *asked);
 /* Takes over what a step has changed. `touched` gets the destination that the call addresses, too. */
 void xti_note_step(const struct xti_asked *asked, const struct input *input, const struct answer *answer, places *touched);
+/* Whether a datagram ever found no room, so that a later one may change what is noted. */
+extern int xti_has_flow_destinations;
 /* The place of the endpoint that datagrams to an address go to, or -1. */
 int xti_destination(const struct input *input);
 

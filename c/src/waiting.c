@@ -24,7 +24,7 @@ static pthread_mutex_t lock = PTHREAD_MUTEX_INITIALIZER;
 /* Whether the thread that has the lock holds off cancellation, and the state that it goes back to. */
 static int is_held_off, cancel_state;
 static struct link *queues[XTI_PLACES];
-static unsigned int waiters;
+unsigned int xti_waiters;
 
 void xti_enter_to_step(void)
 {
@@ -89,7 +89,7 @@ static void end_wait(struct waiter *w)
 
     for (i = 0; i < count_of(w); i++)
         leave_queue(w, i);
-    waiters--;
+    xti_waiters--;
     sem_destroy(&w->woken);
 }
 
@@ -112,7 +112,7 @@ int xti_wait(int place, int other_place, enum waits_for what)
     self.places[1] = other_place;
     for (i = 0; i < count_of(&self); i++)
         join_queue(&self, i);
-    waiters++;
+    xti_waiters++;
     pthread_cleanup_push(cancelled, &self);
     xti_leave();
     is_interrupted = sem_wait(&self.woken) < 0 && errno == EINTR;
@@ -133,19 +133,14 @@ void xti_wake(int place, int for_change, int for_room)
 
 int xti_has_waiters(void)
 {
-    return waiters > 0;
-}
-
-int xti_is_anybody_there(void)
-{
-    return waiters > 0 || xti_is_watched;
+    return xti_waiters > 0;
 }
 
 void xti_forget_waiters(void)
 {
     int place;
 
-    waiters = 0;
+    xti_waiters = 0;
     for (place = 0; place < XTI_PLACES; place++)
         queues[place] = NULL;
 }

@@ -2,6 +2,8 @@
 #ifndef XTI_WAITING_H
 #define XTI_WAITING_H
 
+#include "watching.h"
+
 /* What ends a wait: at once any change, or, of a send on a connection, one that may have made room. */
 enum waits_for { WAITS_FOR_CHANGE, WAITS_FOR_ROOM };
 
@@ -15,8 +17,15 @@ void xti_leave(void);
 int xti_wait(int place, int other_place, enum waits_for what);
 /* Wakes those that wait at a place; for room too, or only for other changes. */
 void xti_wake(int place, int for_change, int for_room);
+/* How many calls wait. */
+extern unsigned int xti_waiters;
+
 /* Whether there is anybody to tell of a step: a call that waits, or something that can wait for descriptors. */
-int xti_is_anybody_there(void);
+static inline int xti_is_anybody_there(void)
+{
+    return xti_waiters > 0 || xti_is_watched;
+}
+
 /* Whether a call waits. */
 int xti_has_waiters(void);
 /* Nobody waits any more: after a fork in the child. */
