@@ -7,6 +7,7 @@
 #include <pthread.h>
 #include <semaphore.h>
 #include <stddef.h>
+#include <sys/single_threaded.h>
 
 struct link {
     struct waiter *waiter;
@@ -21,14 +22,18 @@ struct waiter {
 };
 
 static pthread_mutex_t lock = PTHREAD_MUTEX_INITIALIZER;
-/* Whether the thread that has the lock holds off cancellation, and the state that it goes back to. */
-static int is_held_off, cancel_state;
+/* Whether who is in needs the lock, which a process of one thread doesn't; whether it holds off cancellation, and the state that it
+   goes back to. */
+static int is_locked, is_held_off, cancel_state;
 static struct link *queues[XTI_PLACES];
 unsigned int xti_waiters;
 
 void xti_enter_to_step(void)
 {
+    if (__libc_single_threaded)
+        return;
     pthread_mutex_lock(&lock);
+    is_locked = 1;
 }
 
 void xti_hold_off_cancellation(void)
@@ -45,16 +50,18 @@ void xti_enter(void)
 
     pthread_setcancelstate(PTHREAD_CANCEL_DISABLE, &old);
     pthread_mutex_lock(&lock);
+    is_locked = 1;
     cancel_state = old;
     is_held_off = 1;
 }
 
 void xti_leave(void)
 {
-    int was_held_off = is_held_off, old = cancel_state;
+    int was_locked = is_locked, was_held_off = is_held_off, old = cancel_state;
 
-    is_held_off = 0;
-    pthread_mutex_unlock(&lock);
+    is_locked = is_held_off = 0;
+    if (was_locked)
+        pthread_mutex_unlock(&lock);
     if (was_held_off)
         pthread_setcancelstate(old, &old);
 }
