@@ -1,9 +1,7 @@
 //! A server that polls: a listener and three connections, served by one thread, which prints what each poll finds.
-#![tactic(auto)]
 
 use std::alloc::AllocError;
-use std::io::{self, Print};
-use std::process::ExitCode;
+use std::io::{self, Eprint, Print};
 use std::sync::Wait;
 use xti_calls::{Caller, Errno, Event, Fail, Fd, Max, Providers, Xti};
 use xti_poll::{Found, PollFail, PollSet};
@@ -157,7 +155,7 @@ fn converse<R: Wait + Sync + Print>(
 }
 
 /// The same in a library of its own, which keeps no history.
-fn run<R: Wait + Sync + Print + AllocGlobal>(rt: &R) -> Result<(), Failure> {
+fn exchange<R: Wait + Sync + Print + AllocGlobal>(rt: &R) -> Result<(), Failure> {
     let mut set = PollSet::new(rt.alloc());
     let (xti, seat) = Xti::new(rt.alloc(), &Providers::usual(), false)?;
     let mut caller = xti.caller(rt, rt.alloc(), seat);
@@ -167,12 +165,13 @@ fn run<R: Wait + Sync + Print + AllocGlobal>(rt: &R) -> Result<(), Failure> {
     served
 }
 
-fn main(rt: HostRuntime) -> ExitCode {
-    let _ = match run(&rt) {
-        Ok(()) => return ExitCode::SUCCESS,
+/// Runs the example: whether all was served, and printed.
+pub(crate) fn run<R: Wait + Sync + Print + Eprint + AllocGlobal>(rt: &R) -> bool {
+    let _ = match exchange(rt) {
+        Ok(()) => return true,
         Err(Failure::Call(fail)) => eprintln!(rt; "{fail}"),
         Err(Failure::Set(fail)) => eprintln!(rt; "{fail}"),
         Err(Failure::Printing) => eprintln!(rt; "printing failed"),
     };
-    ExitCode::FAILURE
+    false
 }

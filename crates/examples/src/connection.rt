@@ -1,17 +1,13 @@
 //! A listener and a caller on two threads, over the library: a connection, a line each way, and its orderly release.
 //! README.md shows the functions `listen` and `call`.
-#![tactic(auto)]
 
+use crate::sides::{PROVIDER, bound, receive_all};
 use std::alloc::AllocError;
 use std::io::{Eprint, Print};
-use std::process::ExitCode;
 use std::sync::Wait;
 use std::thread;
 use std::thread::Threads;
-use xti_calls::{Caller, Event, Fail, Fd, Max, Providers, State, Xti};
-
-/// The provider, of connections with orderly release.
-const PROVIDER: &[u8] = b"ticotsord";
+use xti_calls::{Caller, Fail, Fd, Max, Providers, State, Xti};
 
 /// The listener's address.
 const LISTENER: &[u8] = b"listener";
@@ -21,22 +17,6 @@ const LISTENER: &[u8] = b"listener";
 struct Side {
     received: Vec<u8>,
     ended: Result<State, Fail>,
-}
-
-/// Adds what comes until the other side releases the connection, and takes the release.
-fn receive_all<R: Wait + Sync>(
-    caller: &mut Caller<R>,
-    fd: Fd,
-    received: &mut Vec<u8>,
-) -> Result<(), Fail> {
-    for _ in caller.rt().forever() {
-        match caller.t_rcv(fd, 1024) {
-            Ok((bytes, _flags)) => received.extend_from_slice(bytes.as_slice())?,
-            Err(Fail::Look(Event::T_ORDREL)) => return caller.t_rcvrel(fd),
-            Err(fail) => return Err(fail),
-        }
-    }
-    unreachable!()
 }
 
 /// The listener's side, on an endpoint that is bound: waits for a request, accepts it, receives and answers.
@@ -79,13 +59,6 @@ fn take_part<R: Wait + Sync>(mut caller: Caller<R>, listener: Option<Fd>) -> Sid
     Side { received, ended }
 }
 
-/// The listener's endpoint, bound.
-fn bound<R: Wait + Sync>(caller: &mut Caller<R>) -> Result<Fd, Fail> {
-    let fd = caller.t_open(PROVIDER, false)?;
-    drop(caller.t_bind(fd, LISTENER, 1, Max::ALL.addr)?);
-    Ok(fd)
-}
-
 /// Both sides, the caller's in a thread of its own, which starts once the listener's endpoint is bound: how the listener's ended,
 /// and how the caller's did.
 fn meet<'a, R: Threads + Wait + Sync>(
@@ -93,7 +66,7 @@ fn meet<'a, R: Threads + Wait + Sync>(
     mut listening: Caller<'a, R>,
     calling: Caller<'a, R>,
 ) -> Result<(Side, Side), Fail> {
-    let fd = bound(&mut listening)?;
+    let fd = bound(&mut listening, LISTENER, 1)?;
     let sides = thread::scope(
         thread::scope_env(),
         rt,
@@ -132,19 +105,16 @@ fn report<R: Print + Eprint>(rt: &R, name: &str, side: &Side) -> bool {
     }
 }
 
-fn main(rt: HostRuntime) -> ExitCode {
-    let (listener, caller) = match exchange(&rt) {
+/// Runs the example: whether both sides ended well, and that was printed.
+pub(crate) fn run<R: Threads + Wait + Sync + Print + Eprint + AllocGlobal>(rt: &R) -> bool {
+    let (listener, caller) = match exchange(rt) {
         Ok(sides) => sides,
         Err(fail) => {
             let _ = eprintln!(rt; "{fail}");
-            return ExitCode::FAILURE;
+            return false;
         }
     };
-    let listened = report(&rt, "listener", &listener);
-    let called = report(&rt, "caller", &caller);
-    if listened && called {
-        ExitCode::SUCCESS
-    } else {
-        ExitCode::FAILURE
-    }
+    let listened = report(rt, "listener", &listener);
+    let called = report(rt, "caller", &caller);
+    listened && called
 }

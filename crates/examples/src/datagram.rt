@@ -1,17 +1,15 @@
-//! A program that uses the library from code: it sends a datagram and receives it.
+//! A datagram that is sent and received on one thread, by steps of a `World`.
 //!
 //! A value of many parts, as a world or a reply, is lent, or let go by `drop`: that is proved once for its type, and not once for
 //! each place where it is let go.
-#![tactic(auto)]
 
 mod answers;
 mod calls;
 
-use crate::answers::{Failure, answer, descriptor, received};
-use crate::calls::{bind, open, receive, send};
+use crate::datagram::answers::{Failure, answer, descriptor, received};
+use crate::datagram::calls::{bind, open, receive, send};
 use std::alloc::Global;
 use std::io::Print;
-use std::process::ExitCode;
 use xti_base::Fd;
 use xti_core::World;
 use xti_model::{Call, Go, Providers, Reply};
@@ -51,14 +49,12 @@ fn exchange<R: Print>(rt: &R, alloc: Global, world: &mut World) -> Result<(), Fa
     receive_one(rt, world, fd)
 }
 
-fn main(rt: HostRuntime) -> ExitCode {
+/// Runs the example, in a world of its own: whether all was done, and printed.
+pub(crate) fn run<R: Print + AllocGlobal>(rt: &R) -> bool {
     let Ok(mut world) = World::fresh(rt.alloc(), &Providers::usual()) else {
-        return ExitCode::FAILURE;
+        return false;
     };
-    let ended = exchange(&rt, rt.alloc(), &mut world);
+    let ended = exchange(rt, rt.alloc(), &mut world);
     drop(world);
-    match ended {
-        Ok(()) => ExitCode::SUCCESS,
-        Err(_) => ExitCode::FAILURE,
-    }
+    ended.is_ok()
 }

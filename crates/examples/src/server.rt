@@ -1,17 +1,13 @@
 //! A server with a queue, and eight clients, each on a thread of its own, over the library: connections whose requests wait in
 //! the queue, a line each way on each of them, and their orderly releases.
-#![tactic(auto)]
 
+use crate::sides::{PROVIDER, bound, receive_all};
 use std::alloc::AllocError;
 use std::io::{Eprint, Print};
-use std::process::ExitCode;
 use std::sync::Wait;
 use std::thread;
 use std::thread::Threads;
 use xti_calls::{Caller, Event, Fail, Fd, Max, Providers, Seq, Xti};
-
-/// The provider, of connections with orderly release.
-const PROVIDER: &[u8] = b"ticotsord";
 
 /// The server's address.
 const SERVER: &[u8] = b"server";
@@ -28,29 +24,6 @@ struct Client<'a, R> {
     name: &'static str,
     greeting: Vec<u8>,
     ended: Result<(), Fail>,
-}
-
-/// An endpoint that is bound to the address, with a queue of this length.
-fn bound<R: Wait + Sync>(caller: &mut Caller<R>, addr: &[u8], qlen: u32) -> Result<Fd, Fail> {
-    let fd = caller.t_open(PROVIDER, false)?;
-    drop(caller.t_bind(fd, addr, qlen, Max::ALL.addr)?);
-    Ok(fd)
-}
-
-/// Adds all that comes until the other side releases, and takes the release.
-fn receive_all<R: Wait + Sync>(
-    caller: &mut Caller<R>,
-    fd: Fd,
-    received: &mut Vec<u8>,
-) -> Result<(), Fail> {
-    for _ in caller.rt().forever() {
-        match caller.t_rcv(fd, 1024) {
-            Ok((bytes, _flags)) => received.extend_from_slice(bytes.as_slice())?,
-            Err(Fail::Look(Event::T_ORDREL)) => return caller.t_rcvrel(fd),
-            Err(fail) => return Err(fail),
-        }
-    }
-    unreachable!()
 }
 
 /// Takes the next request from the queue, for which it waits where there is none, and keeps its number.
@@ -196,14 +169,14 @@ fn report<R: Print + Eprint>(rt: &R, clients: &[Client<R>]) -> bool {
     greeted
 }
 
-fn main(rt: HostRuntime) -> ExitCode {
-    // A library of their own, which keeps no history.
+/// Runs the example, in a library of its own, which keeps no history: whether all clients were greeted, and that was printed.
+pub(crate) fn run<R: Threads + Wait + Sync + Print + Eprint + AllocGlobal>(rt: &R) -> bool {
     let Ok((xti, seat)) = Xti::new(rt.alloc(), &Providers::usual(), false) else {
-        return ExitCode::FAILURE;
+        return false;
     };
     let mut clients = Vec::new(rt.alloc());
-    let greeted = match meet(&rt, xti.caller(&rt, rt.alloc(), seat), &mut clients) {
-        Ok(()) => report(&rt, clients.as_slice()),
+    let greeted = match meet(rt, xti.caller(rt, rt.alloc(), seat), &mut clients) {
+        Ok(()) => report(rt, clients.as_slice()),
         Err(fail) => {
             let _ = eprintln!(rt; "{fail}");
             false
@@ -211,9 +184,5 @@ fn main(rt: HostRuntime) -> ExitCode {
     };
     drop(clients);
     drop(xti);
-    if greeted {
-        ExitCode::SUCCESS
-    } else {
-        ExitCode::FAILURE
-    }
+    greeted
 }
