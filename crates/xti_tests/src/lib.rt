@@ -1,8 +1,16 @@
-//! Tests across the crates: the program over sources and sinks in memory.
+//! Tests across the crates: the library, its calls in their own types and threads that are held at gates; what its callers see;
+//! the program over sources and sinks in memory.
+//!
+//! A value of many parts, as a seat or a call, is let go by a call: that is proved once for its type, and not once for each
+//! place where it is let go.
 #![tactic(auto)]
 
 #[cfg(test)]
 mod bad_input;
+#[cfg(test)]
+mod callers;
+#[cfg(test)]
+mod calls;
 #[cfg(test)]
 mod each_fault;
 #[cfg(test)]

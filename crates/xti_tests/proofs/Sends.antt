@@ -10,7 +10,7 @@ use Rattle.xti_model.proofs.Working.{unfinished_from-snoc}
 use Rattle.xti_hall_rule.specs.declared.view.View.{View}
 use Rattle.xti_step.specs.Steps.{MayGo, Tells}
 use Rattle.xti_calls.specs.Calling.{IsAt}
-use Rattle.xti_calls_tests.specs.Parts.{IsPart}
+use Rattle.xti_tests.specs.Parts.{IsPart}
 
 pub may_begin : (v : View) (c : Call) → unfinished_from None None v.mine ≡ None → MayGo v c go.Begin
 may_begin v c e = ap (λ u. made_by u (act.Begin c)) e

@@ -1,7 +1,7 @@
 //! Endpoints by themselves: what they tell, their options, and how many there may be.
 
-use crate::asks::{Ask, Do, Give, NEW, Row, Tell};
-use crate::conversations::{Part, Topic, talk_about};
+use crate::calls::asks::{Ask, Do, Give, NEW, Row, Tell};
+use crate::calls::conversations::{Part, Topic, talk_about};
 use std::test::*;
 use xti_base::Fd;
 use xti_calls::Providers;

@@ -3,8 +3,8 @@
 ghost use Rattle.std.specs.Prelude.{◌≡◌};
 ghost use Rattle.xti_calls.specs.Library.{IsFree, IsOf, keeps_of};
 
-use crate::answers::is_text;
-use crate::asks::{Row, make};
+use crate::calls::answers::is_text;
+use crate::calls::asks::{Row, make};
 use std::alloc::Global;
 use std::process::Abort;
 use std::sync::Wait;

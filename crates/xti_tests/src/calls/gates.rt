@@ -1,8 +1,8 @@
 //! A thread that is held at its gate holds up no step on other cells.
 
-use crate::asks::{Ask, Do, Give, NEW, Request, Take, Tell};
-use crate::conversations::{Part, another_caller, expect_free, holds, library};
-use crate::datagrams;
+use crate::calls::asks::{Ask, Do, Give, NEW, Request, Take, Tell};
+use crate::calls::conversations::{Part, another_caller, expect_free, holds, library};
+use crate::calls::datagrams;
 use std::process::Abort;
 use std::sync::Wait;
 use std::sync::atomic::{AtomicBool, Ordering};

@@ -1,7 +1,7 @@
 //! Connections, from their requests to their ends.
 
-use crate::asks::{Ask, Do, Give, NEW, Request, Row, Take, Tell};
-use crate::conversations::{Part, Topic, talk_about};
+use crate::calls::asks::{Ask, Do, Give, NEW, Request, Row, Take, Tell};
+use crate::calls::conversations::{Part, Topic, talk_about};
 use std::test::*;
 use xti_base::{Fd, Seq};
 use xti_calls::Providers;

@@ -3,8 +3,8 @@
 ghost use Rattle.xti_hall.specs.Seats.{AreOfOneHall};
 ghost use Rattle.xti_calls.specs.Library.{IsOf};
 
-use crate::answers::{is_text, note, note_bytes};
-use crate::conversations::{another_caller, library};
+use crate::calls::answers::{is_text, note, note_bytes};
+use crate::calls::conversations::{another_caller, library};
 use std::alloc::Global;
 use std::process::Abort;
 use std::sync::Wait;

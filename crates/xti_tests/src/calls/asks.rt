@@ -1,6 +1,6 @@
 //! Calls as tables tell them, and what makes them and writes down what they answer.
 
-use crate::answers::{note, note_bytes};
+use crate::calls::answers::{note, note_bytes};
 use std::sync::Wait;
 use xti_base::{Fd, Seq, Sizes, let_go};
 use xti_calls::{Caller, Fail as CallFail, Max, TCall};

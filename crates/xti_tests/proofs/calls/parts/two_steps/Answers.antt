@@ -1,7 +1,7 @@
 use Rattle.std.proofs.Common.{IfSome, subst}
-use Rattle.xti_calls_tests.specs.Parts.{IsPart}
-use Rattle.xti_calls_tests.proofs.Sends.{part_is_at}
-use Rattle.xti_calls_tests.proofs.parts.two_steps.Goals as goal
+use Rattle.xti_tests.specs.Parts.{IsPart}
+use Rattle.xti_tests.proofs.Sends.{part_is_at}
+use Rattle.xti_tests.proofs.calls.parts.two_steps.Goals as goal
 
 pub step-blocked-requires-after_bounds : goal.step-blocked-requires-after_bounds
 step-blocked-requires-after_bounds g c κs within =

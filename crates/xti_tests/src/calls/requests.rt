@@ -1,7 +1,7 @@
 //! Requests for connections that aren't accepted at once.
 
-use crate::asks::{Ask, Do, Give, NEW, Request, Take};
-use crate::conversations::{Part, Topic, talk_about};
+use crate::calls::asks::{Ask, Do, Give, NEW, Request, Take};
+use crate::calls::conversations::{Part, Topic, talk_about};
 use std::test::*;
 use xti_base::{Fd, Seq};
 use xti_calls::Providers;

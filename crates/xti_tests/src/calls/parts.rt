@@ -4,10 +4,10 @@ ghost use Rattle.std.specs.Prelude.{IfSome};
 ghost use Rattle.xti_model.specs.declared.entry.Go.TheVariants.{More};
 ghost use Rattle.xti_step.specs.Steps.{MayGo, Tells};
 ghost use Rattle.xti_calls.specs.Calling.{IsAt, IsUnfinished};
-ghost use Rattle.xti_calls_tests.specs.Parts.{IsPart};
+ghost use Rattle.xti_tests.specs.Parts.{IsPart};
 
-use crate::connections::{ANSWERER, BLOCKING, CALLER, CONNECT, OF_TICOTSORD};
-use crate::conversations::{another_caller, expect_free, holds, library};
+use crate::calls::connections::{ANSWERER, BLOCKING, CALLER, CONNECT, OF_TICOTSORD};
+use crate::calls::conversations::{another_caller, expect_free, holds, library};
 use std::alloc::Global;
 use std::process::Abort;
 use std::sync::Wait;
