@@ -14,8 +14,12 @@ mod calls;
 #[cfg(test)]
 mod each_fault;
 #[cfg(test)]
+mod library;
+#[cfg(test)]
 mod running;
 #[cfg(test)]
 mod runs;
 #[cfg(test)]
 mod threads;
+#[cfg(test)]
+mod waiting;

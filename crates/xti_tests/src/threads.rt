@@ -1,16 +1,13 @@
 //! A run by threads, with a gate that tells whether the workers' steps are made beside each other.
 
 use crate::running::{NO_FAULTS, Run, expect, holds};
+use crate::waiting::comes;
 use std::sync::Wait;
 use std::sync::atomic::{AtomicBool, Ordering};
-use std::thread;
 use xti_gather::Cell;
 use xti_hall::Seat;
 use xti_model::Call;
 use xti_run::Gate;
-
-/// How often worker 1 looks whether worker 2 has made a step, before it gives up.
-const TRIES: u32 = 10_000_000;
 
 /// Holds worker 1 at its first step until worker 2 comes to its second.
 ///
@@ -20,19 +17,6 @@ const TRIES: u32 = 10_000_000;
 struct Beside {
     came: AtomicBool,
     gave_up: AtomicBool,
-}
-
-impl Beside {
-    /// Waits until worker 2 came, or gives up.
-    fn hold(&self) {
-        for _try in 0..TRIES {
-            if self.came.load(Ordering::SeqCst) {
-                return;
-            }
-            thread::yield_now();
-        }
-        self.gave_up.store(true, Ordering::SeqCst);
-    }
 }
 
 impl Gate for Beside {
@@ -45,7 +29,11 @@ impl Gate for Beside {
         _call: &Call,
     ) {
         match (worker, point) {
-            (1, 0) => self.hold(),
+            (1, 0) => {
+                if !comes(&self.came) {
+                    self.gave_up.store(true, Ordering::SeqCst);
+                }
+            }
             (2, 1) => self.came.store(true, Ordering::SeqCst),
             _ => {}
         }

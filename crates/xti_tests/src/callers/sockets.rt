@@ -3,7 +3,7 @@
 ghost use Rattle.std.specs.Prelude.{◌≡◌, true, IfOk};
 ghost use Rattle.xti_sock.specs.Socks.{IsInStep};
 
-use super::library::{another_seat, library};
+use crate::library::{another_seat, library};
 use std::alloc::Global;
 use std::process::Abort;
 use std::sync::Wait;

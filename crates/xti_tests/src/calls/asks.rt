@@ -1,6 +1,7 @@
 //! Calls as tables tell them, and what makes them and writes down what they answer.
 
 use crate::calls::answers::{note, note_bytes};
+use crate::calls::looks::{Look, look};
 use std::sync::Wait;
 use xti_base::{Fd, Seq, Sizes, let_go};
 use xti_calls::{Caller, Fail as CallFail, Max, TCall};
@@ -16,7 +17,7 @@ const MOST: Max = Max {
 /// The options of each call but `t_optmgmt`, and the data of each request, answer and disconnect.
 const NOTHING: &[u8] = b"";
 
-/// In place of the descriptor where an endpoint is opened.
+/// In place of the descriptor where an endpoint is opened, or several are looked at.
 pub(crate) const NEW: Fd = Fd(0);
 
 /// The descriptor, and the call.
@@ -40,6 +41,8 @@ pub(crate) enum Ask {
     SendParts(Option<&'static [u8]>, &'static [&'static [u8]]),
     /// Buffers of these sizes for what waits, and whether that is a datagram.
     ReceiveParts(bool, &'static [u32]),
+    /// What is no call.
+    Look(Look),
 }
 
 /// Calls that answer no more than that they are done.
@@ -200,5 +203,6 @@ pub(crate) fn make<R: Wait + Sync>(caller: &mut Caller<R>, log: &mut String, fd:
         Ask::ReceiveParts(is_datagram, sizes) => {
             receive_parts(caller, log, fd, *is_datagram, sizes)
         }
+        Ask::Look(at) => look(caller, log, fd, at),
     }
 }

@@ -7,7 +7,7 @@ use xti_base::{Fd, Seq};
 use xti_calls::Providers;
 
 /// The listener, bound to `l`.
-const LISTENER: Fd = Fd(0);
+pub(crate) const LISTENER: Fd = Fd(0);
 
 /// The endpoint that asks for a connection.
 pub(crate) const CALLER: Fd = Fd(1);
@@ -299,7 +299,7 @@ static RELEASES: [Topic; 2] = [
 
 #[test]
 fn connections(rt: HostRuntime) {
-    talk_about(&rt, rt.alloc(), &Providers::usual(), &TOPICS);
+    talk_about(&rt, rt.alloc(), &Providers::usual(), true, &TOPICS);
 }
 
 #[test]
@@ -307,12 +307,12 @@ fn buffers(rt: HostRuntime) {
     let mut providers = Providers::usual();
     providers.ticotsord.sndbuf = 2;
     providers.ticotsord.rcvbuf = 3;
-    talk_about(&rt, rt.alloc(), &providers, &OF_SMALL_BUFFERS);
+    talk_about(&rt, rt.alloc(), &providers, true, &OF_SMALL_BUFFERS);
 }
 
 #[test]
 fn releases(rt: HostRuntime) {
     let mut providers = Providers::usual();
     providers.ticotsord.reldata = true;
-    talk_about(&rt, rt.alloc(), &providers, &RELEASES);
+    talk_about(&rt, rt.alloc(), &providers, true, &RELEASES);
 }

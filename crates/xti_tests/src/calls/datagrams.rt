@@ -115,5 +115,5 @@ static TOPICS: [Topic; 4] = [
 
 #[test]
 fn datagrams(rt: HostRuntime) {
-    talk_about(&rt, rt.alloc(), &Providers::usual(), &TOPICS);
+    talk_about(&rt, rt.alloc(), &Providers::usual(), true, &TOPICS);
 }

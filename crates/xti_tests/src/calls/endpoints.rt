@@ -115,5 +115,5 @@ static TOPICS: [Topic; 3] = [
 
 #[test]
 fn endpoints(rt: HostRuntime) {
-    talk_about(&rt, rt.alloc(), &Providers::usual(), &TOPICS);
+    talk_about(&rt, rt.alloc(), &Providers::usual(), true, &TOPICS);
 }

@@ -1,8 +1,11 @@
 //! A thread that is held at its gate holds up no step on other cells.
 
 use crate::calls::asks::{Ask, Do, Give, NEW, Request, Take, Tell};
-use crate::calls::conversations::{Part, another_caller, expect_free, holds, library};
+use crate::calls::conversations::{Part, holds};
 use crate::calls::datagrams;
+use crate::calls::looks::Look;
+use crate::library::{another_caller, expect_free, library};
+use crate::waiting::comes;
 use std::process::Abort;
 use std::sync::Wait;
 use std::sync::atomic::{AtomicBool, Ordering};
@@ -11,20 +14,6 @@ use std::thread::{self, Threads};
 use xti_base::{Fd, Octets, Seq, let_go};
 use xti_calls::{Call, Caller, Cell, Gate};
 use xti_hall::Seat as HallSeat;
-
-/// How often a thread looks whether another has come so far, before it gives up.
-const TRIES: u32 = 10_000_000;
-
-/// Whether the flag is set, now or in a while.
-fn comes(flag: &AtomicBool) -> bool {
-    for _try in 0..TRIES {
-        if flag.load(Ordering::SeqCst) {
-            return true;
-        }
-        thread::yield_now();
-    }
-    false
-}
 
 /// A gate at which a step is held until it is let go.
 #[derive(Drop)]
@@ -187,25 +176,47 @@ Some(T_DISCONNECT)
 ",
 );
 
+/// Glances at the endpoint of the step that is held, and at another. One lock round everything would be met at either, or nobody
+/// would be held.
+const GLANCES: Part = (
+    &[
+        (Fd(0), Ask::Look(Look::Glance)),
+        (Fd(1), Ask::Look(Look::Glance)),
+    ],
+    "Busy { cell: 0 }
+Seen { state: T_IDLE, event: None, at: 4 }
+",
+);
+
 /// What a thread is held at.
 #[derive(Clone, Copy)]
 enum Held {
-    /// A call of one endpoint, while others make steps on two other endpoints.
-    Endpoint,
+    /// A call of one endpoint, while others make steps on two other endpoints, or glance.
+    Endpoint(Fd),
     /// A send on a connection, while others make steps on two other connections, and on two that are asked for.
     Connection,
 }
 
-/// What is talked about, what is held, what the endpoints are before, and the other thread's calls meanwhile.
-static CASES: [(&str, Held, &[Part], Part); 2] = [
+/// What is talked about, whether the library keeps its history, what is held, what the endpoints are before, and the other
+/// thread's calls meanwhile.
+static CASES: [(&str, bool, Held, &[Part], Part); 3] = [
     (
         "held on an endpoint",
-        Held::Endpoint,
+        true,
+        Held::Endpoint(Fd(2)),
         &[datagrams::TWO_ENDPOINTS, THIRD],
         ON_ENDPOINTS,
     ),
     (
+        "glances beside a step",
+        false,
+        Held::Endpoint(Fd(0)),
+        &[datagrams::TWO_ENDPOINTS],
+        GLANCES,
+    ),
+    (
         "held on a connection",
+        true,
         Held::Connection,
         &[
             FIRST_CONNECTION,
@@ -220,7 +231,7 @@ static CASES: [(&str, Held, &[Part], Part); 2] = [
 /// The call of the thread that is held.
 fn held_call<R: Abort>(caller: &Caller<R>, held: Held) -> Call {
     match held {
-        Held::Endpoint => Call::TGetState { fd: Fd(2) },
+        Held::Endpoint(fd) => Call::TGetState { fd },
         Held::Connection => Call::TSnd {
             fd: Fd(5),
             bytes: Octets::copy_of(caller.alloc(), b"hi").expect(caller.rt(), "memory"),
@@ -273,8 +284,8 @@ fn goes_on<R: Threads + Wait + Sync + Abort>(
 
 #[test]
 fn gates(rt: HostRuntime) {
-    for (topic, held, before, part) in &CASES {
-        let (xti, seat) = library(&rt, rt.alloc(), true);
+    for (topic, keeps, held, before, part) in &CASES {
+        let (xti, seat) = library(&rt, rt.alloc(), *keeps);
         let mut free = xti.caller(&rt, rt.alloc(), seat);
         let goes_on = goes_on(&rt, &mut free, *held, before, *part);
         let_go(free);

@@ -7,7 +7,8 @@ ghost use Rattle.xti_calls.specs.Calling.{IsAt, IsUnfinished};
 ghost use Rattle.xti_tests.specs.Parts.{IsPart};
 
 use crate::calls::connections::{ANSWERER, BLOCKING, CALLER, CONNECT, OF_TICOTSORD};
-use crate::calls::conversations::{another_caller, expect_free, holds, library};
+use crate::calls::conversations::holds;
+use crate::library::{another_caller, expect_free, library};
 use std::alloc::Global;
 use std::process::Abort;
 use std::sync::Wait;

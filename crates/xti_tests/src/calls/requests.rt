@@ -199,5 +199,5 @@ static TOPICS: [Topic; 6] = [
 
 #[test]
 fn requests(rt: HostRuntime) {
-    talk_about(&rt, rt.alloc(), &Providers::usual(), &TOPICS);
+    talk_about(&rt, rt.alloc(), &Providers::usual(), true, &TOPICS);
 }

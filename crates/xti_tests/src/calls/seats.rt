@@ -4,9 +4,8 @@ ghost use Rattle.xti_hall.specs.Seats.{AreOfOneHall};
 ghost use Rattle.xti_calls.specs.Library.{IsOf};
 
 use crate::calls::answers::{is_text, note, note_bytes};
-use crate::calls::conversations::{another_caller, library};
+use crate::library::{another_caller, another_seat, library};
 use std::alloc::Global;
-use std::process::Abort;
 use std::sync::Wait;
 use std::test::*;
 use xti_base::{Fd, let_go};
@@ -41,15 +40,6 @@ const THREE_BYTES: Max = Max {
     opt: 256,
     udata: 3,
 };
-
-/// One more seat, of the numbers that the first has to spare.
-fn another_seat<R: Wait + Abort>(rt: &R, alloc: Global, xti: &Xti, first: &mut Seat) -> Seat
-    requires { IsOf xti.now first.old }
-    ensures seat { IsOf xti.now first.new }
-    ensures other { IsOf xti.now result }
-{
-    xti.split(rt, alloc, first).expect(rt, "a seat")
-}
 
 /// The number of one more seat that this one gives, if it gives one.
 fn given<R: Wait>(rt: &R, alloc: Global, xti: &Xti, seat: &mut Seat) -> Option<u32>

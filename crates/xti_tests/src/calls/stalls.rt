@@ -1,7 +1,8 @@
 //! Three callers, of which one rests and two wait for data that nobody sends: what each of these is told.
 
 use crate::calls::connections::{ANSWERER, BLOCKING, CONNECT, OF_TICOTS};
-use crate::calls::conversations::{another_caller, holds, library};
+use crate::calls::conversations::holds;
+use crate::library::{another_caller, library};
 use std::process::Abort;
 use std::sync::Wait;
 use std::test::*;
