@@ -1,12 +1,22 @@
 //! The tests, a module for what each is about.
 
+mod carriers;
 mod cases;
 mod damaged_frames;
 mod endpoints;
 mod frames;
 mod journal;
 mod lent;
+mod memory;
+mod option_lists;
+mod options;
+mod providers;
 mod queue;
+mod reasons;
+mod receivers;
 mod registry;
 mod send_parts;
+mod senders;
+mod streams;
 mod summary;
+mod wires;

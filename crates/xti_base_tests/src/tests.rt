@@ -1,8 +1,0 @@
-//! The tests, a module for what each is about.
-
-mod cases;
-mod memory;
-mod option_lists;
-mod options;
-mod providers;
-mod streams;
