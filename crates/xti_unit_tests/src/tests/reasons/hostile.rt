@@ -1,76 +1,8 @@
-//! Texts that pass a limit, and texts that are made to harm who reads the reason.
+//! Texts that are made to harm who reads the reason.
 
 use super::super::cases::expect;
-use super::cases::is_refused;
-use std::alloc::{AllocError, Global};
-use xti_base::limits::{MOST_ARGUMENT_BYTES, MOST_LINES, MOST_SEND};
-use xti_gbn::MOST_EVENTS;
+use std::alloc::Global;
 use xti_reasons::{Kind, MOST_REASON, reason};
-
-/// Lines: a first line or some, then one, how often it stands there, and the reason why the text is refused.
-struct Long {
-    kind: Kind,
-    first: &'static [u8],
-    line: &'static [u8],
-    count: usize,
-    wanted: &'static str,
-}
-
-static LONG: [Long; 4] = [
-    Long {
-        kind: Kind::Script,
-        first: b"xti-script 1\n# x\n0 open a ticots\n",
-        line: b"0 look a\n",
-        count: MOST_LINES,
-        wanted: "line 100003: more than 100000 calls",
-    },
-    Long {
-        kind: Kind::Script,
-        first: b"xti-script 1\n0 open a ticots\n",
-        line: b"0 snd a data=f:65536\n",
-        count: MOST_ARGUMENT_BYTES / MOST_SEND + 1,
-        wanted: "line 67: more than 4194304 bytes in the arguments of all calls",
-    },
-    Long {
-        kind: Kind::Link,
-        first: b"xti-link 1\n",
-        line: b"timeout\n",
-        count: MOST_EVENTS + 1,
-        wanted: "line 10002: more than 10000 events",
-    },
-    // each byte is shown with four characters, and the word is longer than what is shown of it
-    Long {
-        kind: Kind::Script,
-        first: b"xti-script 1\n",
-        line: b"\x07\x07\x07\x07\x07\x07\x07\x07",
-        count: 20,
-        wanted: concat!(
-            "line 2: expected a worker from 0 to 32, found '",
-            "\\x07\\x07\\x07\\x07\\x07\\x07\\x07\\x07\\x07\\x07\\x07\\x07\\x07\\x07\\x07'..",
-        ),
-    },
-];
-
-/// Makes a text of the lines.
-fn set(text: &mut Vec<u8>, long: &Long) -> Result<(), AllocError> {
-    text.clear();
-    text.extend_from_slice(long.first)?;
-    for _ in 0..long.count {
-        text.extend_from_slice(long.line)?;
-    }
-    Ok(())
-}
-
-#[test]
-fn long_texts(rt: HostRuntime) {
-    let mut text = Vec::new(rt.alloc());
-    for long in &LONG {
-        set(&mut text, long).expect(&rt, "memory");
-        let is_told = is_refused(&rt, rt.alloc(), long.kind, text.as_slice(), long.wanted);
-        expect(&rt, is_told, &long.wanted);
-    }
-    drop(text);
-}
 
 /// Whether the reason has no byte but printable ASCII, and isn't too long.
 fn is_harmless(alloc: Global, kind: Kind, text: &[u8], line: u64) -> bool {

@@ -3,19 +3,22 @@
 use super::super::cases::expect;
 use super::cases::is_refused;
 use std::alloc::AllocError;
+use xti_base::limits::{MOST_ARGUMENT_BYTES, MOST_LINES, MOST_SEND};
+use xti_gbn::MOST_EVENTS;
 use xti_reasons::Kind;
 
-/// Texts that begin alike. Each line of the cases is what follows, `~` for LF, then a bar and the reason.
-type Group = (Kind, &'static str, &'static str);
+/// Texts that begin alike. Each line of the cases is what follows, `~` for LF, so many times, then a bar and the reason.
+type Group = (Kind, usize, &'static str, &'static str);
 
 const HEAD: &str = "xti-journal 1
 provider ticots tsdu=65536 sendzero=1 same_addr=0 sndbuf=16384 rcvbuf=16384
 provider ticotsord tsdu=0 sendzero=0 same_addr=0 sndbuf=16384 rcvbuf=16384
 ";
 
-static GROUPS: [Group; 14] = [
+static GROUPS: [Group; 18] = [
     (
         Kind::Script,
+        1,
         "",
         "|line 1: expected 'xti-script 1' or 'xti-script 2', found the end of the input
 ~|line 1: expected 'xti-script 1' or 'xti-script 2', found ''
@@ -26,6 +29,7 @@ xti-script 1\r~|line 1: expected 'xti-script 1' or 'xti-script 2', found 'xti-sc
     ),
     (
         Kind::Script,
+        1,
         "xti-script 1\n0 open a ticots\n0 bind a qlen=1\n1 open b ticots\n1 listen a q\n",
         "x look a~|line 6: expected a worker from 0 to 32, found 'x'
 33 look a~|line 6: expected a worker from 0 to 32, found '33'
@@ -76,6 +80,7 @@ xti-script 1\r~|line 1: expected 'xti-script 1' or 'xti-script 2', found 'xti-sc
     ),
     (
         Kind::Script,
+        1,
         "xti-script 1\n+++\n",
         "|line 2: head: there is no second line +++
 [ticots]~|line 2: head: there is no second line +++
@@ -97,6 +102,7 @@ ticots = 1~+++~|line 2: head: ticots: expected a table
     ),
     (
         Kind::Script,
+        1,
         "xti-script 1\n+++\n[ticots]\n+++\n# x\n\n0 open a ticots\n",
         "+++~|line 8: expected a worker from 0 to 32, found '+++'
 0 frob a|line 8: unknown call 'frob'
@@ -105,6 +111,7 @@ ticots = 1~+++~|line 2: head: ticots: expected a table
     ),
     (
         Kind::Script,
+        1,
         "xti-script 2\n+++\n",
         "[ticots]~reldata = true~+++~|line 2: head: ticots: unknown key 'reldata', expected tsdu, sendzero, same_addr, sndbuf or rcvbuf
 [ticotsord]~size = 1~+++~|line 2: head: ticotsord: unknown key 'size', expected tsdu, sendzero, same_addr, sndbuf, rcvbuf or reldata
@@ -114,6 +121,7 @@ ticots = 1~+++~|line 2: head: ticots: expected a table
     ),
     (
         Kind::Script,
+        1,
         "xti-script 2\n+++\n[ticotsord]\nreldata = true\n+++\n0 open a ticotsord\n",
         "0 sndreldata~|line 7: sndreldata: expected an endpoint that this worker or worker 0 opens above, found the end of the line
 0 sndreldata a data=t:bye~|line 7: sndreldata: unknown field 'data', expected udata
@@ -125,6 +133,7 @@ ticots = 1~+++~|line 2: head: ticots: expected a table
     ),
     (
         Kind::Link,
+        1,
         "",
         "|line 1: expected 'xti-link 1', found the end of the input
 xti-script 1~|line 1: expected 'xti-link 1', found 'xti-script 1'
@@ -133,6 +142,7 @@ xti-link 1|line 1: the last line has no LF at its end
     ),
     (
         Kind::Link,
+        1,
         "xti-link 1\noffer t:a\n",
         "timeout|line 3: the last line has no LF at its end
 ~|line 3: expected offer, timeout, data or ack, found a space too many
@@ -149,6 +159,7 @@ ack 1 2~|line 3: ack: expected the end of the line, found '2'
     ),
     (
         Kind::Journal,
+        1,
         "",
         "|line 1: expected 'xti-journal 1' or 'xti-journal 2', found the end of the input
 xti-journal 1|line 1: the last line has no LF at its end
@@ -168,18 +179,21 @@ xti-journal 1~provider ticots tsdu=1 sendzero=1 same_addr=0 sndbuf=0 rcvbuf=1~|l
     ),
     (
         Kind::Journal,
+        1,
         "xti-journal 1\nprovider ticots tsdu=65536 sendzero=1 same_addr=0 sndbuf=16384 rcvbuf=16384\n",
         "provider ticotsord tsdu=0 sendzero=1 same_addr=0 sndbuf=1 rcvbuf=1~|line 3: ticotsord: sendzero: expected no empty messages, as tsdu is 0
 ",
     ),
     (
         Kind::Journal,
+        1,
         HEAD,
         "provider ticlts tsdu=1 sendzero=1 same_addr=1 sndbuf=1 rcvbuf=1~|line 4: ticlts: same_addr: expected 0
 ",
     ),
     (
         Kind::Journal,
+        1,
         "xti-journal 2\nprovider ticots tsdu=65536 sendzero=1 same_addr=0 sndbuf=16384 rcvbuf=16384",
         " reldata=0~|line 2: ticots: expected the end of the line, found 'reldata=0'
 ~provider ticotsord tsdu=0 sendzero=0 same_addr=0 sndbuf=1 rcvbuf=1~|line 3: ticotsord: expected reldata, found the end of the line
@@ -189,6 +203,7 @@ xti-journal 1~provider ticots tsdu=1 sendzero=1 same_addr=0 sndbuf=0 rcvbuf=1~|l
     ),
     (
         Kind::Journal,
+        1,
         "xti-journal 2
 provider ticots tsdu=65536 sendzero=1 same_addr=0 sndbuf=16384 rcvbuf=16384
 provider ticotsord tsdu=0 sendzero=0 same_addr=0 sndbuf=16384 rcvbuf=16384 reldata=1
@@ -201,6 +216,7 @@ provider ticlts tsdu=1 sendzero=1 same_addr=0 sndbuf=1 rcvbuf=1~stall 0 sndrelda
     ),
     (
         Kind::Journal,
+        1,
         "xti-journal 1
 provider ticots tsdu=65536 sendzero=1 same_addr=0 sndbuf=16384 rcvbuf=16384
 provider ticotsord tsdu=0 sendzero=0 same_addr=0 sndbuf=16384 rcvbuf=16384
@@ -246,14 +262,42 @@ stall 0 more~2 0 look 0~|line 7: expected stall or end, found '2'
 stall 0 more~stall 0 more~|line 7: stall: worker 0 stalls alone, others stall in the order of their numbers
 ",
     ),
+    // texts that pass a limit
+    (
+        Kind::Script,
+        MOST_LINES,
+        "xti-script 1\n# x\n0 open a ticots\n",
+        "0 look a~|line 100003: more than 100000 calls",
+    ),
+    (
+        Kind::Script,
+        MOST_ARGUMENT_BYTES / MOST_SEND + 1,
+        "xti-script 1\n0 open a ticots\n",
+        "0 snd a data=f:65536~|line 67: more than 4194304 bytes in the arguments of all calls",
+    ),
+    (
+        Kind::Link,
+        MOST_EVENTS + 1,
+        "xti-link 1\n",
+        "timeout~|line 10002: more than 10000 events",
+    ),
+    // each byte is shown with four characters, and the word is longer than what is shown of it
+    (
+        Kind::Script,
+        20,
+        "xti-script 1\n",
+        "\x07\x07\x07\x07\x07\x07\x07\x07|line 2: expected a worker from 0 to 32, found '\\x07\\x07\\x07\\x07\\x07\\x07\\x07\\x07\\x07\\x07\\x07\\x07\\x07\\x07\\x07'..",
+    ),
 ];
 
-/// Makes a text of its two parts.
-fn set(text: &mut Vec<u8>, before: &str, behind: &str) -> Result<(), AllocError> {
+/// Makes a text of its first part, and the second so many times.
+fn set(text: &mut Vec<u8>, before: &str, behind: &str, count: usize) -> Result<(), AllocError> {
     text.clear();
     text.extend_from_slice(before.as_bytes())?;
-    for c in behind.as_bytes() {
-        text.push(if *c == b'~' { b'\n' } else { *c })?;
+    for _ in 0..count {
+        for c in behind.as_bytes() {
+            text.push(if *c == b'~' { b'\n' } else { *c })?;
+        }
     }
     Ok(())
 }
@@ -261,10 +305,10 @@ fn set(text: &mut Vec<u8>, before: &str, behind: &str) -> Result<(), AllocError>
 #[test]
 fn reasons(rt: HostRuntime) {
     let mut text = Vec::new(rt.alloc());
-    for (kind, before, cases) in &GROUPS {
+    for (kind, count, before, cases) in &GROUPS {
         for case in cases.lines() {
             let (behind, wanted) = case.split_once('|').expect(&rt, "a bar");
-            set(&mut text, before, behind).expect(&rt, "memory");
+            set(&mut text, before, behind, *count).expect(&rt, "memory");
             let holds = is_refused(&rt, rt.alloc(), *kind, text.as_slice(), wanted);
             expect(&rt, holds, &case);
         }
