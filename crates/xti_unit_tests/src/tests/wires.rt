@@ -2,44 +2,64 @@
 
 ghost use Rattle.xti_gbn.specs.Wire.{HasSmallBody};
 
-use super::cases::expect;
+use super::cases::{are_bytes, expect};
 use std::alloc::Global;
 use xti_base::Octets;
 use xti_gbn::{MOST_BODY, Packet, Wire, WireFail, read_wire, write_wire};
 
-/// The bytes of a packet, its number and its body.
-type PacketCase = (&'static [u8], u32, &'static [u8]);
+/// What bytes are read as.
+enum Meaning {
+    /// A packet with this number and body.
+    Packet(u32, &'static [u8]),
+    Acknowledgement(u32),
+    Neither,
+}
 
-static PACKETS: [PacketCase; 4] = [
-    (b"D\0\0\0\0", 0, b""),
-    (b"D\0\0\0\x07a", 7, b"a"),
-    (b"D\x01\x02\x03\x04abc", 0x0102_0304, b"abc"),
-    (b"D\xff\xff\xff\xffA\0\0\0\0", u32::MAX, b"A\0\0\0\0"),
+/// A body of as many bytes as it may have, all `D`.
+const BODY: &[u8] = &[0x44; 512];
+
+/// Its packet, of which every byte is `D`.
+const LONG: &[u8] = &[0x44; 517];
+
+/// One with a byte more than may stand.
+const LONGER: &[u8] = &[0x44; 518];
+
+static TEXTS: [(&[u8], Meaning); 18] = [
+    (b"D\0\0\0\0", Meaning::Packet(0, b"")),
+    (b"D\0\0\0\x07a", Meaning::Packet(7, b"a")),
+    (
+        b"D\x01\x02\x03\x04abc",
+        Meaning::Packet(0x0102_0304, b"abc"),
+    ),
+    (
+        b"D\xff\xff\xff\xffA\0\0\0\0",
+        Meaning::Packet(u32::MAX, b"A\0\0\0\0"),
+    ),
+    (LONG, Meaning::Packet(0x4444_4444, BODY)),
+    (b"A\0\0\0\0", Meaning::Acknowledgement(0)),
+    (b"A\0\0\0\x02", Meaning::Acknowledgement(2)),
+    (b"A\xff\xff\xff\xff", Meaning::Acknowledgement(u32::MAX)),
+    (b"", Meaning::Neither),
+    (b"A", Meaning::Neither),
+    (b"A\0\0\0", Meaning::Neither),
+    (b"A\0\0\0\x02\0", Meaning::Neither),
+    (b"D", Meaning::Neither),
+    (b"D\0\0\0", Meaning::Neither),
+    (b"a\0\0\0\x02", Meaning::Neither),
+    (b"E\0\0\0\x02abc", Meaning::Neither),
+    (b"\0\0\0\0\x02", Meaning::Neither),
+    (LONGER, Meaning::Neither),
 ];
 
-static ACKNOWLEDGEMENTS: [(&[u8], u32); 3] = [
-    (b"A\0\0\0\0", 0),
-    (b"A\0\0\0\x02", 2),
-    (b"A\xff\xff\xff\xff", u32::MAX),
-];
-
-static NEITHER: [&[u8]; 9] = [
-    b"",
-    b"A",
-    b"A\0\0\0",
-    b"A\0\0\0\x02\0",
-    b"D",
-    b"D\0\0\0",
-    b"a\0\0\0\x02",
-    b"E\0\0\0\x02abc",
-    b"\0\0\0\0\x02",
-];
-
-/// Whether the bytes are read as a packet with this number and body.
-fn is_read_as_packet(alloc: Global, text: &[u8], number: u32, body: &[u8]) -> bool {
+/// Whether the bytes are read so.
+fn is_read(alloc: Global, text: &[u8], meaning: &Meaning) -> bool {
     let read = read_wire(alloc, text);
-    let is_same = match &read {
-        Ok(Wire::Data(packet)) => packet.seq == number && packet.body.as_slice() == body,
+    let is_same = match (&read, meaning) {
+        (Ok(Wire::Data(packet)), Meaning::Packet(number, body)) => {
+            packet.seq == *number && packet.body.as_slice() == *body
+        }
+        (Ok(Wire::Ack(read)), Meaning::Acknowledgement(number)) => read == number,
+        (Err(WireFail::Bad), Meaning::Neither) => true,
         _ => false,
     };
     drop(read);
@@ -52,58 +72,31 @@ fn is_written(alloc: Global, wire: Wire, text: &[u8]) -> bool
 {
     let written = write_wire(alloc, &wire);
     drop(wire);
-    let is_same = matches!(&written, Ok(written) if written.as_slice() == text);
-    drop(written);
-    is_same
+    are_bytes(written, text)
 }
 
-/// Whether the bytes are read as a packet with this number and body, of at most 512 bytes, which is written as these bytes.
-fn is_packet(alloc: Global, text: &[u8], number: u32, body: &[u8]) -> bool {
-    if body.len() > MOST_BODY || !is_read_as_packet(alloc, text, number, body) {
-        return false;
+/// Whether what is to be read of the bytes, with a body of at most 512 bytes, is written as these bytes.
+fn is_written_back(alloc: Global, text: &[u8], meaning: &Meaning) -> bool {
+    match meaning {
+        Meaning::Packet(number, body) => {
+            if body.len() > MOST_BODY {
+                return false;
+            }
+            match Octets::copy_of(alloc, body) {
+                Ok(body) => is_written(alloc, Wire::Data(Packet { seq: *number, body }), text),
+                Err(_) => false,
+            }
+        }
+        Meaning::Acknowledgement(number) => is_written(alloc, Wire::Ack(*number), text),
+        Meaning::Neither => true,
     }
-    match Octets::copy_of(alloc, body) {
-        Ok(body) => is_written(alloc, Wire::Data(Packet { seq: number, body }), text),
-        Err(_) => false,
-    }
-}
-
-/// Whether the bytes are read as an acknowledgement with this number, which is written as these bytes.
-fn is_acknowledgement(alloc: Global, text: &[u8], number: u32) -> bool {
-    let read = read_wire(alloc, text);
-    let is_read = matches!(&read, Ok(Wire::Ack(read)) if *read == number);
-    drop(read);
-    is_read && is_written(alloc, Wire::Ack(number), text)
-}
-
-/// Whether the bytes are read as those of neither.
-fn is_neither(alloc: Global, text: &[u8]) -> bool {
-    let read = read_wire(alloc, text);
-    let is_refused = matches!(&read, Err(WireFail::Bad));
-    drop(read);
-    is_refused
 }
 
 #[test]
-fn short_texts(rt: HostRuntime) {
-    for (place, (text, number, body)) in PACKETS.iter().enumerate() {
-        expect(&rt, is_packet(rt.alloc(), text, *number, body), &place);
+fn packets_and_acknowledgements(rt: HostRuntime) {
+    for (place, (text, meaning)) in TEXTS.iter().enumerate() {
+        let is_right = is_read(rt.alloc(), text, meaning)
+            && is_written_back(rt.alloc(), text, meaning);
+        expect(&rt, is_right, &place);
     }
-    for (place, (text, number)) in ACKNOWLEDGEMENTS.iter().enumerate() {
-        expect(&rt, is_acknowledgement(rt.alloc(), text, *number), &place);
-    }
-    for (place, text) in NEITHER.iter().enumerate() {
-        expect(&rt, is_neither(rt.alloc(), text), &place);
-    }
-}
-
-/// A packet whose bytes are all `D`, with a body of a byte more than may stand.
-static LONG: [u8; 518] = [0x44; 518];
-
-#[test]
-fn long_bodies(rt: HostRuntime) {
-    let (whole, _) = LONG.split_at(517);
-    let (body, _) = LONG.split_at(512);
-    assert!(rt; is_packet(rt.alloc(), whole, 0x4444_4444, body));
-    assert!(rt; is_neither(rt.alloc(), &LONG));
 }
