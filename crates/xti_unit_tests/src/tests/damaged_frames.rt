@@ -3,15 +3,12 @@
 ghost use Rattle.std.specs.Prelude.{◌≤◌};
 
 use super::cases::expect;
-use super::frames::feed;
+use super::frames::{RELEASE, feed};
 use std::alloc::Global;
 use tpi_prim::{Decoded, FeedFail, FrameReader, decode};
 
 /// Whole frames, a frame with a wrong byte, the place of that byte in it, and what the case is about.
 type Case = (&'static [u8], &'static [u8], usize, &'static str);
-
-/// T_ORDREL_IND with the user data "bye".
-const RELEASE: &[u8] = b"\0\0\0\x04\0\0\0\x03\0\0\0\x17bye";
 
 /// T_UNITDATA_REQ to "b" with the datagram "hello".
 const REQUEST: &[u8] = b"\0\0\0\x15\0\0\0\x05\0\0\0\x08\0\0\0\x01\0\0\0\x14\0\0\0\0\0\0\0\0bhello";
@@ -85,17 +82,6 @@ fn is_short_before(alloc: Global, input: &[u8], length: usize) -> bool {
     true
 }
 
-#[test]
-fn decodes_damaged_frames(rt: HostRuntime) {
-    for (_, input, place, case) in &DAMAGED {
-        let is_refused = is_short_before(rt.alloc(), input, place.saturating_add(1))
-            && wrong_place(rt.alloc(), input) == Some(Some(*place));
-        expect(&rt, is_refused, case);
-    }
-    let is_short = is_short_before(rt.alloc(), REQUEST, REQUEST.len());
-    expect(&rt, is_short, &"a cut frame");
-}
-
 /// How many frames the pieces of this size complete, how many bytes are read before a piece is refused, and why it is.
 fn feed_all(reader: &mut FrameReader, input: &[u8], size: usize) -> (usize, usize, Option<FeedFail>)
     requires { 1 ≤ size }
@@ -130,16 +116,6 @@ fn is_found(alloc: Global, before: &[u8], input: &[u8], size: usize, place: usiz
     is_read && found == (0, read, Some(wrong)) && again == Err(wrong)
 }
 
-#[test]
-fn feeds_damaged_frames(rt: HostRuntime) {
-    for (before, input, place, case) in &DAMAGED {
-        for size in 1..=input.len() {
-            let is_found = is_found(rt.alloc(), before, input, size, *place);
-            expect(&rt, is_found, case);
-        }
-    }
-}
-
 /// Whether the last of the pieces of this size completes the request, and none before.
 fn is_completed(alloc: Global, size: usize) -> bool
     requires { 1 ≤ size }
@@ -154,7 +130,18 @@ fn is_completed(alloc: Global, size: usize) -> bool
 }
 
 #[test]
-fn feeds_pieces_of_each_size(rt: HostRuntime) {
+fn damaged_frames(rt: HostRuntime) {
+    for (before, input, place, case) in &DAMAGED {
+        let is_refused = is_short_before(rt.alloc(), input, place.saturating_add(1))
+            && wrong_place(rt.alloc(), input) == Some(Some(*place));
+        expect(&rt, is_refused, case);
+        for size in 1..=input.len() {
+            let is_found = is_found(rt.alloc(), before, input, size, *place);
+            expect(&rt, is_found, case);
+        }
+    }
+    let is_short = is_short_before(rt.alloc(), REQUEST, REQUEST.len());
+    expect(&rt, is_short, &"a cut frame");
     for size in 1..=REQUEST.len() {
         expect(&rt, is_completed(rt.alloc(), size), &size);
     }

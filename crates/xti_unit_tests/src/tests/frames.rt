@@ -11,7 +11,7 @@ use tpi_prim::{FeedFail, FrameReader, IndicationWriter, encode};
 const DATA: &[u8] = b"\0\0\0\x08\0\0\0\x02\0\0\0\x0e\0\0\0\0hi";
 
 /// T_ORDREL_IND, three bytes of user data.
-const RELEASE: &[u8] = b"\0\0\0\x04\0\0\0\x03\0\0\0\x17bye";
+pub(super) const RELEASE: &[u8] = b"\0\0\0\x04\0\0\0\x03\0\0\0\x17bye";
 
 /// T_UNITDATA_IND from "ab", with no options and three bytes of user data.
 const DATAGRAM: &[u8] = b"\0\0\0\x16\0\0\0\x03\0\0\0\x14\0\0\0\x02\0\0\0\x14\0\0\0\0\0\0\0\0abxyz";
