@@ -34,17 +34,6 @@ fn providers(sendzero: bool, reldata: bool) -> Providers {
     }
 }
 
-/// The flags that a step tells; `None` where it tells none.
-fn flags_told(applied: &Applied) -> Option<u32> {
-    match applied {
-        Applied::Step {
-            outcome: Outcome::Done(Reply::Limits { info }),
-            ..
-        } => Some(info.flags),
-        _ => None,
-    }
-}
-
 /// The flags of an open endpoint, where each provider has these values.
 fn flags(alloc: Global, prov: Prov, sendzero: bool, reldata: bool) -> Option<u32> {
     if prov == Prov::Other {
@@ -58,8 +47,13 @@ fn flags(alloc: Global, prov: Prov, sendzero: bool, reldata: bool) -> Option<u32
     drop(call);
     drop(e);
     let found = match &told {
-        Ok(applied) => flags_told(applied),
-        Err(_) => None,
+        Ok(
+            Applied::Step {
+                outcome: Outcome::Done(Reply::Limits { info }),
+                ..
+            },
+        ) => Some(info.flags),
+        _ => None,
     };
     drop(told);
     found

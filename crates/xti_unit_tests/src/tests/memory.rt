@@ -4,12 +4,15 @@ use super::cases::{are_bytes, expect};
 use std::alloc::Global;
 use xti_base::{Calls, Octets, Parts, Room};
 
-/// Whether a copy of the bytes, with one more, has these.
-fn is_copied(alloc: Global, front: &[u8], last: u8, wanted: &[u8]) -> bool {
+/// Whether the copy of a copy of the bytes, to which one more may have been added, has these.
+fn is_copied(alloc: Global, front: &[u8], last: Option<u8>, wanted: &[u8]) -> bool {
     let Ok(mut bytes) = Octets::copy_of(alloc, front) else {
         return false;
     };
-    let is_added = bytes.push(last).is_ok();
+    let is_added = match last {
+        Some(last) => bytes.push(last).is_ok(),
+        None => true,
+    };
     let copy = bytes.copy();
     drop(bytes);
     are_bytes(copy, wanted) && is_added
@@ -48,23 +51,14 @@ fn is_unused(alloc: Global) -> bool {
     }
 }
 
-/// Whether a copy of a copy has the same bytes.
-fn is_copied_twice(alloc: Global, bytes: &[u8]) -> bool {
-    let Ok(first) = Octets::copy_of(alloc, bytes) else {
-        return false;
-    };
-    let second = first.copy();
-    drop(first);
-    are_bytes(second, bytes)
-}
-
 #[test]
 fn copies(rt: HostRuntime) {
     let bytes = [7; 100];
     for length in 0..=bytes.len() {
-        expect(&rt, is_copied_twice(rt.alloc(), &bytes[..length]), &length);
+        let front = &bytes[..length];
+        expect(&rt, is_copied(rt.alloc(), front, None, front), &length);
     }
-    let are_copied = is_copied(rt.alloc(), b"ab", 99, b"abc")
+    let are_copied = is_copied(rt.alloc(), b"ab", Some(99), b"abc")
         && is_copied_part(rt.alloc())
         && is_copied_number(rt.alloc())
         && is_unused(rt.alloc());

@@ -104,13 +104,14 @@ fn reads_and_writes(rt: HostRuntime) {
             && is_read(rt.alloc(), bytes, *expected);
         expect(&rt, is_right, case);
     }
-}
-
-#[test]
-fn keeps_the_fields(rt: HostRuntime) {
     let list = read_options(rt.alloc(), WHOLE).expect(&rt, "a list");
-    let option = list.get(0).expect(&rt, "an option");
-    assert!(rt; (option.level, option.name, option.status) == (65535, 4098, 0));
-    assert!(rt; option.value.as_slice() == FIVE);
+    let are_kept = match list.get(0) {
+        Some(option) => {
+            (option.level, option.name, option.status) == (65535, 4098, 0)
+                && option.value.as_slice() == FIVE
+        }
+        None => false,
+    };
     drop(list);
+    expect(&rt, are_kept, &"the fields of one option");
 }

@@ -3,7 +3,7 @@
 use super::cases::expect;
 use std::alloc::Global;
 use xti_base::Octets;
-use xti_gbn::{Packet, Receiver, Taken};
+use xti_gbn::{Packet, Receiver};
 
 /// The number of a packet that comes, whether its body is taken, and the acknowledgement.
 static PACKETS: [(u32, bool, u32); 8] = [
@@ -17,14 +17,6 @@ static PACKETS: [(u32, bool, u32); 8] = [
     (1, false, 3),
 ];
 
-/// Whether the body of the packet is taken.
-fn has_body(taken: &Taken) -> bool {
-    match &taken.body {
-        Some(body) => body.as_slice() == b"body".as_slice(),
-        None => false,
-    }
-}
-
 /// Gives a packet of this number to the receiver, and tells whether that came of it which should.
 fn is_right(alloc: Global, receiver: &mut Receiver, number: u32, is_taken: bool, ack: u32) -> bool {
     if number == u32::MAX {
@@ -37,7 +29,11 @@ fn is_right(alloc: Global, receiver: &mut Receiver, number: u32, is_taken: bool,
     let taken = receiver.data(alloc, &packet);
     drop(packet);
     let is_right = match &taken {
-        Ok(taken) => has_body(taken) == is_taken && taken.ack == ack,
+        Ok(taken) => {
+            let has_body =
+                matches!(&taken.body, Some(body) if body.as_slice() == b"body".as_slice());
+            has_body == is_taken && taken.ack == ack
+        }
         Err(_) => false,
     };
     drop(taken);

@@ -1,6 +1,6 @@
 //! The switch's table: which descriptor is found at an address, and which address is chosen.
 
-use super::cases::expect;
+use super::cases::{are_bytes, expect};
 use std::alloc::Global;
 use xti_base::{Fd, Octets, Prov};
 use xti_model::Providers;
@@ -69,17 +69,6 @@ fn bind(alloc: Global, table: &mut Registry, prov: Prov, addr: &[u8], fd: u32) -
     }
 }
 
-fn is_first_free(alloc: Global, table: &Registry, prov: Prov, wanted: &[u8]) -> bool {
-    match table.free_address(alloc, prov) {
-        Ok(addr) => {
-            let is_wanted = addr.as_slice() == wanted;
-            drop(addr);
-            is_wanted
-        }
-        Err(_) => false,
-    }
-}
-
 /// Whether the step is done, or answered so.
 fn holds(alloc: Global, table: &mut Registry, step: &Step) -> bool {
     match step {
@@ -92,7 +81,7 @@ fn holds(alloc: Global, table: &mut Registry, step: &Step) -> bool {
         Step::Listener(prov, addr, except, fd) => {
             table.listener(*prov, addr, Fd(*except)) == *fd
         }
-        Step::Free(prov, addr) => is_first_free(alloc, table, *prov, addr),
+        Step::Free(prov, addr) => are_bytes(table.free_address(alloc, *prov), addr),
     }
 }
 

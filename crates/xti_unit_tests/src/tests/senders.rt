@@ -5,7 +5,6 @@ use std::alloc::Global;
 use xti_gbn::{OfferFail, Packets, Sender};
 
 /// What befalls a sender, and what comes of it.
-#[derive(Clone, Copy)]
 enum Step {
     /// A body of so many bytes is offered: the number of its packet, or the error.
     Offer(usize, Result<u32, OfferFail>),
@@ -79,13 +78,13 @@ fn are_put_again(alloc: Global, sender: &Sender, lengths: &[usize]) -> bool {
 }
 
 /// Makes a step, and tells whether that came of it which should.
-fn is_right(alloc: Global, sender: &mut Sender, step: Step) -> bool {
+fn is_right(alloc: Global, sender: &mut Sender, step: &Step) -> bool {
     match step {
-        Offer(length, wanted) => offered(alloc, sender, length) == Some(wanted),
+        Offer(length, wanted) => offered(alloc, sender, *length) == Some(*wanted),
         Acknowledge(number, base) => {
             let next = sender.next();
-            sender.ack(number);
-            sender.base() == base && sender.next() == next
+            sender.ack(*number);
+            sender.base() == *base && sender.next() == next
         }
         Wait(lengths) => are_put_again(alloc, sender, lengths),
     }
@@ -95,7 +94,7 @@ fn is_right(alloc: Global, sender: &mut Sender, step: Step) -> bool {
 fn steps_of_a_sender(rt: HostRuntime) {
     let mut sender = Sender::new(rt.alloc());
     for (place, step) in STEPS.iter().enumerate() {
-        expect(&rt, is_right(rt.alloc(), &mut sender, *step), &place);
+        expect(&rt, is_right(rt.alloc(), &mut sender, step), &place);
     }
     drop(sender);
 }
