@@ -300,22 +300,6 @@ static ANSWERS: [Answered; 4] = [
     ),
 ];
 
-#[test]
-fn answers_in_bytes(rt: HostRuntime) {
-    for (number, (action, request, bytes, overall, rcvbuf)) in ANSWERS.iter().enumerate() {
-        let wanted = Wanted {
-            bytes,
-            overall: *overall,
-            after: Settings {
-                rcvbuf: *rcvbuf,
-                ..SETTINGS
-            },
-        };
-        let is_answered = is_answered_in_bytes(rt.alloc(), *action, request, &wanted);
-        expect(&rt, is_answered, &number);
-    }
-}
-
 /// An action, a request, and why it is refused, in bytes and as a list.
 type Refused = (u32, &'static [u8], OptRefusal, OptFail);
 
@@ -345,10 +329,22 @@ fn is_refused(alloc: Global, action: u32, request: &[u8], fail: OptFail) -> bool
 }
 
 #[test]
-fn refuses(rt: HostRuntime) {
+fn answers_and_refuses_bytes(rt: HostRuntime) {
+    for (number, (action, request, bytes, overall, rcvbuf)) in ANSWERS.iter().enumerate() {
+        let wanted = Wanted {
+            bytes,
+            overall: *overall,
+            after: Settings {
+                rcvbuf: *rcvbuf,
+                ..SETTINGS
+            },
+        };
+        let is_answered = is_answered_in_bytes(rt.alloc(), *action, request, &wanted);
+        expect(&rt, is_answered, &number);
+    }
     for (number, (action, request, refusal, fail)) in REFUSALS.iter().enumerate() {
         let is_refused = answer_size(*action, request) == Err(*refusal)
             && is_refused(rt.alloc(), *action, request, *fail);
-        expect(&rt, is_refused, &number);
+        assert!(rt; is_refused, "this refusal is wrong: {number}");
     }
 }
