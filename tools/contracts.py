@@ -1,7 +1,8 @@
 """What the contracts of a crate say, as one sum, and what tools/try-edits found of the crate's edits.
 
-The sum is over the definitions of specs/ and the head of each function of src/, which has its clauses. A change of a body or of
-a proof leaves it as it was, a change of a contract, or of a definition of the crate, doesn't. Those of the crates below aren't in it.
+The sum is over the definitions of specs/ and the head of each function of src/, which has its clauses. A change of a body, of a
+proof, or of the place from which a definition is taken leaves it as it was; a change of a contract, or of a definition of the crate,
+doesn't. Those of the crates below aren't in it.
 """
 import hashlib
 import pathlib
@@ -10,6 +11,7 @@ import re
 TOP = pathlib.Path(__file__).resolve().parent.parent
 TRIED = TOP / "docs" / "edits-tried.txt"
 OF_GATE, LEFT_OUT = "*.edit", "*.edit.md"
+TAKEN = re.compile(rb"^(?:pub )?use .*\n", re.M)
 HEAD = re.compile(r"^\s*(?:pub(?:\([^)]*\))? )?(?:(?:const|unsafe) )*fn \w+")
 
 
@@ -32,7 +34,7 @@ def contract_sum(crate):
     folder = TOP / "crates" / crate
     total = hashlib.sha256()
     for path in sorted(folder.glob("specs/**/*.antt")):
-        total.update(path.read_bytes())
+        total.update(TAKEN.sub(b"", path.read_bytes()))
     for path in sorted(folder.glob("src/**/*.rt")):
         for head in heads(path.read_text()):
             total.update(head.encode())

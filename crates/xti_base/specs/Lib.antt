@@ -4,3 +4,5 @@ pub mod Limit
 pub mod Room
 pub mod Options
 pub mod Negotiation
+pub mod Structures
+pub mod Words

@@ -1,4 +1,4 @@
-//! Names, numbers and small lists of the X/Open Transport Interface.
+//! Names, numbers, small lists and allocated structures of the X/Open Transport Interface.
 #![tactic(auto)]
 
 mod building;
@@ -11,6 +11,8 @@ mod octets;
 mod options;
 pub mod reasons;
 mod room;
+mod structures;
+mod words;
 
 pub use building::{let_go, write_over};
 pub use errno::Errno;
@@ -20,3 +22,5 @@ pub use limit::{Info, Limit, T_ORDRELDATA, T_SENDZERO};
 pub use octets::Octets;
 pub use options::{Opt, is_option_list, size_of_front};
 pub use room::Room;
+pub use structures::{AllocFail, Bufs, StructKind, t_alloc};
+pub use words::{t_strerror, t_sysconf};

@@ -17,11 +17,11 @@ use Rattle.xti_model.specs.declared.entry.Go.{Go}
 use Rattle.xti_model.specs.declared.profile.Providers.{Providers}
 use Rattle.xti_model.specs.Profile.{valid}
 use Rattle.xti_model.specs.World.{World}
-use Rattle.xti_laws_sound.specs.Given.{OfStep}
-use Rattle.xti_laws_sound.specs.Replies.{lengths, lengths_of, IsShort, IsShortOutcome}
-use Rattle.xti_laws_sound.proofs.Steps.{after-sound}
-use Rattle.xti_laws_sound.proofs.ShortReplies.{replies-short}
-use Rattle.xti_laws_answers.specs.Answers.{AnswersInForm}
+use Rattle.xti_laws.specs.Given.{OfStep}
+use Rattle.xti_laws.specs.Replies.{lengths, lengths_of, IsShort, IsShortOutcome}
+use Rattle.xti_laws.proofs.SoundSteps.{after-sound}
+use Rattle.xti_laws.proofs.ShortReplies.{replies-short}
+use Rattle.xti_laws.specs.Answers.{AnswersInForm}
 use Rattle.xti_calls.specs.declared.answers.Fail.{Fail}
 use Rattle.xti_calls.specs.declared.answers.Fail.TheVariants as fail
 use Rattle.xti_calls.specs.Calling.{Answered}

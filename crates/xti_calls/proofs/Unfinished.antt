@@ -19,8 +19,8 @@ use Rattle.xti_model.specs.Step.{Step, step}
 use Rattle.xti_model.specs.Wants.{HasLeft}
 use Rattle.xti_model.specs.History.{Going, is_own, own, call_after, going_after, unfinished, unfinished_from, made_by, doing, step_going, step_at, left_by, Fits, LegalFrom, Legal}
 use Rattle.xti_model.proofs.Working.{call_from, unfinished_from-snoc, IsCallOf, call_of-from, own-more}
-use Rattle.xti_laws_sound.specs.Progress.{Progress}
-use Rattle.xti_laws_sound.proofs.ProgressOfSteps.{progress}
+use Rattle.xti_laws.specs.Progress.{Progress}
+use Rattle.xti_laws.proofs.ProgressOfSteps.{progress}
 
 pub begin-left : (c : Call) → HasLeft c go.Begin
 begin-left (call.TSnd fd bytes flags) = tt

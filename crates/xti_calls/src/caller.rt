@@ -7,7 +7,7 @@ ghost use Rattle.xti_hall.specs.Seats.{CutsOff, HasNoneToSpare, IsStanding, Look
 ghost use Rattle.xti_hall.specs.Words.{IsSameSeat};
 ghost use Rattle.xti_glance.specs.Glances.{Finds, IsSameLater};
 ghost use Rattle.xti_step.specs.Steps.{Later, MayGo, Tells};
-ghost use Rattle.xti_survey.specs.Surveys.{all_events_after};
+ghost use Rattle.xti_glance.specs.Surveys.{all_events_after};
 ghost use Rattle.xti_calls.specs.declared.answers.Fail.TheVariants.{Unfinished};
 ghost use Rattle.xti_calls.specs.Calling.{IsUnfinished, Answered, Halted, where_left};
 ghost use Rattle.xti_calls.specs.Library.{HasUnfinished, IsFree, IsMarkedAsBefore, IsOf};

@@ -3,7 +3,7 @@
 
 ghost use Rattle.std.specs.Prelude.{◌≡◌, IfOk, MatchResult};
 ghost use Rattle.xti_verbs.specs.Verbs.{answer_of, verb_of};
-ghost use Rattle.xti_laws_sound.specs.Replies.{lengths_of, IsShort};
+ghost use Rattle.xti_laws.specs.Replies.{lengths_of, IsShort};
 ghost use Rattle.xti_calls.specs.Forms.{Fails, IsAnswered};
 ghost use Rattle.xti_calls.specs.Typed.{MayBe};
 ghost use Rattle.xti_calls.specs.Library.{GoesOn, IsOf};
@@ -15,7 +15,7 @@ use crate::shared::Xti;
 use std::alloc::{AllocError, Global};
 use std::sync::Wait;
 use xti_base::{Octets, let_go};
-use xti_laws_answers::steps_answer_in_form;
+use xti_laws::steps_answer_in_form;
 use xti_model::{Call, Reply};
 use xti_step::NoGate;
 

@@ -30,8 +30,8 @@ pub use flags::{T_EXPEDITED, T_MORE};
 pub use library::{Ended, Seat};
 pub use shared::Xti;
 pub use xti_base::{
-    Errno, Event, Fd, Info, Limit, Octets, Parts, Prov, Seq, ServType, Sizes, State, T_ORDRELDATA,
-    T_SENDZERO,
+    AllocFail, Bufs, Errno, Event, Fd, Info, Limit, Octets, Parts, Prov, Seq, ServType, Sizes,
+    State, StructKind, T_ORDRELDATA, T_SENDZERO, t_alloc, t_strerror, t_sysconf,
 };
 pub use xti_data::SendParts;
 pub use xti_gather::Cell;
@@ -43,5 +43,4 @@ pub use xti_opt::{
     T_SUCCESS,
 };
 pub use xti_step::{Gate, NoGate};
-pub use xti_structures::{AllocFail, Bufs, StructKind, t_alloc, t_strerror, t_sysconf};
 pub use xti_wants::{Want, WantKind};

@@ -11,7 +11,7 @@ ghost use Rattle.xti_hall.specs.Words.{IsSameSeat};
 ghost use Rattle.xti_gather.specs.Cells.{whole};
 ghost use Rattle.xti_glance.specs.Glances.{Finds, IsSameLater};
 ghost use Rattle.xti_step.specs.Steps.{Later, MayGo, Tells};
-ghost use Rattle.xti_survey.specs.Surveys.{all_events_after};
+ghost use Rattle.xti_glance.specs.Surveys.{all_events_after};
 ghost use Rattle.xti_calls.specs.Calling.{IsUnfinished, Answered, Halted, where_left};
 ghost use Rattle.xti_calls.specs.Library.{IsMarkedAsBefore, IsOf, MayCall, keeps_of, providers_of};
 
@@ -23,12 +23,11 @@ use std::marker::Model;
 use std::sync::Wait;
 use xti_base::{Fd, let_go};
 use xti_gather::{Cell, nothing_lent, open_hall};
-use xti_glance::{Glance, glance};
+use xti_glance::{Glance, glance, survey};
 use xti_hall::{Ended as EndedHall, NoSeat, Seat as HallSeat};
 use xti_lent::Lent;
 use xti_model::{Applied, Call, Cells, Entries, Go, Providers, Reply};
 use xti_step::{Gate, step};
-use xti_survey::survey;
 
 /// One caller's token: a seat of the library's hall, which holds nothing between two calls, with room for the cells of a step
 /// and the numbers of those of the last one.

@@ -6,7 +6,7 @@ use Rattle.xti_base.specs.declared.limit.Info.{Info}
 use Rattle.xti_model.specs.declared.entry.Outcome.{Outcome}
 use Rattle.xti_model.specs.declared.entry.Outcome.TheVariants.{Done, Part}
 use Rattle.xti_model.specs.declared.entry.Reply.TheVariants as reply
-use Rattle.xti_laws_bytes.specs.Values.{IsLimit}
+use Rattle.xti_laws.specs.Values.{IsLimit}
 use Rattle.xti_laws_texts.specs.Texts.{AreNumbers}
 
 -- each number that the outcome may have

@@ -11,7 +11,7 @@ use std::alloc::{AllocError, Global};
 use xti_base::{Octets, let_go};
 use xti_journal::{JournalFail, read_journal};
 use xti_model::Journal;
-use xti_text::{put_number, put_text};
+use xti_words::{put_number, put_text};
 
 /// What is said of an input.
 #[derive(Drop)]

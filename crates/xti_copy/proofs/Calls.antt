@@ -7,7 +7,7 @@ use Rattle.xti_model.specs.declared.call.Call.{Call}
 use Rattle.xti_model.specs.declared.call.Call.TheVariants as call
 use Rattle.xti_model.specs.declared.entry.Reply.{Reply}
 use Rattle.xti_model.specs.declared.entry.Reply.TheVariants as reply
-use Rattle.xti_laws_copy.specs.Copying.{answered, service, listener, client}
+use Rattle.xti_laws_streams.specs.Copying.{answered, service, listener, client}
 use Rattle.xti_sock.specs.declared.fail.SockFail.TheVariants.{WouldBlock}
 use Rattle.xti_sock.specs.declared.phase.Phase.TheVariants.{Named, Open, Dead}
 use Rattle.xti_sock.specs.declared.sock.Sock.{Sock}

@@ -17,9 +17,9 @@ use Rattle.xti_model.specs.History.{Going, is_own, own, unfinished, begins, made
 use Rattle.xti_model.specs.Profile.{usual}
 use Rattle.xti_model.specs.Step.{step}
 use Rattle.xti_model.specs.World.{World, opening}
-use Rattle.xti_laws_copy.specs.Laws.{IsNextEntry}
-use Rattle.xti_sights.specs.Sights.{Sight, IsStanding, Later}
-use Rattle.xti_sights.specs.Steps.{AreSteps, IsPart, Answered, StoppedAtStall}
+use Rattle.xti_laws_streams.specs.CopyLaws.{IsNextEntry}
+use Rattle.xti_sock.specs.Sights.{Sight, IsStanding, Later}
+use Rattle.xti_sock.specs.SightSteps.{AreSteps, IsPart, Answered, StoppedAtStall}
 use Rattle.xti_sock.specs.declared.caller.CallEnd.{CallEnd}
 use Rattle.xti_sock.specs.declared.caller.CallEnd.TheVariants.{OutOfMemory as NoMemory, Stalled}
 use Rattle.xti_sock.specs.declared.heard.Heard.TheVariants.{Ended}

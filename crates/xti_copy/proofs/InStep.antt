@@ -5,8 +5,8 @@ use Rattle.std.proofs.lemmas.List.Folds.{list_any-append}
 use Rattle.std.proofs.Math.Bool.{or-false}
 use Rattle.xti_base.specs.declared.kinds.Fd.{Fd}
 use Rattle.xti_model.specs.declared.entry.Entry.{Entry}
-use Rattle.xti_laws_copy.specs.Copying.{before, exchange, listener, client, receiver}
-use Rattle.xti_rider.specs.Rides.{Ride}
+use Rattle.xti_laws_streams.specs.Copying.{before, exchange, listener, client, receiver}
+use Rattle.xti_copy.specs.Rides.{Ride}
 use Rattle.xti_sock.specs.declared.sock.Sock.{Sock}
 use Rattle.xti_sock.specs.Socks.{IsInStep, is_unreleased, spare_of, takes_release, was_released}
 use Rattle.xti_copy.specs.Ends.{AreInStep, connected}

@@ -4,3 +4,5 @@ mod Calls
 mod Pieces
 mod InStep
 mod Steps
+mod Riding
+mod Calling

@@ -4,9 +4,9 @@ use Rattle.std.specs.Prelude.{flat_map}
 use Rattle.std.proofs.lemmas.Grind.{flat_map-append}
 use Rattle.std.proofs.lemmas.List.{append-nil}
 use Rattle.xti_model.specs.declared.entry.Entry.{Entry}
-use Rattle.xti_laws_copy.specs.Copying.{before, exchange, pieces, pieces_within}
-use Rattle.xti_laws_copy.specs.declared.TheConstants.{PIECE}
-use Rattle.xti_rider.specs.Rides.{Ride}
+use Rattle.xti_laws_streams.specs.Copying.{before, exchange, pieces, pieces_within}
+use Rattle.xti_laws_streams.specs.declared.copies.TheConstants.{PIECE}
+use Rattle.xti_copy.specs.Rides.{Ride}
 use Rattle.xti_copy.specs.Going.{IsAt, Comes}
 use Rattle.xti_copy.proofs.Rows.{first-comes, then-comes}
 

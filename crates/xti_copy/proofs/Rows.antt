@@ -9,9 +9,9 @@ use Rattle.xti_model.specs.declared.entry.Entry.{Entry}
 use Rattle.xti_model.specs.declared.entry.Reply.TheVariants as reply
 use Rattle.xti_model.specs.History.{Legal}
 use Rattle.xti_model.specs.Profile.{usual}
-use Rattle.xti_laws_copy.specs.Copying.{answered}
-use Rattle.xti_laws_copy.specs.Laws.{IsNextEntry}
-use Rattle.xti_rider.specs.Rides.{Ride, sight_of}
+use Rattle.xti_laws_streams.specs.Copying.{answered}
+use Rattle.xti_laws_streams.specs.CopyLaws.{IsNextEntry}
+use Rattle.xti_copy.specs.Rides.{Ride, sight_of}
 use Rattle.xti_sock.specs.declared.fail.SockFail.{SockFail}
 use Rattle.xti_sock.specs.declared.fail.SockFail.TheVariants.{WouldBlock}
 use Rattle.xti_sock.specs.declared.sock.Sock.{Sock}

@@ -8,8 +8,8 @@ use Rattle.xti_base.specs.declared.kinds.State.{State}
 use Rattle.xti_model.specs.declared.call.Call.TheVariants as call
 use Rattle.xti_model.specs.declared.entry.Entry.{Entry}
 use Rattle.xti_model.specs.declared.entry.Reply.TheVariants as reply
-use Rattle.xti_laws_copy.specs.Copying.{answered, service, listener, client}
-use Rattle.xti_rider.specs.Rides.{Ride, sight_of}
+use Rattle.xti_laws_streams.specs.Copying.{answered, service, listener, client}
+use Rattle.xti_copy.specs.Rides.{Ride, sight_of}
 use Rattle.xti_sock.specs.declared.fail.SockFail.{SockFail}
 use Rattle.xti_sock.specs.declared.fail.SockFail.TheVariants.{Again, Ended, OutOfMemory, Reset, WouldBlock, WrongPhase, Xti}
 use Rattle.xti_sock.specs.declared.phase.Phase.TheVariants.{Open, Dead}

@@ -1,7 +1,7 @@
 -- The sockets of a copy, and the parts of its entries.
 use Rattle.std.specs.Prelude.{true, false, List, [], None, take, drop}
 use Rattle.xti_model.specs.declared.entry.Entry.{Entry}
-use Rattle.xti_laws_copy.specs.Copying.{before, ending, listener, client, receiver}
+use Rattle.xti_laws_streams.specs.Copying.{before, ending, listener, client, receiver}
 use Rattle.xti_sock.specs.declared.phase.Phase.TheVariants.{Connecting, Open}
 use Rattle.xti_sock.specs.declared.sock.Sock.{Sock}
 use Rattle.xti_sock.specs.Accepting.{listener as listener_with, open_sock}

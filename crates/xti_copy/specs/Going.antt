@@ -3,8 +3,8 @@ use Rattle.std.specs.Prelude.{◌≡◌, true, List, ◌++◌, Result, Ok, Err}
 use Rattle.xti_model.specs.declared.entry.Entry.{Entry}
 use Rattle.xti_model.specs.History.{Legal}
 use Rattle.xti_model.specs.Profile.{usual}
-use Rattle.xti_laws_copy.specs.Laws.{IsNextEntry}
-use Rattle.xti_rider.specs.Rides.{Ride}
+use Rattle.xti_laws_streams.specs.CopyLaws.{IsNextEntry}
+use Rattle.xti_copy.specs.Rides.{Ride}
 use Rattle.xti_sock.specs.declared.caller.CallEnd.{CallEnd}
 use Rattle.xti_sock.specs.declared.caller.CallEnd.TheVariants.{OutOfMemory as NoMemory}
 use Rattle.xti_sock.specs.declared.fail.SockFail.{SockFail}

@@ -1,15 +1,15 @@
 //! How the two ends are made and connected.
 
 ghost use Rattle.std.specs.Prelude.{◌≡◌, ◌++◌, [], IfOk, OnOk};
-ghost use Rattle.xti_laws_copy.specs.Copying.{before};
+ghost use Rattle.xti_laws_streams.specs.Copying.{before};
 ghost use Rattle.xti_copy.specs.Ends.{accepting, asking, asking_sock, client_sock, connected, listening};
 ghost use Rattle.xti_copy.specs.Ends.{listening_sock, receiver_sock};
 ghost use Rattle.xti_copy.specs.Going.{Comes, IsAt};
 
+use crate::Rider;
 use crate::settling::{made, waiting};
 use std::alloc::{AllocError, Global};
 use std::sync::Wait;
-use xti_rider::Rider;
 use xti_sock::Sock;
 
 /// The listener's address.

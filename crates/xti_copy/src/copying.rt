@@ -2,19 +2,19 @@
 
 ghost use Rattle.std.specs.Prelude.{◌≡◌, ◌++◌, [], flat_map, IfOk, OnOk};
 ghost use Rattle.xti_model.specs.SentBytes.{AreBytes};
-ghost use Rattle.xti_laws_copy.specs.Copying.{before, copied, exchange, pieces};
+ghost use Rattle.xti_laws_streams.specs.Copying.{before, copied, exchange, pieces};
 ghost use Rattle.xti_copy.specs.Ends.{AreInStep, connected};
 ghost use Rattle.xti_copy.specs.Going.{Comes, IsAt};
 
+use crate::Rider;
 use crate::connecting::{Ends, connect};
 use crate::releasing::release;
 use crate::settling::made;
 use std::alloc::{AllocError, Global};
 use std::sync::Wait;
 use xti_base::let_go;
-use xti_laws_copy::{PIECE, copies_are_legal};
+use xti_laws_streams::{PIECE, copies_are_legal};
 use xti_model::{Entries, Providers};
-use xti_rider::Rider;
 
 /// The bytes of a slice are numbers below 256.
 fn slices_are_bytes(bytes: &[u8])

@@ -1,18 +1,18 @@
 //! How the connection is released in order, and all is closed.
 
 ghost use Rattle.std.specs.Prelude.{◌≡◌, ◌++◌, OnOk};
-ghost use Rattle.xti_laws_copy.specs.Copying.{ending};
+ghost use Rattle.xti_laws_streams.specs.Copying.{ending};
 ghost use Rattle.xti_copy.specs.Ends.{AreInStep, closing, connected, half_released, released};
 ghost use Rattle.xti_copy.specs.Ends.{releasing_back, releasing_first};
 ghost use Rattle.xti_copy.specs.Going.{Comes, IsAt};
 
+use crate::Rider;
 use crate::connecting::Ends;
 use crate::settling::made;
 use std::alloc::{AllocError, Global};
 use std::sync::Wait;
 use xti_base::let_go;
-use xti_laws_copy::PIECE;
-use xti_rider::Rider;
+use xti_laws_streams::PIECE;
 
 /// The client releases the connection, and the receiver takes that.
 fn release_first<R: Wait + Sync>(

@@ -16,8 +16,8 @@ use Rattle.xti_model.specs.World.{World, Cell, Switch, closed_place, cell_at, is
 use Rattle.xti_model.specs.Touched.{named, touched, others, fd_of, cell_of, of_some, peer_cell, target_cell, caller_cell, caller_cells, bound_cell, listener_cell, cells_to, marked_cells}
 use Rattle.xti_model.proofs.RisingNumbers.{all-listed}
 use Rattle.xti_laws.specs.Laws.{KnowsNoMore}
-use Rattle.xti_laws_sound.specs.Invariant.{SoundWorld}
-use Rattle.xti_laws_sound.proofs.Lent.{switch-there}
+use Rattle.xti_laws.specs.Invariant.{SoundWorld}
+use Rattle.xti_laws.proofs.Lent.{switch-there}
 use Rattle.xti_lent.specs.Lending.{Lending, cell_lent, cells, cells_by, is_lent}
 use Rattle.xti_lent.specs.Fit.{AllLent}
 use Rattle.xti_lent.proofs.Places.{place-cell, fd-cell, switch-cell}

@@ -7,9 +7,9 @@ use Rattle.xti_model.specs.Sound.{is_sound_body, Agrees}
 use Rattle.xti_model.specs.World.{Cell, Switch, cell_at, switch_cell, switch_number, is_among, the_switch, places}
 use Rattle.xti_registry.specs.Known.{Known}
 use Rattle.xti_end.specs.Held.{Held, cell}
-use Rattle.xti_laws_sound.specs.Invariant.{SoundWorld}
-use Rattle.xti_laws_sound.specs.Laws.{SoundWhenLent}
-use Rattle.xti_laws_sound.proofs.Lent.{lent-cell}
+use Rattle.xti_laws.specs.Invariant.{SoundWorld}
+use Rattle.xti_laws.specs.SoundLaws.{SoundWhenLent}
+use Rattle.xti_laws.proofs.Lent.{lent-cell}
 use Rattle.xti_lent.specs.Kept.{Distinct, IsPlace}
 use Rattle.xti_lent.specs.Lending.{Lending, held_in, held_at, cell_lent, cells_by}
 use Rattle.xti_lent.specs.Fit.{IsSound, KnownTo, Agree, IsFit, place_of_held}

@@ -11,8 +11,8 @@ use Rattle.xti_model.specs.Robin.{numbers}
 use Rattle.xti_model.specs.World.{World, Cell, endpoint_cell, switch_cell, switch_number, places, closed_places, is_among, opening, opening_switch}
 use Rattle.xti_registry.specs.Known.{Known}
 use Rattle.xti_end.specs.Held.{Held, cell}
-use Rattle.xti_laws_sound.specs.Invariant.{SoundWorld}
-use Rattle.xti_laws_sound.proofs.Beginning.{opening-sound}
+use Rattle.xti_laws.specs.Invariant.{SoundWorld}
+use Rattle.xti_laws.proofs.Beginning.{opening-sound}
 use Rattle.xti_lent.specs.Kept.{Distinct, IsPlace}
 use Rattle.xti_lent.specs.Lending.{Lending, held_in, held_at, cell_lent, cells, cells_by, numbered_cell}
 use Rattle.xti_lent.specs.Fit.{place_of_held}

@@ -12,8 +12,8 @@ use Rattle.xti_model.specs.declared.profile.Providers.{Providers}
 use Rattle.xti_model.specs.Profile.{valid}
 use Rattle.xti_model.specs.Step.{Step, step}
 use Rattle.xti_model.specs.World.{World}
-use Rattle.xti_laws_sound.specs.Invariant.{SoundWorld}
-use Rattle.xti_laws_sound.proofs.Steps.{step-sound}
+use Rattle.xti_laws.specs.Invariant.{SoundWorld}
+use Rattle.xti_laws.proofs.SoundSteps.{step-sound}
 use Rattle.xti_lent.specs.Answers.{IsUnchanged}
 use Rattle.xti_lent.specs.Kept.{Distinct, IsPlace}
 use Rattle.xti_lent.specs.Lending.{Lending, cell_lent, cells}

@@ -17,8 +17,8 @@ use Rattle.xti_end.specs.Taken.{taken}
 use Rattle.xti_laws.specs.Laws.{KnowsNoMore, TellsNone, Within, restrict}
 use Rattle.xti_laws.proofs.TouchedCells.{some-reads, some-changes}
 use Rattle.xti_laws.proofs.TouchedAgain.{touched-some}
-use Rattle.xti_laws_sound.specs.Invariant.{SoundWorld}
-use Rattle.xti_laws_sound.proofs.Lent.{open-fits}
+use Rattle.xti_laws.specs.Invariant.{SoundWorld}
+use Rattle.xti_laws.proofs.Lent.{open-fits}
 use Rattle.xti_lent.specs.Lending.{cells_by}
 use Rattle.xti_core.proofs.SomeCells.{Sub, AllThere, there_and, there-among, there-only, those-within}
 use Rattle.xti_core.proofs.Settling.{same-at, stepped, settled}

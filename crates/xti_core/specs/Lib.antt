@@ -3,7 +3,10 @@ pub mod Standing
 pub mod Touches
 pub mod Waits
 pub mod Written
+pub mod Families
+pub mod Rooms
 pub use Rattle.xti_end.specs.Taken
+pub use Rattle.xti_laws.specs.Replies
 pub use Rattle.xti_lent.specs.Answers
 pub use Rattle.xti_lent.specs.Fit
 pub use Rattle.xti_lent.specs.Lending

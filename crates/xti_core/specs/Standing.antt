@@ -12,7 +12,7 @@ use Rattle.xti_end.specs.Taken.{taken}
 use Rattle.xti_lent.specs.Kept.{IsKept}
 use Rattle.xti_lent.specs.Lending.{Lending, cells}
 use Rattle.xti_lent.specs.Fit.{AtOwnPlaces}
-use Rattle.xti_laws_sound.specs.Invariant.{SoundWorld}
+use Rattle.xti_laws.specs.Invariant.{SoundWorld}
 
 -- the providers of a world, and its cells
 pub record Standing : Type 0 where

@@ -10,14 +10,13 @@ ghost use Rattle.xti_lent.specs.Lending.{cells, is_lent};
 ghost use Rattle.xti_lent.specs.Fit.{AllLent, AtOwnPlaces, IsFit, SameCells};
 ghost use Rattle.xti_switch.specs.Calls.{goes_through_switch};
 ghost use Rattle.xti_data.specs.Sends.{IsData};
-ghost use Rattle.xti_dgram.specs.Sends.{IsSend};
+ghost use Rattle.xti_data.specs.DatagramSends.{IsSend};
 ghost use Rattle.xti_core.specs.Written.{told, AlwaysSteps, IsLook, IsWritten, Steps, StepsBySwitch, StayUnmade};
 
 use crate::looking::look;
 use std::alloc::AllocError;
 use xti_base::{Fd, State, write_over};
-use xti_data::data_step;
-use xti_dgram::dgram_step;
+use xti_data::{data_step, dgram_step};
 use xti_lent::Lent;
 use xti_model::{Applied, Call, Go, Outcome};
 use xti_switch::switch_step;

@@ -2,3 +2,6 @@ pub mod Reached
 pub mod Shares
 pub mod Changes
 pub mod Rows
+pub mod Sizes
+pub mod DatagramRows
+pub mod DatagramReached

@@ -1,6 +1,7 @@
-//! The steps that send data and releases on connections, on lent cells.
+//! The steps that send data and releases on connections, and datagrams, on lent cells.
 #![tactic(auto)]
 
+mod datagrams;
 mod limits;
 mod places;
 mod portions;
@@ -11,5 +12,6 @@ mod sending;
 mod step;
 mod writes;
 
+pub use datagrams::dgram_step;
 pub use send_parts::SendParts;
 pub use step::data_step;

@@ -3,7 +3,7 @@
 use Rattle.std.specs.Prelude.{◌≡◌, ℕ, Bool, true, false, List, ◌++◌, codes, map, Vec, if◌then◌else◌}
 use Rattle.std.specs.declared.alloc.Global.{Global}
 use Rattle.std.specs.List.{flat_map}
-use Rattle.xti_text.specs.Words.{number_word, octets_word}
+use Rattle.xti_words.specs.WrittenWords.{number_word, octets_word}
 use Rattle.tpi_grammar.specs.Frames.{AreFilled, spellings}
 use Rattle.tpi_prim.specs.Primitive.{filled}
 use Rattle.tpi_prim.specs.declared.primitive.Prim.{Prim}

@@ -6,7 +6,7 @@ ghost use Rattle.xti_frames.specs.FrameText.{Adds, name_word, number_field, flag
 use bytes::Bytes;
 use std::alloc::AllocError;
 use tpi_prim::primitive::Prim;
-use xti_text::{put_number, put_octets, put_text};
+use xti_words::{put_number, put_octets, put_text};
 
 #[tactic(auto, unfolding(crate::specs::FrameText::name_word))]
 fn put_name(out: &mut Vec<u8>, name: &str) -> Result<(), AllocError>

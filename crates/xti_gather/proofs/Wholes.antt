@@ -9,8 +9,8 @@ use Rattle.xti_model.specs.Profile.{valid}
 use Rattle.xti_model.specs.Robin.{numbers}
 use Rattle.xti_model.specs.Touched.{touched}
 use Rattle.xti_model.specs.World.{World, Cell, Numbered, Switch, cell_at, places, switch_number}
-use Rattle.xti_laws_sound.specs.Invariant.{SoundWorld}
-use Rattle.xti_laws_sound.proofs.Steps.{after-sound}
+use Rattle.xti_laws.specs.Invariant.{SoundWorld}
+use Rattle.xti_laws.proofs.SoundSteps.{after-sound}
 use Rattle.xti_lent.specs.Lending.{Lending, cell_lent, cells, cells_by, numbered_cell}
 use Rattle.xti_lent.specs.Fit.{IsSound, IsFit}
 use Rattle.xti_lent.proofs.Worlds.{from_number, same-cells}

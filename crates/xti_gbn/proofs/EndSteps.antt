@@ -8,7 +8,7 @@ use Rattle.std.proofs.lemmas.List.{length_push, length-drop, drop-append-le, dro
 use Rattle.std.proofs.lemmas.List.Elements.{All-nil, All-cons, All-push}
 use Rattle.std.proofs.lemmas.Option.{slice_get-map, slice_get_within}
 use Rattle.std.proofs.lemmas.Bool.{ltb-true, lt-ltb, cases_lt}
-use Rattle.xti_text.specs.Words.{number_word}
+use Rattle.xti_words.specs.WrittenWords.{number_word}
 use Rattle.xti_gbn.specs.declared.wire.Packet.{Packet}
 use Rattle.xti_gbn.specs.declared.events.LinkEvent.TheVariants.{Offer, Timeout, Data, Ack}
 use Rattle.xti_gbn.specs.declared.ends.Ends.{Ends}

@@ -4,3 +4,5 @@ pub mod Soundness
 pub mod Rounds
 pub mod EndSteps
 pub mod Runs
+pub mod ReadLines
+pub mod LinkLaws

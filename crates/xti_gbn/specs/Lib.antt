@@ -8,3 +8,6 @@ pub mod Link
 pub mod Reports
 pub mod Ends
 pub mod Laws
+pub mod Grammar
+pub mod Reading
+pub mod Refused

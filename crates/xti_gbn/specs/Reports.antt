@@ -1,7 +1,7 @@
 -- The report of a run: a line for each event, and four numbers.
 use Rattle.std.specs.Prelude.{ℕ, ◌+◌, ◌*◌, is_some, List, [], ◌∷◌, ◌++◌, length, Option, Some, None, slice_get, codes, if◌then◌else◌}
 use Rattle.std.specs.List.{flat_map}
-use Rattle.xti_text.specs.Words.{number_word, octets_word}
+use Rattle.xti_words.specs.WrittenWords.{number_word, octets_word}
 use Rattle.xti_gbn.specs.declared.wire.Packet.{Packet}
 use Rattle.xti_gbn.specs.declared.events.LinkEvent.{LinkEvent}
 use Rattle.xti_gbn.specs.declared.events.LinkEvent.TheVariants.{Offer, Timeout, Data, Ack}

@@ -1,11 +1,13 @@
 //! Go back N over lossy datagrams: a sender that keeps up to 8 packets until they are acknowledged, a receiver that takes them in
-//! order, and the run of both ends over any carrier of bytes.
+//! order, and the run of both ends over any carrier of bytes; and reading link scripts.
 #![tactic(auto)]
 
 mod carrier;
 mod ends;
 mod events;
+mod laws;
 mod link;
+mod reading;
 mod receiver;
 mod report;
 mod sender;
@@ -13,7 +15,9 @@ mod wire;
 
 pub use carrier::Carrier;
 pub use events::{Events, LinkEvent, MOST_EVENTS};
+pub use laws::{never_both, one_reading};
 pub use link::{links_keep_order, rounds_deliver_all, run_link};
+pub use reading::{LinkFail, read_link};
 pub use receiver::{Receiver, Taken};
 pub use report::{Report, write_report};
 pub use sender::{OfferFail, Packets, Sender};

@@ -2,13 +2,13 @@
 
 ghost use Rattle.std.specs.Prelude.{◌≡◌, ◌++◌, OnOk, IfOk, Some};
 ghost use Rattle.std.specs.List.{flat_map};
-ghost use Rattle.xti_text.specs.Words.{number_word};
+ghost use Rattle.xti_words.specs.WrittenWords.{number_word};
 ghost use Rattle.xti_gbn.specs.Reports.{arrival_line, ended, last_line, report_text};
 
 use crate::receiver::Taken;
 use std::alloc::{AllocError, Global};
 use xti_base::{Octets, Parts};
-use xti_text::{put_number, put_octets, put_text};
+use xti_words::{put_number, put_octets, put_text};
 
 /// What a run came to.
 #[derive(Drop)]

@@ -1,2 +1,5 @@
 mod Sights
 mod Ends
+mod Marks
+mod Events
+mod SurveyEnds

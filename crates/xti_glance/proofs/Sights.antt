@@ -24,8 +24,8 @@ use Rattle.xti_laws.proofs.Local.{plan-local}
 use Rattle.xti_laws.proofs.Only.{endpoint-only}
 use Rattle.xti_laws.proofs.Touched.{within-named}
 use Rattle.xti_laws.proofs.TouchedAgain.{named-some}
-use Rattle.xti_laws_sound.specs.Invariant.{SoundWorld}
-use Rattle.xti_laws_sound.proofs.Steps.{after-sound}
+use Rattle.xti_laws.specs.Invariant.{SoundWorld}
+use Rattle.xti_laws.proofs.SoundSteps.{after-sound}
 use Rattle.xti_lent.specs.Lending.{Lending, cell_lent, cells, cells_by}
 use Rattle.xti_lent.specs.Fit.{AllLent}
 use Rattle.xti_core.specs.Looks.{shown_by, sight_in}

@@ -5,7 +5,7 @@ use Rattle.std.specs.List.{join_with_byte, flat_map, list_all}
 use Rattle.std.proofs.lemmas.List.{append-nil}
 use Rattle.std.proofs.lemmas.List.Elements.{All-nil, All-cons}
 use Rattle.xti_base.specs.Kinds.{service_number}
-use Rattle.xti_text.specs.Words.{octets_word, number_word}
+use Rattle.xti_words.specs.WrittenWords.{octets_word, number_word}
 use Rattle.xti_model.specs.declared.call.Call.{Call}
 use Rattle.xti_model.specs.declared.call.Call.TheVariants as call
 use Rattle.xti_model.specs.declared.entry.Outcome.{Outcome}

@@ -33,7 +33,7 @@ use Rattle.xti_journal.specs.Reading.{Found, accepted, fields_of, release_keys, 
 use Rattle.xti_journal.proofs.NumberLaws.{Above}
 use Rattle.xti_journal.proofs.ValueLaws.{is_word, some_is, none_is, known}
 use Rattle.xti_journal.proofs.FieldLaws.{texts, fields_full, fields_exact, texts_above}
-use Rattle.xti_text.specs.Words.{number_word}
+use Rattle.xti_words.specs.WrittenWords.{number_word}
 use Rattle.xti_journal.proofs.CallText.{n5, n6}
 use Rattle.xti_journal.proofs.LineLaws.{is_same}
 use Rattle.xti_journal.proofs.TextLines.{ended, one_cut, words_line, words_are, joined_again}

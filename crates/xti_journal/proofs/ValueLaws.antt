@@ -25,7 +25,7 @@ use Rattle.xti_base.specs.declared.errno.Errno.TheVariants as errno
 use Rattle.xti_base.specs.Errno.{errno_name}
 use Rattle.xti_base.specs.Kinds.{state_name, event_name, prov_name, service_number}
 use Rattle.xti_base.specs.Limit.{limit_number}
-use Rattle.xti_text.specs.Words.{hex_pair, hex_digit as digit_of}
+use Rattle.xti_words.specs.WrittenWords.{hex_pair, hex_digit as digit_of}
 use Rattle.xti_words.specs.Texts.{pieces_of}
 use Rattle.xti_words.specs.Values.{number_in, hex_digit, hex_bytes, hex_pair as pair_in, onto, each_in, provider_in, mode_in}
 use Rattle.xti_journal.specs.Kinds.{Kind}

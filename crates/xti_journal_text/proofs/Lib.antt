@@ -1,2 +1,4 @@
 mod Spaces
 mod Writes
+pub mod Parts
+pub mod Histories

@@ -3,7 +3,7 @@
 -- of a line are separated by one space. docs/JOURNAL.md has the format in words.
 use Rattle.std.specs.Prelude.{ℕ, ◌+◌, Bool, List, [], ◌∷◌, ◌++◌, length, Option, Some, None, codes, decimal, if◌then◌else◌}
 use Rattle.std.specs.List.{flat_map}
-use Rattle.xti_text.specs.Words.{number_word, signed_word, octets_word}
+use Rattle.xti_words.specs.WrittenWords.{number_word, signed_word, octets_word}
 use Rattle.xti_base.specs.declared.kinds.Event.{Event}
 use Rattle.xti_base.specs.declared.kinds.Prov.{Prov}
 use Rattle.xti_base.specs.declared.kinds.Prov.TheVariants.{Ticots, Ticotsord, Ticlts}

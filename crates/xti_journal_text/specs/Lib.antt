@@ -1,2 +1,4 @@
 pub mod JournalText
 pub mod Writing
+pub mod Summaries
+pub mod Counting

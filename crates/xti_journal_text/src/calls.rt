@@ -10,8 +10,8 @@ use crate::words::{
 };
 use std::alloc::AllocError;
 use xti_model::{Act, Call};
-use xti_text::{put_number, put_text};
 use xti_verbs::Verb;
+use xti_words::{put_number, put_text};
 
 // A call that names an address, asks for addresses or settles options.
 fn put_address_or_options(out: &mut Vec<u8>, call: &Call) -> Result<(), AllocError>

@@ -10,7 +10,7 @@ use crate::words::{put_bit, put_limit, put_state};
 use std::alloc::{AllocError, Global};
 use xti_base::{Octets, Prov, State};
 use xti_model::{Entry, Journal, Outcome, Profile, Providers, StallLine, Version};
-use xti_text::{put_number, put_text};
+use xti_words::{put_number, put_text};
 
 // A line with few data has no more bytes, so that its room is taken once.
 const USUAL_LINE: usize = 256;

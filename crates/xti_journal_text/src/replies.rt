@@ -8,7 +8,7 @@ use crate::words::{put_limit, put_pairs};
 use std::alloc::AllocError;
 use xti_base::{Event, Info, Octets};
 use xti_model::{Outcome, Reply};
-use xti_text::{put_number, put_text};
+use xti_words::{put_number, put_text};
 
 fn event_name(event: &Option<Event>) -> &'static str
     ensures { result.now ≡ event_text event.now }

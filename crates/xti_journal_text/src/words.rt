@@ -2,12 +2,12 @@
 
 ghost use Rattle.std.specs.Prelude.{◌≡◌, ◌++◌, OnOk};
 ghost use Rattle.std.specs.List.{flat_map};
-ghost use Rattle.xti_text.specs.Words.{hex_pair};
+ghost use Rattle.xti_words.specs.WrittenWords.{hex_pair};
 ghost use Rattle.xti_journal_text.specs.JournalText.{bit_word, mode_word, limit_word, parts_field, sizes_field, address_words, address_limits, most_words, state_end};
 
 use std::alloc::AllocError;
 use xti_base::{Limit, Octets, State};
-use xti_text::{put_number, put_signed, put_text};
+use xti_words::{put_number, put_signed, put_text};
 
 pub(crate) fn put_limit(out: &mut Vec<u8>, key: &str, l: Limit) -> Result<(), AllocError>
     ensures { OnOk result (out.new.items ≡ out.old.items ++ limit_word key.now l) }
@@ -20,7 +20,7 @@ pub(crate) fn put_limit(out: &mut Vec<u8>, key: &str, l: Limit) -> Result<(), Al
 pub(crate) fn put_pairs(out: &mut Vec<u8>, key: &str, o: &Octets) -> Result<(), AllocError>
     ensures { OnOk result (out.new.items ≡ out.old.items ++ key.now ++ flat_map hex_pair o.now) }
 {
-    xti_text::put_pairs(out, key, o.as_slice())
+    xti_words::put_pairs(out, key, o.as_slice())
 }
 
 pub(crate) fn put_bit(out: &mut Vec<u8>, key: &str, b: bool) -> Result<(), AllocError>

@@ -3,3 +3,15 @@ pub mod Laws
 pub mod Waiting
 pub mod States
 pub mod Counts
+pub mod Requests
+pub mod Endpoints
+pub mod Connections
+pub mod Invariant
+pub mod SoundLaws
+pub mod NeverAnswered
+pub mod Progress
+pub mod Replies
+pub mod Symbols
+pub mod Given
+pub mod Values
+pub mod Answers

@@ -15,8 +15,8 @@ use Rattle.xti_journal.specs.Fields.{field, IsOfKind, AreFields}
 use Rattle.xti_verbs.specs.Verbs.{answer_to}
 use Rattle.xti_journal.specs.Calls.{answer_form, answer_values}
 use Rattle.xti_journal.specs.Grammar.{IsAnswer}
-use Rattle.xti_laws_answers.specs.Answers.{has_field, AnswersInForm}
-use Rattle.xti_laws_bytes.specs.Values.{IsLimit, HasValues}
+use Rattle.xti_laws.specs.Answers.{has_field, AnswersInForm}
+use Rattle.xti_laws.specs.Values.{IsLimit, HasValues}
 
 limit-kind : (l : Limit) → IsLimit l → IsOfKind kind.Limit (value.Limit l)
 limit-kind (At n) h = h

@@ -20,9 +20,9 @@ use Rattle.xti_model.specs.declared.profile.Version.{Version}
 use Rattle.xti_verbs.specs.declared.verb.Verb.{Verb}
 use Rattle.xti_verbs.specs.Verbs.{verb_of}
 use Rattle.xti_journal.specs.Grammar.{last_verb, IsAct, IsAnswer, IsEntry, AreEntries}
-use Rattle.xti_laws_sound.specs.Given.{OfStep}
-use Rattle.xti_laws_answers.specs.Answers.{AnswersInForm}
-use Rattle.xti_laws_bytes.specs.Values.{AnswersValues}
+use Rattle.xti_laws.specs.Given.{OfStep}
+use Rattle.xti_laws.specs.Answers.{AnswersInForm}
+use Rattle.xti_laws.specs.Values.{AnswersValues}
 use Rattle.xti_laws_texts.proofs.Entries.{last-is, verb-is}
 use Rattle.xti_laws_journals.proofs.FollowedCalls.{Begins, AllBegin}
 use Rattle.xti_laws_journals.proofs.ValuedScripts.{IsWritable}

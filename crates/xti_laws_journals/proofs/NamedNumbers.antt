@@ -12,7 +12,7 @@ use Rattle.xti_model.specs.declared.script.Line.{Line}
 use Rattle.xti_model.specs.History.{is_own, own}
 use Rattle.xti_model.specs.Resolve.{is_begin, begun, answer_of, answer_to, or_else, opened_fd, listened_number, opens, listens, lines_of, Meanings, meanings, with_numbers}
 use Rattle.xti_model.specs.SentBytes.{HasByteArguments, AllHaveByteArguments}
-use Rattle.xti_laws_bytes.specs.Values.{IsOfBytes, IsNumber, HasValues, AnswersValues}
+use Rattle.xti_laws.specs.Values.{IsOfBytes, IsNumber, HasValues, AnswersValues}
 use Rattle.xti_laws_journals.proofs.FollowedCalls.{AllLines}
 use Rattle.xti_laws_journals.proofs.ValuedScripts.{AreNumbered}
 

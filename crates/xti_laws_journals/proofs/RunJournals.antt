@@ -14,10 +14,10 @@ use Rattle.xti_model.specs.World.{World, opening}
 use Rattle.xti_verbs.specs.Verbs.{verb_of}
 use Rattle.xti_journal.specs.Grammar.{HasText}
 use Rattle.xti_script_reader.specs.Grammar.{HasText as HasScriptText}
-use Rattle.xti_laws_sound.specs.Given.{OfStep}
+use Rattle.xti_laws.specs.Given.{OfStep}
 use Rattle.xti_laws_streams.specs.Laws.{IsLegalRun}
-use Rattle.xti_laws_answers.specs.Answers.{AnswersInForm}
-use Rattle.xti_laws_bytes.specs.Values.{IsOfBytes, AreOfBytes, AnswersValues}
+use Rattle.xti_laws.specs.Answers.{AnswersInForm}
+use Rattle.xti_laws.specs.Values.{IsOfBytes, AreOfBytes, AnswersValues}
 use Rattle.xti_laws_journals.specs.Runs.{journal_of}
 use Rattle.xti_laws_journals.proofs.FollowedCalls.{placed-such, one-placed, begun-such}
 use Rattle.xti_laws_journals.proofs.ValuedScripts.{IsWritable, IsWritableNamed, script-writable}

@@ -34,7 +34,7 @@ use Rattle.xti_script_reader.specs.Grammar.{IsCall, AreLines, calls_in, HasText}
 use Rattle.xti_journal.specs.Fields.{field as journal_field, AreFields as AreJournalFields}
 use Rattle.xti_verbs.specs.Verbs.{is_in_texts, verb_of}
 use Rattle.xti_journal.specs.Calls.{form, call_values}
-use Rattle.xti_laws_bytes.specs.Values.{IsNumber}
+use Rattle.xti_laws.specs.Values.{IsNumber}
 use Rattle.xti_laws_journals.proofs.FollowedCalls.{AllLines}
 
 -- ---- words

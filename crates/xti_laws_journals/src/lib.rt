@@ -14,8 +14,7 @@ ghost use Rattle.xti_replay.specs.Few.{AreFew};
 ghost use Rattle.xti_laws_streams.specs.Laws.{IsLegalRun, PrefixLaw, WaitingLaw, ReleaseLaw};
 ghost use Rattle.xti_laws_journals.specs.Runs.{IsOnlyJournal, OfRunJournals, OfWholeRuns};
 
-use xti_laws_answers::steps_answer_in_form;
-use xti_laws_bytes::answers_have_values;
+use xti_laws::{answers_have_values, steps_answer_in_form};
 use xti_laws_streams::connections_keep_order;
 use xti_script_reader::{
     scripts_are_small, scripts_have_valid_providers, scripts_send_bytes, scripts_tell_releases,

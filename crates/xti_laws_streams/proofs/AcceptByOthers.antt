@@ -16,13 +16,13 @@ use Rattle.xti_model.specs.Plan.{Plan, if_open, has_effect}
 use Rattle.xti_model.specs.Step.{Step, step_of}
 use Rattle.xti_model.specs.Calls.Listen as Listen
 use Rattle.xti_laws_streams.proofs.Invariant.{View, view, HasView, NotNamedBy}
-use Rattle.xti_laws_requests.specs.Requests.{is_connected}
-use Rattle.xti_laws_requests.specs.Requests.{AskingCaller, SoundLinks}
-use Rattle.xti_laws_requests.proofs.KeptEndpoints.{Keep, AllKeep, append-keep, keeps}
+use Rattle.xti_laws.specs.Requests.{is_connected}
+use Rattle.xti_laws.specs.Requests.{AskingCaller, SoundLinks}
+use Rattle.xti_laws.proofs.KeptEndpoints.{Keep, AllKeep, append-keep, keeps}
 use Rattle.xti_laws_streams.proofs.NonLinking.{bound_like-keeps_view}
-use Rattle.xti_laws_requests.proofs.StepWays.{Way, takes, loses_all, is_refused, is_marked, way, not-both, flip}
+use Rattle.xti_laws.proofs.StepWays.{Way, takes, loses_all, is_refused, is_marked, way, not-both, flip}
 use Rattle.xti_laws.proofs.ClearedRows.{Cleared, cleared}
-use Rattle.xti_laws_requests.proofs.AcceptEnds.{no-disconnect, still-asks}
+use Rattle.xti_laws.proofs.AcceptEnds.{no-disconnect, still-asks}
 
 -- the changes of an accept keep of an endpoint what each of them keeps
 pub accept-keep : (Q : Option Endpoint → Type 0) (z fd resfd : ℕ) (i : Indication) (options udata : List ℕ) (e r : Endpoint)

@@ -10,7 +10,7 @@ use Rattle.xti_model.specs.Streams.{Connection, made_of, add, made_from}
 use Rattle.xti_laws_streams.proofs.ConnectionEnds.{End, after_step, after_steps}
 use Rattle.xti_laws_streams.proofs.FoldedStreams.{fd-after}
 use Rattle.xti_laws_streams.proofs.Invariant.{SoundConnection}
-use Rattle.xti_laws_requests.proofs.Histories.{Sound, left-sound}
+use Rattle.xti_laws.proofs.RequestHistories.{Sound, left-sound}
 use Rattle.xti_model.specs.SentBytes.{AllSendBytes}
 use Rattle.xti_laws_streams.proofs.UnderWay.{SendGoesOn}
 use Rattle.xti_laws_streams.proofs.UnderWay.{doing-goes_on, next-goes_on}

@@ -24,14 +24,14 @@ use Rattle.xti_model.specs.Calls.Listen as Listen
 use Rattle.xti_laws.proofs.ChangedEndpoints.{endpoint-same, changed-append}
 use Rattle.xti_laws_streams.proofs.ConnectionEnds.{new_end}
 use Rattle.xti_laws_streams.proofs.Invariant.{View, view, HasView, LiveEnd, LinkedEnd, BothLive, SoundConnection}
-use Rattle.xti_laws_requests.specs.Requests.{is_connected}
-use Rattle.xti_laws_requests.specs.Requests.{SoundRequests, AskingCaller, SoundLinks}
-use Rattle.xti_laws_requests.proofs.KeptEndpoints.{Keep, AllKeep, keeps}
+use Rattle.xti_laws.specs.Requests.{is_connected}
+use Rattle.xti_laws.specs.Requests.{SoundRequests, AskingCaller, SoundLinks}
+use Rattle.xti_laws.proofs.KeptEndpoints.{Keep, AllKeep, keeps}
 use Rattle.xti_laws_streams.proofs.NonLinking.{bound_like-keeps_view}
-use Rattle.xti_laws_requests.proofs.StepWays.{Way, takes, loses_all, is_refused, is_marked, way, all_deny, first-denies, is_denial, never-loses, all_kept, some-is, none-is, not-both, flip}
+use Rattle.xti_laws.proofs.StepWays.{Way, takes, loses_all, is_refused, is_marked, way, all_deny, first-denies, is_denial, never-loses, all_kept, some-is, none-is, not-both, flip}
 use Rattle.xti_laws.proofs.ClearedRows.{Cleared, cleared, un-not}
-use Rattle.xti_laws_requests.proofs.EndpointUpdates.{target-none}
-use Rattle.xti_laws_requests.proofs.AcceptEnds.{same-prov, responder-state, asks, responder, not_resfd, not_fd}
+use Rattle.xti_laws.proofs.EndpointUpdates.{target-none}
+use Rattle.xti_laws.proofs.AcceptEnds.{same-prov, responder-state, asks, responder, not_resfd, not_fd}
 
 -- the views that an accept gives to the responding endpoint and to the caller's
 abbrev responding_view : ℕ → View → View

@@ -10,9 +10,9 @@ use Rattle.xti_model.specs.Step.{Step, step_of}
 use Rattle.xti_model.specs.History.{left_by}
 use Rattle.xti_laws.proofs.Effects.{step-any}
 use Rattle.xti_laws_streams.proofs.Invariant.{View, view, HasView, NotNamedBy}
-use Rattle.xti_laws_requests.proofs.KeptEndpoints.{Keep, AllKeep, PlanKeeps, keeps}
+use Rattle.xti_laws.proofs.KeptEndpoints.{Keep, AllKeep, PlanKeeps, keeps}
 use Rattle.xti_laws_streams.proofs.NonLinking.{NonLinking, AllNonLinking, PlanNonLinking, keeps_view, clears_target, of_own, of_peer, of_switch, opens_place_with, closes_own}
-use Rattle.xti_laws_requests.proofs.StepWays.{not-both}
+use Rattle.xti_laws.proofs.StepWays.{not-both}
 
 -- the endpoint z with view v is not the call's, has no target, and is not linked with the call's, whose peer is `to`
 pub record Bystander (fd : ℕ) (to : Option ℕ) (z : ℕ) (v : View) : Type 0 where

@@ -14,11 +14,11 @@ use Rattle.xti_model.specs.Touched.{fd_of}
 use Rattle.xti_model.specs.Streams.{Connection}
 use Rattle.xti_laws_streams.proofs.ConnectionEnds.{End}
 use Rattle.xti_laws_streams.proofs.Invariant.{View, HasView, NotNamedBy, LiveEnd, LinkedEnd, BothLive, OneLive, PeerGone, rest_left, was_broken, SoundConnection, SoundWhere}
-use Rattle.xti_laws_requests.specs.Requests.{is_connected}
-use Rattle.xti_laws_requests.specs.Requests.{SoundLinks}
+use Rattle.xti_laws.specs.Requests.{is_connected}
+use Rattle.xti_laws.specs.Requests.{SoundLinks}
 use Rattle.xti_laws_streams.proofs.NonLinking.{peer_at, call_fd, plan-non_linking, open-non_linking}
 use Rattle.xti_laws_streams.proofs.Bystanders.{plan-view, plan-not_named, step-keeps}
-use Rattle.xti_laws_requests.proofs.StepWays.{not-both, flip}
+use Rattle.xti_laws.proofs.StepWays.{not-both, flip}
 use Rattle.xti_laws_streams.proofs.AcceptByOthers.{accept-view, accept-not_named}
 
 next-differs : (z : ℕ) → eqb z (z + 1) ≡ false

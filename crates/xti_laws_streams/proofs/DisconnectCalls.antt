@@ -20,11 +20,11 @@ use Rattle.xti_laws_streams.specs.Laws.{is_release_receipt}
 use Rattle.xti_laws_streams.proofs.Invariant.{view}
 use Rattle.xti_laws_streams.proofs.NonLinking.{AllNonLinking, append-non_linking, take_back-non_linking, callers-non_linking, of_own, closes_own, of_switch}
 use Rattle.xti_laws_streams.proofs.Bystanders.{all-view}
-use Rattle.xti_laws_requests.proofs.StepWays.{never-loses}
+use Rattle.xti_laws.proofs.StepWays.{never-loses}
 use Rattle.xti_laws_streams.proofs.Effects.{TransfersNothing, breaks, leaves, PeerBecomes, cut_off}
 use Rattle.xti_laws_streams.proofs.EffectsByWay.{EffectFor, EffectOf, transfers-nothing, by-effect, on-it, view-is, own-peer, Ended, own-ended, last-ended, closing-ended, append-ended, linked-gets}
 use Rattle.xti_laws_streams.proofs.ReceiveCalls.{LiveEndpoint}
-use Rattle.xti_laws_requests.proofs.AcceptEnds.{not-asked}
+use Rattle.xti_laws.proofs.AcceptEnds.{not-asked}
 
 -- the peer is cut off, and changes that link nobody leave it so
 pub cut_off-peer : (p : Providers) (w : World) (x : ℕ) (e : Endpoint) (reason : ℕ) (udata : List ℕ) (rest : List Change) → AllNonLinking x None rest → PeerBecomes p w (changed p w (at_linked x e.peer (broken reason udata) ++ rest)) x (view e) cut_off

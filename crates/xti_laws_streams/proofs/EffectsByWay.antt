@@ -18,9 +18,9 @@ use Rattle.xti_model.specs.Streams.{Made, Connection, Sending, sent_by, got_by, 
 use Rattle.xti_laws.proofs.ChangedEndpoints.{endpoint-same, closed-same, switch-other, changed-append}
 use Rattle.xti_laws_streams.specs.Laws.{is_release_receipt}
 use Rattle.xti_laws_streams.proofs.Invariant.{View, view, HasView, NotNamedBy}
-use Rattle.xti_laws_requests.proofs.KeptEndpoints.{Keep, AllKeep, keeps}
+use Rattle.xti_laws.proofs.KeptEndpoints.{Keep, AllKeep, keeps}
 use Rattle.xti_laws_streams.proofs.NonLinking.{KeepsView}
-use Rattle.xti_laws_requests.proofs.StepWays.{Way, takes, loses_all, is_refused, is_marked, way, all_deny, is_denial, first-denies, not-both}
+use Rattle.xti_laws.proofs.StepWays.{Way, takes, loses_all, is_refused, is_marked, way, all_deny, is_denial, first-denies, not-both}
 use Rattle.xti_laws.proofs.ClearedRows.{Cleared, cleared}
 use Rattle.xti_laws_streams.proofs.Refusals.{denial-takes, denial-gives, denial-releases}
 use Rattle.xti_laws_streams.proofs.Effects.{Effect, TransfersNothing, changes_nothing, PeerBecomes, same, NamesNobody}

@@ -14,7 +14,7 @@ use Rattle.xti_model.specs.Streams.{Made, Connection, is_over, sent_made, got_ma
 use Rattle.xti_laws_streams.specs.Laws.{receives_release}
 use Rattle.xti_laws_streams.proofs.ConnectionEnds.{End, with_step}
 use Rattle.xti_laws_streams.proofs.Invariant.{View, waiting_in, HasView, NotNamedBy, HoldsRest, GotAll, LiveEnd, LinkedEnd, BothLive, OneLive, NoneLive, PeerGone, rest_left, was_broken, SoundWhere}
-use Rattle.xti_laws_requests.specs.Requests.{is_connected}
+use Rattle.xti_laws.specs.Requests.{is_connected}
 use Rattle.xti_laws_streams.proofs.Refusals.{state-of_view, connected-lasts}
 use Rattle.xti_laws_streams.proofs.Effects.{TransfersNothing, SendsNothing, GetsNothing, PeerBecomes, same, with_symbols, with_release, cut_off, NamesNobody, Effect, changes_nothing, confirms, sends, receives, leaves, breaks, sends_release, sends_last, gets_release, gets_last, rest-prefixes, gone-prefixes, more-sent, rest-same, rest-back, all-same, all-back, prefixes-same, gone-same, or-before}
 

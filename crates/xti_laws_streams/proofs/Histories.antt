@@ -25,13 +25,13 @@ use Rattle.xti_model.specs.Streams.{Made, Connection, connection, connection_in,
 use Rattle.xti_model.proofs.Appending.{take-one_more}
 use Rattle.xti_laws_streams.proofs.ConnectionEnds.{End, new_end, after_steps}
 use Rattle.xti_laws_streams.proofs.Invariant.{View, view, waiting_in, HasView, Prefixes, GotAll, PeerGone, rest_left, was_broken, SoundConnection, SoundWhere}
-use Rattle.xti_laws_requests.specs.Requests.{SoundLinks}
+use Rattle.xti_laws.specs.Requests.{SoundLinks}
 use Rattle.xti_model.specs.SentBytes.{AllSendBytes}
 use Rattle.xti_laws_streams.proofs.UnderWay.{SendGoesOn}
-use Rattle.xti_laws_requests.proofs.Histories.{Sound, left-sound, after-sound, opening-sound}
+use Rattle.xti_laws.proofs.RequestHistories.{Sound, left-sound, after-sound, opening-sound}
 use Rattle.xti_laws_streams.specs.Laws.{end_of, got_at, sent_to, PrefixLaw, WaitingLaw, ReleaseLaw, Prefix, is_unbroken, receives_release}
 use Rattle.xti_laws_streams.proofs.FoldedStreams.{folded-stream, folded-test, folded-fd}
-use Rattle.xti_laws_requests.proofs.StepWays.{some-is, none-is}
+use Rattle.xti_laws.proofs.StepWays.{some-is, none-is}
 use Rattle.xti_laws_streams.proofs.Effects.{rest-prefixes, gone-prefixes}
 use Rattle.xti_laws_streams.proofs.OneStep.{swap}
 use Rattle.xti_laws_streams.proofs.UnderWay.{doing-goes_on, next-goes_on}

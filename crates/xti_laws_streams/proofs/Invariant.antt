@@ -9,7 +9,7 @@ use Rattle.xti_model.specs.Endpoint.{Endpoint, Target}
 use Rattle.xti_model.specs.World.{World, endpoint}
 use Rattle.xti_model.specs.Links.{names}
 use Rattle.xti_model.specs.Streams.{Connection}
-use Rattle.xti_laws_requests.specs.Requests.{is_connected}
+use Rattle.xti_laws.specs.Requests.{is_connected}
 use Rattle.xti_laws_streams.specs.Laws.{Prefix}
 use Rattle.xti_laws_streams.proofs.ConnectionEnds.{End}
 

@@ -24,3 +24,14 @@ pub mod BegunByAccept
 pub mod Histories
 pub mod FollowedScripts
 pub mod BytesAreNeeded
+pub mod Pieces
+mod Singles
+mod Worlds
+mod Exchanges
+mod Next
+mod Streams
+mod Calls
+mod ReceiveSteps
+mod Lives
+mod Entries
+mod Ends

@@ -31,8 +31,8 @@ use Rattle.xti_model.specs.Calls.Disconnect as Disconnect
 use Rattle.xti_model.specs.Calls.Release as Release
 use Rattle.xti_model.specs.Calls.Datagrams as Datagrams
 use Rattle.xti_model.specs.Calls.Show as Show
-use Rattle.xti_laws_requests.proofs.EndpointUpdates.{Desk}
-use Rattle.xti_laws_requests.proofs.UnseenChanges.{Unseen, mark_flow-unseen, sent-unseen, bound_like-unseen, datagram-unseen, shown-unseen}
+use Rattle.xti_laws.proofs.EndpointUpdates.{Desk}
+use Rattle.xti_laws.proofs.UnseenChanges.{Unseen, mark_flow-unseen, sent-unseen, bound_like-unseen, datagram-unseen, shown-unseen}
 use Rattle.xti_laws_streams.proofs.Invariant.{view}
 
 -- the update keeps the view

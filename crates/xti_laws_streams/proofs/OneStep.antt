@@ -19,16 +19,16 @@ use Rattle.xti_model.specs.Streams.{Connection, Made, is_over}
 use Rattle.xti_laws.proofs.TableWalk.{told-fd, ToldIs}
 use Rattle.xti_laws_streams.proofs.ConnectionEnds.{End, with_step, after_step, counts}
 use Rattle.xti_laws_streams.proofs.Invariant.{View, view, HasView, NotNamedBy, LiveEnd, PeerGone, rest_left, was_broken, SoundConnection, SoundWhere}
-use Rattle.xti_laws_requests.specs.Requests.{is_connected}
-use Rattle.xti_laws_requests.specs.Requests.{SoundLinks}
+use Rattle.xti_laws.specs.Requests.{is_connected}
+use Rattle.xti_laws.specs.Requests.{SoundLinks}
 use Rattle.xti_model.specs.SentBytes.{SendsBytes}
 use Rattle.xti_laws_streams.proofs.UnderWay.{SendHasBytesLeft}
 use Rattle.xti_laws_streams.proofs.NonLinking.{peer_at, call_fd, plan-non_linking}
-use Rattle.xti_laws_requests.proofs.StepWays.{Way, takes, loses_all, is_refused, is_marked, way, not-both, flip}
+use Rattle.xti_laws.proofs.StepWays.{Way, takes, loses_all, is_refused, is_marked, way, not-both, flip}
 use Rattle.xti_laws.proofs.ClearedRows.{un-not}
 use Rattle.xti_laws_streams.proofs.Bystanders.{plan-not_named, step-keeps}
 use Rattle.xti_laws_streams.proofs.AcceptByOthers.{accept-step}
-use Rattle.xti_laws_requests.proofs.AcceptEnds.{not-asked}
+use Rattle.xti_laws.proofs.AcceptEnds.{not-asked}
 use Rattle.xti_laws_streams.proofs.CallsOfOthers.{outside}
 use Rattle.xti_laws_streams.proofs.Effects.{Effect}
 use Rattle.xti_laws_streams.proofs.EffectsKeep.{both-sound, one-sound}

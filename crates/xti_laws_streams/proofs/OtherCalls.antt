@@ -25,9 +25,9 @@ use Rattle.xti_model.specs.Calls.Listen as Listen
 use Rattle.xti_model.specs.Calls.Datagrams as Datagrams
 use Rattle.xti_laws_streams.specs.Laws.{is_release_receipt}
 use Rattle.xti_laws_streams.proofs.Invariant.{view, HasView}
-use Rattle.xti_laws_requests.specs.Requests.{is_connected}
+use Rattle.xti_laws.specs.Requests.{is_connected}
 use Rattle.xti_laws_streams.proofs.NonLinking.{datagram-keeps_view}
-use Rattle.xti_laws_requests.proofs.StepWays.{all_deny, not-both}
+use Rattle.xti_laws.proofs.StepWays.{all_deny, not-both}
 use Rattle.xti_laws.proofs.ClearedRows.{Cleared, un-not}
 use Rattle.xti_laws_streams.proofs.EffectsByWay.{EffectOf, by-views_kept, by-state, on-it, view-is, AllKeepViews, update_keeps}
 use Rattle.xti_laws_streams.proofs.ReceiveCalls.{LiveEndpoint}

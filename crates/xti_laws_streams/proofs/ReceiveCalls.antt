@@ -20,7 +20,7 @@ use Rattle.xti_model.specs.Streams.{Connection, sent_by, got_by, sending_of, tak
 use Rattle.xti_model.specs.Calls.Receive as Receive
 use Rattle.xti_laws_streams.specs.Laws.{is_release_receipt}
 use Rattle.xti_laws_streams.proofs.Invariant.{view, waiting_in, LiveEnd}
-use Rattle.xti_laws_requests.proofs.StepWays.{never-loses}
+use Rattle.xti_laws.proofs.StepWays.{never-loses}
 use Rattle.xti_laws.proofs.ClearedRows.{Cleared, un-not}
 use Rattle.xti_laws_streams.proofs.TakenSymbols.{reads-all, flags-expedited, flags-more}
 use Rattle.xti_laws_streams.proofs.Effects.{receives}

@@ -13,9 +13,9 @@ use Rattle.xti_model.specs.World.{state_of}
 use Rattle.xti_model.specs.Streams.{Connection, is_over, taken_after, got_by}
 use Rattle.xti_laws_streams.specs.Laws.{is_release_receipt}
 use Rattle.xti_laws_streams.proofs.Invariant.{View, HasView}
-use Rattle.xti_laws_requests.specs.Requests.{is_connected}
-use Rattle.xti_laws_requests.proofs.StepWays.{is_denial}
-use Rattle.xti_laws_requests.specs.Requests.{is_connected}
+use Rattle.xti_laws.specs.Requests.{is_connected}
+use Rattle.xti_laws.proofs.StepWays.{is_denial}
+use Rattle.xti_laws.specs.Requests.{is_connected}
 
 pub denial-takes : (r : Reply) → is_denial r ≡ true → taken_after (Done r) ≡ None
 denial-takes (reply.Refused e) h = refl

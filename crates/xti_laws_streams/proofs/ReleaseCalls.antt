@@ -24,7 +24,7 @@ use Rattle.xti_model.specs.Calls.Disconnect as Disconnect
 use Rattle.xti_laws.proofs.ChangedEndpoints.{changed-append}
 use Rattle.xti_laws_streams.specs.Laws.{is_release_receipt}
 use Rattle.xti_laws_streams.proofs.Invariant.{view, HasView}
-use Rattle.xti_laws_requests.proofs.StepWays.{not-both, never-loses}
+use Rattle.xti_laws.proofs.StepWays.{not-both, never-loses}
 use Rattle.xti_laws.proofs.ClearedRows.{Cleared, un-not}
 use Rattle.xti_laws_streams.proofs.Effects.{sends_release, sends_last, gets_release, gets_last, PeerBecomes, with_release}
 use Rattle.xti_laws_streams.proofs.EffectsByWay.{EffectFor, EffectOf, transfers-nothing, by-effect, on-it, view-is, own-view, own-peer, Ended, own-ended, linked-gets, linked-leaves}

@@ -29,7 +29,7 @@ use Rattle.xti_laws.proofs.ChangedEndpoints.{changed-append}
 use Rattle.xti_laws_streams.specs.Laws.{is_release_receipt}
 use Rattle.xti_laws_streams.proofs.Invariant.{View, view, waiting_in, HasView, LiveEnd}
 use Rattle.xti_laws_streams.proofs.NonLinking.{sent-keeps_view, mark_flow-keeps_view}
-use Rattle.xti_laws_requests.proofs.StepWays.{never-loses, none-is, some-is, not-both}
+use Rattle.xti_laws.proofs.StepWays.{never-loses, none-is, some-is, not-both}
 use Rattle.xti_laws.proofs.ClearedRows.{un-not}
 use Rattle.xti_laws_streams.proofs.Effects.{sends, changes_nothing, PeerBecomes, with_symbols, same}
 use Rattle.xti_laws_streams.proofs.EffectsByWay.{EffectFor, EffectOf, by-effect, by-ways, on-it, view-is, update_keeps, all-keep_views, all_kept-view, linked-gets, linked-leaves}

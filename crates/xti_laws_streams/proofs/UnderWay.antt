@@ -24,7 +24,7 @@ use Rattle.xti_model.specs.Calls.Send as Send
 use Rattle.xti_model.proofs.Outcomes.{on_open-outcome, later_plan-outcome}
 use Rattle.xti_model.proofs.Working.{call_from, unfinished_from-snoc, IsCallOf, call_of-from, own-more}
 use Rattle.xti_model.specs.SentBytes.{SendsBytes, BeginsBytes}
-use Rattle.xti_laws_requests.proofs.StepWays.{not-both, some-is, none-is}
+use Rattle.xti_laws.proofs.StepWays.{not-both, some-is, none-is}
 
 -- of a call that goes on with a step, fewer bytes were taken than it has
 abbrev pub HasBytesLeft : List ℕ → Go → Type 0

@@ -1,5 +1,9 @@
 pub mod Laws
+pub mod Copying
+pub mod CopyLaws
+pub mod Sockets
 pub use Rattle.xti_model.specs.History
+pub use Rattle.xti_model.specs.Profile
 pub use Rattle.xti_model.specs.Robin
 pub use Rattle.xti_model.specs.SentBytes
 pub use Rattle.xti_script_reader.specs.Grammar

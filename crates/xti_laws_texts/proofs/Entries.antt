@@ -22,7 +22,7 @@ use Rattle.xti_verbs.specs.declared.verb.Verb.{Verb}
 use Rattle.xti_verbs.specs.Verbs.{verb_of}
 use Rattle.xti_journal.specs.Grammar.{verb_after, verb_from, last_verb, IsAnswer, IsEntry, AreEntries}
 use Rattle.xti_laws_texts.specs.Texts.{AreNumbers}
-use Rattle.xti_laws_answers.proofs.InForm.{in-form}
+use Rattle.xti_laws.proofs.InForm.{in-form}
 use Rattle.xti_laws_texts.proofs.Texts.{one-answer}
 
 -- ---- the first letter of an answer: that of `ok`, `err` or `part`

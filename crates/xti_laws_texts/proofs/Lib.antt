@@ -1,3 +1,4 @@
 mod Shapes
 pub mod Texts
 pub mod Entries
+mod CopyEntries

@@ -11,7 +11,7 @@ use Rattle.xti_base.specs.declared.kinds.State.TheVariants.{T_IDLE}
 use Rattle.xti_base.specs.declared.kinds.Event.TheVariants.{T_DATA}
 use Rattle.xti_base.specs.declared.limit.Limit.TheVariants.{Infinite}
 use Rattle.xti_base.specs.declared.errno.Errno.TheVariants.{TBADF}
-use Rattle.xti_text.specs.Words.{hex_pair, hex_digit}
+use Rattle.xti_words.specs.WrittenWords.{hex_pair, hex_digit}
 use Rattle.xti_journal.specs.Kinds.{Kind}
 use Rattle.xti_journal.specs.Kinds.{Kind as kind}
 use Rattle.xti_journal.specs.FieldValue.{Value}

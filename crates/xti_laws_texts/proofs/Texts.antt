@@ -36,8 +36,8 @@ use Rattle.xti_journal.proofs.ValueLaws.{state_above}
 use Rattle.xti_journal.proofs.FieldLaws.{texts}
 use Rattle.xti_journal.proofs.CallText.{answer_words, outcome_words, outcome_is, answer_above}
 use Rattle.xti_journal.proofs.OneEntry.{one_entry}
-use Rattle.xti_laws_answers.specs.Answers.{has_field, IsWhole, AnswersInForm}
-use Rattle.xti_laws_bytes.specs.Values.{IsLimit}
+use Rattle.xti_laws.specs.Answers.{has_field, IsWhole, AnswersInForm}
+use Rattle.xti_laws.specs.Values.{IsLimit}
 use Rattle.xti_laws_texts.specs.Texts.{AreNumbers}
 use Rattle.xti_laws_texts.proofs.Shapes.{AreShaped, IsShaped, are-shaped, fields-above, one-fields, one-value}
 

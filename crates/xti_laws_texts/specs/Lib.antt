@@ -1,2 +1,3 @@
 pub mod Texts
-pub use Rattle.xti_laws_answers.specs.Answers
+pub mod CopyTexts
+pub use Rattle.xti_laws.specs.Answers

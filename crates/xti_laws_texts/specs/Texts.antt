@@ -6,8 +6,8 @@ use Rattle.xti_model.specs.declared.entry.Outcome.TheVariants.{Done, Part}
 use Rattle.xti_model.specs.declared.entry.Reply.TheVariants as reply
 use Rattle.xti_journal_text.specs.JournalText.{answer_text}
 use Rattle.xti_verbs.specs.declared.verb.Verb.{Verb}
-use Rattle.xti_laws_answers.specs.Answers.{AnswersInForm}
-use Rattle.xti_laws_bytes.specs.Values.{IsNumber, AreLimits}
+use Rattle.xti_laws.specs.Answers.{AnswersInForm}
+use Rattle.xti_laws.specs.Values.{IsNumber, AreLimits}
 use Rattle.xti_journal.specs.Grammar.{IsAnswer}
 
 -- ---- the numbers of an answer

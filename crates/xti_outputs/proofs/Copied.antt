@@ -12,8 +12,8 @@ use Rattle.xti_model.specs.History.{Legal, is_own}
 use Rattle.xti_model.specs.Profile.{usual}
 use Rattle.xti_journal_text.specs.JournalText.{journal_text}
 use Rattle.xti_journal.specs.Grammar.{HasText, IsJournal}
-use Rattle.xti_laws_copy.specs.Copying.{AreCalls, copied, copy_calls, copy_journal}
-use Rattle.xti_laws_copy.specs.Laws.{HasOneConnection, HasSentItsInput, HasGotItsInput}
+use Rattle.xti_laws_streams.specs.Copying.{AreCalls, copied, copy_calls, copy_journal}
+use Rattle.xti_laws_streams.specs.CopyLaws.{HasOneConnection, HasSentItsInput, HasGotItsInput}
 use Rattle.xti_outputs.specs.Outputs.{IsCopied, IsPrinted, printed_of}
 
 own-worker : (n : ℕ) → (n == 0) ≡ true → nat_lt n WORKERS ≡ true

@@ -7,7 +7,7 @@ use Rattle.xti_model.specs.declared.profile.Providers.{Providers}
 use Rattle.xti_model.specs.declared.script.Journal.{Journal}
 use Rattle.xti_model.specs.declared.script.Script.{Script}
 use Rattle.xti_model.specs.declared.script.StallLine.{StallLine}
-use Rattle.xti_summary.specs.Counting.{Counts}
+use Rattle.xti_journal_text.specs.Counting.{Counts}
 use Rattle.xti_replay.specs.declared.run.Run.{Run}
 use Rattle.xti_replay.specs.Runs.{IsRunOf, IsWhole}
 use Rattle.xti_outputs.specs.declared.report.Report.{Report}

@@ -6,8 +6,8 @@ use Rattle.xti_model.specs.declared.script.Script.{Script}
 use Rattle.xti_model.specs.declared.script.Journal.{Journal}
 use Rattle.xti_model.specs.History.{Legal}
 use Rattle.xti_model.specs.Robin.{robin}
-use Rattle.xti_laws_copy.specs.Copying.{AreCalls, copied, copy_calls, copy_journal}
-use Rattle.xti_laws_copy.specs.Laws.{HasOneConnection, HasSentItsInput, HasGotItsInput}
+use Rattle.xti_laws_streams.specs.Copying.{AreCalls, copied, copy_calls, copy_journal}
+use Rattle.xti_laws_streams.specs.CopyLaws.{HasOneConnection, HasSentItsInput, HasGotItsInput}
 use Rattle.xti_model.specs.Complete.{Follows, Each, workers, Complete}
 use Rattle.xti_replay.specs.Stalls.{gone_on, are_through}
 use Rattle.xti_laws_streams.specs.Laws.{PrefixLaw, WaitingLaw, ReleaseLaw}
@@ -26,10 +26,10 @@ use Rattle.tpi_grammar.specs.Frames.{IsFirstWrong}
 use Rattle.xti_frames.specs.FrameText.{IsShown}
 use Rattle.xti_gbn.specs.declared.events.LinkEvent.{LinkEvent}
 use Rattle.xti_gbn.specs.Reports.{report_of, report_text}
-use Rattle.xti_link.specs.Grammar.{IsLinkScript}
-use Rattle.xti_link.specs.Refused.{IsRefusedAt as IsNoLinkScriptAt}
-use Rattle.xti_summary.specs.Summaries.{summary_text}
-use Rattle.xti_generate.specs.Generated.{generated}
+use Rattle.xti_gbn.specs.Grammar.{IsLinkScript}
+use Rattle.xti_gbn.specs.Refused.{IsRefusedAt as IsNoLinkScriptAt}
+use Rattle.xti_journal_text.specs.Summaries.{summary_text}
+use Rattle.xti_script.specs.Generated.{generated}
 use Rattle.xti_script.specs.Canonical.{script_text}
 use Rattle.xti_command.specs.declared.command.Reading.{Reading}
 use Rattle.xti_command.specs.declared.command.Reading.TheVariants.{Replay, Run, Check, Frames, Link, Sock}

@@ -21,19 +21,19 @@ use xti_check::{Judgement, judge};
 use xti_command::Reading;
 use xti_copy::copy;
 use xti_frames::{FramesFail, show_frames};
-use xti_generate::{generate, generated_scripts_have_texts};
-use xti_laws_copy::{copies_are_legal, copies_copy_their_input, copies_make_their_calls};
-use xti_laws_copy_text::copies_have_texts;
+use xti_gbn::{LinkFail, read_link};
 use xti_laws_journals::{
     legal_journals_keep_order, runs_have_few_entries, runs_make_journals,
     whole_runs_make_legal_journals,
 };
-use xti_laws_streams::scripts_keep_order;
-use xti_link::{LinkFail, read_link};
+use xti_laws_streams::{
+    copies_are_legal, copies_copy_their_input, copies_make_their_calls, scripts_keep_order,
+};
+use xti_laws_texts::copies_have_texts;
 use xti_model::{Entry, Providers, Script, Stalls, robin_goes_on, robin_is_legal};
 use xti_reasons::{Kind, Reason, reason};
 use xti_replay::Run;
-use xti_script::write_script;
+use xti_script::{generate, generated_scripts_have_texts, write_script};
 use xti_script_reader::{ScriptFail, read_script};
 use xti_step::Gate;
 use xti_threads::play;

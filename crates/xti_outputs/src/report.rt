@@ -6,9 +6,8 @@ ghost use Rattle.xti_outputs.specs.Entries.{IsReport, Reports, ReportsOneMore};
 
 use std::alloc::{AllocError, Global};
 use xti_base::Octets;
-use xti_journal_text::JournalWriter;
+use xti_journal_text::{JournalWriter, Summary};
 use xti_model::{Entry, Providers, Stalls};
-use xti_summary::Summary;
 
 /// What is written of a run, made while its entries come.
 #[derive(Drop)]

@@ -10,13 +10,13 @@ use Rattle.xti_script_reader.specs.Refused.{IsRefusedAt}
 use Rattle.xti_model.specs.declared.script.Journal.{Journal}
 use Rattle.xti_journal.specs.Grammar.{IsJournal}
 use Rattle.xti_gbn.specs.declared.events.LinkEvent.{LinkEvent}
-use Rattle.xti_link.specs.Grammar.{IsLinkScript}
-use Rattle.xti_link.specs.Refused.{IsRefusedAt as IsNoLinkScriptAt}
+use Rattle.xti_gbn.specs.Grammar.{IsLinkScript}
+use Rattle.xti_gbn.specs.Refused.{IsRefusedAt as IsNoLinkScriptAt}
 use Rattle.xti_command.specs.declared.command.Command.{Command}
 use Rattle.xti_command.specs.declared.command.Command.TheVariants.{Read, Gen}
 use Rattle.xti_command.specs.declared.command.Reading.{Reading}
 use Rattle.xti_command.specs.declared.command.Reading.TheVariants.{Replay, Run, Check, Frames, Link, Sock}
-use Rattle.xti_generate.specs.Generated.{generated}
+use Rattle.xti_script.specs.Generated.{generated}
 use Rattle.xti_outputs.specs.Outputs.{IsGenerated, IsWholeRun, status_with}
 use Rattle.xti_run.specs.Program.{IsLeft, IsRun, IsAnswer, IsOutput, IsOutputOf, IsDone, HasInput, HasScript, HasJournal, HasFrames, HasLink, HasCopy, IsFinished}
 use Rattle.xti_outputs.proofs.Judged.{NoJournal}

@@ -4,7 +4,7 @@ use Rattle.xti_model.specs.declared.entry.Entry.{Entry}
 use Rattle.xti_model.specs.declared.script.Script.{Script}
 use Rattle.xti_model.specs.Robin.{robin}
 use Rattle.xti_replay.specs.Stalls.{are_through}
-use Rattle.xti_generate.specs.Generated.{generated}
+use Rattle.xti_script.specs.Generated.{generated}
 use Rattle.xti_command.specs.declared.command.Command.{Command}
 use Rattle.xti_command.specs.declared.command.Command.TheVariants.{Read, Gen}
 use Rattle.xti_command.specs.declared.command.Reading.{Reading}

@@ -10,7 +10,7 @@ use Rattle.xti_script_reader.specs.Grammar.{IsScript}
 use Rattle.xti_journal.specs.Grammar.{IsJournal}
 use Rattle.tpi_grammar.specs.Frames.{IsFrames}
 use Rattle.xti_gbn.specs.declared.events.LinkEvent.{LinkEvent}
-use Rattle.xti_link.specs.Grammar.{IsLinkScript}
+use Rattle.xti_gbn.specs.Grammar.{IsLinkScript}
 use Rattle.xti_command.specs.declared.command.Command.{Command}
 use Rattle.xti_command.specs.declared.command.Command.TheVariants.{Read, Gen}
 use Rattle.xti_command.specs.declared.command.Reading.{Reading}

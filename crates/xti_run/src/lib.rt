@@ -5,7 +5,7 @@ mod top;
 
 pub use top::{Status, program};
 pub use xti_command::Words;
-pub use xti_generate::generate;
+pub use xti_journal_text::{Summary, summary};
 pub use xti_outputs::{check_says_legal_of_runs, replay, run};
+pub use xti_script::generate;
 pub use xti_step::{Gate, NoGate};
-pub use xti_summary::{Summary, summary};

@@ -187,7 +187,7 @@ pub fn program<T: Threads + Wait + Sync, R: Source, W: Sink, G: Gate>(
 {
     never_both();
     xti_journal::never_both();
-    xti_link::never_both();
+    xti_gbn::never_both();
     frames_law();
     plain_words_are_commands();
     match output(rt, alloc, words, source, gate) {

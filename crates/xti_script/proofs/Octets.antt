@@ -6,8 +6,8 @@ use Rattle.std.proofs.lemmas.List.Elements.{All-nil, All-cons, All-head, All-tai
 use Rattle.xti_words.proofs.WordBytes.{AreBytes}
 use Rattle.xti_words.specs.Texts.{is_digit}
 use Rattle.xti_words.specs.Values.{hex_digit, hex_bytes, bytes_in, options_in}
-use Rattle.xti_text.specs.Words.{octets_word}
-use Rattle.xti_text.specs.Words.{hex_digit as digit_text, hex_pair as pair_text}
+use Rattle.xti_words.specs.WrittenWords.{octets_word}
+use Rattle.xti_words.specs.WrittenWords.{hex_digit as digit_text, hex_pair as pair_text}
 use Rattle.xti_script.proofs.Numbers.{Lacks, digit}
 
 -- ---- digits

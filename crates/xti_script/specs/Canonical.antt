@@ -7,7 +7,7 @@ use Rattle.xti_model.specs.declared.script.NamedCall.{NamedCall}
 use Rattle.xti_model.specs.declared.script.NamedCall.TheVariants as call
 use Rattle.xti_model.specs.declared.script.Line.{Line}
 use Rattle.xti_model.specs.declared.script.Script.{Script}
-use Rattle.xti_text.specs.Words.{octets_word}
+use Rattle.xti_words.specs.WrittenWords.{octets_word}
 use Rattle.xti_script_reader.specs.FieldValue.{Value}
 use Rattle.xti_script_reader.specs.FieldValue.Value.{Bytes, Number, Parts, Sizes, Name, NameOrNone, Provider, Mode}
 use Rattle.xti_script_reader.specs.declared.fields.Key.{Key}

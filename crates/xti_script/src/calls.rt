@@ -11,8 +11,8 @@ use crate::values::{
 use std::alloc::AllocError;
 use xti_base::Octets;
 use xti_model::{Name, NamedCall};
-use xti_text::put_number;
 use xti_verbs::Verb;
+use xti_words::put_number;
 
 // The most bytes that the caller takes of an address and of options.
 fn put_address_limits(out: &mut Vec<u8>, amax: u32, omax: u32) -> Result<(), AllocError>

@@ -10,7 +10,7 @@ use crate::laws::scripts_are_read_back;
 use std::alloc::{AllocError, Global};
 use xti_base::Octets;
 use xti_model::{Line, Script, Version};
-use xti_text::{put_number, put_text};
+use xti_words::{put_number, put_text};
 
 /// The first line of scripts of the version.
 fn first_line(version: Version) -> &'static str

@@ -7,7 +7,7 @@ ghost use Rattle.xti_script.specs.Canonical.{bytes_text, mode_text, name_or_none
 use std::alloc::AllocError;
 use xti_base::{Octets, Prov};
 use xti_model::Name;
-use xti_text::{put_number, put_octets, put_text};
+use xti_words::{put_number, put_octets, put_text};
 
 pub(crate) fn put_name(out: &mut Vec<u8>, key: &str, name: &Name) -> Result<(), AllocError>
     ensures { OnOk result (out.new.items ≡ out.old.items ++ key.now ++ name.now) }

@@ -18,17 +18,17 @@ use Rattle.xti_model.specs.World.{World, opening}
 use Rattle.xti_model.specs.Step.{Step, step}
 use Rattle.xti_model.specs.Profile.{valid}
 use Rattle.xti_model.specs.History.{Going, is_own, own, unfinished, unfinished_from, begins, made_by, doing, step_going, step_at, left_by, after_from, after, Fits, LegalFrom, Legal}
-use Rattle.xti_laws_sound.specs.Progress.{Progress}
-use Rattle.xti_laws_sound.proofs.ProgressOfSteps.{progress}
+use Rattle.xti_laws.specs.Progress.{Progress}
+use Rattle.xti_laws.proofs.ProgressOfSteps.{progress}
 use Rattle.xti_hall_rule.specs.declared.view.View.{View}
 use Rattle.xti_hall.specs.Seats.{IsStanding}
 use Rattle.xti_step.specs.Steps as steps
 use Rattle.xti_calls.specs.Calling as calling
 use Rattle.xti_calls.specs.declared.calling.Halt.{Halt}
 use Rattle.xti_calls.specs.declared.calling.Halt.TheVariants as halt
-use Rattle.xti_sights.specs.Sights as sights
-use Rattle.xti_sights.specs.Sights.{Sight}
-use Rattle.xti_sights.specs.Steps.{AreParts, AreSteps, Answered, Stopped, StoppedAtStall, IsPart, going_at, has_parts}
+use Rattle.xti_sock.specs.Sights as sights
+use Rattle.xti_sock.specs.Sights.{Sight}
+use Rattle.xti_sock.specs.SightSteps.{AreParts, AreSteps, Answered, Stopped, StoppedAtStall, IsPart, going_at, has_parts}
 use Rattle.xti_sock.specs.Calling.{Calls, Halted}
 use Rattle.xti_sock.specs.declared.caller.CallEnd.{CallEnd}
 use Rattle.xti_shared.specs.Sharing.{sight_of, end_of, TellsStall}

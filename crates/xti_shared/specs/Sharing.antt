@@ -9,7 +9,7 @@ use Rattle.xti_hall.specs.Stalls.{IsStall}
 use Rattle.xti_wants.specs.declared.want.Want.{Want}
 use Rattle.xti_calls.specs.declared.calling.Halt.{Halt}
 use Rattle.xti_calls.specs.declared.calling.Halt.TheVariants as halt
-use Rattle.xti_sights.specs.Sights.{Sight}
+use Rattle.xti_sock.specs.Sights.{Sight}
 use Rattle.xti_sock.specs.declared.caller.CallEnd.{CallEnd}
 use Rattle.xti_sock.specs.declared.caller.CallEnd.TheVariants.{OutOfMemory, Stalled}
 

@@ -8,7 +8,7 @@ use Rattle.xti_model.specs.declared.call.Call.{Call}
 use Rattle.xti_model.specs.declared.call.Call.TheVariants.{TOpen, TListen, TAccept, TRcvDis}
 use Rattle.xti_model.specs.declared.entry.Act.TheVariants.{Begin}
 use Rattle.xti_model.specs.declared.entry.Entry.{Entry}
-use Rattle.xti_sights.specs.Sights.{Sight}
+use Rattle.xti_sock.specs.Sights.{Sight}
 use Rattle.xti_sock.specs.declared.fail.SockFail.{SockFail}
 use Rattle.xti_sock.specs.declared.heard.Heard.{Heard}
 use Rattle.xti_sock.specs.declared.heard.Heard.TheVariants.{Done, Opened, Listened, Broken, Disconnect, Listen, Ended}

@@ -9,7 +9,7 @@ use Rattle.xti_sock.specs.declared.phase.Phase.{Phase}
 use Rattle.xti_sock.specs.declared.phase.Phase.TheVariants as phase
 use Rattle.xti_sock.specs.declared.sock.Sock.{Sock}
 use Rattle.xti_sock.specs.declared.limits.TheConstants.{MOST_TURNS}
-use Rattle.xti_sights.specs.Sights.{Sight}
+use Rattle.xti_sock.specs.Sights.{Sight}
 use Rattle.xti_sock.specs.Socks.{IsInStep, is_live, has_ended, was_released}
 use Rattle.xti_sock.specs.Streams.{bytes_in}
 use Rattle.xti_sock.specs.Scripts.{Answer, Script, gives, asks, Asked, Runs}

@@ -18,8 +18,8 @@ use Rattle.xti_sock.specs.declared.caller.CallEnd.{CallEnd}
 use Rattle.xti_sock.specs.declared.caller.CallEnd.TheVariants.{OutOfMemory, Stalled}
 use Rattle.xti_sock.specs.declared.heard.Heard.{Heard}
 use Rattle.xti_sock.specs.declared.heard.Heard.TheVariants.{Ended}
-use Rattle.xti_sights.specs.Sights.{Sight}
-use Rattle.xti_sights.specs.Steps.{AreSteps, IsMore, Answered, Stopped, has_parts}
+use Rattle.xti_sock.specs.Sights.{Sight}
+use Rattle.xti_sock.specs.SightSteps.{AreSteps, IsMore, Answered, Stopped, has_parts}
 use Rattle.xti_sock.specs.Scripts.{Asked, heard_of, heard_in}
 use Rattle.xti_sock.specs.Socks.{is_release, takes_release, was_released}
 use Rattle.xti_sock.specs.Streams.{got_by, got_at, input}

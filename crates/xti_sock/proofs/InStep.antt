@@ -21,7 +21,7 @@ use Rattle.xti_sock.specs.declared.phase.Phase.{Phase}
 use Rattle.xti_sock.specs.declared.phase.Phase.TheVariants as phase
 use Rattle.xti_sock.specs.declared.sock.Sock.{Sock}
 use Rattle.xti_sock.specs.declared.limits.TheConstants.{MOST_TURNS}
-use Rattle.xti_sights.specs.Sights.{Sight}
+use Rattle.xti_sock.specs.Sights.{Sight}
 use Rattle.xti_sock.specs.Socks.{IsInStep, has_ended, is_live, is_plain, is_release, is_unreleased, takes_release, was_released, spare_of, in_phase}
 use Rattle.xti_sock.specs.Scripts.{Answer, Script, gives, asks, Asked, Makes, Runs, heard_of, octets}
 use Rattle.xti_sock.specs.Rows.{stops, on_disconnect, reset, with_end, on_release, release, on_send, on_send_again, send, send_in, send_again, on_recv, recv, recv_in, recv_turns, wrong, bind, bind_in, on_listen, listen, listen_in, bound_in, on_connect, request, on_bound, bound_request, connect, connect_in, on_finish, finish, finish_in, shut_in, on_shutdown, shutdown, shutdown_in, is_dead, on_close, close}

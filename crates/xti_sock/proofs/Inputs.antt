@@ -21,7 +21,7 @@ use Rattle.xti_sock.specs.declared.phase.Phase.{Phase}
 use Rattle.xti_sock.specs.declared.phase.Phase.TheVariants as phase
 use Rattle.xti_sock.specs.declared.sock.Sock.{Sock}
 use Rattle.xti_sock.specs.declared.limits.TheConstants.{MOST_TURNS}
-use Rattle.xti_sights.specs.Sights.{Sight}
+use Rattle.xti_sock.specs.Sights.{Sight}
 use Rattle.xti_sock.specs.Streams.{got_in, got_by, got_at, input, bytes_in}
 use Rattle.xti_sock.specs.Scripts.{Answer, Script, gives, asks, Asked, Runs, heard_of}
 use Rattle.xti_sock.specs.Rows.{stops, on_disconnect, reset, on_release, release, on_recv, recv, recv_in, recv_turn, recv_turns}

@@ -13,8 +13,8 @@ use Rattle.xti_model.specs.declared.entry.Reply.{Reply}
 use Rattle.xti_model.specs.declared.entry.Reply.TheVariants as reply
 use Rattle.xti_model.specs.History.{Legal, own}
 use Rattle.xti_model.specs.Arguments.{is_expedited}
-use Rattle.xti_sights.specs.Sights.{Sight}
-use Rattle.xti_sights.specs.Steps.{AreSteps, Answered}
+use Rattle.xti_sock.specs.Sights.{Sight}
+use Rattle.xti_sock.specs.SightSteps.{AreSteps, Answered}
 use Rattle.xti_sock.specs.declared.caller.CallEnd.{CallEnd}
 use Rattle.xti_sock.specs.declared.fail.SockFail.{SockFail}
 use Rattle.xti_sock.specs.declared.heard.Heard.{Heard}

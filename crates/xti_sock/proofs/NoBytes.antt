@@ -19,9 +19,9 @@ use Rattle.xti_model.specs.History.{Legal, after, own}
 use Rattle.xti_model.specs.Provider.{is_stream}
 use Rattle.xti_model.specs.SentBytes.{AllSendBytes}
 use Rattle.xti_model.specs.World.{opening}
-use Rattle.xti_laws_sound.proofs.FewEndsHistories.{after-symbols}
-use Rattle.xti_sights.specs.Sights.{Sight}
-use Rattle.xti_sights.specs.Steps.{AreSteps, Answered}
+use Rattle.xti_laws.proofs.FewEndsHistories.{after-symbols}
+use Rattle.xti_sock.specs.Sights.{Sight}
+use Rattle.xti_sock.specs.SightSteps.{AreSteps, Answered}
 use Rattle.xti_sock.specs.declared.caller.CallEnd.{CallEnd}
 use Rattle.xti_sock.specs.declared.fail.SockFail.{SockFail}
 use Rattle.xti_sock.specs.declared.heard.Heard.{Heard}

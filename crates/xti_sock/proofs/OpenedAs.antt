@@ -36,9 +36,9 @@ use Rattle.xti_laws.specs.Laws.{Keeps}
 use Rattle.xti_laws.specs.Updates.{Update, updates, updates_peer, opens, closes, switches, binds_like, marks_flow, sends, gets_symbols, reads, takes_back, is_given_up, reads_disconnect, releases, reads_release, reads_datagram, is_shown}
 use Rattle.xti_laws.proofs.ChangedEndpoints.{switch-other}
 use Rattle.xti_laws.proofs.Opening as Opening
-use Rattle.xti_laws_sound.specs.Invariant.{SoundWorld}
-use Rattle.xti_laws_sound.proofs.Beginning.{opening-sound}
-use Rattle.xti_laws_sound.proofs.Steps.{step-sound}
+use Rattle.xti_laws.specs.Invariant.{SoundWorld}
+use Rattle.xti_laws.proofs.Beginning.{opening-sound}
+use Rattle.xti_laws.proofs.SoundSteps.{step-sound}
 use Rattle.xti_sock.specs.Streams.{is_opened, opens_at, opens_it, was_opened}
 use Rattle.xti_sock.proofs.KeptAt.{IfThere, HoldsAt, OfKinds, after-at}
 use Rattle.xti_sock.proofs.OpenedOnce.{OpensPlace, both, fits-begun, opens-place, place-closed}

@@ -31,7 +31,7 @@ use Rattle.xti_laws.specs.Laws.{Keeps}
 use Rattle.xti_laws.specs.Updates.{updates, updates_peer, opens, closes, switches}
 use Rattle.xti_laws.proofs.Opening.{Closed, closed-there}
 use Rattle.xti_laws.proofs.Places.{place-is, generation-is}
-use Rattle.xti_laws_sound.proofs.Steps.{after-sound}
+use Rattle.xti_laws.proofs.SoundSteps.{after-sound}
 use Rattle.xti_sock.specs.Socks.{is_plain, is_release, takes_release, was_released}
 use Rattle.xti_sock.proofs.KeptAt.{IfThere, HoldsAt, OfKinds, after-at}
 

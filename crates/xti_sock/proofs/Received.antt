@@ -21,7 +21,7 @@ use Rattle.xti_model.specs.Step.{Step, step, plan, step_of, step_by, made as ste
 use Rattle.xti_model.specs.Symbols.{ends_waiting, front, is_byte, is_end}
 use Rattle.xti_model.specs.World.{World, at_endpoint, changed, endpoint}
 use Rattle.xti_model.specs.Calls.Receive as Receive
-use Rattle.xti_laws_sound.proofs.ShortLists.{counted-append}
+use Rattle.xti_laws.proofs.ShortLists.{counted-append}
 
 -- where a byte waits first, some are taken
 front-some : (max : ℕ) (symbols : List ℕ) → 1 ≤ max → some_wait symbols ≡ true → ends_waiting symbols ≡ 0 → front max symbols ≡ [] → ⊥

@@ -2,8 +2,8 @@
 use Rattle.std.specs.Prelude.{◌≡◌, true, Result, MatchResult, OnOk}
 use Rattle.xti_model.specs.declared.call.Call.{Call}
 use Rattle.xti_model.specs.declared.entry.Reply.{Reply}
-use Rattle.xti_sights.specs.Sights.{Sight, IsStanding, Later}
-use Rattle.xti_sights.specs.Steps.{Answered, Stopped, StoppedAtStall}
+use Rattle.xti_sock.specs.Sights.{Sight, IsStanding, Later}
+use Rattle.xti_sock.specs.SightSteps.{Answered, Stopped, StoppedAtStall}
 use Rattle.xti_sock.specs.declared.caller.CallEnd.{CallEnd}
 use Rattle.xti_sock.specs.declared.caller.CallEnd.TheVariants.{OutOfMemory, Stalled}
 

@@ -7,3 +7,5 @@ pub mod Socks
 pub mod Steps
 pub mod Streams
 pub mod Turns
+pub mod Sights
+pub mod SightSteps

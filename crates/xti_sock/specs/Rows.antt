@@ -4,7 +4,7 @@ use Rattle.xti_base.specs.declared.errno.Errno.{Errno}
 use Rattle.xti_base.specs.declared.errno.Errno.TheVariants.{TFLOW, TLOOK, TPROTO}
 use Rattle.xti_base.specs.declared.kinds.Fd.{Fd}
 use Rattle.xti_base.specs.declared.kinds.Prov.TheVariants.{Ticotsord}
-use Rattle.xti_sights.specs.Sights.{Sight}
+use Rattle.xti_sock.specs.Sights.{Sight}
 use Rattle.xti_model.specs.declared.call.Call.TheVariants.{TOpen, TClose, TBind, TConnect, TRcvConnect, TSnd, TRcv, TRcvDis, TSndRel, TRcvRel}
 use Rattle.xti_sock.specs.declared.fail.SockFail.{SockFail}
 use Rattle.xti_sock.specs.declared.fail.SockFail.TheVariants.{Reset, WouldBlock, Xti, WrongPhase, Again, Ended as EndedBy}

@@ -11,7 +11,7 @@ use Rattle.xti_sock.specs.declared.fail.SockFail.{SockFail}
 use Rattle.xti_sock.specs.declared.fail.SockFail.TheVariants.{OutOfMemory, WrongPhase}
 use Rattle.xti_sock.specs.declared.heard.Heard.{Heard}
 use Rattle.xti_sock.specs.declared.heard.Heard.TheVariants as heard
-use Rattle.xti_sights.specs.Sights.{Sight}
+use Rattle.xti_sock.specs.Sights.{Sight}
 use Rattle.xti_sock.specs.Calling.{Calls}
 use Rattle.xti_sock.specs.declared.sock.Sock.{Sock}
 

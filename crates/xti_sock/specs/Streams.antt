@@ -12,7 +12,7 @@ use Rattle.xti_model.specs.declared.entry.Reply.TheVariants.{Got, Opened}
 use Rattle.xti_model.specs.declared.entry.Entry.{Entry}
 use Rattle.xti_model.specs.Arguments.{is_expedited}
 use Rattle.xti_model.specs.Provider.{is_stream}
-use Rattle.xti_sights.specs.Sights.{Sight}
+use Rattle.xti_sock.specs.Sights.{Sight}
 use Rattle.xti_sock.specs.Scripts.{Answer, octets}
 
 -- the bytes of a receive on the descriptor, unless they are expedited

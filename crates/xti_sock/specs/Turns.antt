@@ -1,6 +1,6 @@
 -- What the parts of an accept tell, out of which its script is put together.
 use Rattle.std.specs.Prelude.{◌≡◌, ◌≤◌, ◌+◌, ℕ, true, Option, Some, None, Result, Ok, Err}
-use Rattle.xti_sights.specs.Sights.{Sight}
+use Rattle.xti_sock.specs.Sights.{Sight}
 use Rattle.xti_sock.specs.declared.fail.SockFail.{SockFail}
 use Rattle.xti_sock.specs.declared.fail.SockFail.TheVariants.{Ended as EndedBy}
 use Rattle.xti_sock.specs.declared.listener.Listener.{Listener}

@@ -3,7 +3,7 @@
 ghost use Rattle.std.specs.Prelude.{◌≡◌, true};
 ghost use Rattle.std.specs.Thread.{IsSync};
 ghost use Rattle.xti_sock.specs.Calling.{Calls};
-ghost use Rattle.xti_sights.specs.Sights.{Sight, IsStanding};
+ghost use Rattle.xti_sock.specs.Sights.{Sight, IsStanding};
 
 use std::alloc::Global;
 use std::sync::Wait;

@@ -1,4 +1,5 @@
-//! Sockets over ticotsord: the calls of XTI that each call of a socket makes, and what a socket receives.
+//! Sockets over ticotsord: the calls of XTI that each call of a socket makes, and what a socket receives. What contracts
+//! see of a caller is here too.
 #![tactic(auto)]
 
 mod accepting;

@@ -21,10 +21,10 @@ use Rattle.xti_model.specs.Step.{Step, step}
 use Rattle.xti_model.specs.Touched.{touched}
 use Rattle.xti_model.specs.History.{Going, doing, made_by, unfinished_from, step_going, left_by, Fits}
 use Rattle.xti_end.specs.Taken.{taken}
-use Rattle.xti_laws_sound.specs.Invariant.{SoundWorld}
-use Rattle.xti_laws_sound.specs.Replies.{lengths_of, IsShortOutcome}
-use Rattle.xti_laws_sound.proofs.Steps.{after-sound}
-use Rattle.xti_laws_sound.proofs.ShortReplies.{replies-short}
+use Rattle.xti_laws.specs.Invariant.{SoundWorld}
+use Rattle.xti_laws.specs.Replies.{lengths_of, IsShortOutcome}
+use Rattle.xti_laws.proofs.SoundSteps.{after-sound}
+use Rattle.xti_laws.proofs.ShortReplies.{replies-short}
 use Rattle.xti_lent.specs.Lending.{Lending, cell_lent, cells, cells_by}
 use Rattle.xti_lent.specs.Fit.{SameCells}
 use Rattle.xti_lent.proofs.Named.{all-among}

@@ -6,7 +6,7 @@ use Rattle.xti_model.specs.declared.entry.Act.{Act}
 use Rattle.xti_model.specs.declared.entry.Entry.{Entry}
 use Rattle.xti_model.specs.declared.entry.Go.{Go}
 use Rattle.xti_model.specs.Robin.{act_of}
-use Rattle.xti_laws_sound.specs.Replies.{Lengths, lengths_of}
+use Rattle.xti_laws.specs.Replies.{Lengths, lengths_of}
 use Rattle.xti_hall_rule.specs.declared.view.View.{View}
 use Rattle.xti_hall.specs.declared.made_step.MadeStep.{MadeStep}
 

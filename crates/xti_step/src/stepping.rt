@@ -10,7 +10,7 @@ ghost use Rattle.xti_hall.specs.Words.{setting_of, IsSeatOf, IsSameSeat};
 ghost use Rattle.xti_gather.specs.Cells.{InHall};
 ghost use Rattle.xti_gather.specs.Lends.{Lends, IsEmpty};
 ghost use Rattle.xti_gather.specs.Orders.{AreCells};
-ghost use Rattle.xti_laws_sound.specs.Replies.{lengths_of, IsShortOutcome};
+ghost use Rattle.xti_laws.specs.Replies.{lengths_of, IsShortOutcome};
 ghost use Rattle.xti_step.specs.Copies.{AreCopies, IsCopy, entry_with};
 ghost use Rattle.xti_step.specs.Steps.{IsReady, KeepsOrFreesMark, HoldsNothing, Later, MayGo, Tells, SeenAt};
 
@@ -19,12 +19,11 @@ use crate::waking::concerned;
 use std::alloc::{AllocError, Global};
 use std::sync::Wait;
 use xti_base::let_go;
-use xti_core::apply;
+use xti_core::{Spare, apply};
 use xti_gather::{Cell, gather, leave_all};
 use xti_hall::{Hall, MadeStep, Pen, Rings, Seat};
 use xti_lent::Lent;
 use xti_model::{Act, Applied, Call, Cells, Entry, Go, calls_send_bytes};
-use xti_spare::Spare;
 
 /// What the entry of a step shows of its call.
 fn act(call: &Call, go: Go) -> Result<Act, AllocError>

@@ -6,3 +6,6 @@ pub mod TextBytes
 pub mod WordBytes
 pub mod Counting
 pub mod HexLaws
+mod Digits
+mod HexPairs
+mod Pairs

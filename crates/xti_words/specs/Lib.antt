@@ -3,3 +3,4 @@ pub mod Words
 pub mod Values
 pub mod Numbers
 pub mod Noted
+pub mod WrittenWords

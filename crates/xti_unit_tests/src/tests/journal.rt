@@ -1,6 +1,6 @@
 //! The text of a journal, whole and entry by entry.
 
-ghost use Rattle.xti_summary.specs.Counting.{HaveWorkers};
+ghost use Rattle.xti_journal_text.specs.Counting.{HaveWorkers};
 
 use super::cases::are_bytes;
 use std::alloc::{AllocError, Global};

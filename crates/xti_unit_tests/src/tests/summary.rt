@@ -5,8 +5,8 @@ use super::journal::empty;
 use std::alloc::{AllocError, Global};
 use xti_base::Octets;
 use xti_journal::read_journal;
+use xti_journal_text::{Summary, summary};
 use xti_model::Journal;
-use xti_summary::{Summary, summary};
 
 /// Two sends in two steps each, of which the second fails after its first step; a datagram to nobody, one that is refused, and
 /// a part of one that is received.

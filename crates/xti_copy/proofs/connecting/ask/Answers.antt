@@ -1,6 +1,6 @@
 use Rattle.std.proofs.Common.{◌++◌, take, drop}
 use Rattle.xti_base.specs.declared.kinds.State.TheVariants.{T_UNBND}
-use Rattle.xti_laws_copy.specs.Copying.{client}
+use Rattle.xti_laws_streams.specs.Copying.{client}
 use Rattle.xti_copy.specs.Ends.{asking, listening}
 use Rattle.xti_copy.proofs.Rows.{then-comes}
 use Rattle.xti_copy.proofs.Steps.{open-goes, connect-goes}

@@ -1,6 +1,6 @@
 use Rattle.std.proofs.Common.{[], take, drop}
 use Rattle.xti_base.specs.declared.kinds.State.TheVariants.{T_UNBND, T_IDLE}
-use Rattle.xti_laws_copy.specs.Copying.{listener}
+use Rattle.xti_laws_streams.specs.Copying.{listener}
 use Rattle.xti_copy.specs.Ends.{listening}
 use Rattle.xti_copy.proofs.Rows.{then-comes}
 use Rattle.xti_copy.proofs.Steps.{open-goes, bind-goes, listen-goes}

@@ -3,8 +3,8 @@ use Rattle.std.proofs.lemmas.List.{append-nil}
 use Rattle.xti_model.specs.declared.entry.Entry.{Entry}
 use Rattle.xti_model.specs.History.{Legal}
 use Rattle.xti_model.specs.Profile.{usual}
-use Rattle.xti_laws_copy.specs.Copying.{copied}
-use Rattle.xti_laws_copy.specs.Laws.{IsNextEntry}
+use Rattle.xti_laws_streams.specs.Copying.{copied}
+use Rattle.xti_laws_streams.specs.CopyLaws.{IsNextEntry}
 use Rattle.xti_copy.proofs.copying.copy.Goals as goal
 
 pub make_calls-requires-clause-at : goal.make_calls-requires-clause-at

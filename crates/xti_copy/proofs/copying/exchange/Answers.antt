@@ -1,7 +1,7 @@
 use Rattle.std.proofs.Common.{◌++◌, ◌∙◌, false, take, drop, ap, refl}
 use Rattle.xti_base.specs.declared.kinds.State.TheVariants.{T_DATAXFER}
-use Rattle.xti_laws_copy.specs.declared.TheConstants.{PIECE}
-use Rattle.xti_laws_copy.specs.Copying.{exchange, client, receiver}
+use Rattle.xti_laws_streams.specs.declared.copies.TheConstants.{PIECE}
+use Rattle.xti_laws_streams.specs.Copying.{exchange, client, receiver}
 use Rattle.xti_copy.specs.declared.connecting.Ends.{Ends}
 use Rattle.xti_copy.specs.Ends.{client_sock, receiver_sock}
 use Rattle.xti_copy.proofs.InStep.{step-more, step-back}

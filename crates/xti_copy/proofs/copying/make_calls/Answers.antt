@@ -1,7 +1,7 @@
 use Rattle.std.proofs.Common.{List, [], ◌++◌, refl, subst}
 use Rattle.std.specs.Prelude.{flat_map, OnOk}
 use Rattle.xti_model.specs.declared.entry.Entry.{Entry}
-use Rattle.xti_laws_copy.specs.Copying.{before, ending, exchange, pieces}
+use Rattle.xti_laws_streams.specs.Copying.{before, ending, exchange, pieces}
 use Rattle.xti_copy.specs.Going.{IsAt}
 use Rattle.xti_copy.proofs.InStep.{connected-step}
 use Rattle.xti_copy.proofs.Pieces.{comes-own}

@@ -1,7 +1,7 @@
 use Rattle.std.proofs.Common.{◌++◌, true, false, take, drop, ap, refl}
 use Rattle.xti_base.specs.declared.kinds.State.TheVariants.{T_IDLE, T_OUTREL}
-use Rattle.xti_laws_copy.specs.declared.TheConstants.{PIECE}
-use Rattle.xti_laws_copy.specs.Copying.{client, receiver}
+use Rattle.xti_laws_streams.specs.declared.copies.TheConstants.{PIECE}
+use Rattle.xti_laws_streams.specs.Copying.{client, receiver}
 use Rattle.xti_sock.specs.declared.phase.Phase.TheVariants.{Open}
 use Rattle.xti_sock.specs.Socks.{in_phase}
 use Rattle.xti_copy.specs.declared.connecting.Ends.{Ends}

@@ -2,7 +2,7 @@ use Rattle.std.proofs.Common.{◌≡◌, ◌++◌, ap, sym, ◌∙◌, List, [],
 use Rattle.std.specs.List.{flat_map}
 use Rattle.std.proofs.lemmas.List.{append_assoc}
 use Rattle.std.proofs.lemmas.Result.{on_ok_weaker}
-use Rattle.xti_text.specs.Words.{hex_pair, number_word, octets_word}
+use Rattle.xti_words.specs.WrittenWords.{hex_pair, number_word, octets_word}
 use Rattle.xti_journal_text.specs.JournalText.{call_text}
 use Rattle.xti_journal_text.proofs.Spaces.{space_first}
 use Rattle.xti_journal_text.proofs.calls.put_connection_request.Goals as goal

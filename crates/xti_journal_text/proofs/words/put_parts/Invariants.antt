@@ -1,7 +1,7 @@
 use Rattle.std.proofs.Common.{◌≡◌, ◌++◌, take}
 use Rattle.std.specs.Prelude.{codes}
 use Rattle.std.specs.List.{flat_map}
-use Rattle.xti_text.specs.Words.{octets_word}
+use Rattle.xti_words.specs.WrittenWords.{octets_word}
 use Rattle.xti_journal_text.proofs.words.put_parts.Given as goal
 
 abbrev pub invariant-loop-part : goal.invariant-loop-part

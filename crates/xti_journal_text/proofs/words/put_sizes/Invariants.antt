@@ -1,7 +1,7 @@
 use Rattle.std.proofs.Common.{◌≡◌, ◌++◌, take}
 use Rattle.std.specs.Prelude.{codes}
 use Rattle.std.specs.List.{flat_map}
-use Rattle.xti_text.specs.Words.{number_word}
+use Rattle.xti_words.specs.WrittenWords.{number_word}
 use Rattle.xti_journal_text.proofs.words.put_sizes.Given as goal
 
 abbrev pub invariant-loop-size : goal.invariant-loop-size

@@ -5,7 +5,7 @@ use Rattle.xti_model.specs.declared.profile.Providers.{Providers}
 use Rattle.xti_model.specs.Complete.{is_worker}
 use Rattle.xti_model.specs.Profile.{usual}
 use Rattle.xti_model.specs.SentBytes.{AreBytes}
-use Rattle.xti_laws_copy.specs.Copying.{copied, copy_journal}
+use Rattle.xti_laws_streams.specs.Copying.{copied, copy_journal}
 use Rattle.xti_outputs.specs.Entries.{Reports}
 use Rattle.xti_outputs.proofs.Copied.{copied-input, workers}
 use Rattle.xti_outputs.proofs.answers.sock_answer.Goals as goal

@@ -2,8 +2,8 @@
 
 use std::alloc::Global;
 use std::process::Abort;
+use xti_gbn::{LinkFail, read_link};
 use xti_journal::{JournalFail, read_journal};
-use xti_link::{LinkFail, read_link};
 use xti_reasons::{Kind, reason};
 use xti_script_reader::{ScriptFail, read_script};
 

@@ -1,6 +1,6 @@
 use Rattle.std.proofs.Common.{◌≡◌, ◌∙◌, ◌+◌, sym, ap, subst, refl}
 use Rattle.std.specs.Prelude.{codes}
-use Rattle.xti_text.specs.Words.{number_word}
+use Rattle.xti_words.specs.WrittenWords.{number_word}
 use Rattle.xti_gbn.specs.declared.events.LinkEvent.TheVariants.{Ack}
 use Rattle.xti_gbn.specs.declared.ends.Ends.{Ends}
 use Rattle.xti_gbn.specs.Ends.{Steps}

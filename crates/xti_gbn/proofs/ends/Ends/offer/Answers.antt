@@ -1,6 +1,6 @@
 use Rattle.std.proofs.Common.{Result, Err, ap}
 use Rattle.std.specs.Prelude.{codes}
-use Rattle.xti_text.specs.Words.{number_word}
+use Rattle.xti_words.specs.WrittenWords.{number_word}
 use Rattle.xti_gbn.specs.declared.wire.Packet.{Packet}
 use Rattle.xti_gbn.specs.declared.sender.OfferFail.{OfferFail}
 use Rattle.xti_gbn.specs.declared.events.LinkEvent.TheVariants.{Offer}

@@ -1,6 +1,6 @@
 use Rattle.std.proofs.Common.{◌≡◌, ◌∙◌, length, sym, ap, subst, arith}
 use Rattle.std.specs.Prelude.{All, codes}
-use Rattle.xti_text.specs.Words.{number_word}
+use Rattle.xti_words.specs.WrittenWords.{number_word}
 use Rattle.xti_gbn.specs.declared.events.LinkEvent.TheVariants.{Timeout}
 use Rattle.xti_gbn.specs.Wire.{HasSmall}
 use Rattle.xti_gbn.specs.Ends.{Steps}

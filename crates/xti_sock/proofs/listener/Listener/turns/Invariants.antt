@@ -1,5 +1,5 @@
 use Rattle.std.proofs.Common.{◌≡◌, ◌≤◌, ◌-◌, ◌*◌, true}
-use Rattle.xti_sights.specs.Sights.{Sight}
+use Rattle.xti_sock.specs.Sights.{Sight}
 use Rattle.xti_sock.specs.declared.limits.TheConstants.{MOST_TURNS}
 use Rattle.xti_sock.specs.declared.sock.Sock.{Sock}
 use Rattle.xti_sock.specs.Accepting.{accept_turns}

@@ -1,0 +1,8 @@
+use Rattle.xti_lent.proofs.Written.{placed-by, rewritten_or_same}
+use Rattle.xti_data.proofs.datagrams.writes.push_datagram.Goals as goal
+
+pub push_datagram-requires-clause-place : goal.push_datagram-requires-clause-place
+push_datagram-requires-clause-place c = placed-by c.args.lent.now c.providers.result.now c.args.fd.0 c.place_of.result c.endpoint.result.now c.requires.own c.place_of.ensures.place c.endpoint.ensures.now
+
+pub returns : goal.returns
+returns c = let w = rewritten_or_same c.args.lent.now c.providers.result.now c.args.fd.0 c.place_of.result c.endpoint.result.now c.push_datagram.result c.push_datagram.new.at _ c.providers.ensures.providers c.place_of.ensures.place c.endpoint.ensures.now c.push_datagram.ensures.cell c.push_datagram.ensures.place c.push_datagram.ensures.err in record { ok = w.0; kept = w.1; err = w.2 }

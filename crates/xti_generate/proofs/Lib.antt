@@ -1,5 +1,0 @@
-mod MoreLines
-mod KnownNames
-mod LinesAreRead
-mod Limits
-mod GeneratedTexts

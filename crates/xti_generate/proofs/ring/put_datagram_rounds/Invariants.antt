@@ -1,6 +1,0 @@
-use Rattle.std.proofs.Common.{◌≡◌, ◌++◌}
-use Rattle.xti_generate.specs.Generated.{datagram_rounds}
-use Rattle.xti_generate.proofs.ring.put_datagram_rounds.Given as goal
-
-abbrev pub invariant-loop-round : goal.invariant-loop-round
-invariant-loop-round l = l.lines.items ≡ l.initial.lines.items ++ datagram_rounds l.shift l.worker l.round

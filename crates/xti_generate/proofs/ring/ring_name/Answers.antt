@@ -1,6 +1,0 @@
-use Rattle.std.proofs.Common.{◌∷◌, sym, ap, arith}
-use Rattle.std.proofs.lemmas.Fmt.{decimal_digit}
-use Rattle.xti_generate.proofs.ring.ring_name.Goals as goal
-
-pub returns : goal.returns
-returns c = ap (λ digits. 110 ∷ digits) (sym (decimal_digit c.args.worker (omega (arith, c.requires))))

@@ -1,5 +1,0 @@
-mod ByteLists
-mod ByteWorlds
-mod AnsweredOptions
-mod ByteReplies
-pub mod ByteHistories

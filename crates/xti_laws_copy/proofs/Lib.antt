@@ -1,7 +1,0 @@
-pub mod Pieces
-mod Singles
-mod Worlds
-mod Exchanges
-mod Next
-mod Streams
-mod Calls

@@ -1,5 +1,0 @@
-use Rattle.xti_laws_copy.proofs.Calls.{makes-calls}
-use Rattle.xti_laws_copy.proofs.copies_make_their_calls.Goals as goal
-
-pub returns : goal.returns
-returns c input = makes-calls input

@@ -1,4 +1,0 @@
-mod ReceiveSteps
-mod Lives
-mod Entries
-mod Ends

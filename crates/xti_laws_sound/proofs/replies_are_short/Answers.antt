@@ -1,5 +1,0 @@
-use Rattle.xti_laws_sound.proofs.ShortReplies.{replies-short}
-use Rattle.xti_laws_sound.proofs.replies_are_short.Goals as goal
-
-pub returns : goal.returns
-returns c = record { short = λ p w d g h s. replies-short p w h d g s }

@@ -1,9 +1,0 @@
-pub mod Endpoints
-pub mod Connections
-pub mod Invariant
-pub mod Laws
-pub mod NeverAnswered
-pub mod Progress
-pub mod Replies
-pub mod Symbols
-pub mod Given

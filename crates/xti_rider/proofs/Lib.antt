@@ -1,2 +1,0 @@
-mod Riding
-mod Calling

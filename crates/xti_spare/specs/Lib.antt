@@ -1,3 +1,0 @@
-pub mod Families
-pub mod Rooms
-pub use Rattle.xti_laws_sound.specs.Replies

@@ -1,2 +1,0 @@
-pub mod Structures
-pub mod Words

@@ -1,7 +1,0 @@
-use Rattle.std.proofs.Common.{◌≡◌, length, take}
-use Rattle.std.specs.List.{concat}
-use Rattle.xti_summary.specs.Counting.{capped}
-use Rattle.xti_summary.proofs.payload.total.Given as goal
-
-abbrev pub invariant-loop-part : goal.invariant-loop-part
-invariant-loop-part l = l.total ≡ capped (length (concat (take l.part-index l.parts)))

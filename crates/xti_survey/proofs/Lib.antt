@@ -1,3 +1,0 @@
-mod Marks
-mod Events
-mod Ends
