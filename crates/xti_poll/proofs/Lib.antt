@@ -2,4 +2,3 @@ mod Sets
 mod SumBits
 mod Finds
 pub mod Apart
-mod Found

@@ -1,7 +1,7 @@
 //! The lines of a table.
 
 ghost use Rattle.std.specs.Prelude.{◌≡◌, ◌++◌, OnOk};
-ghost use Rattle.xti_poll.specs.Tables.{event_word, found_text, line_text};
+ghost use Rattle.xti_glance_table.specs.Tables.{event_word, found_text, line_text};
 
 use std::alloc::AllocError;
 use xti_base::{Event, Fd};

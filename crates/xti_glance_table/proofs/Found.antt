@@ -5,7 +5,7 @@ use Rattle.xti_hall_rule.specs.declared.view.View.{View}
 use Rattle.xti_model.specs.declared.entry.Entry.{Entry}
 use Rattle.xti_glance.specs.Glances.{IsSameLater, Finds}
 use Rattle.xti_glance.specs.declared.found.Glance.{Glance}
-use Rattle.xti_poll.specs.Tables.{AreFound, line_text, table_text}
+use Rattle.xti_glance_table.specs.Tables.{AreFound, line_text, table_text}
 
 -- glances, and one after them
 pub one_more : (v u w : View) (fds : List Fd) (gs : List Glance) (fd : Fd) (g : Glance) → AreFound v fds gs u → IsSameLater u w → Finds u w fd g → AreFound v (fds ++ fd ∷ []) (gs ++ g ∷ []) w

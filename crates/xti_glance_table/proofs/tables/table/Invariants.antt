@@ -1,8 +1,8 @@
 use Rattle.std.proofs.Common.{◌≡◌, List, take}
 use Rattle.xti_glance.specs.Glances.{IsSameLater}
 use Rattle.xti_glance.specs.declared.found.Glance.{Glance}
-use Rattle.xti_poll.specs.Tables.{AreFound, table_text}
-use Rattle.xti_poll.proofs.tables.table.Given as goal
+use Rattle.xti_glance_table.specs.Tables.{AreFound, table_text}
+use Rattle.xti_glance_table.proofs.tables.table.Given as goal
 
 abbrev pub invariant-loop-fd : goal.invariant-loop-fd
 invariant-loop-fd g l = record {

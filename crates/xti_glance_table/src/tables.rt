@@ -3,7 +3,7 @@
 ghost use Rattle.std.specs.Prelude.{IfOk};
 ghost use Rattle.xti_hall.specs.Words.{IsSameSeat};
 ghost use Rattle.xti_glance.specs.Glances.{IsSameLater};
-ghost use Rattle.xti_poll.specs.Tables.{TellsGlances};
+ghost use Rattle.xti_glance_table.specs.Tables.{TellsGlances};
 
 use crate::lines::put_line;
 use std::alloc::AllocError;

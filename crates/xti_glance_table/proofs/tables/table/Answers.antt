@@ -1,9 +1,9 @@
 use Rattle.std.proofs.Common.{◌≡◌, ◌∙◌, ◌+◌, ◌++◌, ◌∷◌, [], ℕ, List, take, slice_index_or, suc, ap, sym, subst, arith}
 use Rattle.std.proofs.Math.Seq.{take-suc}
 use Rattle.xti_base.specs.declared.kinds.Fd.{Fd}
-use Rattle.xti_poll.specs.Tables.{AreFound, line_text, table_text}
-use Rattle.xti_poll.proofs.Found.{later_still, line_more, one_more}
-use Rattle.xti_poll.proofs.tables.table.Goals as goal
+use Rattle.xti_glance_table.specs.Tables.{AreFound, line_text, table_text}
+use Rattle.xti_glance_table.proofs.Found.{later_still, line_more, one_more}
+use Rattle.xti_glance_table.proofs.tables.table.Goals as goal
 
 pub loop-fd-preserved : goal.loop-fd-preserved
 loop-fd-preserved g c =

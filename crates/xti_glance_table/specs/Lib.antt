@@ -1,0 +1,2 @@
+pub mod Tables
+pub use Rattle.xti_glance.specs.Glances
