@@ -1,7 +1,7 @@
 //! Calls as tables tell them, and what makes them and writes down what they answer.
 
 use crate::calls::answers::{note, note_bytes};
-use crate::calls::looks::{Look, look};
+use crate::calls::looks::{Look, make_look};
 use std::sync::Wait;
 use xti_base::{Fd, Seq, Sizes, let_go};
 use xti_calls::{Caller, Fail as CallFail, Max, TCall};
@@ -203,6 +203,6 @@ pub(crate) fn make<R: Wait + Sync>(caller: &mut Caller<R>, log: &mut String, fd:
         Ask::ReceiveParts(is_datagram, sizes) => {
             receive_parts(caller, log, fd, *is_datagram, sizes)
         }
-        Ask::Look(at) => look(caller, log, fd, at),
+        Ask::Look(at) => make_look(caller, log, fd, at),
     }
 }

@@ -47,7 +47,7 @@ fn poll<R: Wait>(caller: &mut Caller<R>, log: &mut String, pairs: &[Pair], all: 
 }
 
 /// Looks, and writes down what is found.
-pub(crate) fn look<R: Wait>(caller: &mut Caller<R>, log: &mut String, fd: Fd, look: &Look) {
+pub(crate) fn make_look<R: Wait>(caller: &mut Caller<R>, log: &mut String, fd: Fd, look: &Look) {
     match *look {
         Look::Glance => note(log, Ok(caller.glance(fd))),
         Look::Table(fds, wanted) => note(log, Ok(is_told(caller, fds, wanted))),
