@@ -130,3 +130,9 @@ accept-effect p w fd resfd number options udata e r o q u =
     ap (λ (x : Option Endpoint). has_effect (first (if_open fd x (λ e. Listen.accept_with p fd resfd number options udata e (endpoint p w resfd))).rows)) o
     ∙ ap (λ (x : Option Endpoint). has_effect (first (Listen.accept_with p fd resfd number options udata e x).rows)) q
     ∙ ap has_effect (sym u)
+
+-- the endpoint of the call isn't open
+pub accept-shut : (p : Providers) (w : World) (fd resfd number : ℕ) (options udata : List ℕ) → endpoint p w fd ≡ None
+    → Some (made p fd (Done (Refused TBADF)) w) ≡ step_of p w (Listen.accept_plan p w fd resfd number options udata)
+accept-shut p w fd resfd number options udata o =
+    sym (ap (λ (x : Option Endpoint). step_of p w (if_open fd x (λ e. Listen.accept_with p fd resfd number options udata e (endpoint p w resfd)))) o)

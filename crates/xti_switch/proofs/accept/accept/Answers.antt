@@ -1,10 +1,13 @@
-use Rattle.std.proofs.Common.{◌≡◌, ◌∙◌, sym, true, false}
+use Rattle.std.proofs.Common.{◌≡◌, Result, Ok, Err, refl, sym, ◌∙◌, true, false}
+use Rattle.std.specs.Result.{OnErr}
+use Rattle.std.proofs.lemmas.Result.{IfOk-from_err}
 use Rattle.xti_model.specs.Endpoint.{find_number}
 use Rattle.xti_model.specs.World.{place_of}
 use Rattle.xti_end.specs.Held.{parts}
-use Rattle.xti_lent.specs.Lending.{cells}
+use Rattle.xti_lent.specs.Fit.{SameCells}
+use Rattle.xti_lent.specs.Lending.{Lending, cells}
 use Rattle.xti_lent.proofs.Sound.{short-source}
-use Rattle.xti_switch.proofs.Accepting.{Unrefused, request-there, short-options, short-data, short-answering, accept-effect, accept-refused, accept-unopened, accepts-kind, accepts}
+use Rattle.xti_switch.proofs.Accepting.{Unrefused, request-there, short-options, short-data, short-answering, accept-effect, accept-refused, accept-unopened, accept-shut, accepts-kind, accepts}
 use Rattle.xti_switch.proofs.accept.accept.Goals as goal
 
 pub prepare-requires-clause-address : goal.prepare-requires-clause-address
@@ -61,3 +64,82 @@ pub returns-in_default-open_endpoint-clause-step : goal.returns-in_default-open_
 returns-in_default-open_endpoint-clause-step c =
     c.refused-in_default-open_endpoint.ensures ∙ accept-unopened c.args.lent.now.providers (cells c.args.lent.now) c.args.fd.0 c.args.resfd.0 c.args.seq.0 c.args.opt.now c.args.udata.now (parts c.in-Some.e.now)
     (sym c.in-Some.ensures.endpoint) (sym c.in_default-open_endpoint.ensures.endpoint)
+
+-- where a result is an error, what holds of errors does
+on_any_err : {T E P : Type 0} (r : Result T E) → P → OnErr r P
+on_any_err (Ok x) p = tt
+on_any_err (Err x) p = p
+
+same_cells : (l : Lending) → SameCells l l
+same_cells l = record { providers = refl; numbers = refl; places = refl }
+
+pub returns-in_default-clause-step : goal.returns-in_default-clause-step
+returns-in_default-clause-step c =
+    c.refused.ensures ∙ accept-shut c.args.lent.now.providers (cells c.args.lent.now) c.args.fd.0 c.args.resfd.0 c.args.seq.0 c.args.opt.now c.args.udata.now (sym c.in_default.ensures.endpoint)
+
+pub returns-in_default-clause-still : goal.returns-in_default-clause-still
+returns-in_default-clause-still c = λ none. refl
+
+pub returns-in_default-clause-kept : goal.returns-in_default-clause-kept
+returns-in_default-clause-kept c = same_cells _
+
+pub returns-in_default-clause-sure : goal.returns-in_default-clause-sure
+returns-in_default-clause-sure c = λ none. refl
+
+pub returns-in_default-open_endpoint-clause-still : goal.returns-in_default-open_endpoint-clause-still
+returns-in_default-open_endpoint-clause-still c = λ none. refl
+
+pub returns-in_default-open_endpoint-clause-kept : goal.returns-in_default-open_endpoint-clause-kept
+returns-in_default-open_endpoint-clause-kept c = same_cells _
+
+pub returns-in_default-open_endpoint-clause-sure : goal.returns-in_default-open_endpoint-clause-sure
+returns-in_default-open_endpoint-clause-sure c = λ none. refl
+
+pub returns-in-Some-accept_refusal-clause-still : goal.returns-in-Some-accept_refusal-clause-still
+returns-in-Some-accept_refusal-clause-still c = λ none. refl
+
+pub returns-in-Some-accept_refusal-clause-kept : goal.returns-in-Some-accept_refusal-clause-kept
+returns-in-Some-accept_refusal-clause-kept c = same_cells _
+
+pub returns-in-Some-accept_refusal-clause-sure : goal.returns-in-Some-accept_refusal-clause-sure
+returns-in-Some-accept_refusal-clause-sure c = λ none. refl
+
+pub prepare-requires-clause-request : goal.prepare-requires-clause-request
+prepare-requires-clause-request c =
+    request-there c.providers.result.now c.args.fd.0 c.args.resfd.0 c.args.seq.0 c.args.opt.now c.args.udata.now (parts c.in-Some.e.now) (parts c.in-Some-open_endpoint.r.now) (c.in_default-accept_refusal.ensures c.args.fd.0 c.args.resfd.0 c.eq-is_same.ensures)
+
+pub returns-in_err-acceptance-clause-step : goal.returns-in_err-acceptance-clause-step
+returns-in_err-acceptance-clause-step c = IfOk-from_err _ _ c.from_residual.ensures.0
+
+pub returns-in_err-acceptance-clause-still : goal.returns-in_err-acceptance-clause-still
+returns-in_err-acceptance-clause-still c = IfOk-from_err _ _ c.from_residual.ensures.0
+
+pub returns-in_err-acceptance-clause-kept : goal.returns-in_err-acceptance-clause-kept
+returns-in_err-acceptance-clause-kept c = same_cells _
+
+pub returns-in_err-acceptance-clause-err : goal.returns-in_err-acceptance-clause-err
+returns-in_err-acceptance-clause-err c = on_any_err _ refl
+
+pub link-requires-clause-own : goal.link-requires-clause-own
+link-requires-clause-own c = c.requires.fit.places
+
+pub link-requires-clause-switch : goal.link-requires-clause-switch
+link-requires-clause-switch c = c.requires.switch
+
+pub returns-in_err-link-clause-step : goal.returns-in_err-link-clause-step
+returns-in_err-link-clause-step c = IfOk-from_err _ _ c.from_residual-in_err-link.ensures.0
+
+pub returns-in_err-link-clause-still : goal.returns-in_err-link-clause-still
+returns-in_err-link-clause-still c = IfOk-from_err _ _ c.from_residual-in_err-link.ensures.0
+
+pub returns-in_err-link-clause-kept : goal.returns-in_err-link-clause-kept
+returns-in_err-link-clause-kept c = c.in_err-link.ensures.kept
+
+pub returns-in_err-link-clause-err : goal.returns-in_err-link-clause-err
+returns-in_err-link-clause-err c = on_any_err _ c.in_err-link.ensures.err
+
+pub returns-clause-kept : goal.returns-clause-kept
+returns-clause-kept c = c.in_ok-link.ensures.kept
+
+pub returns-clause-sure : goal.returns-clause-sure
+returns-clause-sure c = λ none. refl
