@@ -1,7 +1,7 @@
 //! A call and its fields, one after the other.
 
 use crate::bounded::Reason;
-use crate::places::{Place, Spot, ends_line, number_of};
+use crate::places::{Place, Spot, ends_line, is_word, number_of};
 use crate::values::{Value, wanted};
 use memchr::memchr;
 use std::alloc::Global;
@@ -231,7 +231,7 @@ pub(crate) fn find_call<'a>(
         worker,
     };
     let word = words.next();
-    if matches!(form, Form::Journal) && word == Some(b"more".as_slice()) {
+    if matches!(form, Form::Journal) && is_word(word, "more") {
         let verb = last_verb(place.version, &spot, reason)?;
         return Some((CallAt { form, verb, spot }, &[]));
     }

@@ -3,7 +3,7 @@
 use crate::answers::answer_values;
 use crate::bounded::Reason;
 use crate::fields::{Form, find_call, name_of};
-use crate::places::{NOWHERE, Past, Place, number_of};
+use crate::places::{NOWHERE, Past, Place, is_word, number_of};
 use crate::profiles::{wanted_setting, wrong_value};
 use crate::scripts::first_line;
 use crate::values::{Value, are_right, wanted};
@@ -80,7 +80,7 @@ fn profile_values(
 fn profile_line(alloc: Global, prov: Prov, place: &Place, reason: &mut Reason) {
     let mut words = Words::of(place.line);
     let word = words.next();
-    if word != Some(b"provider".as_slice()) {
+    if !is_word(word, "provider") {
         reason.expected("provider", word);
         return;
     }
@@ -96,10 +96,10 @@ fn profile_line(alloc: Global, prov: Prov, place: &Place, reason: &mut Reason) {
 /// What stands behind `err`, whose word was taken.
 fn error_values(words: &mut Words) -> &'static [Value] {
     let word = words.first();
-    if word == Some(b"TLOOK".as_slice()) {
+    if is_word(word, "TLOOK") {
         words.next();
         &[Value::Event]
-    } else if word == Some(b"TBUFOVFLW".as_slice()) {
+    } else if is_word(word, "TBUFOVFLW") {
         words.next();
         &[Value::Number]
     } else {
@@ -110,11 +110,11 @@ fn error_values(words: &mut Words) -> &'static [Value] {
 /// Goes over the answer behind the arrow, and the state.
 fn answer_words(alloc: Global, answer: Answer, words: &mut Words, reason: &mut Reason) {
     let word = words.next();
-    let values = if word == Some(b"ok".as_slice()) {
+    let values = if is_word(word, "ok") {
         answer_values(answer)
-    } else if word == Some(b"err".as_slice()) {
+    } else if is_word(word, "err") {
         error_values(words)
-    } else if word == Some(b"part".as_slice()) {
+    } else if is_word(word, "part") {
         &[Value::Number]
     } else {
         reason.expected("ok, err or part", word);
@@ -132,7 +132,7 @@ fn step_words(alloc: Global, place: &Place, words: &mut Words, reason: &mut Reas
     };
     reason.about(call.verb.word());
     let word = words.next();
-    if word == Some(b"=>".as_slice()) {
+    if is_word(word, "=>") {
         reason.about(b"answer");
         answer_words(alloc, call.verb.answer(), words, reason);
     } else {
@@ -173,9 +173,9 @@ fn body_line(alloc: Global, place: &Place, past: &Past, reason: &mut Reason) {
     let mut words = Words::of(place.line);
     let word = words.next();
     let number = past.calls.saturating_add(1);
-    if word == Some(b"end".as_slice()) {
+    if is_word(word, "end") {
         end_words(past.calls, &mut words, reason);
-    } else if word == Some(b"stall".as_slice()) {
+    } else if is_word(word, "stall") {
         stall_words(alloc, place, &mut words, reason);
     } else if past.last == b"stall".as_slice() {
         reason.expected("stall or end", word);

@@ -72,6 +72,11 @@ pub(crate) fn ends_line(c: &u8) -> bool {
     *c == b'\n'
 }
 
+/// Whether the word is this one.
+pub(crate) fn is_word(word: Option<&[u8]>, text: &str) -> bool {
+    word == Some(text.as_bytes())
+}
+
 /// The number that the word is.
 pub(crate) fn number_of(word: Option<&[u8]>) -> Option<u64> {
     Some(number_in(word?)? as u64)
