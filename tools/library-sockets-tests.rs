@@ -9,7 +9,7 @@ use xti_base::{Items, Octets};
 use xti_calls::{Seat, Xti};
 use xti_journal_text::write_journal;
 use xti_model::{Journal, Providers};
-use xti_shared::Shared;
+use xti_copy::Shared;
 use xti_sock::Sock;
 
 /// How many bytes are copied, and the most of a piece.

@@ -6,3 +6,4 @@ mod InStep
 mod Steps
 mod Riding
 mod Calling
+pub mod Shares

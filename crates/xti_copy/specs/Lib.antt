@@ -1,6 +1,7 @@
 pub mod Ends
 pub mod Going
 pub mod Rides
+pub mod Sharing
 pub use Rattle.xti_laws_streams.specs.Copying
 pub use Rattle.xti_model.specs.Profile
 pub use Rattle.xti_model.specs.SentBytes

@@ -1,4 +1,5 @@
-//! Sockets on one thread: who makes their calls, and the copy of an input over two of them, with all its entries.
+//! Who makes the calls of sockets: on one thread, and by a seat of a library that threads share. And the copy of an input over two
+//! sockets of one thread, with all its entries.
 #![tactic(auto)]
 
 /// What was made; where memory ran out, what is owned is let go by calls, and the function ends.
@@ -20,6 +21,8 @@ mod preparing;
 mod releasing;
 mod rider;
 mod settling;
+mod shared;
 
 pub use copying::copy;
 pub use rider::Rider;
+pub use shared::Shared;

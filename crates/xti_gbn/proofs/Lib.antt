@@ -6,3 +6,5 @@ pub mod EndSteps
 pub mod Runs
 pub mod ReadLines
 pub mod LinkLaws
+pub mod Steps
+pub mod Carries

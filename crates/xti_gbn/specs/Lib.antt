@@ -11,3 +11,7 @@ pub mod Laws
 pub mod Grammar
 pub mod Reading
 pub mod Refused
+pub mod Calls
+pub mod Answers
+pub mod Ready
+pub mod Carriers

@@ -16,12 +16,11 @@ use std::sync::Wait;
 use std::thread::Threads;
 use xti_base::limits::MOST_STEPS;
 use xti_base::{Octets, let_go};
-use xti_carrier::show_link;
 use xti_check::{Judgement, judge};
 use xti_command::Reading;
 use xti_copy::copy;
 use xti_frames::{FramesFail, show_frames};
-use xti_gbn::{LinkFail, read_link};
+use xti_gbn::{LinkFail, read_link, show_link};
 use xti_laws_journals::{
     legal_journals_keep_order, runs_have_few_entries, runs_make_journals,
     whole_runs_make_legal_journals,

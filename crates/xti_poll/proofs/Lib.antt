@@ -2,3 +2,4 @@ mod Sets
 mod SumBits
 mod Finds
 pub mod Apart
+mod Found

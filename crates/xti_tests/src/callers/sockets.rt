@@ -9,7 +9,7 @@ use std::process::Abort;
 use std::sync::Wait;
 use std::test::*;
 use xti_base::{Errno, Octets};
-use xti_shared::Shared;
+use xti_copy::Shared;
 use xti_sock::{Caller, Sock, SockFail};
 
 const SERVICE: &[u8] = b"srv";

@@ -4,8 +4,7 @@ use crate::calls::answers::note;
 use std::sync::Wait;
 use xti_base::{Fd, let_go};
 use xti_calls::Caller;
-use xti_glance_table::table;
-use xti_poll::PollSet;
+use xti_poll::{PollSet, table};
 
 /// A descriptor, and the events that are asked of it.
 pub(crate) type Pair = (Fd, u32);

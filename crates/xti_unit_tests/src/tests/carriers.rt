@@ -1,12 +1,11 @@
 //! The carrier of datagrams.
 
 ghost use Rattle.std.specs.Prelude.{◌≡◌, ◌≤◌, length, true};
-ghost use Rattle.xti_carrier.specs.Carriers.{IsReady};
+ghost use Rattle.xti_gbn.specs.Carriers.{IsReady};
 
 use std::alloc::Global;
 use std::mem::ManuallyDrop;
-use xti_carrier::DatagramCarrier;
-use xti_gbn::Carrier;
+use xti_gbn::{Carrier, DatagramCarrier};
 
 /// Whether 1 to 517 bytes come as they are, to the receiver or back.
 fn comes_whole(

@@ -1,2 +1,0 @@
-pub mod Tables
-pub use Rattle.xti_glance.specs.Glances
