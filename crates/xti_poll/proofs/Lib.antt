@@ -2,4 +2,4 @@ mod Sets
 mod SumBits
 mod Finds
 pub mod Apart
-mod Found
+mod TableRows

@@ -2,7 +2,7 @@ use Rattle.std.proofs.Common.{◌≡◌, ◌∙◌, ◌+◌, ◌++◌, ◌∷◌
 use Rattle.std.proofs.Math.Seq.{take-suc}
 use Rattle.xti_base.specs.declared.kinds.Fd.{Fd}
 use Rattle.xti_poll.specs.Tables.{AreFound, line_text, table_text}
-use Rattle.xti_poll.proofs.Found.{later_still, line_more, one_more}
+use Rattle.xti_poll.proofs.TableRows.{later_still, line_more, one_more}
 use Rattle.xti_poll.proofs.tables.table.Goals as goal
 
 pub loop-fd-preserved : goal.loop-fd-preserved
