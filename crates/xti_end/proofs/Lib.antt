@@ -7,3 +7,4 @@ pub mod Numbers
 pub mod Disconnects
 pub mod Rows
 pub mod Requests
+pub mod Rooms

@@ -1,5 +1,5 @@
 -- The plan of a call on an open endpoint, once its refusals are passed.
-use Rattle.std.proofs.Common.{◌≡◌, ℕ, Bool, true, false, ◌&&◌, eqb, cond, List, [], ◌∷◌, ◌++◌, take, Option, Some, None, refl, sym, ap, ◌∙◌}
+use Rattle.std.proofs.Common.{◌≡◌, ℕ, Bool, true, false, ◌&&◌, ◌||◌, eqb, ltb, cond, List, [], ◌∷◌, ◌++◌, take, length, Option, Some, None, refl, sym, ap, ◌∙◌}
 use Rattle.std.specs.Prelude.{is_some, is_none, not, option_map}
 use Rattle.xti_base.specs.Kinds.{same_state}
 use Rattle.xti_base.specs.declared.kinds.State.TheVariants.{T_IDLE, T_INCON, T_OUTCON}
@@ -7,12 +7,12 @@ use Rattle.xti_base.specs.declared.errno.Errno.TheVariants.{TBADDATA, TNODATA}
 use Rattle.xti_base.specs.declared.kinds.Event.{Event}
 use Rattle.xti_model.specs.Arguments.{is_too_many}
 use Rattle.xti_model.specs.declared.profile.Providers.{Providers}
-use Rattle.xti_model.specs.Endpoint.{Endpoint, address_of, ocnt}
+use Rattle.xti_model.specs.Endpoint.{Datagram, Endpoint, address_of, ocnt}
 use Rattle.xti_model.specs.Events.{is_state, some_wait, connected_or_asking, looked, looks_data, receiving}
 use Rattle.std.specs.List.{list_any}
 use Rattle.xti_model.specs.declared.entry.Outcome.TheVariants.{Done}
 use Rattle.xti_model.specs.declared.entry.Reply.{Reply}
-use Rattle.xti_model.specs.declared.entry.Reply.TheVariants.{Addresses, Overflow, Plain}
+use Rattle.xti_model.specs.declared.entry.Reply.TheVariants.{Addresses, Overflow, Plain, UData}
 use Rattle.xti_model.specs.Calls.Connect as Connect
 use Rattle.xti_model.specs.Calls.Datagrams as Datagrams
 use Rattle.xti_model.specs.Calls.Disconnect as Disconnect
@@ -20,13 +20,13 @@ use Rattle.xti_model.specs.Calls.Listen as Listen
 use Rattle.xti_model.specs.Calls.Receive as Receive
 use Rattle.xti_model.specs.Calls.Release as Release
 use Rattle.xti_model.specs.Calls.Show as Show
-use Rattle.xti_model.specs.Plan.{Plan, Refusal, Row, answers, field, first, has_effect, is_too_long, not_ready, outside, refuses, shows, trimmed, without_connections, if_open, loses, overflows, plan_of}
+use Rattle.xti_model.specs.Plan.{Field, Plan, Refusal, Row, answers, field, first, has_effect, is_too_long, not_ready, outside, refuses, shows, trimmed, without_connections, if_open, loses, overflows, plan_of}
 use Rattle.xti_model.specs.Provider.{has_connections, has_datagrams}
 use Rattle.xti_model.specs.Step.{made, step_by, step_of}
 use Rattle.xti_model.specs.World.{World, Cell, endpoint_cell, at_endpoint, change_endpoint, changed, endpoint, place_of, generation_of}
 use Rattle.xti_end.specs.declared.receiving.Sizes.{Sizes}
 use Rattle.xti_end.specs.Held.{Held, alone, is_open_as, parts, parts_of, with_parts}
-use Rattle.xti_end.specs.Taken.{confirmation_overflows, error_fields, request_overflows, told_confirmation, told_disconnect, told_error, told_request, confirmation_step, confirming, disconnect_step, receiving_disconnect, receiving_data, receiving_release, receiving_release_data, release_step, told_release, listening, request_step, error_step, receiving_error, showing_addresses}
+use Rattle.xti_end.specs.Taken.{confirmation_overflows, error_fields, first_bytes, first_has_rest, receive_step, request_overflows, told_confirmation, told_disconnect, told_error, told_request, confirmation_step, confirming, disconnect_step, receiving_disconnect, receiving_data, receiving_release, receiving_release_data, release_step, told_release, listening, request_step, error_step, receiving_error, showing_addresses}
 
 and-parts : (a b : Bool) → (a && b) ≡ true → (a ≡ true) × (b ≡ true)
 and-parts true true h = (refl, refl)
@@ -219,3 +219,54 @@ receive-by p h fd s q o e = sym (ap (λ x. step_of p (alone h) (if_open fd x (re
 pub receive-effect : (p : Providers) (h : Held) (fd : ℕ) (s : Sizes) (q : Option Refusal) → is_open_as p fd h ≡ true → first (Receive.rows s.count (parts h)) ≡ q
     → has_effect (first (receiving_data fd s p h).rows) ≡ has_effect q
 receive-effect p h fd s q o e = ap (λ x. has_effect (first (if_open fd x (receive_of p fd s)).rows)) (alone-open p fd h o) ∙ ap has_effect e
+
+-- an endpoint that is open with a descriptor is open
+pub open-is : (p : Providers) (fd : ℕ) (h : Held) → is_open_as p fd h ≡ true → is_some h.body ≡ true
+open-is p fd h o =
+    let a = and-parts (is_some h.body && eqb h.generation (generation_of p fd)) (eqb h.place (place_of p fd)) o in
+    (and-parts (is_some h.body) (eqb h.generation (generation_of p fd)) a.0).0
+
+-- a release is taken without its data, or with them
+pub release-lost : (p : Providers) (h : Held) (fd umax : ℕ) → is_open_as p fd h ≡ true → is_too_long (field (Release.release_data (parts h)) umax) ≡ true
+    → Some (made p fd (Done (Overflow (record { 0 = 0 }))) (alone (with_parts Release.after_receive h))) ≡ release_step p (alone h) fd umax (parts h)
+release-lost p h fd umax o t = ap (λ w. Some (made p fd (Done (Overflow (record { 0 = 0 }))) w)) (sym (alone-changed p fd h Release.after_receive o)) ∙ rw t refl
+
+pub release-kept : (p : Providers) (h : Held) (fd umax : ℕ) → is_open_as p fd h ≡ true → is_too_long (field (Release.release_data (parts h)) umax) ≡ false
+    → Some (made p fd (Done (told_release umax (parts h))) (alone (with_parts Release.after_receive h))) ≡ release_step p (alone h) fd umax (parts h)
+release-kept p h fd umax o t = ap (λ w. Some (made p fd (Done (told_release umax (parts h))) w)) (sym (alone-changed p fd h Release.after_receive o)) ∙ rw t refl
+
+-- the first datagram is lost, or received
+pub datagram-lost : (p : Providers) (h : Held) (fd sizes max amax omax : ℕ) → is_open_as p fd h ≡ true → list_any is_too_long (Datagrams.fields (Datagrams.told (parts h)) amax omax) ≡ true
+    → Some (made p fd (Done (Overflow (record { 0 = 0 }))) (alone (with_parts Datagrams.dropped h))) ≡ receive_step p (alone h) fd sizes max amax omax (parts h)
+datagram-lost p h fd sizes max amax omax o t = ap (λ w. Some (made p fd (Done (Overflow (record { 0 = 0 }))) w)) (sym (alone-changed p fd h Datagrams.dropped o)) ∙ rw t refl
+
+pub datagram-kept : (p : Providers) (h : Held) (fd sizes max amax omax : ℕ) → is_open_as p fd h ≡ true → list_any is_too_long (Datagrams.fields (Datagrams.told (parts h)) amax omax) ≡ false
+    → Some (made p fd (Done (Datagrams.got (Datagrams.told (parts h)) max amax omax)) (alone (with_parts (Datagrams.received max) h))) ≡ receive_step p (alone h) fd sizes max amax omax (parts h)
+datagram-kept p h fd sizes max amax omax o t =
+    ap (λ w. Some (made p fd (Done (Datagrams.got (Datagrams.told (parts h)) max amax omax)) w)) (sym (alone-changed p fd h (Datagrams.received max) o)) ∙ rw t refl
+
+-- what is told of a datagram has all its bytes
+told-bytes : (begun : Bool) (d : Datagram) → (cond begun (record d { source = []; options = [] }) d).bytes ≡ d.bytes
+told-bytes true d = refl
+told-bytes false d = refl
+
+pub got-is : (e : Endpoint) (max amax omax : ℕ) (address options bytes : List ℕ) (more : Bool) (flags : ℕ) → address ≡ trimmed (Datagrams.told e).source amax → options ≡ trimmed (Datagrams.told e).options omax
+    → bytes ≡ first_bytes max e → more ≡ first_has_rest max e → flags ≡ cond more 1 0 → UData address options bytes flags ≡ Datagrams.got (Datagrams.told e) max amax omax
+got-is e max amax omax address options bytes more flags a o b m f =
+    rw (a, o, b, f, m)
+    (ap (λ (xs : List ℕ). UData (trimmed (Datagrams.told e).source amax) (trimmed (Datagrams.told e).options omax) (take max xs) (cond (ltb max (length xs)) 1 0))
+    (sym (told-bytes e.begun (Datagrams.first_of e))))
+
+-- whether one of two fields is too long
+pub first-long : (a b : Field) → is_too_long a ≡ true → list_any is_too_long (a ∷ b ∷ []) ≡ true
+first-long a b e = rw e refl
+
+pub second-long : (a b : Field) → is_too_long b ≡ true → list_any is_too_long (a ∷ b ∷ []) ≡ true
+second-long a b e = rw e (by (is_too_long a))
+  where
+    by : (t : Bool) → (t || true) ≡ true
+    by true = refl
+    by false = refl
+
+pub none-long : (a b : Field) → is_too_long a ≡ false → is_too_long b ≡ false → list_any is_too_long (a ∷ b ∷ []) ≡ false
+none-long a b e f = rw (e, f) refl
