@@ -44,6 +44,15 @@ alone-open p fd h o =
     let b = and-parts (is_some h.body) (eqb h.generation (generation_of p fd)) a.0 in
     rw (a.1, b.1) (some-parts h.body b.0)
 
+pub alone-shut : (p : Providers) (fd : ℕ) (h : Held) → is_open_as p fd h ≡ false → endpoint p (alone h) fd ≡ None
+alone-shut p fd h o = by h.body (eqb h.generation (generation_of p fd)) (eqb h.place (place_of p fd)) refl refl refl o
+  where
+    by : (body : Option Endpoint) (g n : Bool) → h.body ≡ body → eqb h.generation (generation_of p fd) ≡ g → eqb h.place (place_of p fd) ≡ n → ((is_some body && g) && n) ≡ false → endpoint p (alone h) fd ≡ None
+    by body g false b t u o = rw u refl
+    by body false true b t u o = rw (u, t) refl
+    by None true true b t u o = rw (u, t, b) refl
+    by (Some e) true true b t u o = absurd cc
+
 -- a change of the open endpoint, in the world of its cell alone
 cell-changed : (g generation : ℕ) (f : Endpoint → Endpoint) (o : Option Endpoint) → eqb g generation ≡ true → change_endpoint generation f (endpoint_cell g o) ≡ endpoint_cell g (option_map f o)
 cell-changed g generation f None e = refl

@@ -7,7 +7,8 @@ use Rattle.xti_model.specs.Endpoint.{ocnt}
 use Rattle.xti_model.specs.Plan.{is_too_long}
 use Rattle.xti_end.specs.Held.{alone, parts}
 use Rattle.xti_end.specs.Taken.{taken}
-use Rattle.xti_end.proofs.Rows.{alone-open, has-effect, request-told}
+use Rattle.xti_end.proofs.Rows.{alone-open, alone-shut, has-effect, request-told}
+use Rattle.xti_end.proofs.Rooms.{same_room}
 use Rattle.xti_end.proofs.endpoint.Endpoint.listen.Goals as goal
 
 pub returns-then-has_pending-clause-step : goal.returns-then-has_pending-clause-step
@@ -104,3 +105,89 @@ returns-else-nonblock-clause-step c =
     let pending = sym c.has_pending.ensures ∙ c.if-has_pending.false in
     let nonblock = sym c.nonblock.ensures ∙ c.if-nonblock.false in
     rw (opened, connections, state, queues, free, disconnects, pending, nonblock) refl
+
+pub returns-then-not-is-clause-still : goal.returns-then-not-is-clause-still
+returns-then-not-is-clause-still c = λ none. refl
+
+pub returns-then-not-is-clause-room : goal.returns-then-not-is-clause-room
+returns-then-not-is-clause-room c = same_room _
+
+pub returns-then-not-is-clause-sure : goal.returns-then-not-is-clause-sure
+returns-then-not-is-clause-sure c = λ none. refl
+
+pub returns-then-not-has_connections-clause-still : goal.returns-then-not-has_connections-clause-still
+returns-then-not-has_connections-clause-still c = λ none. refl
+
+pub returns-then-not-has_connections-clause-room : goal.returns-then-not-has_connections-clause-room
+returns-then-not-has_connections-clause-room c = same_room _
+
+pub returns-then-not-has_connections-clause-sure : goal.returns-then-not-has_connections-clause-sure
+returns-then-not-has_connections-clause-sure c = λ none. refl
+
+pub returns-then-not-is_listening-clause-still : goal.returns-then-not-is_listening-clause-still
+returns-then-not-is_listening-clause-still c = λ none. refl
+
+pub returns-then-not-is_listening-clause-room : goal.returns-then-not-is_listening-clause-room
+returns-then-not-is_listening-clause-room c = same_room _
+
+pub returns-then-not-is_listening-clause-sure : goal.returns-then-not-is_listening-clause-sure
+returns-then-not-is_listening-clause-sure c = λ none. refl
+
+pub returns-then-qlen-eq0-clause-still : goal.returns-then-qlen-eq0-clause-still
+returns-then-qlen-eq0-clause-still c = λ none. refl
+
+pub returns-then-qlen-eq0-clause-room : goal.returns-then-qlen-eq0-clause-room
+returns-then-qlen-eq0-clause-room c = same_room _
+
+pub returns-then-qlen-eq0-clause-sure : goal.returns-then-qlen-eq0-clause-sure
+returns-then-qlen-eq0-clause-sure c = λ none. refl
+
+pub returns-then-ocnt-qlen-clause-still : goal.returns-then-ocnt-qlen-clause-still
+returns-then-ocnt-qlen-clause-still c = λ none. refl
+
+pub returns-then-ocnt-qlen-clause-room : goal.returns-then-ocnt-qlen-clause-room
+returns-then-ocnt-qlen-clause-room c = same_room _
+
+pub returns-then-ocnt-qlen-clause-sure : goal.returns-then-ocnt-qlen-clause-sure
+returns-then-ocnt-qlen-clause-sure c = λ none. refl
+
+pub returns-then-has_disconnect-clause-still : goal.returns-then-has_disconnect-clause-still
+returns-then-has_disconnect-clause-still c = λ none. refl
+
+pub returns-then-has_disconnect-clause-room : goal.returns-then-has_disconnect-clause-room
+returns-then-has_disconnect-clause-room c = same_room _
+
+pub returns-then-has_disconnect-clause-sure : goal.returns-then-has_disconnect-clause-sure
+returns-then-has_disconnect-clause-sure c = λ none. refl
+
+pub returns-then-nonblock-clause-still : goal.returns-then-nonblock-clause-still
+returns-then-nonblock-clause-still c = λ none. refl
+
+pub returns-then-nonblock-clause-room : goal.returns-then-nonblock-clause-room
+returns-then-nonblock-clause-room c = same_room _
+
+pub returns-then-nonblock-clause-sure : goal.returns-then-nonblock-clause-sure
+returns-then-nonblock-clause-sure c = λ none. refl
+
+pub returns-else-nonblock-clause-still : goal.returns-else-nonblock-clause-still
+returns-else-nonblock-clause-still c = λ none. refl
+
+pub returns-else-nonblock-clause-room : goal.returns-else-nonblock-clause-room
+returns-else-nonblock-clause-room c = same_room _
+
+pub returns-else-nonblock-clause-sure : goal.returns-else-nonblock-clause-sure
+returns-else-nonblock-clause-sure c = λ none. refl
+
+pub returns-then-has_pending-clause-still : goal.returns-then-has_pending-clause-still
+returns-then-has_pending-clause-still c = c.tell_request.ensures.still
+
+pub returns-then-has_pending-clause-room : goal.returns-then-has_pending-clause-room
+returns-then-has_pending-clause-room c = c.tell_request.ensures.room
+
+pub returns-then-has_pending-clause-err : goal.returns-then-has_pending-clause-err
+returns-then-has_pending-clause-err c = c.tell_request.ensures.err
+
+pub returns-then-not-is-clause-step : goal.returns-then-not-is-clause-step
+returns-then-not-is-clause-step c =
+    let shut = alone-shut c.args.p.now c.args.fd.0 c.args.self.now (sym c.is.ensures ∙ c.if-not-is.true) in
+    c.refused.ensures ∙ rw (shut, shut) refl
