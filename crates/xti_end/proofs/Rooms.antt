@@ -6,8 +6,15 @@ use Rattle.xti_end.specs.Held.{Held, SameRoom, with_parts}
 
 pub same_room : (h : Held) → SameRoom h h
 same_room h = record {
-  place = refl; generation = refl; pending = refl; outstanding = refl; disconnects = refl;
-  normal = refl; expedited = refl; datagrams = refl; datagram_errors = refl;
+  place = refl;
+  generation = refl;
+  pending = refl;
+  outstanding = refl;
+  disconnects = refl;
+  normal = refl;
+  expedited = refl;
+  datagrams = refl;
+  datagram_errors = refl;
 }
 
 pub as_before : {old new : Held} → new ≡ old → SameRoom old new
@@ -15,8 +22,15 @@ as_before e = rw e (same_room _)
 
 pub after_change : {old new : Held} (f : Endpoint → Endpoint) → new ≡ with_parts f old → SameRoom old new
 after_change f e = rw e (record {
-  place = refl; generation = refl; pending = refl; outstanding = refl; disconnects = refl;
-  normal = refl; expedited = refl; datagrams = refl; datagram_errors = refl;
+  place = refl;
+  generation = refl;
+  pending = refl;
+  outstanding = refl;
+  disconnects = refl;
+  normal = refl;
+  expedited = refl;
+  datagrams = refl;
+  datagram_errors = refl;
 })
 
 -- what holds whatever the result holds where it is an error

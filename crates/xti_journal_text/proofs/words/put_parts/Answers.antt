@@ -2,7 +2,7 @@ use Rattle.std.proofs.Common.{◌≡◌, ℕ, ◌+◌, ◌<◌, ◌≤◌, List,
 use Rattle.std.specs.Prelude.{codes}
 use Rattle.std.specs.List.{flat_map}
 use Rattle.std.proofs.lemmas.List.{append_assoc, flat_map_more, take_all, take_more}
-use Rattle.xti_text.specs.Words.{hex_pair, octets_word}
+use Rattle.xti_words.specs.WrittenWords.{hex_pair, octets_word}
 use Rattle.xti_journal_text.specs.JournalText.{parts_field}
 use Rattle.xti_journal_text.proofs.words.put_parts.Goals as goal
 
@@ -13,9 +13,9 @@ part_more start out new others i part h p o n =
     let f = octets_word (codes ",") in
     let taken : take (i + 1) others ≡ take i others ++ part ∷ [] = take_more others i part h ∙ ap (λ (x : List ℕ). take i others ++ x ∷ []) (sym p) in
     n ∙ ap (λ (xs : List ℕ). (xs ++ codes ",x:") ++ flat_map hex_pair part) o
-      ∙ append_assoc (start ++ flat_map f (take i others)) (codes ",x:") (flat_map hex_pair part)
-      ∙ flat_map_more f start (take i others) part
-      ∙ ap (λ (xs : List (List ℕ)). start ++ flat_map f xs) (sym taken)
+    ∙ append_assoc (start ++ flat_map f (take i others)) (codes ",x:") (flat_map hex_pair part)
+    ∙ flat_map_more f start (take i others) part
+    ∙ ap (λ (xs : List (List ℕ)). start ++ flat_map f xs) (sym taken)
 
 -- the first part is written, and then the others
 parts_written : (old now out first : List ℕ) (others parts : List (List ℕ)) (i : ℕ) → parts ≡ first ∷ others → length others ≤ i → now ≡ (old ++ codes " parts=x:") ++ flat_map hex_pair first
@@ -23,10 +23,10 @@ parts_written : (old now out first : List ℕ) (others parts : List (List ℕ)) 
 parts_written old now out first others parts i p h n o =
     let f = octets_word (codes ",") in
     o ∙ ap (λ (ps : List (List ℕ)). now ++ flat_map f ps) (take_all i others h)
-      ∙ ap (λ (xs : List ℕ). xs ++ flat_map f others) n
-      ∙ append_assoc (old ++ codes " parts=x:") (flat_map hex_pair first) (flat_map f others)
-      ∙ append_assoc old (codes " parts=x:") (flat_map hex_pair first ++ flat_map f others)
-      ∙ ap (λ (ps : List (List ℕ)). old ++ parts_field ps) (sym p)
+    ∙ ap (λ (xs : List ℕ). xs ++ flat_map f others) n
+    ∙ append_assoc (old ++ codes " parts=x:") (flat_map hex_pair first) (flat_map f others)
+    ∙ append_assoc old (codes " parts=x:") (flat_map hex_pair first ++ flat_map f others)
+    ∙ ap (λ (ps : List (List ℕ)). old ++ parts_field ps) (sym p)
 
 pub loop-part-preserved : goal.loop-part-preserved
 loop-part-preserved c =

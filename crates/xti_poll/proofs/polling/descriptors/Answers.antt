@@ -12,7 +12,7 @@ one_more before after pairs i d h e f = f ∙ ap (λ fds. fds ++ (get_or pairs i
 pub loop-asked-preserved : goal.loop-asked-preserved
 loop-asked-preserved c = record {
   so_far = one_more c.loop-asked.fds.items c.push_reserved.new.self.items c.args.pairs.now c.loop-asked.asked-index _ c.loop-asked-test.true
-    c.loop-asked.invariant.so_far c.push_reserved.ensures.items;
+      c.loop-asked.invariant.so_far c.push_reserved.ensures.items;
   many = omega arith;
   room = omega arith;
 }

@@ -26,7 +26,7 @@ whole : (c : goal.After-from_vec) → c.from_vec.result ≡ script_text c.args.s
 whole c = all_written c.args.s.now c.from_vec.result
     (c.from_vec.ensures ∙ c.loop-line.invariant
     ∙ ap (λ ls. (first_line c.args.s.now.providers.version ++ codes "\n") ++ flat_map line_text ls)
-      (take_all c.loop-line.line-index c.as_slice-line-items.result.now c.loop-line-test.false ∙ c.as_slice-line-items.ensures))
+    (take_all c.loop-line.line-index c.as_slice-line-items.result.now c.loop-line-test.false ∙ c.as_slice-line-items.ensures))
 
 pub loop-line-init : goal.loop-line-init
 loop-line-init c =

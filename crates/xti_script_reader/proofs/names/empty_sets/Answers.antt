@@ -33,7 +33,7 @@ pub loop-worker-preserved : goal.loop-worker-preserved
 loop-worker-preserved c = record {
   count = one_longer _ _ _ _ c.in_ok-push.ensures.items c.loop-worker.invariant.count;
   empty = rw c.in_ok-push.ensures.items
-    (one_more_empty _ c.new.result (λ other. has_none c.new.result other c.new.ensures.len) c.loop-worker.invariant.empty);
+      (one_more_empty _ c.new.result (λ other. has_none c.new.result other c.new.ensures.len) c.loop-worker.invariant.empty);
 }
 
 pub returns-clause-workers : goal.returns-clause-workers

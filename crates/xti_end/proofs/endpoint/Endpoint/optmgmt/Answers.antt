@@ -84,7 +84,7 @@ pub returns-in_err-room-in-Ok-clause-sure : goal.returns-in_err-room-in-Ok-claus
 returns-in_err-room-in-Ok-clause-sure c =
     λ none.
     let no : true ≡ false = sym (option-effect c.args.p.now c.args.fd.0 c.args.asked.action c.args.asked.options.now c.args.omax c.args.self.now
-      (sym c.is.ensures ∙ c.if-not-is.false) c.in-Ok.ensures.negotiated) ∙ none in
+    (sym c.is.ensures ∙ c.if-not-is.false) c.in-Ok.ensures.negotiated) ∙ none in
     cc no
 
 pub negotiate-requires-clause-place : goal.negotiate-requires-clause-place

@@ -26,11 +26,11 @@ returns-then-is_too_long-clause-step c = λ sizes.
     let options = ap (λ (x : List ℕ). is_too_long (field x c.args.omax)) (sym c.options-options.ensures) in
     let long : list_any is_too_long (Datagrams.fields d c.args.amax c.args.omax) ≡ true =
     elim c.then-is_too_long.branch [
-      then-is_too_long-via-then-is_too_long w ↦
-        first-long (field d.source c.args.amax) (field d.options c.args.omax) (source ∙ w.if-is_too_long.true)
-    | then-is_too_long-via-else-is_too_long+then-is_too_long-2 w ↦
-        second-long (field d.source c.args.amax) (field d.options c.args.omax)
-        (options ∙ (sym w.is_too_long-else-is_too_long.ensures ∙ w.if-is_too_long-2.true))
+      | then-is_too_long-via-then-is_too_long w ↦
+          first-long (field d.source c.args.amax) (field d.options c.args.omax) (source ∙ w.if-is_too_long.true)
+      | then-is_too_long-via-else-is_too_long+then-is_too_long-2 w ↦
+          second-long (field d.source c.args.amax) (field d.options c.args.omax)
+          (options ∙ (sym w.is_too_long-else-is_too_long.ensures ∙ w.if-is_too_long-2.true))
     ] in
     c.done.ensures ∙
     (ap (λ (x : Held). Some (made p fd (Done (Overflow (record { 0 = 0 }))) (alone x))) c.drop_datagram.ensures ∙
@@ -77,8 +77,8 @@ returns-clause-step c = λ sizes.
     let options = ap (λ (x : List ℕ). is_too_long (field x c.args.omax)) (sym c.options-options.ensures) ∙ (sym c.is_too_long-else-is_too_long.ensures ∙ c.if-is_too_long-2.false) in
     let flags : c.if-more.flags ≡ cond made-of.more 1 0 =
     elim c.if-more.branch [
-      then-more w ↦ w.flags-is ∙ sym (ap (λ (t : Bool). cond t 1 0) w.if-more.true)
-    | else-more w ↦ w.flags-is ∙ sym (ap (λ (t : Bool). cond t 1 0) w.if-more.false)
+      | then-more w ↦ w.flags-is ∙ sym (ap (λ (t : Bool). cond t 1 0) w.if-more.true)
+      | else-more w ↦ w.flags-is ∙ sym (ap (λ (t : Bool). cond t 1 0) w.if-more.false)
     ] in
     let reply = got-is (parts h) c.args.max c.args.amax c.args.omax c.in_ok-addr.addr c.in-Ok.made made-of.bytes made-of.more c.if-more.flags
     (c.in_ok-addr.ensures.copy ∙ ap (λ (x : List ℕ). trimmed x c.args.amax) c.source-source.ensures)

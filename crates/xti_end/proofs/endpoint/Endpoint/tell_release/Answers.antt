@@ -35,14 +35,14 @@ returns-clause-step c =
     ap (λ (x : List ℕ). is_too_long (field x c.args.umax)) (sym c.release_data-data.ensures) ∙ sym c.is_too_long.ensures in
     let told : Some (made p fd (Done c.if-is_too_long.reply) (alone left)) ≡ release_step p (alone h) fd c.args.umax (parts h) =
     elim c.if-is_too_long.branch [
-      then-is_too_long w ↦
-        ap (λ (r : Reply). Some (made p fd (Done r) (alone left))) w.reply-is ∙
-        release-lost p h fd c.args.umax c.requires.«open» (long ∙ w.if-is_too_long.true)
-    | else-is_too_long+in_ok-udata w ↦
-        ap (λ (r : Reply). Some (made p fd (Done r) (alone left))) w.reply-is ∙
-        (ap (λ (u : List ℕ). Some (made p fd (Done (RelData u)) (alone left)))
-        (w.in_ok-udata.ensures.copy ∙ ap (λ (x : List ℕ). trimmed x c.args.umax) c.release_data-data.ensures) ∙
-        release-kept p h fd c.args.umax c.requires.«open» (long ∙ w.if-is_too_long.false))
+      | then-is_too_long w ↦
+          ap (λ (r : Reply). Some (made p fd (Done r) (alone left))) w.reply-is ∙
+          release-lost p h fd c.args.umax c.requires.«open» (long ∙ w.if-is_too_long.true)
+      | else-is_too_long+in_ok-udata w ↦
+          ap (λ (r : Reply). Some (made p fd (Done r) (alone left))) w.reply-is ∙
+          (ap (λ (u : List ℕ). Some (made p fd (Done (RelData u)) (alone left)))
+          (w.in_ok-udata.ensures.copy ∙ ap (λ (x : List ℕ). trimmed x c.args.umax) c.release_data-data.ensures) ∙
+          release-kept p h fd c.args.umax c.requires.«open» (long ∙ w.if-is_too_long.false))
     ] in
     c.done.ensures ∙ (ap (λ (x : Held). Some (made p fd (Done c.if-is_too_long.reply) (alone x))) c.take_release.ensures ∙ told)
 
