@@ -6,8 +6,6 @@
 #![tactic(auto)]
 
 #[cfg(test)]
-mod bad_input;
-#[cfg(test)]
 mod callers;
 #[cfg(test)]
 mod calls;
