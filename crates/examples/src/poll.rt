@@ -132,26 +132,48 @@ fn connect<R: Wait + Sync + Print>(
     Ok(fd)
 }
 
-/// Clients connect, send a word each and close, and the server serves them in between.
+/// Each client sends its word.
+fn send_words<R: Wait + Sync>(caller: &mut Caller<R>, clients: &[Fd; 3]) -> Result<(), Fail> {
+    for place in 0..3 {
+        caller.t_snd(clients[place], WORDS[place].as_bytes(), 0)?;
+    }
+    Ok(())
+}
+
+/// Each client closes its endpoint.
+fn close_all<R: Wait + Sync>(caller: &mut Caller<R>, clients: &[Fd; 3]) -> Result<(), Fail> {
+    for client in clients {
+        caller.t_close(*client)?;
+    }
+    Ok(())
+}
+
+/// Clients connect, send a word each and close, and the server, whose endpoint this is, serves them in between.
 fn converse<R: Wait + Sync + Print>(
+    rt: &R,
+    caller: &mut Caller<R>,
+    set: &mut PollSet,
+    listener: Fd,
+) -> Result<(), Failure> {
+    let mut clients = [listener; 3];
+    for client in &mut clients {
+        *client = connect(rt, caller, set)?;
+    }
+    send_words(caller, &clients)?;
+    serve(rt, caller, set)?;
+    close_all(caller, &clients)?;
+    serve(rt, caller, set)
+}
+
+/// Binds the server's endpoint, of which requests are asked, before the clients come.
+fn meet<R: Wait + Sync + Print>(
     rt: &R,
     caller: &mut Caller<R>,
     set: &mut PollSet,
 ) -> Result<(), Failure> {
     let listener = bound(caller, SERVER, 3)?;
     set.set(listener, Event::T_LISTEN.number())?;
-    let mut clients = [listener; 3];
-    for client in &mut clients {
-        *client = connect(rt, caller, set)?;
-    }
-    for place in 0..3 {
-        caller.t_snd(clients[place], WORDS[place].as_bytes(), 0)?;
-    }
-    serve(rt, caller, set)?;
-    for client in &clients {
-        caller.t_close(*client)?;
-    }
-    serve(rt, caller, set)
+    converse(rt, caller, set, listener)
 }
 
 /// The same in a library of its own, which keeps no history.
@@ -159,7 +181,7 @@ fn exchange<R: Wait + Sync + Print + AllocGlobal>(rt: &R) -> Result<(), Failure>
     let mut set = PollSet::new(rt.alloc());
     let (xti, seat) = Xti::new(rt.alloc(), &Providers::usual(), false)?;
     let mut caller = xti.caller(rt, rt.alloc(), seat);
-    let served = converse(rt, &mut caller, &mut set);
+    let served = meet(rt, &mut caller, &mut set);
     drop(caller);
     drop(xti);
     served

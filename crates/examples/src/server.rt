@@ -61,8 +61,17 @@ fn accept<R: Wait + Sync>(
     unreachable!()
 }
 
-/// Greets as many clients as there are, one after the other on the same endpoint, each by its name: that is all that a client
-/// sends before it releases. The server releases too then.
+/// Greets the client at the other end by its name: that is all that a client sends before it releases. The server releases too
+/// then.
+fn greet<R: Wait + Sync>(caller: &mut Caller<R>, fd: Fd, name: &mut Vec<u8>) -> Result<(), Fail> {
+    name.clear();
+    receive_all(caller, fd, name)?;
+    caller.t_snd(fd, b"welcome, ", 0)?;
+    caller.t_snd(fd, name.as_slice(), 0)?;
+    caller.t_sndrel(fd)
+}
+
+/// Greets as many clients as there are, one after the other on the same endpoint.
 fn serve<R: Wait + Sync>(
     caller: &mut Caller<R>,
     listener: Fd,
@@ -72,11 +81,7 @@ fn serve<R: Wait + Sync>(
     let fd = caller.t_open(PROVIDER, false)?;
     for _client in 0..NAMES.len() {
         accept(caller, listener, fd, requests)?;
-        name.clear();
-        receive_all(caller, fd, name)?;
-        caller.t_snd(fd, b"welcome, ", 0)?;
-        caller.t_snd(fd, name.as_slice(), 0)?;
-        caller.t_sndrel(fd)?;
+        greet(caller, fd, name)?;
     }
     Ok(())
 }
