@@ -7,7 +7,7 @@ pub use Rattle.xti_base.specs.Kinds
 pub use Rattle.xti_gather.specs.Cells
 pub use Rattle.xti_gather.specs.Lends
 pub use Rattle.xti_gather.specs.Orders
-pub use Rattle.xti_glance.specs.Glances
+pub use Rattle.xti_gather.specs.Glances
 pub use Rattle.xti_hall.specs.Seats
 pub use Rattle.xti_hall.specs.Stalls
 pub use Rattle.xti_hall.specs.Words

@@ -34,8 +34,7 @@ pub use xti_base::{
     State, StructKind, T_ORDRELDATA, T_SENDZERO, t_alloc, t_strerror, t_sysconf,
 };
 pub use xti_data::SendParts;
-pub use xti_gather::Cell;
-pub use xti_glance::Glance;
+pub use xti_gather::{Cell, Glance};
 pub use xti_hall::{NoSeat, Stall};
 pub use xti_model::{Act, Call, Entries, Entry, Outcome, Profile, Providers, Reply, WrongValues};
 pub use xti_opt::{

@@ -9,9 +9,9 @@ ghost use Rattle.xti_hall_rule.specs.declared.view.Mark.TheVariants.{Free, Resti
 ghost use Rattle.xti_hall.specs.Seats.{AreOfOneHall, CutsOff, HasNoneToSpare, Looks, Meets, IsStanding, unfinished_bytes};
 ghost use Rattle.xti_hall.specs.Words.{IsSameSeat};
 ghost use Rattle.xti_gather.specs.Cells.{whole};
-ghost use Rattle.xti_glance.specs.Glances.{Finds, IsSameLater};
+ghost use Rattle.xti_gather.specs.Glances.{Finds, IsSameLater};
 ghost use Rattle.xti_step.specs.Steps.{Later, MayGo, Tells};
-ghost use Rattle.xti_glance.specs.Surveys.{all_events_after};
+ghost use Rattle.xti_gather.specs.Surveys.{all_events_after};
 ghost use Rattle.xti_calls.specs.Calling.{IsUnfinished, Answered, Halted, where_left};
 ghost use Rattle.xti_calls.specs.Library.{IsMarkedAsBefore, IsOf, MayCall, keeps_of, providers_of};
 
@@ -22,8 +22,7 @@ use std::fmt;
 use std::marker::Model;
 use std::sync::Wait;
 use xti_base::{Fd, let_go};
-use xti_gather::{Cell, nothing_lent, open_hall};
-use xti_glance::{Glance, glance, survey};
+use xti_gather::{Cell, Glance, glance, nothing_lent, open_hall, survey};
 use xti_hall::{Ended as EndedHall, NoSeat, Seat as HallSeat};
 use xti_lent::Lent;
 use xti_model::{Applied, Call, Cells, Entries, Go, Providers, Reply};

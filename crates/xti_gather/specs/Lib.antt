@@ -1,6 +1,9 @@
 pub mod Cells
 pub mod Lends
 pub mod Orders
+pub mod Glances
+pub mod Marks
+pub mod Surveys
 pub use Rattle.xti_hall.specs.Seats
 pub use Rattle.xti_hall.specs.Words
 pub use Rattle.xti_hall_rule.specs.Rule

@@ -9,7 +9,7 @@ use Rattle.xti_model.specs.World.{World, endpoint}
 use Rattle.xti_core.specs.Looks.{events_by}
 use Rattle.xti_hall_rule.specs.declared.view.View.{View}
 use Rattle.xti_hall_rule.specs.Histories.{after}
-use Rattle.xti_glance.specs.Surveys.{events_after, all_events_after}
+use Rattle.xti_gather.specs.Surveys.{events_after, all_events_after}
 use Rattle.xti_poll.specs.declared.asked.Asked.{Asked}
 use Rattle.xti_poll.specs.Polls.{told, found_at, found_after, all_found_after}
 use Rattle.xti_poll.specs.Sums.{told_of, all_told, all_pending_after}

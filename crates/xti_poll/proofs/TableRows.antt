@@ -3,8 +3,8 @@ use Rattle.std.proofs.Common.{◌≡◌, ℕ, List, [], ◌∷◌, ◌++◌, ref
 use Rattle.xti_base.specs.declared.kinds.Fd.{Fd}
 use Rattle.xti_hall_rule.specs.declared.view.View.{View}
 use Rattle.xti_model.specs.declared.entry.Entry.{Entry}
-use Rattle.xti_glance.specs.Glances.{IsSameLater, Finds}
-use Rattle.xti_glance.specs.declared.found.Glance.{Glance}
+use Rattle.xti_gather.specs.Glances.{IsSameLater, Finds}
+use Rattle.xti_gather.specs.declared.glancing.found.Glance.{Glance}
 use Rattle.xti_poll.specs.Tables.{AreFound, line_text, table_text}
 
 -- glances, and one after them

@@ -3,7 +3,7 @@ use Rattle.std.specs.Prelude.{ℕ, List, [], ◌∷◌, map, Option, Some, None,
 use Rattle.xti_base.specs.declared.kinds.Event.{Event}
 use Rattle.xti_model.specs.Events.{events}
 use Rattle.xti_hall_rule.specs.declared.view.View.{View}
-use Rattle.xti_glance.specs.Surveys.{events_after}
+use Rattle.xti_gather.specs.Surveys.{events_after}
 use Rattle.xti_poll.specs.declared.asked.Asked.{Asked}
 use Rattle.xti_poll.specs.declared.found.Found.{Found}
 use Rattle.xti_poll.specs.declared.found.Found.TheVariants as found

@@ -5,9 +5,9 @@ use Rattle.xti_base.specs.declared.kinds.Event.{Event}
 use Rattle.xti_base.specs.declared.kinds.Fd.{Fd}
 use Rattle.xti_hall_rule.specs.declared.view.View.{View}
 use Rattle.xti_hall.specs.Seats.{SeatView}
-use Rattle.xti_glance.specs.Glances.{IsSameLater, Finds}
-use Rattle.xti_glance.specs.declared.found.Glance.{Glance}
-use Rattle.xti_glance.specs.declared.found.Glance.TheVariants.{Seen, Gone, Busy}
+use Rattle.xti_gather.specs.Glances.{IsSameLater, Finds}
+use Rattle.xti_gather.specs.declared.glancing.found.Glance.{Glance}
+use Rattle.xti_gather.specs.declared.glancing.found.Glance.TheVariants.{Seen, Gone, Busy}
 use Rattle.xti_words.specs.WrittenWords.{number_word}
 
 -- the name of an event, and `0` for none

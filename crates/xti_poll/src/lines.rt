@@ -5,7 +5,7 @@ ghost use Rattle.xti_poll.specs.Tables.{event_word, found_text, line_text};
 
 use std::alloc::AllocError;
 use xti_base::{Event, Fd};
-use xti_glance::Glance;
+use xti_gather::Glance;
 use xti_words::{put_number, put_text};
 
 /// The name of an event, and `0` for none.

@@ -2,7 +2,7 @@
 
 ghost use Rattle.std.specs.Prelude.{◌≡◌, ◌≤◌, ◌+◌, ◌++◌, length, map, vec_capacity, vec_len, IfOk, OnErr};
 ghost use Rattle.xti_hall.specs.Words.{IsSameSeat};
-ghost use Rattle.xti_glance.specs.Glances.{IsSameLater};
+ghost use Rattle.xti_gather.specs.Glances.{IsSameLater};
 ghost use Rattle.xti_poll.specs.Polls.{all_found_after, first_found};
 ghost use Rattle.xti_poll.specs.Sums.{all_pending_after, all_told, told_of};
 

@@ -2,7 +2,7 @@
 
 ghost use Rattle.std.specs.Prelude.{IfOk};
 ghost use Rattle.xti_hall.specs.Words.{IsSameSeat};
-ghost use Rattle.xti_glance.specs.Glances.{IsSameLater};
+ghost use Rattle.xti_gather.specs.Glances.{IsSameLater};
 ghost use Rattle.xti_poll.specs.Tables.{TellsGlances};
 
 use crate::lines::put_line;

@@ -1,6 +1,7 @@
 //! The run of an empty script, in which each read fails in turn, and each write.
 
-use crate::running::{Faults, NEVER, Run, WRITE, expect, holds};
+use crate::cases::expect;
+use crate::running::{Faults, NEVER, Run, WRITE, holds};
 use xti_run::NoGate;
 
 /// A script of 13 bytes.

@@ -7,8 +7,6 @@ ghost use Rattle.std.specs.Prelude.{◌≡◌, ◌-◌, ◌^◌, false, IfOk};
 ghost use Rattle.xti_io.specs.Turns.{is_listed};
 
 use std::alloc::{AllocError, Global};
-use std::fmt::Display;
-use std::process::Abort;
 use std::sync::Wait;
 use std::thread::Threads;
 use xti_base::{Calls, Octets};
@@ -36,11 +34,6 @@ pub(crate) struct Run<'a> {
     pub(crate) faults: Faults,
     pub(crate) status: u8,
     pub(crate) output: &'a [u8],
-}
-
-/// The test fails where the case doesn't hold, and tells which: its number, from 0, or what it is about.
-pub(crate) fn expect<R: Abort, T: Display>(rt: &R, holds: bool, case: &T) {
-    assert!(rt; holds, "this case is wrong: {case}");
 }
 
 /// What a run takes.

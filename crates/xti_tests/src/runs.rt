@@ -1,6 +1,7 @@
 //! Runs of the program: every status, and reads and writes that fail in the middle.
 
-use crate::running::{Faults, NEVER, NO_FAULTS, Run, expect, holds};
+use crate::cases::expect;
+use crate::running::{Faults, NEVER, NO_FAULTS, Run, holds};
 use std::mem::ManuallyDrop;
 use xti_run::{NoGate, replay};
 use xti_script_reader::read_script;

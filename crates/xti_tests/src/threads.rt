@@ -1,6 +1,7 @@
 //! A run by threads, with a gate that tells whether the workers' steps are made beside each other.
 
-use crate::running::{NO_FAULTS, Run, expect, holds};
+use crate::cases::expect;
+use crate::running::{NO_FAULTS, Run, holds};
 use crate::waiting::comes;
 use std::sync::Wait;
 use std::sync::atomic::{AtomicBool, Ordering};

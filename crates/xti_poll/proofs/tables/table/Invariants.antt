@@ -1,6 +1,6 @@
 use Rattle.std.proofs.Common.{◌≡◌, List, take}
-use Rattle.xti_glance.specs.Glances.{IsSameLater}
-use Rattle.xti_glance.specs.declared.found.Glance.{Glance}
+use Rattle.xti_gather.specs.Glances.{IsSameLater}
+use Rattle.xti_gather.specs.declared.glancing.found.Glance.{Glance}
 use Rattle.xti_poll.specs.Tables.{AreFound, table_text}
 use Rattle.xti_poll.proofs.tables.table.Given as goal
 

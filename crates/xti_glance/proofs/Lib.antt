@@ -1,5 +1,0 @@
-mod Sights
-mod Ends
-mod Marks
-mod Events
-mod SurveyEnds
