@@ -26,8 +26,7 @@ fn put_field(out: &mut Vec<u8>, key: &str, n: u32) -> Result<(), AllocError>
 fn put_flag(out: &mut Vec<u8>, key: &str, more: bool) -> Result<(), AllocError>
     ensures { OnOk result (Adds (flag_field key.now more) out.old out.new) }
 {
-    put_text(out, key)?;
-    put_text(out, if more { "1" } else { "0" })
+    put_text(out, key).and(put_text(out, if more { "1" } else { "0" }))
 }
 
 #[tactic(auto, unfolding(crate::specs::FrameText::part_field))]
@@ -47,9 +46,9 @@ fn put_user(out: &mut Vec<u8>, user: &Bytes) -> Result<(), AllocError>
 fn put_flagged(out: &mut Vec<u8>, name: &str, more: bool, user: &Bytes) -> Result<(), AllocError>
     ensures { OnOk result (Adds (flagged_text name.now more user.now) out.old out.new) }
 {
-    put_name(out, name)?;
-    put_flag(out, " MORE_flag=", more)?;
-    put_user(out, user)
+    put_name(out, name)
+        .and(put_flag(out, " MORE_flag=", more))
+        .and(put_user(out, user))
 }
 
 // The name, an address and the options.
@@ -62,17 +61,16 @@ fn put_parts(
 ) -> Result<(), AllocError>
     ensures { OnOk result (Adds (parts_text name.now key.now address.now opt.now) out.old out.new) }
 {
-    put_name(out, name)?;
-    put_part(out, key, address)?;
-    put_part(out, " OPT=", opt)
+    put_name(out, name)
+        .and(put_part(out, key, address))
+        .and(put_part(out, " OPT=", opt))
 }
 
 // The name of a primitive that has no words, and the user data.
 fn put_without_words(out: &mut Vec<u8>, name: &str, user: &Bytes) -> Result<(), AllocError>
     ensures { OnOk result (Adds (name_word name.now ++ user_field user.now) out.old out.new) }
 {
-    put_name(out, name)?;
-    put_user(out, user)
+    put_name(out, name).and(put_user(out, user))
 }
 
 // A primitive of a connection, from its request to its end.
@@ -82,8 +80,7 @@ fn put_connection(out: &mut Vec<u8>, prim: &Prim) -> Result<(), AllocError>
 {
     match prim {
         Prim::T_CONN_REQ { dest, opt, user } => {
-            put_parts(out, "T_CONN_REQ", " DEST=", dest, opt)?;
-            put_user(out, user)
+            put_parts(out, "T_CONN_REQ", " DEST=", dest, opt).and(put_user(out, user))
         }
         Prim::T_CONN_RES {
             acceptor_id,
@@ -91,16 +88,16 @@ fn put_connection(out: &mut Vec<u8>, prim: &Prim) -> Result<(), AllocError>
             seq_number,
             user,
         } => {
-            put_name(out, "T_CONN_RES")?;
-            put_field(out, " ACCEPTOR_id=", *acceptor_id)?;
-            put_part(out, " OPT=", opt)?;
-            put_field(out, " SEQ_number=", *seq_number)?;
-            put_user(out, user)
+            put_name(out, "T_CONN_RES")
+                .and(put_field(out, " ACCEPTOR_id=", *acceptor_id))
+                .and(put_part(out, " OPT=", opt))
+                .and(put_field(out, " SEQ_number=", *seq_number))
+                .and(put_user(out, user))
         }
         Prim::T_DISCON_REQ { seq_number, user } => {
-            put_name(out, "T_DISCON_REQ")?;
-            put_field(out, " SEQ_number=", *seq_number)?;
-            put_user(out, user)
+            put_name(out, "T_DISCON_REQ")
+                .and(put_field(out, " SEQ_number=", *seq_number))
+                .and(put_user(out, user))
         }
         Prim::T_ORDREL_REQ { user } => put_without_words(out, "T_ORDREL_REQ", user),
         Prim::T_CONN_IND {
@@ -109,23 +106,22 @@ fn put_connection(out: &mut Vec<u8>, prim: &Prim) -> Result<(), AllocError>
             seq_number,
             user,
         } => {
-            put_parts(out, "T_CONN_IND", " SRC=", src, opt)?;
-            put_field(out, " SEQ_number=", *seq_number)?;
-            put_user(out, user)
+            put_parts(out, "T_CONN_IND", " SRC=", src, opt)
+                .and(put_field(out, " SEQ_number=", *seq_number))
+                .and(put_user(out, user))
         }
         Prim::T_CONN_CON { res, opt, user } => {
-            put_parts(out, "T_CONN_CON", " RES=", res, opt)?;
-            put_user(out, user)
+            put_parts(out, "T_CONN_CON", " RES=", res, opt).and(put_user(out, user))
         }
         Prim::T_DISCON_IND {
             reason,
             seq_number,
             user,
         } => {
-            put_name(out, "T_DISCON_IND")?;
-            put_field(out, " DISCON_reason=", *reason)?;
-            put_field(out, " SEQ_number=", *seq_number)?;
-            put_user(out, user)
+            put_name(out, "T_DISCON_IND")
+                .and(put_field(out, " DISCON_reason=", *reason))
+                .and(put_field(out, " SEQ_number=", *seq_number))
+                .and(put_user(out, user))
         }
         Prim::T_ORDREL_IND { user } => put_without_words(out, "T_ORDREL_IND", user),
         _ => unreachable!(),
@@ -141,22 +137,23 @@ fn put_data(out: &mut Vec<u8>, prim: &Prim) -> Result<(), AllocError>
         Prim::T_DATA_REQ { more, user } => put_flagged(out, "T_DATA_REQ", *more, user),
         Prim::T_EXDATA_REQ { more, user } => put_flagged(out, "T_EXDATA_REQ", *more, user),
         Prim::T_UNITDATA_REQ { dest, opt, user } => {
-            put_parts(out, "T_UNITDATA_REQ", " DEST=", dest, opt)?;
-            put_user(out, user)
+            put_parts(out, "T_UNITDATA_REQ", " DEST=", dest, opt).and(put_user(out, user))
         }
         Prim::T_DATA_IND { more, user } => put_flagged(out, "T_DATA_IND", *more, user),
         Prim::T_EXDATA_IND { more, user } => put_flagged(out, "T_EXDATA_IND", *more, user),
         Prim::T_UNITDATA_IND { src, opt, user } => {
-            put_parts(out, "T_UNITDATA_IND", " SRC=", src, opt)?;
-            put_user(out, user)
+            put_parts(out, "T_UNITDATA_IND", " SRC=", src, opt).and(put_user(out, user))
         }
         Prim::T_UDERROR_IND {
             dest,
             opt,
             error_type,
         } => {
-            put_parts(out, "T_UDERROR_IND", " DEST=", dest, opt)?;
-            put_field(out, " ERROR_type=", *error_type)
+            put_parts(out, "T_UDERROR_IND", " DEST=", dest, opt).and(put_field(
+                out,
+                " ERROR_type=",
+                *error_type,
+            ))
         }
         _ => unreachable!(),
     }
@@ -172,32 +169,31 @@ fn put_binding(out: &mut Vec<u8>, prim: &Prim) -> Result<(), AllocError>
             addr,
             conind_number,
         } => {
-            put_name(out, "T_BIND_REQ")?;
-            put_part(out, " ADDR=", addr)?;
-            put_field(out, " CONIND_number=", *conind_number)
+            put_name(out, "T_BIND_REQ")
+                .and(put_part(out, " ADDR=", addr))
+                .and(put_field(out, " CONIND_number=", *conind_number))
         }
         Prim::T_UNBIND_REQ => put_name(out, "T_UNBIND_REQ"),
         Prim::T_BIND_ACK {
             addr,
             conind_number,
         } => {
-            put_name(out, "T_BIND_ACK")?;
-            put_part(out, " ADDR=", addr)?;
-            put_field(out, " CONIND_number=", *conind_number)
+            put_name(out, "T_BIND_ACK")
+                .and(put_part(out, " ADDR=", addr))
+                .and(put_field(out, " CONIND_number=", *conind_number))
         }
         Prim::T_ERROR_ACK {
             error_prim,
             tli_error,
             unix_error,
         } => {
-            put_name(out, "T_ERROR_ACK")?;
-            put_field(out, " ERROR_prim=", *error_prim)?;
-            put_field(out, " TLI_error=", *tli_error)?;
-            put_field(out, " UNIX_error=", *unix_error)
+            put_name(out, "T_ERROR_ACK")
+                .and(put_field(out, " ERROR_prim=", *error_prim))
+                .and(put_field(out, " TLI_error=", *tli_error))
+                .and(put_field(out, " UNIX_error=", *unix_error))
         }
         Prim::T_OK_ACK { correct_prim } => {
-            put_name(out, "T_OK_ACK")?;
-            put_field(out, " CORRECT_prim=", *correct_prim)
+            put_name(out, "T_OK_ACK").and(put_field(out, " CORRECT_prim=", *correct_prim))
         }
         _ => unreachable!(),
     }
@@ -234,6 +230,5 @@ fn put_prim(out: &mut Vec<u8>, prim: &Prim) -> Result<(), AllocError>
 pub(crate) fn put_line(out: &mut Vec<u8>, prim: &Prim) -> Result<(), AllocError>
     ensures { OnOk result (Adds (frame_line prim.now) out.old out.new) }
 {
-    put_prim(out, prim)?;
-    put_text(out, "\n")
+    put_prim(out, prim).and(put_text(out, "\n"))
 }

@@ -8,7 +8,6 @@ use crate::lines::put_line;
 use std::alloc::{AllocError, Global};
 use thiserror::Error;
 use tpi_grammar::frames_law;
-use tpi_prim::primitive::Prim;
 use tpi_prim::{Decoded, decode};
 use xti_base::Octets;
 
@@ -37,9 +36,6 @@ impl From<AllocError> for FramesFail {
     }
 }
 
-// The value ends here, so that its twenty forms are told apart here alone.
-fn let_go(_prim: Prim) {}
-
 /// The lines of the frames of an input, one for each in their order, each ended by LF: the name of the primitive, its
 /// words as `NAME=n`, its parts as `NAME=x:` and hexadecimal digits, and ` data=x:` with the user data where the
 /// primitive may have any.
@@ -54,7 +50,7 @@ pub fn show_frames(alloc: Global, input: &[u8]) -> Result<Octets, FramesFail>
         match decode(alloc, rest) {
             Decoded::Value { prim, used } => {
                 let written = put_line(&mut out, &prim);
-                let_go(prim);
+                drop(prim);
                 written?;
                 rest = rest.split_at(used).1;
             }

@@ -25,15 +25,15 @@ fn put_address_or_options(out: &mut Vec<u8>, call: &Call) -> Result<(), AllocErr
             qlen,
             amax,
         } => {
-            put_number(out, " bind ", fd.0 as u64)?;
-            put_pairs(out, " addr=x:", addr)?;
-            put_number(out, " qlen=", *qlen as u64)?;
-            put_number(out, " amax=", *amax as u64)
+            put_number(out, " bind ", fd.0 as u64)
+                .and(put_pairs(out, " addr=x:", addr))
+                .and(put_number(out, " qlen=", *qlen as u64))
+                .and(put_number(out, " amax=", *amax as u64))
         }
         Call::TGetProtAddr { fd, amax, pmax } => {
-            put_number(out, " getprotaddr ", fd.0 as u64)?;
-            put_number(out, " amax=", *amax as u64)?;
-            put_number(out, " pmax=", *pmax as u64)
+            put_number(out, " getprotaddr ", fd.0 as u64)
+                .and(put_number(out, " amax=", *amax as u64))
+                .and(put_number(out, " pmax=", *pmax as u64))
         }
         Call::TOptMgmt {
             fd,
@@ -41,10 +41,10 @@ fn put_address_or_options(out: &mut Vec<u8>, call: &Call) -> Result<(), AllocErr
             opt,
             omax,
         } => {
-            put_number(out, " optmgmt ", fd.0 as u64)?;
-            put_number(out, " ", *action as u64)?;
-            put_pairs(out, " opt=x:", opt)?;
-            put_number(out, " omax=", *omax as u64)
+            put_number(out, " optmgmt ", fd.0 as u64)
+                .and(put_number(out, " ", *action as u64))
+                .and(put_pairs(out, " opt=x:", opt))
+                .and(put_number(out, " omax=", *omax as u64))
         }
         _ => unreachable!(),
     }
@@ -65,10 +65,10 @@ fn put_connection_request(out: &mut Vec<u8>, call: &Call) -> Result<(), AllocErr
             omax,
             umax,
         } => {
-            put_number(out, " connect ", fd.0 as u64)?;
-            put_address_and_options(out, addr, opt)?;
-            put_pairs(out, " udata=x:", udata)?;
-            put_most(out, *amax, *omax, *umax)
+            put_number(out, " connect ", fd.0 as u64)
+                .and(put_address_and_options(out, addr, opt))
+                .and(put_pairs(out, " udata=x:", udata))
+                .and(put_most(out, *amax, *omax, *umax))
         }
         Call::TAccept {
             fd,
@@ -77,20 +77,19 @@ fn put_connection_request(out: &mut Vec<u8>, call: &Call) -> Result<(), AllocErr
             opt,
             udata,
         } => {
-            put_number(out, " accept ", fd.0 as u64)?;
-            put_number(out, " ", resfd.0 as u64)?;
-            put_number(out, " ", seq.0 as u64)?;
-            put_pairs(out, " opt=x:", opt)?;
-            put_pairs(out, " udata=x:", udata)
+            put_number(out, " accept ", fd.0 as u64)
+                .and(put_number(out, " ", resfd.0 as u64))
+                .and(put_number(out, " ", seq.0 as u64))
+                .and(put_pairs(out, " opt=x:", opt))
+                .and(put_pairs(out, " udata=x:", udata))
         }
         Call::TSndDis { fd, seq, udata } => {
-            put_number(out, " snddis ", fd.0 as u64)?;
-            put_number(out, " ", seq.0 as u64)?;
-            put_pairs(out, " udata=x:", udata)
+            put_number(out, " snddis ", fd.0 as u64)
+                .and(put_number(out, " ", seq.0 as u64))
+                .and(put_pairs(out, " udata=x:", udata))
         }
         Call::TSndRelData { fd, udata } => {
-            put_number(out, " sndreldata ", fd.0 as u64)?;
-            put_pairs(out, " udata=x:", udata)
+            put_number(out, " sndreldata ", fd.0 as u64).and(put_pairs(out, " udata=x:", udata))
         }
         _ => unreachable!(),
     }
@@ -109,25 +108,23 @@ fn put_connection_receipt(out: &mut Vec<u8>, call: &Call) -> Result<(), AllocErr
             omax,
             umax,
         } => {
-            put_number(out, " rcvconnect ", fd.0 as u64)?;
-            put_most(out, *amax, *omax, *umax)
+            put_number(out, " rcvconnect ", fd.0 as u64).and(put_most(out, *amax, *omax, *umax))
         }
         Call::TListen {
             fd,
             amax,
             omax,
             umax,
-        } => {
-            put_number(out, " listen ", fd.0 as u64)?;
-            put_most(out, *amax, *omax, *umax)
-        }
+        } => { put_number(out, " listen ", fd.0 as u64).and(put_most(out, *amax, *omax, *umax)) }
         Call::TRcvDis { fd, umax } => {
-            put_number(out, " rcvdis ", fd.0 as u64)?;
-            put_number(out, " umax=", *umax as u64)
+            put_number(out, " rcvdis ", fd.0 as u64).and(put_number(out, " umax=", *umax as u64))
         }
         Call::TRcvRelData { fd, umax } => {
-            put_number(out, " rcvreldata ", fd.0 as u64)?;
-            put_number(out, " umax=", *umax as u64)
+            put_number(out, " rcvreldata ", fd.0 as u64).and(put_number(
+                out,
+                " umax=",
+                *umax as u64,
+            ))
         }
         _ => unreachable!(),
     }
@@ -141,14 +138,14 @@ fn put_send(out: &mut Vec<u8>, call: &Call) -> Result<(), AllocError>
 {
     match call {
         Call::TSnd { fd, bytes, flags } => {
-            put_number(out, " snd ", fd.0 as u64)?;
-            put_pairs(out, " data=x:", bytes)?;
-            put_number(out, " flags=", *flags as u64)
+            put_number(out, " snd ", fd.0 as u64)
+                .and(put_pairs(out, " data=x:", bytes))
+                .and(put_number(out, " flags=", *flags as u64))
         }
         Call::TSndV { fd, parts, flags } => {
-            put_number(out, " sndv ", fd.0 as u64)?;
-            put_parts(out, parts.as_slice())?;
-            put_number(out, " flags=", *flags as u64)
+            put_number(out, " sndv ", fd.0 as u64)
+                .and(put_parts(out, parts.as_slice()))
+                .and(put_number(out, " flags=", *flags as u64))
         }
         Call::TSndUData {
             fd,
@@ -156,9 +153,9 @@ fn put_send(out: &mut Vec<u8>, call: &Call) -> Result<(), AllocError>
             opt,
             bytes,
         } => {
-            put_number(out, " sndudata ", fd.0 as u64)?;
-            put_address_and_options(out, addr, opt)?;
-            put_pairs(out, " data=x:", bytes)
+            put_number(out, " sndudata ", fd.0 as u64)
+                .and(put_address_and_options(out, addr, opt))
+                .and(put_pairs(out, " data=x:", bytes))
         }
         Call::TSndVUData {
             fd,
@@ -166,9 +163,9 @@ fn put_send(out: &mut Vec<u8>, call: &Call) -> Result<(), AllocError>
             opt,
             parts,
         } => {
-            put_number(out, " sndvudata ", fd.0 as u64)?;
-            put_address_and_options(out, addr, opt)?;
-            put_parts(out, parts.as_slice())
+            put_number(out, " sndvudata ", fd.0 as u64)
+                .and(put_address_and_options(out, addr, opt))
+                .and(put_parts(out, parts.as_slice()))
         }
         _ => unreachable!(),
     }
@@ -182,12 +179,10 @@ fn put_receive(out: &mut Vec<u8>, call: &Call) -> Result<(), AllocError>
 {
     match call {
         Call::TRcv { fd, max } => {
-            put_number(out, " rcv ", fd.0 as u64)?;
-            put_number(out, " max=", *max as u64)
+            put_number(out, " rcv ", fd.0 as u64).and(put_number(out, " max=", *max as u64))
         }
         Call::TRcvV { fd, sizes } => {
-            put_number(out, " rcvv ", fd.0 as u64)?;
-            put_sizes(out, sizes.as_slice())
+            put_number(out, " rcvv ", fd.0 as u64).and(put_sizes(out, sizes.as_slice()))
         }
         Call::TRcvUData {
             fd,
@@ -195,9 +190,9 @@ fn put_receive(out: &mut Vec<u8>, call: &Call) -> Result<(), AllocError>
             amax,
             omax,
         } => {
-            put_number(out, " rcvudata ", fd.0 as u64)?;
-            put_number(out, " max=", *max as u64)?;
-            put_address_limits(out, *amax, *omax)
+            put_number(out, " rcvudata ", fd.0 as u64)
+                .and(put_number(out, " max=", *max as u64))
+                .and(put_address_limits(out, *amax, *omax))
         }
         Call::TRcvVUData {
             fd,
@@ -205,13 +200,12 @@ fn put_receive(out: &mut Vec<u8>, call: &Call) -> Result<(), AllocError>
             amax,
             omax,
         } => {
-            put_number(out, " rcvvudata ", fd.0 as u64)?;
-            put_sizes(out, sizes.as_slice())?;
-            put_address_limits(out, *amax, *omax)
+            put_number(out, " rcvvudata ", fd.0 as u64)
+                .and(put_sizes(out, sizes.as_slice()))
+                .and(put_address_limits(out, *amax, *omax))
         }
         Call::TRcvUDErr { fd, amax, omax } => {
-            put_number(out, " rcvuderr ", fd.0 as u64)?;
-            put_address_limits(out, *amax, *omax)
+            put_number(out, " rcvuderr ", fd.0 as u64).and(put_address_limits(out, *amax, *omax))
         }
         _ => unreachable!(),
     }
@@ -234,13 +228,12 @@ pub(crate) fn put_call(out: &mut Vec<u8>, call: &Call) -> Result<(), AllocError>
 {
     match call {
         Call::TOpen { prov, nonblock } => {
-            put_text(out, " open ")?;
-            put_text(out, prov.name())?;
-            put_mode(out, " ", *nonblock)
+            put_text(out, " open ")
+                .and(put_text(out, prov.name()))
+                .and(put_mode(out, " ", *nonblock))
         }
         Call::SetMode { fd, nonblock } => {
-            put_number(out, " mode ", fd.0 as u64)?;
-            put_mode(out, " ", *nonblock)
+            put_number(out, " mode ", fd.0 as u64).and(put_mode(out, " ", *nonblock))
         }
         Call::TBind { .. } | Call::TGetProtAddr { .. } | Call::TOptMgmt { .. } => {
             put_address_or_options(out, call)

@@ -22,20 +22,20 @@ fn event_name(event: &Option<Event>) -> &'static str
 fn put_sizes_of(out: &mut Vec<u8>, info: &Info) -> Result<(), AllocError>
     ensures { OnOk result (out.new.items ≡ out.old.items ++ sizes_text info.now) }
 {
-    put_limit(out, " ", info.addr)?;
-    put_limit(out, " ", info.options)?;
-    put_limit(out, " ", info.tsdu)?;
-    put_limit(out, " ", info.etsdu)
+    put_limit(out, " ", info.addr)
+        .and(put_limit(out, " ", info.options))
+        .and(put_limit(out, " ", info.tsdu))
+        .and(put_limit(out, " ", info.etsdu))
 }
 
 fn put_info(out: &mut Vec<u8>, info: &Info) -> Result<(), AllocError>
     ensures { OnOk result (out.new.items ≡ out.old.items ++ info_text info.now) }
 {
-    put_sizes_of(out, info)?;
-    put_limit(out, " ", info.connect)?;
-    put_limit(out, " ", info.discon)?;
-    put_number(out, " ", info.servtype.number() as u64)?;
-    put_number(out, " ", info.flags as u64)
+    put_sizes_of(out, info)
+        .and(put_limit(out, " ", info.connect))
+        .and(put_limit(out, " ", info.discon))
+        .and(put_number(out, " ", info.servtype.number() as u64))
+        .and(put_number(out, " ", info.flags as u64))
 }
 
 // What the other side asked or answered about a connection.
@@ -45,9 +45,9 @@ fn put_connection_news(out: &mut Vec<u8>, reply: &Reply) -> Result<(), AllocErro
 {
     match reply {
         Reply::Connected { addr, opt, udata } => {
-            put_pairs(out, " => ok x:", addr)?;
-            put_pairs(out, " x:", opt)?;
-            put_pairs(out, " x:", udata)
+            put_pairs(out, " => ok x:", addr)
+                .and(put_pairs(out, " x:", opt))
+                .and(put_pairs(out, " x:", udata))
         }
         Reply::Listened {
             seq,
@@ -55,15 +55,15 @@ fn put_connection_news(out: &mut Vec<u8>, reply: &Reply) -> Result<(), AllocErro
             opt,
             udata,
         } => {
-            put_number(out, " => ok ", seq.0 as u64)?;
-            put_pairs(out, " x:", addr)?;
-            put_pairs(out, " x:", opt)?;
-            put_pairs(out, " x:", udata)
+            put_number(out, " => ok ", seq.0 as u64)
+                .and(put_pairs(out, " x:", addr))
+                .and(put_pairs(out, " x:", opt))
+                .and(put_pairs(out, " x:", udata))
         }
         Reply::Discon { reason, seq, udata } => {
-            put_number(out, " => ok ", *reason as u64)?;
-            put_number(out, " ", seq.0 as u64)?;
-            put_pairs(out, " x:", udata)
+            put_number(out, " => ok ", *reason as u64)
+                .and(put_number(out, " ", seq.0 as u64))
+                .and(put_pairs(out, " x:", udata))
         }
         Reply::RelData { udata } => put_pairs(out, " => ok x:", udata),
         _ => unreachable!(),
@@ -75,8 +75,7 @@ fn put_connection_news(out: &mut Vec<u8>, reply: &Reply) -> Result<(), AllocErro
 fn put_data(out: &mut Vec<u8>, bytes: &Octets, flags: u32) -> Result<(), AllocError>
     ensures { OnOk result (out.new.items ≡ out.old.items ++ data_text bytes.now flags) }
 {
-    put_pairs(out, " x:", bytes)?;
-    put_number(out, " ", flags as u64)
+    put_pairs(out, " x:", bytes).and(put_number(out, " ", flags as u64))
 }
 
 // Data, a datagram or the error of a datagram.
@@ -87,8 +86,7 @@ fn put_received(out: &mut Vec<u8>, reply: &Reply) -> Result<(), AllocError>
 {
     match reply {
         Reply::Got { bytes, flags } => {
-            put_pairs(out, " => ok x:", bytes)?;
-            put_number(out, " ", *flags as u64)
+            put_pairs(out, " => ok x:", bytes).and(put_number(out, " ", *flags as u64))
         }
         Reply::UData {
             addr,
@@ -96,14 +94,14 @@ fn put_received(out: &mut Vec<u8>, reply: &Reply) -> Result<(), AllocError>
             bytes,
             flags,
         } => {
-            put_pairs(out, " => ok x:", addr)?;
-            put_pairs(out, " x:", opt)?;
-            put_data(out, bytes, *flags)
+            put_pairs(out, " => ok x:", addr)
+                .and(put_pairs(out, " x:", opt))
+                .and(put_data(out, bytes, *flags))
         }
         Reply::UDErr { addr, opt, code } => {
-            put_pairs(out, " => ok x:", addr)?;
-            put_pairs(out, " x:", opt)?;
-            put_number(out, " ", *code as u64)
+            put_pairs(out, " => ok x:", addr)
+                .and(put_pairs(out, " x:", opt))
+                .and(put_number(out, " ", *code as u64))
         }
         _ => unreachable!(),
     }
@@ -115,13 +113,9 @@ fn put_error(out: &mut Vec<u8>, reply: &Reply) -> Result<(), AllocError>
     ensures { OnOk result (out.new.items ≡ out.old.items ++ codes " => " ++ reply_text reply.now) }
 {
     match reply {
-        Reply::Refused { errno } => {
-            put_text(out, " => err ")?;
-            put_text(out, errno.name())
-        }
+        Reply::Refused { errno } => { put_text(out, " => err ").and(put_text(out, errno.name())) }
         Reply::Look { event } => {
-            put_text(out, " => err TLOOK ")?;
-            put_text(out, event.name())
+            put_text(out, " => err TLOOK ").and(put_text(out, event.name()))
         }
         Reply::Overflow { seq } => put_number(out, " => err TBUFOVFLW ", seq.0 as u64),
         _ => unreachable!(),
@@ -135,29 +129,17 @@ fn put_reply(out: &mut Vec<u8>, reply: &Reply) -> Result<(), AllocError>
         Reply::Plain => put_text(out, " => ok"),
         Reply::Opened { fd } => put_number(out, " => ok ", fd.0 as u64),
         Reply::Bound { addr, qlen } => {
-            put_pairs(out, " => ok x:", addr)?;
-            put_number(out, " ", *qlen as u64)
+            put_pairs(out, " => ok x:", addr).and(put_number(out, " ", *qlen as u64))
         }
         Reply::Sent { n } => put_number(out, " => ok ", *n as u64),
-        Reply::Seen { event } => {
-            put_text(out, " => ok ")?;
-            put_text(out, event_name(event))
-        }
-        Reply::Stands { state } => {
-            put_text(out, " => ok ")?;
-            put_text(out, state.name())
-        }
-        Reply::Limits { info } => {
-            put_text(out, " => ok")?;
-            put_info(out, info)
-        }
+        Reply::Seen { event } => { put_text(out, " => ok ").and(put_text(out, event_name(event))) }
+        Reply::Stands { state } => { put_text(out, " => ok ").and(put_text(out, state.name())) }
+        Reply::Limits { info } => { put_text(out, " => ok").and(put_info(out, info)) }
         Reply::Addresses { local, peer } => {
-            put_pairs(out, " => ok x:", local)?;
-            put_pairs(out, " x:", peer)
+            put_pairs(out, " => ok x:", local).and(put_pairs(out, " x:", peer))
         }
         Reply::Options { result, opt } => {
-            put_number(out, " => ok ", *result as u64)?;
-            put_pairs(out, " x:", opt)
+            put_number(out, " => ok ", *result as u64).and(put_pairs(out, " x:", opt))
         }
         Reply::Connected { .. }
         | Reply::Listened { .. }

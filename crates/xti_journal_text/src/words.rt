@@ -26,15 +26,13 @@ pub(crate) fn put_pairs(out: &mut Vec<u8>, key: &str, o: &Octets) -> Result<(), 
 pub(crate) fn put_bit(out: &mut Vec<u8>, key: &str, b: bool) -> Result<(), AllocError>
     ensures { OnOk result (out.new.items ≡ out.old.items ++ bit_word key.now b) }
 {
-    put_text(out, key)?;
-    put_text(out, if b { "1" } else { "0" })
+    put_text(out, key).and(put_text(out, if b { "1" } else { "0" }))
 }
 
 pub(crate) fn put_mode(out: &mut Vec<u8>, key: &str, nonblock: bool) -> Result<(), AllocError>
     ensures { OnOk result (out.new.items ≡ out.old.items ++ mode_word key.now nonblock) }
 {
-    put_text(out, key)?;
-    put_text(out, if nonblock { "nonblock" } else { "block" })
+    put_text(out, key).and(put_text(out, if nonblock { "nonblock" } else { "block" }))
 }
 
 pub(crate) fn put_parts(out: &mut Vec<u8>, parts: &[Octets]) -> Result<(), AllocError>
@@ -72,8 +70,7 @@ pub(crate) fn put_sizes(out: &mut Vec<u8>, sizes: &[u32]) -> Result<(), AllocErr
 pub(crate) fn put_address_limits(out: &mut Vec<u8>, amax: u32, omax: u32) -> Result<(), AllocError>
     ensures { OnOk result (out.new.items ≡ out.old.items ++ address_limits amax omax) }
 {
-    put_number(out, " amax=", amax as u64)?;
-    put_number(out, " omax=", omax as u64)
+    put_number(out, " amax=", amax as u64).and(put_number(out, " omax=", omax as u64))
 }
 
 // The address and the options of a call.
@@ -85,15 +82,13 @@ pub(crate) fn put_address_and_options(
 ) -> Result<(), AllocError>
     ensures { OnOk result (out.new.items ≡ out.old.items ++ address_words addr.now opt.now) }
 {
-    put_pairs(out, " addr=x:", addr)?;
-    put_pairs(out, " opt=x:", opt)
+    put_pairs(out, " addr=x:", addr).and(put_pairs(out, " opt=x:", opt))
 }
 
 pub(crate) fn put_most(out: &mut Vec<u8>, amax: u32, omax: u32, umax: u32) -> Result<(), AllocError>
     ensures { OnOk result (out.new.items ≡ out.old.items ++ most_words amax omax umax) }
 {
-    put_address_limits(out, amax, omax)?;
-    put_number(out, " umax=", umax as u64)
+    put_address_limits(out, amax, omax).and(put_number(out, " umax=", umax as u64))
 }
 
 // The state after a call's answer, which ends the line. Each text's length is known here.

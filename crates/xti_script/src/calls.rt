@@ -18,8 +18,7 @@ use xti_words::put_number;
 fn put_address_limits(out: &mut Vec<u8>, amax: u32, omax: u32) -> Result<(), AllocError>
     ensures { OnOk result (out.new.items ≡ out.old.items ++ address_limits_text amax omax) }
 {
-    put_number(out, " amax=", amax as u64)?;
-    put_number(out, " omax=", omax as u64)
+    put_number(out, " amax=", amax as u64).and(put_number(out, " omax=", omax as u64))
 }
 
 // The most bytes that the caller takes of address, options and data.
@@ -27,16 +26,14 @@ fn put_most(out: &mut Vec<u8>, amax: u32, omax: u32, umax: u32) -> Result<(), Al
     ensures { OnOk result (out.new.items
         ≡ out.old.items ++ (codes " amax=" ++ decimal amax) ++ (codes " omax=" ++ decimal omax) ++ (codes " umax=" ++ decimal umax)) }
 {
-    put_address_limits(out, amax, omax)?;
-    put_number(out, " umax=", umax as u64)
+    put_address_limits(out, amax, omax).and(put_number(out, " umax=", umax as u64))
 }
 
 // The address and the options of a call.
 fn put_address_and_options(out: &mut Vec<u8>, addr: &Octets, opt: &Octets) -> Result<(), AllocError>
     ensures { OnOk result (out.new.items ≡ out.old.items ++ address_text addr.now opt.now) }
 {
-    put_bytes(out, " addr=", addr)?;
-    put_bytes(out, " opt=", opt)
+    put_bytes(out, " addr=", addr).and(put_bytes(out, " opt=", opt))
 }
 
 // The address, the options and the data of a request.
@@ -49,8 +46,7 @@ fn put_request(
     ensures { OnOk result (out.new.items
         ≡ out.old.items ++ request_text addr.now opt.now udata.now) }
 {
-    put_address_and_options(out, addr, opt)?;
-    put_bytes(out, " udata=", udata)
+    put_address_and_options(out, addr, opt).and(put_bytes(out, " udata=", udata))
 }
 
 // Where a request is accepted, with which options and data.
@@ -64,10 +60,10 @@ fn put_acceptance(
     ensures { OnOk result (out.new.items
         ≡ out.old.items ++ acceptance_text resfd.now seq.now opt.now udata.now) }
 {
-    put_name(out, " ", resfd)?;
-    put_name(out, " ", seq)?;
-    put_bytes(out, " opt=", opt)?;
-    put_bytes(out, " udata=", udata)
+    put_name(out, " ", resfd)
+        .and(put_name(out, " ", seq))
+        .and(put_bytes(out, " opt=", opt))
+        .and(put_bytes(out, " udata=", udata))
 }
 
 // A call that names an address, asks for addresses or settles options.
@@ -83,15 +79,15 @@ fn put_address_or_options(out: &mut Vec<u8>, call: &NamedCall) -> Result<(), All
             qlen,
             amax,
         } => {
-            put_name(out, "bind ", fd)?;
-            put_bytes(out, " addr=", addr)?;
-            put_number(out, " qlen=", *qlen as u64)?;
-            put_number(out, " amax=", *amax as u64)
+            put_name(out, "bind ", fd)
+                .and(put_bytes(out, " addr=", addr))
+                .and(put_number(out, " qlen=", *qlen as u64))
+                .and(put_number(out, " amax=", *amax as u64))
         }
         NamedCall::TGetProtAddr { fd, amax, pmax } => {
-            put_name(out, "getprotaddr ", fd)?;
-            put_number(out, " amax=", *amax as u64)?;
-            put_number(out, " pmax=", *pmax as u64)
+            put_name(out, "getprotaddr ", fd)
+                .and(put_number(out, " amax=", *amax as u64))
+                .and(put_number(out, " pmax=", *pmax as u64))
         }
         NamedCall::TOptMgmt {
             fd,
@@ -99,10 +95,10 @@ fn put_address_or_options(out: &mut Vec<u8>, call: &NamedCall) -> Result<(), All
             opt,
             omax,
         } => {
-            put_name(out, "optmgmt ", fd)?;
-            put_number(out, " ", *action as u64)?;
-            put_bytes(out, " opt=", opt)?;
-            put_number(out, " omax=", *omax as u64)
+            put_name(out, "optmgmt ", fd)
+                .and(put_number(out, " ", *action as u64))
+                .and(put_bytes(out, " opt=", opt))
+                .and(put_number(out, " omax=", *omax as u64))
         }
         _ => unreachable!(),
     }
@@ -124,9 +120,9 @@ fn put_connection_request(out: &mut Vec<u8>, call: &NamedCall) -> Result<(), All
             omax,
             umax,
         } => {
-            put_name(out, "connect ", fd)?;
-            put_request(out, addr, opt, udata)?;
-            put_most(out, *amax, *omax, *umax)
+            put_name(out, "connect ", fd)
+                .and(put_request(out, addr, opt, udata))
+                .and(put_most(out, *amax, *omax, *umax))
         }
         NamedCall::TAccept {
             fd,
@@ -134,18 +130,14 @@ fn put_connection_request(out: &mut Vec<u8>, call: &NamedCall) -> Result<(), All
             seq,
             opt,
             udata,
-        } => {
-            put_name(out, "accept ", fd)?;
-            put_acceptance(out, resfd, seq, opt, udata)
-        }
+        } => { put_name(out, "accept ", fd).and(put_acceptance(out, resfd, seq, opt, udata)) }
         NamedCall::TSndDis { fd, seq, udata } => {
-            put_name(out, "snddis ", fd)?;
-            put_name_or_none(out, " ", seq)?;
-            put_bytes(out, " udata=", udata)
+            put_name(out, "snddis ", fd)
+                .and(put_name_or_none(out, " ", seq))
+                .and(put_bytes(out, " udata=", udata))
         }
         NamedCall::TSndRelData { fd, udata } => {
-            put_name(out, "sndreldata ", fd)?;
-            put_bytes(out, " udata=", udata)
+            put_name(out, "sndreldata ", fd).and(put_bytes(out, " udata=", udata))
         }
         _ => unreachable!(),
     }
@@ -163,10 +155,7 @@ fn put_connection_receipt(out: &mut Vec<u8>, call: &NamedCall) -> Result<(), All
             amax,
             omax,
             umax,
-        } => {
-            put_name(out, "rcvconnect ", fd)?;
-            put_most(out, *amax, *omax, *umax)
-        }
+        } => { put_name(out, "rcvconnect ", fd).and(put_most(out, *amax, *omax, *umax)) }
         NamedCall::TListen {
             fd,
             name,
@@ -174,17 +163,15 @@ fn put_connection_receipt(out: &mut Vec<u8>, call: &NamedCall) -> Result<(), All
             omax,
             umax,
         } => {
-            put_name(out, "listen ", fd)?;
-            put_name(out, " ", name)?;
-            put_most(out, *amax, *omax, *umax)
+            put_name(out, "listen ", fd)
+                .and(put_name(out, " ", name))
+                .and(put_most(out, *amax, *omax, *umax))
         }
         NamedCall::TRcvDis { fd, umax } => {
-            put_name(out, "rcvdis ", fd)?;
-            put_number(out, " umax=", *umax as u64)
+            put_name(out, "rcvdis ", fd).and(put_number(out, " umax=", *umax as u64))
         }
         NamedCall::TRcvRelData { fd, umax } => {
-            put_name(out, "rcvreldata ", fd)?;
-            put_number(out, " umax=", *umax as u64)
+            put_name(out, "rcvreldata ", fd).and(put_number(out, " umax=", *umax as u64))
         }
         _ => unreachable!(),
     }
@@ -198,14 +185,14 @@ fn put_send(out: &mut Vec<u8>, call: &NamedCall) -> Result<(), AllocError>
 {
     match call {
         NamedCall::TSnd { fd, bytes, flags } => {
-            put_name(out, "snd ", fd)?;
-            put_bytes(out, " data=", bytes)?;
-            put_number(out, " flags=", *flags as u64)
+            put_name(out, "snd ", fd)
+                .and(put_bytes(out, " data=", bytes))
+                .and(put_number(out, " flags=", *flags as u64))
         }
         NamedCall::TSndV { fd, parts, flags } => {
-            put_name(out, "sndv ", fd)?;
-            put_parts(out, " parts=", parts.as_slice())?;
-            put_number(out, " flags=", *flags as u64)
+            put_name(out, "sndv ", fd)
+                .and(put_parts(out, " parts=", parts.as_slice()))
+                .and(put_number(out, " flags=", *flags as u64))
         }
         NamedCall::TSndUData {
             fd,
@@ -213,9 +200,9 @@ fn put_send(out: &mut Vec<u8>, call: &NamedCall) -> Result<(), AllocError>
             opt,
             bytes,
         } => {
-            put_name(out, "sndudata ", fd)?;
-            put_address_and_options(out, addr, opt)?;
-            put_bytes(out, " data=", bytes)
+            put_name(out, "sndudata ", fd)
+                .and(put_address_and_options(out, addr, opt))
+                .and(put_bytes(out, " data=", bytes))
         }
         NamedCall::TSndVUData {
             fd,
@@ -223,9 +210,9 @@ fn put_send(out: &mut Vec<u8>, call: &NamedCall) -> Result<(), AllocError>
             opt,
             parts,
         } => {
-            put_name(out, "sndvudata ", fd)?;
-            put_address_and_options(out, addr, opt)?;
-            put_parts(out, " parts=", parts.as_slice())
+            put_name(out, "sndvudata ", fd)
+                .and(put_address_and_options(out, addr, opt))
+                .and(put_parts(out, " parts=", parts.as_slice()))
         }
         _ => unreachable!(),
     }
@@ -239,12 +226,10 @@ fn put_receive(out: &mut Vec<u8>, call: &NamedCall) -> Result<(), AllocError>
 {
     match call {
         NamedCall::TRcv { fd, max } => {
-            put_name(out, "rcv ", fd)?;
-            put_number(out, " max=", *max as u64)
+            put_name(out, "rcv ", fd).and(put_number(out, " max=", *max as u64))
         }
         NamedCall::TRcvV { fd, sizes } => {
-            put_name(out, "rcvv ", fd)?;
-            put_sizes(out, " sizes=", sizes.as_slice())
+            put_name(out, "rcvv ", fd).and(put_sizes(out, " sizes=", sizes.as_slice()))
         }
         NamedCall::TRcvUData {
             fd,
@@ -252,9 +237,9 @@ fn put_receive(out: &mut Vec<u8>, call: &NamedCall) -> Result<(), AllocError>
             amax,
             omax,
         } => {
-            put_name(out, "rcvudata ", fd)?;
-            put_number(out, " max=", *max as u64)?;
-            put_address_limits(out, *amax, *omax)
+            put_name(out, "rcvudata ", fd)
+                .and(put_number(out, " max=", *max as u64))
+                .and(put_address_limits(out, *amax, *omax))
         }
         NamedCall::TRcvVUData {
             fd,
@@ -262,13 +247,12 @@ fn put_receive(out: &mut Vec<u8>, call: &NamedCall) -> Result<(), AllocError>
             amax,
             omax,
         } => {
-            put_name(out, "rcvvudata ", fd)?;
-            put_sizes(out, " sizes=", sizes.as_slice())?;
-            put_address_limits(out, *amax, *omax)
+            put_name(out, "rcvvudata ", fd)
+                .and(put_sizes(out, " sizes=", sizes.as_slice()))
+                .and(put_address_limits(out, *amax, *omax))
         }
         NamedCall::TRcvUDErr { fd, amax, omax } => {
-            put_name(out, "rcvuderr ", fd)?;
-            put_address_limits(out, *amax, *omax)
+            put_name(out, "rcvuderr ", fd).and(put_address_limits(out, *amax, *omax))
         }
         _ => unreachable!(),
     }
@@ -298,13 +282,12 @@ pub(crate) fn put_call(out: &mut Vec<u8>, call: &NamedCall) -> Result<(), AllocE
             prov,
             nonblock,
         } => {
-            put_name(out, "open ", name)?;
-            put_provider(out, " ", *prov)?;
-            put_mode(out, " ", *nonblock)
+            put_name(out, "open ", name)
+                .and(put_provider(out, " ", *prov))
+                .and(put_mode(out, " ", *nonblock))
         }
         NamedCall::SetMode { fd, nonblock } => {
-            put_name(out, "mode ", fd)?;
-            put_mode(out, " ", *nonblock)
+            put_name(out, "mode ", fd).and(put_mode(out, " ", *nonblock))
         }
         NamedCall::TBind { .. } | NamedCall::TGetProtAddr { .. } | NamedCall::TOptMgmt { .. } => {
             put_address_or_options(out, call)

@@ -12,8 +12,7 @@ use xti_words::{put_number, put_octets, put_text};
 pub(crate) fn put_name(out: &mut Vec<u8>, key: &str, name: &Name) -> Result<(), AllocError>
     ensures { OnOk result (out.new.items ≡ out.old.items ++ key.now ++ name.now) }
 {
-    put_text(out, key)?;
-    out.extend_from_slice(name.as_slice())
+    put_text(out, key).and(out.extend_from_slice(name.as_slice()))
 }
 
 // The name, or `-` for none.
@@ -34,15 +33,13 @@ pub(crate) fn put_name_or_none(
 pub(crate) fn put_provider(out: &mut Vec<u8>, key: &str, prov: Prov) -> Result<(), AllocError>
     ensures { OnOk result (out.new.items ≡ out.old.items ++ key.now ++ prov_name prov) }
 {
-    put_text(out, key)?;
-    put_text(out, prov.name())
+    put_text(out, key).and(put_text(out, prov.name()))
 }
 
 pub(crate) fn put_mode(out: &mut Vec<u8>, key: &str, nonblock: bool) -> Result<(), AllocError>
     ensures { OnOk result (out.new.items ≡ out.old.items ++ key.now ++ mode_text nonblock) }
 {
-    put_text(out, key)?;
-    put_text(out, if nonblock { "nonblock" } else { "block" })
+    put_text(out, key).and(put_text(out, if nonblock { "nonblock" } else { "block" }))
 }
 
 pub(crate) fn put_bytes(out: &mut Vec<u8>, key: &str, bytes: &Octets) -> Result<(), AllocError>

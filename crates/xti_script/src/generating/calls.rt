@@ -27,12 +27,7 @@ pub(crate) fn open(alloc: Global, name: &[u8], prov: Prov) -> Result<NamedCall, 
     })
 }
 
-pub(crate) fn bind(
-    alloc: Global,
-    name: &[u8],
-    addr: &[u8],
-    qlen: u32,
-) -> Result<NamedCall, AllocError>
+fn bind(alloc: Global, name: &[u8], addr: &[u8], qlen: u32) -> Result<NamedCall, AllocError>
     ensures { IfOk result (λ call. call ≡ binding name.now addr.now qlen) }
 {
     Ok(build_or_drop!(NamedCall::TBind {
@@ -41,6 +36,22 @@ pub(crate) fn bind(
         fd: Name::copy_of(alloc, name),
         addr: Octets::copy_of(alloc, addr),
     }))
+}
+
+/// Appends the lines of worker 0 that open an endpoint and bind it.
+pub(crate) fn put_bound(
+    lines: &mut Vec<Line>,
+    prov: Prov,
+    name: &[u8],
+    addr: &[u8],
+    qlen: u32,
+) -> Result<(), AllocError>
+    ensures { OnOk result (lines.new.items
+        ≡ lines.old.items ++ line 0 (opening name.now prov) ∷ line 0 (binding name.now addr.now qlen) ∷ []) }
+{
+    let alloc = *lines.allocator();
+    put(lines, 0, open(alloc, name, prov)?)?;
+    put(lines, 0, bind(alloc, name, addr, qlen)?)
 }
 
 pub(crate) fn listen(alloc: Global, name: &[u8], seq: &[u8]) -> Result<NamedCall, AllocError>

@@ -3,7 +3,7 @@
 ghost use Rattle.std.specs.Prelude.{◌≡◌, ◌++◌, OnOk};
 ghost use Rattle.xti_script.specs.Generated.{connection_setup, receive_rounds, send_rounds, accepting_side, connecting_side};
 
-use crate::generating::calls::{accept, bind, connect, listen, open, put, receive, send};
+use crate::generating::calls::{accept, connect, listen, open, put, put_bound, receive, send};
 use crate::generating::ring::round_bytes;
 use crate::generating::sizes::{ACCEPTING, CONNECTING, ROUNDS};
 use std::alloc::AllocError;
@@ -15,10 +15,8 @@ pub(crate) fn put_connection_setup(lines: &mut Vec<Line>) -> Result<(), AllocErr
     ensures { OnOk result (lines.new.items ≡ lines.old.items ++ connection_setup) }
 {
     let alloc = *lines.allocator();
-    put(lines, 0, open(alloc, b"l", Prov::Ticotsord)?)?;
-    put(lines, 0, bind(alloc, b"l", b"srv", 1)?)?;
-    put(lines, 0, open(alloc, b"c", Prov::Ticotsord)?)?;
-    put(lines, 0, bind(alloc, b"c", b"", 0)?)?;
+    put_bound(lines, Prov::Ticotsord, b"l", b"srv", 1)?;
+    put_bound(lines, Prov::Ticotsord, b"c", b"", 0)?;
     put(lines, 0, open(alloc, b"r", Prov::Ticotsord)?)
 }
 

@@ -3,7 +3,7 @@
 ghost use Rattle.std.specs.Prelude.{◌≡◌, ◌+◌, ◌<◌, ◌≤◌, ◌∷◌, [], ◌++◌, OnOk, IfOk};
 ghost use Rattle.xti_script.specs.Generated.{ring_name, next, round_bytes, setups, ring_setup, datagram_round, worker_rounds, ring};
 
-use crate::generating::calls::{bind, open, put, receive_datagram, send_to};
+use crate::generating::calls::{put, put_bound, receive_datagram, send_to};
 use crate::generating::sizes::{MOST_SENT, RING, ROUNDS};
 use std::alloc::{AllocError, Global};
 use xti_base::{Octets, Prov};
@@ -43,10 +43,8 @@ fn put_ring_setup(lines: &mut Vec<Line>, worker: u32) -> Result<(), AllocError>
     requires { worker ≤ RING }
     ensures { OnOk result (lines.new.items ≡ lines.old.items ++ ring_setup worker) }
 {
-    let alloc = *lines.allocator();
     let name = ring_name(worker);
-    put(lines, 0, open(alloc, &name, Prov::Ticlts)?)?;
-    put(lines, 0, bind(alloc, &name, &name, 0)?)
+    put_bound(lines, Prov::Ticlts, &name, &name, 0)
 }
 
 /// Appends the setup of the ring.

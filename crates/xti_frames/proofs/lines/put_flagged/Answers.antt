@@ -1,5 +1,5 @@
-use Rattle.xti_frames.proofs.Joined.{joined, joined_ok}
+use Rattle.xti_frames.proofs.Joined.{joined_and}
 use Rattle.xti_frames.proofs.lines.put_flagged.Goals as goal
 
 pub returns : goal.returns
-returns c = joined_ok _ _ _ _ _ _ (joined _ _ _ _ _ c.in_ok-put_name.ensures c.in_ok-put_flag.ensures) c.put_user.ensures
+returns c = joined_and _ _ _ _ _ _ _ _ c.and-2.ensures (joined_and _ _ _ _ _ _ _ _ c.and.ensures c.put_name.ensures c.put_flag.ensures) c.put_user.ensures
