@@ -49,9 +49,10 @@ impl Summary {
             return Err(AllocError);
         }
         let mut out = Vec::new(alloc);
-        self.totals.put(&mut out)?;
-        put_number(&mut out, " stalled ", stalls.len() as u64)?;
-        put_text(&mut out, "\n")?;
+        self.totals
+            .put(&mut out)
+            .and(put_number(&mut out, " stalled ", stalls.len() as u64))
+            .and(put_text(&mut out, "\n"))?;
         Ok(Octets::from_vec(out))
     }
 }

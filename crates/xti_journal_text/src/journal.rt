@@ -18,11 +18,11 @@ const USUAL_LINE: usize = 256;
 fn put_profile(out: &mut Vec<u8>, p: &Profile) -> Result<(), AllocError>
     ensures { OnOk result (out.new.items ≡ out.old.items ++ profile_text p.now) }
 {
-    put_limit(out, " tsdu=", p.tsdu)?;
-    put_bit(out, " sendzero=", p.sendzero)?;
-    put_bit(out, " same_addr=", p.same_addr)?;
-    put_number(out, " sndbuf=", p.sndbuf as u64)?;
-    put_number(out, " rcvbuf=", p.rcvbuf as u64)
+    put_limit(out, " tsdu=", p.tsdu)
+        .and(put_bit(out, " sendzero=", p.sendzero))
+        .and(put_bit(out, " same_addr=", p.same_addr))
+        .and(put_number(out, " sndbuf=", p.sndbuf as u64))
+        .and(put_number(out, " rcvbuf=", p.rcvbuf as u64))
 }
 
 // Whether data may go with an orderly release, where texts of the version say so of the provider.
@@ -71,28 +71,27 @@ fn put_first_line(out: &mut Vec<u8>, version: Version) -> Result<(), AllocError>
 pub(crate) fn put_head(out: &mut Vec<u8>, p: &Providers) -> Result<(), AllocError>
     ensures { OnOk result (out.new.items ≡ out.old.items ++ head_text p.now) }
 {
-    put_first_line(out, p.version)?;
-    put_provider(out, p.version, Prov::Ticots, &p.ticots)?;
-    put_provider(out, p.version, Prov::Ticotsord, &p.ticotsord)?;
-    put_provider(out, p.version, Prov::Ticlts, &p.ticlts)
+    put_first_line(out, p.version)
+        .and(put_provider(out, p.version, Prov::Ticots, &p.ticots))
+        .and(put_provider(out, p.version, Prov::Ticotsord, &p.ticotsord))
+        .and(put_provider(out, p.version, Prov::Ticlts, &p.ticlts))
 }
 
 // What a call answered and the state of its endpoint, after an arrow, to the end of the line.
 fn put_answer(out: &mut Vec<u8>, outcome: &Outcome, after: State) -> Result<(), AllocError>
     ensures { OnOk result (out.new.items ≡ out.old.items ++ answer_end outcome.now after) }
 {
-    put_outcome(out, outcome)?;
-    put_state(out, after)
+    put_outcome(out, outcome).and(put_state(out, after))
 }
 
 #[tactic(auto, unfolding(crate::specs::JournalText::entry_text))]
 pub(crate) fn put_entry(out: &mut Vec<u8>, n: u64, e: &Entry) -> Result<(), AllocError>
     ensures { OnOk result (out.new.items ≡ out.old.items ++ entry_text n e.now) }
 {
-    put_number(out, "", n)?;
-    put_number(out, " ", e.worker as u64)?;
-    put_act(out, &e.act)?;
-    put_answer(out, &e.outcome, e.after)
+    put_number(out, "", n)
+        .and(put_number(out, " ", e.worker as u64))
+        .and(put_act(out, &e.act))
+        .and(put_answer(out, &e.outcome, e.after))
 }
 
 fn put_entries(out: &mut Vec<u8>, entries: &[Entry]) -> Result<(), AllocError>
@@ -110,9 +109,9 @@ fn put_entries(out: &mut Vec<u8>, entries: &[Entry]) -> Result<(), AllocError>
 fn put_stall(out: &mut Vec<u8>, s: &StallLine) -> Result<(), AllocError>
     ensures { OnOk result (out.new.items ≡ out.old.items ++ stall_text s.now) }
 {
-    put_number(out, "stall ", s.worker as u64)?;
-    put_act(out, &s.act)?;
-    put_text(out, "\n")
+    put_number(out, "stall ", s.worker as u64)
+        .and(put_act(out, &s.act))
+        .and(put_text(out, "\n"))
 }
 
 pub(crate) fn put_stalls(out: &mut Vec<u8>, stalls: &[StallLine]) -> Result<(), AllocError>
@@ -128,18 +127,17 @@ pub(crate) fn put_stalls(out: &mut Vec<u8>, stalls: &[StallLine]) -> Result<(), 
 pub(crate) fn put_end(out: &mut Vec<u8>, count: u64) -> Result<(), AllocError>
     ensures { OnOk result (out.new.items ≡ out.old.items ++ end_text count) }
 {
-    put_number(out, "end ", count)?;
-    put_text(out, "\n")
+    put_number(out, "end ", count).and(put_text(out, "\n"))
 }
 
 #[tactic(auto, unfolding(crate::specs::JournalText::journal_text))]
 fn put_journal(out: &mut Vec<u8>, j: &Journal) -> Result<(), AllocError>
     ensures { OnOk result (out.new.items ≡ out.old.items ++ journal_text j.now) }
 {
-    put_head(out, &j.providers)?;
-    put_entries(out, j.entries.as_slice())?;
-    put_stalls(out, j.stalls.as_slice())?;
-    put_end(out, j.entries.len() as u64)
+    put_head(out, &j.providers)
+        .and(put_entries(out, j.entries.as_slice()))
+        .and(put_stalls(out, j.stalls.as_slice()))
+        .and(put_end(out, j.entries.len() as u64))
 }
 
 /// The text of a journal; `Err` is out of memory.

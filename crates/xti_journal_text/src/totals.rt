@@ -93,11 +93,11 @@ impl Totals {
     pub(crate) fn put(&self, out: &mut Vec<u8>) -> Result<(), AllocError>
         ensures { OnOk result (out.new.items ≡ out.old.items ++ totals_text self.now) }
     {
-        put_number(out, "entries ", self.entries)?;
-        put_number(out, " ok ", self.ok)?;
-        put_number(out, " err ", self.err)?;
-        put_number(out, " part ", self.part)?;
-        put_number(out, " sent ", self.sent)?;
-        put_number(out, " got ", self.got)
+        put_number(out, "entries ", self.entries)
+            .and(put_number(out, " ok ", self.ok))
+            .and(put_number(out, " err ", self.err))
+            .and(put_number(out, " part ", self.part))
+            .and(put_number(out, " sent ", self.sent))
+            .and(put_number(out, " got ", self.got))
     }
 }

@@ -71,8 +71,7 @@ impl JournalWriter {
         ensures { IfOk result (λ text. IsWhole self stalls.now text) }
     {
         let JournalWriter { mut text, count } = self;
-        put_stalls(&mut text, stalls.as_slice())?;
-        put_end(&mut text, count)?;
+        put_stalls(&mut text, stalls.as_slice()).and(put_end(&mut text, count))?;
         Ok(Octets::from_vec(text))
     }
 }

@@ -25,10 +25,10 @@ fn first_line(version: Version) -> &'static str
 fn put_line(out: &mut Vec<u8>, line: &Line) -> Result<(), AllocError>
     ensures { OnOk result (out.new.items ≡ out.old.items ++ line_text line.now) }
 {
-    put_number(out, "", line.worker as u64)?;
-    put_text(out, " ")?;
-    put_call(out, &line.call)?;
-    put_text(out, "\n")
+    put_number(out, "", line.worker as u64)
+        .and(put_text(out, " "))
+        .and(put_call(out, &line.call))
+        .and(put_text(out, "\n"))
 }
 
 /// The canonical text of a script: each field of each call, bytes in hexadecimal digits, an action as its number.
@@ -44,8 +44,7 @@ pub fn write_script(alloc: Global, s: &Script) -> Result<Octets, AllocError>
 {
     scripts_are_read_back();
     let mut out = Vec::new(alloc);
-    put_text(&mut out, first_line(s.providers.version))?;
-    put_text(&mut out, "\n")?;
+    put_text(&mut out, first_line(s.providers.version)).and(put_text(&mut out, "\n"))?;
     for line in s.lines.as_slice() {
         put_line(&mut out, line)?;
     }
