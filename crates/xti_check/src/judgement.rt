@@ -29,8 +29,7 @@ fn legal_text(alloc: Global, count: u64) -> Result<Octets, AllocError>
     ensures { IfOk result (λ text. text ≡ legal_text count) }
 {
     let mut out = Vec::new(alloc);
-    put_number(&mut out, "legal ", count)?;
-    put_text(&mut out, "\n")?;
+    put_number(&mut out, "legal ", count).and(put_text(&mut out, "\n"))?;
     Ok(Octets::from_vec(out))
 }
 
@@ -44,12 +43,12 @@ fn wrong_text(
     ensures { IfOk result (λ text. text ≡ wrong_text line expected.now found.now) }
 {
     let mut out = Vec::new(alloc);
-    put_number(&mut out, "wrong line ", line)?;
-    put_text(&mut out, "\nexpected ")?;
-    out.extend_from_slice(expected.as_slice())?;
-    put_text(&mut out, "\nfound ")?;
-    out.extend_from_slice(found.as_slice())?;
-    put_text(&mut out, "\n")?;
+    put_number(&mut out, "wrong line ", line)
+        .and(put_text(&mut out, "\nexpected "))
+        .and(out.extend_from_slice(expected.as_slice()))
+        .and(put_text(&mut out, "\nfound "))
+        .and(out.extend_from_slice(found.as_slice()))
+        .and(put_text(&mut out, "\n"))?;
     Ok(Octets::from_vec(out))
 }
 

@@ -46,9 +46,9 @@ fn delivered_line(alloc: Global, number: u32, body: &[u8], ack: u32) -> Result<O
     ensures { IfOk result (λ line. line ≡ arrival_line number (Some body.now) ack) }
 {
     let mut line = Vec::new(alloc);
-    put_number(&mut line, "delivered ", number as u64)?;
-    put_octets(&mut line, " ", body)?;
-    put_number(&mut line, " ack ", ack as u64)?;
+    put_number(&mut line, "delivered ", number as u64)
+        .and(put_octets(&mut line, " ", body))
+        .and(put_number(&mut line, " ack ", ack as u64))?;
     Ok(Octets::from_vec(line))
 }
 
@@ -77,11 +77,11 @@ fn put_lines(out: &mut Vec<u8>, lines: &[Octets]) -> Result<(), AllocError>
 fn put_last(out: &mut Vec<u8>, report: &Report) -> Result<(), AllocError>
     ensures { OnOk result (out.new.items ≡ out.old.items ++ ended (last_line report.now)) }
 {
-    put_number(out, "offered ", report.offered as u64)?;
-    put_number(out, " delivered ", report.delivered as u64)?;
-    put_number(out, " acknowledged ", report.acknowledged as u64)?;
-    put_number(out, " entries ", report.entries as u64)?;
-    put_text(out, "\n")
+    put_number(out, "offered ", report.offered as u64)
+        .and(put_number(out, " delivered ", report.delivered as u64))
+        .and(put_number(out, " acknowledged ", report.acknowledged as u64))
+        .and(put_number(out, " entries ", report.entries as u64))
+        .and(put_text(out, "\n"))
 }
 
 /// The whole text of a report: its lines and the last line, each with its line feed.
@@ -89,7 +89,6 @@ pub fn write_report(alloc: Global, report: &Report) -> Result<Octets, AllocError
     ensures { IfOk result (λ text. text ≡ report_text report.now) }
 {
     let mut out = Vec::new(alloc);
-    put_lines(&mut out, report.lines.as_slice())?;
-    put_last(&mut out, report)?;
+    put_lines(&mut out, report.lines.as_slice()).and(put_last(&mut out, report))?;
     Ok(Octets::from_vec(out))
 }

@@ -24,11 +24,11 @@ fn put_found(out: &mut Vec<u8>, glance: Glance) -> Result<(), AllocError>
 {
     match glance {
         Glance::Seen { state, event, at } => {
-            put_text(out, " ")?;
-            put_text(out, state.name())?;
-            put_text(out, " ")?;
-            put_text(out, event_word(event))?;
-            put_number(out, " ", at)
+            put_text(out, " ")
+                .and(put_text(out, state.name()))
+                .and(put_text(out, " "))
+                .and(put_text(out, event_word(event)))
+                .and(put_number(out, " ", at))
         }
         Glance::Gone { at } => put_number(out, " gone ", at),
         Glance::Busy { cell } => put_number(out, " busy ", cell as u64),
@@ -39,7 +39,7 @@ fn put_found(out: &mut Vec<u8>, glance: Glance) -> Result<(), AllocError>
 pub(crate) fn put_line(out: &mut Vec<u8>, fd: Fd, glance: Glance) -> Result<(), AllocError>
     ensures { OnOk result (out.new.items ≡ out.old.items ++ line_text fd glance) }
 {
-    put_number(out, "", fd.0 as u64)?;
-    put_found(out, glance)?;
-    put_text(out, "\n")
+    put_number(out, "", fd.0 as u64)
+        .and(put_found(out, glance))
+        .and(put_text(out, "\n"))
 }
