@@ -410,12 +410,12 @@ xti-script 1~|line 9
 0 bind a addr=t:a addr=t:a~|line 4
 0 bind a amax=1 qlen=1~|line 4
 0 bind a omax=1~|line 4
-0 bind a qlen=~|line 4
+0 bind a qlen=~|line 4: bind: qlen: expected a number of 32 bits without sign and leading zeros, found ''
 0 bind a qlen=01~|line 4
 0 bind a qlen=4294967296~|line 4
 0 bind a qlen=+1~|line 4
 0 bind a qlen=x~|line 4
-0 bind a addr=~|line 4
+0 bind a addr=~|line 4: bind: addr: expected bytes after t:, x: or f:, found ''
 0 bind a addr=a~|line 4
 0 bind a addr=t:~|line 4
 0 bind a addr=t:a/b~|line 4
@@ -466,14 +466,14 @@ xti-script 1~|line 9
 0 sndudata a addr=t:a data=t:x opt=x:~|line 4
 0 sndudata a parts=t:x~|line 4
 0 sndvudata a addr=t:a~|line 4
-0 sndvudata a parts=~|line 4
+0 sndvudata a parts=~|line 4: sndvudata: parts: expected bytes after t:, x: or f:, found ''
 0 sndvudata a parts=t:a,~|line 4
 0 sndvudata a parts=t:a,,t:b~|line 4
 0 sndvudata a parts=x:,x:,x:,x:,x:,x:,x:,x:,x:,x:,x:,x:,x:,x:,x:,x:,x:,x:,x:,x:,x:,x:,x:,x:,x:,x:,x:,x:,x:,x:,x:,x:,x:~|line 4
 0 rcvudata a max=t:a~|line 4
 0 rcvudata a omax=1 amax=1~|line 4
 0 rcvvudata a~|line 4
-0 rcvvudata a sizes=~|line 4
+0 rcvvudata a sizes=~|line 4: rcvvudata: sizes: expected a number of 32 bits without sign and leading zeros, found ''
 0 rcvvudata a sizes=1,~|line 4
 0 rcvvudata a sizes=1,01~|line 4
 0 rcvvudata a amax=1 sizes=1~|line 4

@@ -142,6 +142,14 @@ impl Reason {
         }
     }
 
+    /// Adds that this was expected as a field's value, and another was found, which may be empty.
+    pub(crate) fn expected_value(&mut self, wanted: &str, found: &[u8]) {
+        self.put("expected ");
+        self.put(wanted);
+        self.put(", found ");
+        self.put_quoted(found);
+    }
+
     /// Adds that this was expected, and what was found.
     pub(crate) fn expected(&mut self, wanted: &str, found: Option<&[u8]>) {
         self.put("expected ");

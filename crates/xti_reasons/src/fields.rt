@@ -113,15 +113,17 @@ impl<'a> CallAt<'a> {
     fn wrong(&self, key: Key, wanted: &str, found: Option<&[u8]>, reason: &mut Reason) {
         reason.about(self.verb.word());
         let name = name_of(key.word());
-        if name.is_empty() {
-            reason.expected(wanted, found);
-        } else if found.is_none() {
-            reason.put("field ");
-            reason.put_quoted(name);
-            reason.put(" is missing");
-        } else {
-            reason.about(name);
-            reason.expected(wanted, found);
+        match found {
+            _ if name.is_empty() => reason.expected(wanted, found),
+            None => {
+                reason.put("field ");
+                reason.put_quoted(name);
+                reason.put(" is missing");
+            }
+            Some(value) => {
+                reason.about(name);
+                reason.expected_value(wanted, value);
+            }
         }
     }
 }
