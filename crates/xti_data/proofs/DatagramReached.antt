@@ -1,13 +1,17 @@
 -- The cells of a send are lent.
-use Rattle.std.proofs.Common.{◌≡◌, ℕ, true, List, [], ◌∷◌, Option, ap, ◌∙◌}
+use Rattle.std.proofs.Common.{◌≡◌, ℕ, true, List, [], ◌∷◌, Option, Some, None, ap, sym, ◌∙◌}
+use Rattle.std.specs.Prelude.{IfSome}
+use Rattle.xti_base.specs.declared.kinds.Fd.{Fd}
 use Rattle.xti_model.specs.Cells.{listed}
+use Rattle.xti_model.specs.Switch.{bound}
 use Rattle.xti_model.specs.Endpoint.{Endpoint}
 use Rattle.xti_model.specs.Touched.{bound_cell, of_open, of_some, cell_of}
-use Rattle.xti_model.specs.World.{is_among, place_of, switch_number}
-use Rattle.xti_lent.specs.Lending.{Lending, cells}
+use Rattle.xti_model.specs.World.{endpoint, is_among, place_of, switch_number, the_switch}
+use Rattle.xti_lent.specs.Lending.{Lending, cells, number_of}
 use Rattle.xti_lent.specs.Fit.{AllLent}
 use Rattle.xti_lent.proofs.Places.{place-below}
 use Rattle.xti_lent.proofs.Named.{first-among, later-among, named-lent, held-lent, table-lent}
+use Rattle.xti_lent.specs.Lends.{IsHeld}
 use Rattle.xti_data.specs.DatagramReach.{CanReach}
 
 -- the cells that a send names
@@ -34,3 +38,9 @@ reaches l fd address h = record {
 
     rest : List ℕ
     rest = of_open l.providers (cells l) fd (bound_cell l.providers (cells l) address)
+
+-- and so is the place of the receiver, if there is one
+pub receiver-reached : (l : Lending) (fd : ℕ) (address : List ℕ) (e : Endpoint) (to : Option Fd) → CanReach l fd address → endpoint l.providers (cells l) fd ≡ Some e → number_of to ≡ bound (the_switch l.providers (cells l)) e.prov address
+    → IfSome to (λ (x : Fd). IsHeld l x.0)
+receiver-reached l fd address e None r o b = tt
+receiver-reached l fd address e (Some x) r o b = r.receiver e x.0 o (sym b)

@@ -3,8 +3,8 @@ use Rattle.std.proofs.Common.{◌≡◌, ◌≤◌, ℕ, Bool, true, false, not,
 use Rattle.std.specs.Prelude.{option_and_then}
 use Rattle.std.specs.List.{AllByRecursion}
 use Rattle.std.proofs.lemmas.Bool.Decides.{nat_tests}
-use Rattle.xti_base.specs.declared.limits.TheConstants.{MOST_ADDRESS, MOST_SEND}
-use Rattle.xti_base.specs.declared.errno.Errno.TheVariants.{TFLOW}
+use Rattle.xti_base.specs.declared.limits.TheConstants.{MOST_ADDRESS, MOST_OPTIONS, MOST_SEND}
+use Rattle.xti_base.specs.declared.errno.Errno.TheVariants.{TBADF, TFLOW}
 use Rattle.xti_model.specs.declared.entry.Applied.{Applied}
 use Rattle.xti_model.specs.declared.entry.Outcome.TheVariants.{Done}
 use Rattle.xti_model.specs.declared.entry.Reply.{Reply}
@@ -64,6 +64,16 @@ short-address p address options n bytes e u =
     let s = (none-holds (send_rows p address options n bytes None e) u).1.1.0 in
     grind (arith, nat_tests, s)
 
+pub address-within : (p : Providers) (address options : List ℕ) (n : ℕ) (bytes : List ℕ) (e : Endpoint) → Unrefused p address options n bytes e → length address ≤ MOST_ADDRESS
+address-within p address options n bytes e u =
+    let s = short-address p address options n bytes e u in
+    grind (arith, nat_tests, s)
+
+pub options-within : (p : Providers) (address options : List ℕ) (n : ℕ) (bytes : List ℕ) (e : Endpoint) → Unrefused p address options n bytes e → length options ≤ MOST_OPTIONS
+options-within p address options n bytes e u =
+    let s = (none-holds (send_rows p address options n bytes None e) u).1.1.1.0 in
+    grind (arith, nat_tests, s)
+
 pub small-data : (p : Providers) (address options : List ℕ) (n : ℕ) (bytes : List ℕ) (e : Endpoint) → valid p ≡ true → Unrefused p address options n bytes e → length bytes ≤ MOST_SEND
 small-data p address options n bytes e v u =
     let s = none-holds (send_rows p address options n bytes None e) u in
@@ -81,6 +91,11 @@ plan_from p w fd address options n bytes e = step_by p w (send_to p fd address o
 opened : (p : Providers) (w : World) (fd : ℕ) (address options : List ℕ) (n : ℕ) (bytes : List ℕ) (e : Endpoint) → endpoint p w fd ≡ Some e
     → step_of p w (send_plan p w fd address options n bytes) ≡ plan_from p w fd address options n bytes e (first (send_rows p address options n bytes (there p w address e) e))
 opened p w fd address options n bytes e o = ap (λ (x : Option Endpoint). step_of p w (if_open fd x (λ e. send_from p w fd address options n bytes e (bound (the_switch p w) e.prov address)))) o
+
+-- the endpoint isn't open
+pub send-shut : (p : Providers) (w : World) (fd : ℕ) (address options : List ℕ) (n : ℕ) (bytes : List ℕ) → endpoint p w fd ≡ None
+    → Some (made p fd (Done (Refused TBADF)) w) ≡ step_of p w (send_plan p w fd address options n bytes)
+send-shut p w fd address options n bytes o = sym (ap (λ (x : Option Endpoint). step_of p w (if_open fd x (λ e. send_from p w fd address options n bytes e (bound (the_switch p w) e.prov address)))) o)
 
 abbrev front : Providers → List ℕ → List ℕ → ℕ → List ℕ → Endpoint → List Row
 front p address options n bytes e = take 7 (send_rows p address options n bytes None e)

@@ -1,9 +1,9 @@
 -- What a send answers, by its rows.
-use Rattle.std.proofs.Common.{◌≡◌, ◌≤◌, ◌+◌, ◌-◌, ℕ, Bool, true, false, not, ◌&&◌, ◌||◌, eqb, ltb, cond, List, [], ◌∷◌, ◌++◌, length, map, take, Option, Some, None, refl, ap, ◌∙◌, arith}
+use Rattle.std.proofs.Common.{◌≡◌, ◌≤◌, ◌<◌, ◌+◌, ◌-◌, ℕ, Bool, true, false, not, ◌&&◌, ◌||◌, eqb, ltb, cond, List, [], ◌∷◌, length, map, take, Option, Some, None, refl, sym, ap, subst, ◌∙◌, arith}
 use Rattle.std.specs.Prelude.{option_map, min}
 use Rattle.std.proofs.lemmas.Bool.Decides.{nat_tests}
 use Rattle.std.specs.List.{concat, AllByRecursion}
-use Rattle.xti_base.specs.declared.errno.Errno.TheVariants.{TFLOW}
+use Rattle.xti_base.specs.declared.errno.Errno.TheVariants.{TBADF, TFLOW}
 use Rattle.xti_base.specs.declared.limits.TheConstants.{MOST_SEND}
 use Rattle.xti_model.specs.declared.entry.Go.{Go}
 use Rattle.xti_model.specs.declared.entry.Go.TheVariants as go
@@ -22,8 +22,9 @@ use Rattle.xti_model.specs.Step.{step_of, step_by, made, send}
 use Rattle.xti_model.specs.Calls.Send as Send
 use Rattle.xti_end.proofs.Rows.{first-kept, first-last}
 use Rattle.xti_data.specs.declared.portions.Portion.{Portion}
-use Rattle.xti_data.specs.Portions.{giving, portion_of, IsWithin}
-use Rattle.xti_data.specs.Sends.{told, flow_marks}
+use Rattle.xti_data.specs.Portions.{giving, left_after, portion_of, IsOfParts, IsWithin}
+use Rattle.xti_end.specs.Held.{Held, parts_of}
+use Rattle.xti_data.specs.Sends.{told, flow_marks, refusal_of}
 use Rattle.xti_model.specs.History.{taken_before}
 
 abbrev row : Bool → Refusal → Row
@@ -77,6 +78,12 @@ opened p w fd n bytes flags (go.More m) e o =
     ap (λ (x : Option Endpoint). step_of p w (later_plan m (if_open fd x (plan_at p w fd n bytes flags m)))) o
     ∙ ap (step_by p w (later_plan m (plan_at p w fd n bytes flags m e))) (first-later m (rows_at p w fd n bytes flags m e))
 
+-- the endpoint isn't open
+pub send-shut : (p : Providers) (w : World) (fd n : ℕ) (bytes : List ℕ) (flags : ℕ) (g : Go) → endpoint p w fd ≡ None
+    → Some (made p fd (Done (told g (Refused TBADF))) w) ≡ step_of p w (send p w fd n bytes flags g)
+send-shut p w fd n bytes flags go.Begin o = sym (ap (λ (x : Option Endpoint). step_of p w (if_open fd x (plan_at p w fd n bytes flags 0))) o)
+send-shut p w fd n bytes flags (go.More m) o = sym (ap (λ (x : Option Endpoint). step_of p w (later_plan m (if_open fd x (plan_at p w fd n bytes flags m)))) o)
+
 -- the rows before the last one
 abbrev pub early : Providers → ℕ → List ℕ → ℕ → ℕ → Endpoint → List Row
 early p n bytes flags taken e = take 6 (Send.rows p n bytes flags taken None e)
@@ -119,6 +126,32 @@ portion-within p parts n flags before room e u =
     let s = (none-holds (early p n (concat parts) flags before e) u).1.1.1.1.0 in
     fewer-within (message_limit p e (is_expedited flags)) (unfinished (is_expedited flags) e + (length (concat parts) - before)) (unfinished (is_expedited flags) e + min (length (concat parts) - before) room)
     (grind (arith, nat_tests)) (or-right ((eqb (length (concat parts)) 0) && not (profile p e.prov).sendzero) _ s)
+
+-- what is taken is of the parts, and few
+min-below : (a b m : ℕ) → a ≤ m → min a b ≤ m
+min-below a b m h = grind arith
+
+pub portion-of-parts : (p : Providers) (parts : List (List ℕ)) (flags before room : ℕ) (e : Endpoint) (portion : Portion) → portion ≡ portion_of p parts flags before room e → length (concat parts) ≤ MOST_SEND → IsOfParts parts portion
+portion-of-parts p parts flags before room e portion q few = subst (IsOfParts parts) (sym q) (record {
+  there = min-below (left_after before parts) room (left_after before parts) (omega arith);
+  few = min-below (left_after before parts) room MOST_SEND (omega arith);
+})
+
+-- and their sum with those that were taken before is a word
+sum-fits : (before len room : ℕ) → len ≤ MOST_SEND → before < 4294967296 → before + min (len - before) room < 4294967296
+sum-fits before len room few word = grind arith
+
+pub wide : (n : ℕ) → n < 4294967296 → n < 18446744073709551616
+wide n word = omega arith
+
+pub taken-fits : (p : Providers) (parts : List (List ℕ)) (flags before room : ℕ) (e : Endpoint) (portion : Portion) → portion ≡ portion_of p parts flags before room e → length (concat parts) ≤ MOST_SEND → before < 4294967296
+    → before + portion.count < 4294967296
+taken-fits p parts flags before room e portion q few word = subst (λ (x : Portion). before + x.count < 4294967296) (sym q) (sum-fits before (length (concat parts)) room few word)
+
+-- nothing before the last row refuses a send of these parts
+pub unrefused : (p q : Providers) (parts : List (List ℕ)) (flags taken told : ℕ) (h : Held) → None ≡ refusal_of q parts flags told h → q ≡ p → told ≡ taken → Unrefused p (length parts) (concat parts) flags taken (parts_of h.body)
+unrefused p q parts flags taken told h r e f =
+    sym (r ∙ ap (λ (x : Providers). refusal_of x parts flags told h) e ∙ ap (λ (x : ℕ). refusal_of p parts flags x h) f)
 
 last-row : (p : Providers) (w : World) (fd n : ℕ) (bytes : List ℕ) (flags : ℕ) (g : Go) (e : Endpoint) (b : Bool) → endpoint p w fd ≡ Some e → Unrefused p n bytes flags (taken_before g) e → ready_for (is_expedited flags) e (linked p w fd e) ≡ b
     → step_of p w (send p w fd n bytes flags g) ≡ step_by p w (going g (plan_at p w fd n bytes flags (taken_before g) e)) (option_map (refused_as g) (cond (not b) (Some (waits (Refused TFLOW))) None))

@@ -1,8 +1,9 @@
 -- Portions of joined parts, part by part.
-use Rattle.std.proofs.Common.{◌≡◌, ◌+◌, ◌-◌, ℕ, zero, suc, Bool, true, false, not, List, [], ◌∷◌, ◌++◌, length, take, drop, refl, sym, ap, ◌∙◌, arith}
+use Rattle.std.proofs.Common.{◌≡◌, ◌≤◌, ◌+◌, ◌-◌, ℕ, zero, suc, Bool, true, false, not, List, [], ◌∷◌, ◌++◌, length, take, drop, refl, sym, ap, ◌∙◌, arith}
 use Rattle.std.specs.Prelude.{min}
+use Rattle.std.specs.List.{concat}
 use Rattle.std.proofs.lemmas.Bool.Decides.{nat_tests}
-use Rattle.std.proofs.lemmas.List.{length-take, length-drop, drop_min, take_min}
+use Rattle.std.proofs.lemmas.List.{length-take, length-drop, drop_min, take_all, take_min}
 use Rattle.tpi_prim.specs.Indication.{data_ind, kind_for}
 use Rattle.tpi_prim.specs.Primitive.{kind_of}
 use Rattle.xti_model.specs.Symbols.{piece}
@@ -53,6 +54,45 @@ skip-next before n m skip skipped s k = grind (arith, nat_tests)
 
 pub left-next : (before count n m skip left skipped taken : ℕ) → skip ≡ before - n → left ≡ count - (n - before) → skipped ≡ min skip m → taken ≡ min left (m - skipped) → left - taken ≡ count - ((n + m) - before)
 left-next before count n m skip left skipped taken s l k t = grind (arith, nat_tests)
+
+-- no more is skipped than there is to skip, nor than the part has; the same of what is taken
+pub at-most-left : (n a b : ℕ) → n ≡ min a b → n ≤ a
+at-most-left n a b e = grind arith
+
+pub at-most-right : (n a b : ℕ) → n ≡ min a b → n ≤ b
+at-most-right n a b e = grind arith
+
+pub all-taken : (n left : ℕ) (xs : List ℕ) → n ≡ min left (length xs) → n ≡ length (take n xs)
+all-taken n left xs e = let t = length-take n xs in grind arith
+
+-- before the first part nothing is taken
+pub none-taken : (before count : ℕ) → [] ≡ take {A = ℕ} count (drop before [])
+none-taken before count = sym (ap (take {A = ℕ} count) (drop-none before) ∙ take-none count)
+
+pub less-none : (n : ℕ) → n ≡ n - 0
+less-none n = omega arith
+
+pub less-none-left : (n m : ℕ) → n ≡ n - (0 - m)
+less-none-left n m = omega arith
+
+-- there is room for what is taken of a part
+room-for : (n count left taken a b : ℕ) → left ≡ count - n → taken ≤ left → a ≡ min count n → b ≤ taken → a + b ≤ count
+room-for n count left taken a b l t e f = grind arith
+
+pub piece-fits : (before count : ℕ) (front xs : List ℕ) (left taken : ℕ) → left ≡ count - (length front - before) → taken ≡ min left (length xs) → length (take count (drop before front)) + length (take taken xs) ≤ count
+piece-fits before count front xs left taken l t =
+    room-for (length front - before) count left taken (length (take count (drop before front))) (length (take taken xs)) l (at-most-left taken left (length xs) t) (so-far before count front)
+    (at-most-left _ taken (length xs) (length-take taken xs))
+
+-- after the last part all of the portion is
+pub all-of-parts : (parts : List (List ℕ)) (i : ℕ) → length parts ≤ i → concat (take i parts) ≡ concat parts
+all-of-parts parts i h = ap concat (take_all i parts h)
+
+min-first : (a b : ℕ) → a ≤ b → min a b ≡ a
+min-first a b h = grind arith
+
+pub portion-length : (before count : ℕ) (bytes : List ℕ) → count ≤ length bytes - before → length (take count (drop before bytes)) ≡ count
+portion-length before count bytes h = so-far before count bytes ∙ min-first count (length bytes - before) h
 
 -- an indication of data is of its kind, and stands for its bytes and their end
 pub of-kind : (expedited more : Bool) (bytes : List ℕ) → kind_of (data_ind expedited more bytes) ≡ kind_for expedited

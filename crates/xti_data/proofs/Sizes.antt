@@ -1,10 +1,7 @@
 -- Sizes that no limit lets through.
-use Rattle.std.proofs.Common.{◌≡◌, ◌≤◌, ◌<◌, ◌+◌, ◌-◌, ◌^◌, ℕ, zero, suc, Bool, true, false, not, eqb, ltb, ◌&&◌, ◌||◌, List, [], ◌∷◌, ◌++◌, length, take, get_or, refl, sym, ap, arith}
+use Rattle.std.proofs.Common.{◌≡◌, ◌≤◌, ◌<◌, ℕ, Bool, true, false, not, eqb, ltb, ◌&&◌, ◌||◌, List, length, refl, arith}
 use Rattle.std.specs.Prelude.{min}
-use Rattle.std.specs.List.{concat}
 use Rattle.std.proofs.lemmas.Bool.Decides.{nat_tests}
-use Rattle.std.proofs.lemmas.List.{length-append, append-nil, append_assoc}
-use Rattle.std.proofs.Common.{add-one}
 use Rattle.xti_base.specs.declared.limits.TheConstants.{MOST_SEND}
 use Rattle.xti_base.specs.declared.limit.Limit.{Limit}
 use Rattle.xti_base.specs.declared.limit.Limit.TheVariants.{At, Infinite, Invalid}

@@ -15,8 +15,13 @@ use Rattle.xti_data.specs.declared.portions.Portion.{Portion}
 use Rattle.xti_data.specs.Portions.{giving, portion_of, IsWithin}
 use Rattle.xti_model.specs.History.{taken_before}
 use Rattle.xti_data.proofs.Changes.{made-after}
+use Rattle.xti_data.proofs.Returned.{not-blocked, on-any-err, open-as, same-cells}
+use Rattle.xti_lent.proofs.Written.{own-kept}
+use Rattle.std.proofs.lemmas.Result.{IfOk-from_err}
+use Rattle.xti_model.specs.declared.entry.Outcome.TheVariants.{Done}
+use Rattle.xti_model.specs.declared.entry.Reply.{Reply}
 use Rattle.xti_data.proofs.Reached.{peer-named, peer-reached}
-use Rattle.xti_data.proofs.Rows.{early, few-bytes, has-room, portion-within, send-blocked, send-flow, send-refused, send-went, taken_of, Unrefused}
+use Rattle.xti_data.proofs.Rows.{early, few-bytes, has-room, portion-of-parts, portion-within, send-blocked, send-flow, send-refused, send-shut, send-went, taken-fits, taken_of, unrefused, wide, Unrefused}
 use Rattle.xti_data.proofs.sending.send.Goals as goal
 
 pub returns-in-Some-refusal-clause-step : goal.returns-in-Some-refusal-clause-step
@@ -30,13 +35,13 @@ returns-in-Some-refusal-clause-step c =
 pub next_portion-portion-requires-clause-few : goal.next_portion-portion-requires-clause-few
 next_portion-portion-requires-clause-few c =
     let l = c.args.lent.now in
-    let u : Unrefused l.providers (length c.args.parts.now) (concat c.args.parts.now) c.args.flags (taken_before c.args.go) (parts c.in-Some.e.now) = rw (c.providers.ensures.providers, c.taken_before-before.ensures) at (sym c.in_default-refusal.ensures) in
+    let u : Unrefused l.providers (length c.args.parts.now) (concat c.args.parts.now) c.args.flags (taken_before c.args.go) (parts c.in-Some.e.now) = unrefused l.providers c.providers.result.now c.args.parts.now c.args.flags (taken_before c.args.go) c.taken_before-before.result c.in-Some.e.now c.in_default-refusal.ensures c.providers.ensures.providers c.taken_before-before.ensures in
     few-bytes l.providers (length c.args.parts.now) (concat c.args.parts.now) c.args.flags (taken_before c.args.go) (parts c.in-Some.e.now) u
 
 pub is_done-is_done-requires-clause-few : goal.is_done-is_done-requires-clause-few
 is_done-is_done-requires-clause-few c =
     let l = c.args.lent.now in
-    let u : Unrefused l.providers (length c.args.parts.now) (concat c.args.parts.now) c.args.flags (taken_before c.args.go) (parts c.in-Some.e.now) = rw (c.providers.ensures.providers, c.taken_before-before.ensures) at (sym c.in_default-refusal.ensures) in
+    let u : Unrefused l.providers (length c.args.parts.now) (concat c.args.parts.now) c.args.flags (taken_before c.args.go) (parts c.in-Some.e.now) = unrefused l.providers c.providers.result.now c.args.parts.now c.args.flags (taken_before c.args.go) c.taken_before-before.result c.in-Some.e.now c.in_default-refusal.ensures c.providers.ensures.providers c.taken_before-before.ensures in
     few-bytes l.providers (length c.args.parts.now) (concat c.args.parts.now) c.args.flags (taken_before c.args.go) (parts c.in-Some.e.now) u
 
 pub give-requires-clause-peer : goal.give-requires-clause-peer
@@ -47,7 +52,7 @@ pub give-requires-clause-within : goal.give-requires-clause-within
 give-requires-clause-within c =
     let l = c.args.lent.now in
     let e = parts c.in-Some.e.now in
-    let u : Unrefused l.providers (length c.args.parts.now) (concat c.args.parts.now) c.args.flags (taken_before c.args.go) e = rw (c.providers.ensures.providers, c.taken_before-before.ensures) at (sym c.in_default-refusal.ensures) in
+    let u : Unrefused l.providers (length c.args.parts.now) (concat c.args.parts.now) c.args.flags (taken_before c.args.go) e = unrefused l.providers c.providers.result.now c.args.parts.now c.args.flags (taken_before c.args.go) c.taken_before-before.result c.in-Some.e.now c.in_default-refusal.ensures c.providers.ensures.providers c.taken_before-before.ensures in
     let w = portion-within l.providers c.args.parts.now (length c.args.parts.now) c.args.flags (taken_before c.args.go) c.in-Some-room.room e u in
     let q : c.next_portion-portion.result ≡ portion_of l.providers c.args.parts.now c.args.flags (taken_before c.args.go) c.in-Some-room.room e = rw (c.providers-in-Some-room.ensures.providers, c.taken_before-before.ensures) at c.next_portion-portion.ensures in
     subst (λ (x : Option Endpoint). IfSome x (IsWithin l.providers c.next_portion-portion.result)) c.in-Some.ensures.endpoint
@@ -57,7 +62,7 @@ pub returns-in_err-give-in-Some-room-clause-sure : goal.returns-in_err-give-in-S
 returns-in_err-give-in-Some-room-clause-sure c none =
     let l = c.args.lent.now in
     let e = parts c.in-Some.e.now in
-    let u : Unrefused l.providers (length c.args.parts.now) (concat c.args.parts.now) c.args.flags (taken_before c.args.go) e = rw (c.providers.ensures.providers, c.taken_before-before.ensures) at (sym c.in_default-refusal.ensures) in
+    let u : Unrefused l.providers (length c.args.parts.now) (concat c.args.parts.now) c.args.flags (taken_before c.args.go) e = unrefused l.providers c.providers.result.now c.args.parts.now c.args.flags (taken_before c.args.go) c.taken_before-before.result c.in-Some.e.now c.in_default-refusal.ensures c.providers.ensures.providers c.taken_before-before.ensures in
     let peer : number_of c.peer-peer.result ≡ e.peer = c.peer-peer.ensures ∙ peer-named c.in-Some.e.now.body in
     let link : seen c.linked_with.result ≡ linked l.providers (cells l) c.args.fd.0 e = c.linked_with.ensures.linked ∙ ap (linked_with l c.args.fd.0) peer in
     let t : ready_for (is_expedited c.args.flags) e (linked l.providers (cells l) c.args.fd.0 e) ≡ true = rw (link, c.is_expedited.ensures) at (sym c.in-Some-room.ensures.ready) in
@@ -73,7 +78,7 @@ returns-in_ok-give-in-Some-room-clause-step c =
     let fd = c.args.fd.0 in
     let bytes = concat c.args.parts.now in
     let before = taken_before c.args.go in
-    let u : Unrefused l.providers (length c.args.parts.now) bytes c.args.flags before e = rw (c.providers.ensures.providers, c.taken_before-before.ensures) at (sym c.in_default-refusal.ensures) in
+    let u : Unrefused l.providers (length c.args.parts.now) bytes c.args.flags before e = unrefused l.providers c.providers.result.now c.args.parts.now c.args.flags (taken_before c.args.go) c.taken_before-before.result c.in-Some.e.now c.in_default-refusal.ensures c.providers.ensures.providers c.taken_before-before.ensures in
     let peer : number_of c.peer-peer.result ≡ e.peer = c.peer-peer.ensures ∙ peer-named c.in-Some.e.now.body in
     let link : seen c.linked_with.result ≡ linked l.providers (cells l) fd e = c.linked_with.ensures.linked ∙ ap (linked_with l fd) peer in
     let t : ready_for (is_expedited c.args.flags) e (linked l.providers (cells l) fd e) ≡ true = rw (link, c.is_expedited.ensures) at (sym c.in-Some-room.ensures.ready) in
@@ -91,7 +96,7 @@ pub returns-in-None-clause-step : goal.returns-in-None-clause-step
 returns-in-None-clause-step c =
     let l = c.args.lent.now in
     let e = parts c.in-Some.e.now in
-    let u : Unrefused l.providers (length c.args.parts.now) (concat c.args.parts.now) c.args.flags (taken_before c.args.go) e = rw (c.providers.ensures.providers, c.taken_before-before.ensures) at (sym c.in_default-refusal.ensures) in
+    let u : Unrefused l.providers (length c.args.parts.now) (concat c.args.parts.now) c.args.flags (taken_before c.args.go) e = unrefused l.providers c.providers.result.now c.args.parts.now c.args.flags (taken_before c.args.go) c.taken_before-before.result c.in-Some.e.now c.in_default-refusal.ensures c.providers.ensures.providers c.taken_before-before.ensures in
     let peer : number_of c.peer-peer.result ≡ e.peer = c.peer-peer.ensures ∙ peer-named c.in-Some.e.now.body in
     let link : seen c.linked_with.result ≡ linked l.providers (cells l) c.args.fd.0 e = c.linked_with.ensures.linked ∙ ap (linked_with l c.args.fd.0) peer in
     let t : ready_for (is_expedited c.args.flags) e (linked l.providers (cells l) c.args.fd.0 e) ≡ false = rw (link, c.is_expedited.ensures) at (sym c.in-None.ensures.ready) in
@@ -101,7 +106,7 @@ pub returns-in-None-2-clause-step : goal.returns-in-None-2-clause-step
 returns-in-None-2-clause-step c =
     let l = c.args.lent.now in
     let e = parts c.in-Some.e.now in
-    let u : Unrefused l.providers (length c.args.parts.now) (concat c.args.parts.now) c.args.flags (taken_before c.args.go) e = rw (c.providers.ensures.providers, c.taken_before-before.ensures) at (sym c.in_default-refusal.ensures) in
+    let u : Unrefused l.providers (length c.args.parts.now) (concat c.args.parts.now) c.args.flags (taken_before c.args.go) e = unrefused l.providers c.providers.result.now c.args.parts.now c.args.flags (taken_before c.args.go) c.taken_before-before.result c.in-Some.e.now c.in_default-refusal.ensures c.providers.ensures.providers c.taken_before-before.ensures in
     let peer : number_of c.peer-peer.result ≡ e.peer = c.peer-peer.ensures ∙ peer-named c.in-Some.e.now.body in
     let link : seen c.linked_with.result ≡ linked l.providers (cells l) c.args.fd.0 e = c.linked_with.ensures.linked ∙ ap (linked_with l c.args.fd.0) peer in
     let t : ready_for (is_expedited c.args.flags) e (linked l.providers (cells l) c.args.fd.0 e) ≡ false = rw (link, c.is_expedited.ensures) at (sym c.in-None-2.ensures.ready) in
@@ -169,3 +174,90 @@ give-requires-clause-sender c = ap is_some c.in-Some.ensures.held
 
 pub refuse_flow-requires-clause-there : goal.refuse_flow-requires-clause-there
 refuse_flow-requires-clause-there c = ap is_some c.in-Some.ensures.held
+
+pub open_endpoint-requires : goal.open_endpoint-requires
+open_endpoint-requires c = c.requires.fit.places
+
+pub done-requires : goal.done-requires
+done-requires c = c.requires.fit.places
+
+pub returns-in_default-clause-step : goal.returns-in_default-clause-step
+returns-in_default-clause-step c =
+    let l = c.args.lent.now in
+    c.done.ensures ∙ ap (λ (r : Reply). Some (made l.providers c.args.fd.0 (Done r) (cells l))) c.told.ensures
+    ∙ send-shut l.providers (cells l) c.args.fd.0 (length c.args.parts.now) (concat c.args.parts.now) c.args.flags c.args.go (sym c.in_default.ensures.endpoint)
+
+pub returns-in_default-clause-kept : goal.returns-in_default-clause-kept
+returns-in_default-clause-kept c = same-cells _
+
+pub overflow_cast-before : goal.overflow_cast-before
+overflow_cast-before c = record { fits = wide c.taken_before-before.result c.taken_before-before.type_inv }
+
+pub refusal-requires : goal.refusal-requires
+refusal-requires c = open-as c.args.lent.now.providers c.args.fd.0 c.in-Some.e.now c.in-Some.ensures.open
+
+pub done-requires-in-Some-refusal : goal.done-requires-in-Some-refusal
+done-requires-in-Some-refusal c = c.requires.fit.places
+
+pub returns-in-Some-refusal-clause-kept : goal.returns-in-Some-refusal-clause-kept
+returns-in-Some-refusal-clause-kept c = same-cells _
+
+pub linked_with-requires : goal.linked_with-requires
+linked_with-requires c = c.requires.fit.places
+
+pub room-requires-clause-open : goal.room-requires-clause-open
+room-requires-clause-open c = open-as c.args.lent.now.providers c.args.fd.0 c.in-Some.e.now c.in-Some.ensures.open
+
+pub next_portion-portion-requires-clause-open : goal.next_portion-portion-requires-clause-open
+next_portion-portion-requires-clause-open c = open-as c.args.lent.now.providers c.args.fd.0 c.in-Some.e.now c.in-Some.ensures.open
+
+pub overflow_add-taken : goal.overflow_add-taken
+overflow_add-taken c =
+    let l = c.args.lent.now in
+    let e = parts c.in-Some.e.now in
+    let few = few-bytes l.providers (length c.args.parts.now) (concat c.args.parts.now) c.args.flags (taken_before c.args.go) e
+    (unrefused l.providers c.providers.result.now c.args.parts.now c.args.flags (taken_before c.args.go) c.taken_before-before.result c.in-Some.e.now c.in_default-refusal.ensures c.providers.ensures.providers c.taken_before-before.ensures) in
+    record { fits = wide _ (taken-fits c.providers-in-Some-room.result.now c.args.parts.now c.args.flags c.taken_before-before.result c.in-Some-room.room e c.next_portion-portion.result c.next_portion-portion.ensures few c.taken_before-before.type_inv) }
+
+pub is_done-is_done-requires-clause-open : goal.is_done-is_done-requires-clause-open
+is_done-is_done-requires-clause-open c = open-as c.args.lent.now.providers c.args.fd.0 c.in-Some.e.now c.in-Some.ensures.open
+
+pub give-requires-clause-parts : goal.give-requires-clause-parts
+give-requires-clause-parts c =
+    let l = c.args.lent.now in
+    let e = parts c.in-Some.e.now in
+    let few = few-bytes l.providers (length c.args.parts.now) (concat c.args.parts.now) c.args.flags (taken_before c.args.go) e
+    (unrefused l.providers c.providers.result.now c.args.parts.now c.args.flags (taken_before c.args.go) c.taken_before-before.result c.in-Some.e.now c.in_default-refusal.ensures c.providers.ensures.providers c.taken_before-before.ensures) in
+    portion-of-parts c.providers-in-Some-room.result.now c.args.parts.now c.args.flags c.taken_before-before.result c.in-Some-room.room e c.next_portion-portion.result c.next_portion-portion.ensures few
+
+pub returns-in_err-give-in-Some-room-clause-step : goal.returns-in_err-give-in-Some-room-clause-step
+returns-in_err-give-in-Some-room-clause-step c = IfOk-from_err _ _ c.from_residual.ensures.0
+
+pub returns-in_err-give-in-Some-room-clause-still : goal.returns-in_err-give-in-Some-room-clause-still
+returns-in_err-give-in-Some-room-clause-still c = IfOk-from_err _ _ c.from_residual.ensures.0
+
+pub returns-in_err-give-in-Some-room-clause-err : goal.returns-in_err-give-in-Some-room-clause-err
+returns-in_err-give-in-Some-room-clause-err c = on-any-err _ c.in_err-give-in-Some-room.ensures.err
+
+pub overflow_cast-taken : goal.overflow_cast-taken
+overflow_cast-taken c =
+    let l = c.args.lent.now in
+    let e = parts c.in-Some.e.now in
+    let few = few-bytes l.providers (length c.args.parts.now) (concat c.args.parts.now) c.args.flags (taken_before c.args.go) e
+    (unrefused l.providers c.providers.result.now c.args.parts.now c.args.flags (taken_before c.args.go) c.taken_before-before.result c.in-Some.e.now c.in_default-refusal.ensures c.providers.ensures.providers c.taken_before-before.ensures) in
+    record { fits = taken-fits c.providers-in-Some-room.result.now c.args.parts.now c.args.flags c.taken_before-before.result c.in-Some-room.room e c.next_portion-portion.result c.next_portion-portion.ensures few c.taken_before-before.type_inv }
+
+pub with_outcome-requires : goal.with_outcome-requires
+with_outcome-requires c = own-kept c.args.lent.now c.give.new.lent c.in_ok-give-in-Some-room.ensures.kept c.requires.fit.places
+
+pub nonblock-requires : goal.nonblock-requires
+nonblock-requires c = open-as c.args.lent.now.providers c.args.fd.0 c.in-Some.e.now c.in-Some.ensures.open
+
+pub returns-in_ok-give-in-Some-room-clause-still : goal.returns-in_ok-give-in-Some-room-clause-still
+returns-in_ok-give-in-Some-room-clause-still c = not-blocked c.args.lent.now c.give.new.lent c.with_outcome.result _ c.with_outcome.ensures
+
+pub returns-in-None-clause-still : goal.returns-in-None-clause-still
+returns-in-None-clause-still c = not-blocked c.args.lent.now c.refuse_flow.new.lent c.refuse_flow.result _ c.refuse_flow.ensures.step
+
+pub returns-in-None-2-clause-kept : goal.returns-in-None-2-clause-kept
+returns-in-None-2-clause-kept c = same-cells _
