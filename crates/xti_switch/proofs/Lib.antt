@@ -13,3 +13,4 @@ pub mod Disconnecting
 pub mod Breakings
 pub mod GivingUp
 pub mod Closing
+pub mod Steps
