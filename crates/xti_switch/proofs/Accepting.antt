@@ -1,7 +1,6 @@
 -- What becomes of a request that is accepted.
 use Rattle.std.proofs.Common.{◌≡◌, ◌≤◌, ℕ, Bool, true, false, cond, eqb, List, [], ◌∷◌, length, Option, Some, None, refl, sym, ap, ◌∙◌, arith}
 use Rattle.std.specs.Prelude.{is_none, is_some}
-use Rattle.std.specs.List.{AllByRecursion}
 use Rattle.std.proofs.lemmas.Bool.{eqb-true}
 use Rattle.std.proofs.lemmas.Bool.Decides.{nat_tests}
 use Rattle.tpi_grammar.specs.declared.kind.Kind.TheVariants.{T_CONN_CON}
@@ -16,7 +15,7 @@ use Rattle.xti_model.specs.declared.entry.Reply.TheVariants.{Plain, Refused}
 use Rattle.xti_model.specs.declared.profile.Providers.{Providers}
 use Rattle.xti_model.specs.Endpoint.{Endpoint, Indication, address_of, find_number}
 use Rattle.xti_model.specs.Events.{is_state}
-use Rattle.xti_model.specs.Plan.{Row, Refusal, answers, first, has_effect, if_open}
+use Rattle.xti_model.specs.Plan.{answers, first, has_effect, if_open}
 use Rattle.xti_model.specs.Step.{step_of, step_by, made}
 use Rattle.xti_model.specs.World.{World, Change, endpoint, changed}
 use Rattle.xti_model.specs.Calls.Listen as Listen
@@ -27,22 +26,11 @@ use Rattle.xti_end.proofs.Callers.{request-is}
 use Rattle.xti_lent.specs.Answers.{Changed, IsDone}
 use Rattle.xti_lent.specs.Lending.{Lending, cells, open_at}
 use Rattle.xti_switch.specs.Accepts.{linking, Accepts}
+use Rattle.xti_switch.proofs.Plans.{none-holds}
 use Rattle.xti_switch.specs.declared.accept.Acceptance.{Acceptance}
 
 pub caller-is : (i : Ind) → IsRequest i → (indication_of i).caller ≡ i.caller.0
 caller-is i k = rw (request-is i.frame k) refl
-
--- where no row refuses, none holds
-none-step : (b : Bool) (x : Refusal) (o : Option Refusal) → None ≡ cond b (Some x) o → (b ≡ false) × (None ≡ o)
-none-step true x o e = cc
-none-step false x o e = (refl, e)
-
-abbrev Passes : Row → Type 0
-Passes r = r.holds ≡ false
-
-none-holds : (rows : List Row) → None ≡ first rows → AllByRecursion Passes rows
-none-holds [] e = tt
-none-holds (x ∷ xs) e = let s = none-step x.holds x.refusal (first xs) e in (s.0, none-holds xs s.1)
 
 abbrev pub Unrefused : Providers → ℕ → ℕ → ℕ → List ℕ → List ℕ → Endpoint → Endpoint → Type 0
 Unrefused p fd resfd number options udata e r = None ≡ first (Listen.accept_rows p fd resfd number options udata e r)

@@ -1,7 +1,8 @@
 -- What becomes of a request to connect.
-use Rattle.std.proofs.Common.{◌≡◌, ℕ, ◌+◌, Bool, true, false, not, cond, List, [], ◌∷◌, Option, Some, None, Ok, Err, refl, sym, ap, ◌∙◌}
+use Rattle.std.proofs.Common.{◌≡◌, ◌≤◌, ℕ, ◌+◌, Bool, true, false, not, cond, List, [], ◌∷◌, length, Option, Some, None, Ok, Err, refl, sym, ap, ◌∙◌}
 use Rattle.std.specs.Prelude.{IfSome, Result, option_map}
 use Rattle.xti_base.specs.declared.kinds.Seq.{Seq}
+use Rattle.xti_base.specs.declared.limits.TheConstants.{MOST_CONNECT_DATA, MOST_OPTIONS}
 use Rattle.xti_base.specs.declared.reasons.TheConstants.{NO_LISTENER, QUEUE_FULL}
 use Rattle.xti_model.specs.declared.entry.Applied.{Applied}
 use Rattle.xti_model.specs.declared.entry.Outcome.{Outcome}
@@ -9,7 +10,7 @@ use Rattle.xti_model.specs.declared.profile.Providers.{Providers}
 use Rattle.xti_model.specs.Endpoint.{Endpoint, Indication, address_of}
 use Rattle.xti_model.specs.World.{World, Change, endpoint, the_switch, changed, at_endpoint}
 use Rattle.xti_model.specs.Switch.{listener}
-use Rattle.xti_model.specs.Plan.{first, if_open}
+use Rattle.xti_model.specs.Plan.{Plan, first, if_open}
 use Rattle.xti_model.specs.Step.{step_of, step_by, made}
 use Rattle.xti_model.specs.Calls.Connect as Connect
 use Rattle.xti_end.specs.Frames.{request_in}
@@ -18,6 +19,7 @@ use Rattle.xti_lent.specs.Answers.{Changed, IsMade}
 use Rattle.xti_lent.specs.Lending.{Lending, cells, open_at}
 use Rattle.xti_lent.proofs.Opened.{open_alike, then_changed}
 use Rattle.xti_switch.specs.Connects.{number_for, queued, IsRequestOf, Requests}
+use Rattle.xti_switch.proofs.Plans.{neither-left, none-holds, within}
 
 abbrev given : Bool → Bool → ℕ → Result Seq ℕ
 given a b n = cond a (Err NO_LISTENER) (cond b (Err QUEUE_FULL) (Ok (record { 0 = n })))
@@ -82,6 +84,19 @@ if-some P (Some e) h = h e
 pub if-some-too : (P Q : Endpoint → Type 0) (o : Option Endpoint) → IfSome o P → ((e : Endpoint) → P e → Q e) → IfSome o Q
 if-some-too P Q None h f = tt
 if-some-too P Q (Some e) h f = f e h
+
+-- the plan of the open endpoint
+abbrev pub connect_of : Providers → World → ℕ → List ℕ → List ℕ → List ℕ → Endpoint → Plan
+connect_of p w fd address options udata e = Connect.plan_to fd address options udata e (Connect.found p w fd address e)
+
+abbrev Unrefused : List ℕ → List ℕ → List ℕ → Endpoint → Type 0
+Unrefused address options udata e = None ≡ first (Connect.rows address options udata e)
+
+pub short-options : (address options udata : List ℕ) (e : Endpoint) → Unrefused address options udata e → length options ≤ MOST_OPTIONS
+short-options address options udata e u = within (length options) MOST_OPTIONS (neither-left _ _ (none-holds (Connect.rows address options udata e) u).1.1.1.0)
+
+pub little-data : (address options udata : List ℕ) (e : Endpoint) → Unrefused address options udata e → length udata ≤ MOST_CONNECT_DATA
+little-data address options udata e u = within (length udata) MOST_CONNECT_DATA (none-holds (Connect.rows address options udata e) u).1.1.1.1.0
 
 -- a request that no row refuses
 connect-made : (p : Providers) (w : World) (fd : ℕ) (address options udata : List ℕ) (e : Endpoint) → endpoint p w fd ≡ Some e → None ≡ first (Connect.rows address options udata e)

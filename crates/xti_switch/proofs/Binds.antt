@@ -1,9 +1,9 @@
 -- What a bind finds, and what it leaves.
-use Rattle.std.proofs.Common.{◌≡◌, ℕ, Bool, true, false, cond, ltb, ◌||◌, List, [], ◌∷◌, length, filter, map, Option, Some, None, refl}
+use Rattle.std.proofs.Common.{◌≡◌, ◌<◌, ℕ, Bool, true, false, not, cond, ltb, ◌||◌, List, [], ◌∷◌, drop, length, filter, map, Option, Some, None, refl, sym, ap, ◌∙◌}
 use Rattle.std.specs.Prelude.{is_some}
 use Rattle.std.specs.List.{list_any}
 use Rattle.xti_base.specs.declared.limits.TheConstants.{MOST_ADDRESS}
-use Rattle.xti_base.specs.declared.errno.Errno.TheVariants.{TADDRBUSY}
+use Rattle.xti_base.specs.declared.errno.Errno.TheVariants.{TADDRBUSY, TBADADDR, TOUTSTATE}
 use Rattle.xti_base.specs.declared.kinds.Prov.{Prov}
 use Rattle.xti_base.specs.declared.kinds.State.TheVariants.{T_UNBND}
 use Rattle.xti_model.specs.declared.profile.Providers.{Providers}
@@ -13,11 +13,12 @@ use Rattle.xti_model.specs.Endpoint.{Endpoint}
 use Rattle.xti_model.specs.World.{World, Switch, Binding, endpoint, the_switch, changed}
 use Rattle.xti_model.specs.Switch.{chosen, less, least, give_address}
 use Rattle.xti_model.specs.Events.{is_state}
-use Rattle.xti_model.specs.Plan.{field, is_too_long, Refusal, loses, first, has_effect}
+use Rattle.xti_model.specs.Plan.{Plan, answers, field, is_too_long, Refusal, loses, first, has_effect}
 use Rattle.xti_model.specs.Step.{Step, made, step_of, step_by}
 use Rattle.xti_model.specs.Calls.Bind as Bind
 use Rattle.xti_registry.specs.Known.{Known}
 use Rattle.xti_switch.specs.Taken.{bound}
+use Rattle.xti_switch.proofs.Plans.{over}
 
 abbrev pub bound_step : Providers → World → ℕ → Prov → List ℕ → ℕ → ℕ → Step
 bound_step p w fd prov address qlen amax = made p fd (Done (bound address qlen amax)) (changed p w (Bind.changes fd prov address qlen))
@@ -34,6 +35,19 @@ any-step false x bs rest e = e
 pub least-any : (test : Binding → Bool) (bs : List Binding) → is_some (least (map (λ (y : Binding). y.fd) (filter test bs))) ≡ list_any test bs
 least-any test [] = refl
 least-any test (x ∷ bs) = any-step (test x) x (filter test bs) (list_any test bs) (least-any test bs)
+
+-- the plan of the open endpoint
+abbrev pub bind_of : Providers → World → ℕ → List ℕ → ℕ → ℕ → Endpoint → Plan
+bind_of p w fd address qlen amax e = Bind.plan_in (the_switch p w) fd address qlen amax e
+
+-- it is bound already, or the address is too long
+pub bound-already : (s : Switch) (address : List ℕ) (qlen amax : ℕ) (e : Endpoint) → is_state (T_UNBND ∷ []) e ≡ false → Some (answers (Refused TOUTSTATE)) ≡ first (Bind.rows s address qlen amax e)
+bound-already s address qlen amax e q = sym (ap (λ (b : Bool). cond (not b) (Some (answers (Refused TOUTSTATE))) (first (drop 1 (Bind.rows s address qlen amax e)))) q)
+
+pub long-address : (s : Switch) (address : List ℕ) (qlen amax : ℕ) (e : Endpoint) → is_state (T_UNBND ∷ []) e ≡ true → MOST_ADDRESS < length address → Some (answers (Refused TBADADDR)) ≡ first (Bind.rows s address qlen amax e)
+long-address s address qlen amax e q h =
+    sym (ap (λ (b : Bool). cond (not b) (Some (answers (Refused TOUTSTATE))) (first (drop 1 (Bind.rows s address qlen amax e)))) q
+    ∙ ap (λ (b : Bool). cond b (Some (answers (Refused TBADADDR))) (first (drop 2 (Bind.rows s address qlen amax e)))) (over (length address) MOST_ADDRESS h))
 
 -- a bind that no row refuses
 abbrev lost : Bool → Option Refusal

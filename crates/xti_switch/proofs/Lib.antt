@@ -1,10 +1,16 @@
+pub mod Returned
+pub mod Plans
 pub mod Openings
 pub mod Touches
 pub mod Binds
+pub mod Unbinding
 pub mod Asking
 pub mod Accepting
 pub mod Hearings
+pub mod Heard
 pub mod Reaching
+pub mod Disconnecting
 pub mod Breakings
 pub mod GivingUp
 pub mod Closing
+pub mod Steps

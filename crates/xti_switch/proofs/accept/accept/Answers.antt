@@ -1,13 +1,13 @@
-use Rattle.std.proofs.Common.{◌≡◌, Result, Ok, Err, refl, sym, ◌∙◌, true, false}
-use Rattle.std.specs.Result.{OnErr}
+use Rattle.std.proofs.Common.{◌≡◌, refl, sym, ◌∙◌, true, false}
 use Rattle.std.proofs.lemmas.Result.{IfOk-from_err}
 use Rattle.xti_model.specs.Endpoint.{find_number}
 use Rattle.xti_model.specs.World.{place_of}
 use Rattle.xti_end.specs.Held.{parts}
-use Rattle.xti_lent.specs.Fit.{SameCells}
-use Rattle.xti_lent.specs.Lending.{Lending, cells}
+use Rattle.xti_lent.specs.Lending.{cells}
 use Rattle.xti_lent.proofs.Sound.{short-source}
 use Rattle.xti_switch.proofs.Accepting.{Unrefused, request-there, short-options, short-data, short-answering, accept-effect, accept-refused, accept-unopened, accept-shut, accepts-kind, accepts}
+use Rattle.xti_lent.proofs.Written.{own-kept}
+use Rattle.xti_switch.proofs.Returned.{on-any-err, open-as, same-cells}
 use Rattle.xti_switch.proofs.accept.accept.Goals as goal
 
 pub prepare-requires-clause-address : goal.prepare-requires-clause-address
@@ -65,14 +65,6 @@ returns-in_default-open_endpoint-clause-step c =
     c.refused-in_default-open_endpoint.ensures ∙ accept-unopened c.args.lent.now.providers (cells c.args.lent.now) c.args.fd.0 c.args.resfd.0 c.args.seq.0 c.args.opt.now c.args.udata.now (parts c.in-Some.e.now)
     (sym c.in-Some.ensures.endpoint) (sym c.in_default-open_endpoint.ensures.endpoint)
 
--- where a result is an error, what holds of errors does
-on_any_err : {T E P : Type 0} (r : Result T E) → P → OnErr r P
-on_any_err (Ok x) p = tt
-on_any_err (Err x) p = p
-
-same_cells : (l : Lending) → SameCells l l
-same_cells l = record { providers = refl; numbers = refl; places = refl }
-
 pub returns-in_default-clause-step : goal.returns-in_default-clause-step
 returns-in_default-clause-step c =
     c.refused.ensures ∙ accept-shut c.args.lent.now.providers (cells c.args.lent.now) c.args.fd.0 c.args.resfd.0 c.args.seq.0 c.args.opt.now c.args.udata.now (sym c.in_default.ensures.endpoint)
@@ -81,7 +73,7 @@ pub returns-in_default-clause-still : goal.returns-in_default-clause-still
 returns-in_default-clause-still c = λ none. refl
 
 pub returns-in_default-clause-kept : goal.returns-in_default-clause-kept
-returns-in_default-clause-kept c = same_cells _
+returns-in_default-clause-kept c = same-cells _
 
 pub returns-in_default-clause-sure : goal.returns-in_default-clause-sure
 returns-in_default-clause-sure c = λ none. refl
@@ -90,7 +82,7 @@ pub returns-in_default-open_endpoint-clause-still : goal.returns-in_default-open
 returns-in_default-open_endpoint-clause-still c = λ none. refl
 
 pub returns-in_default-open_endpoint-clause-kept : goal.returns-in_default-open_endpoint-clause-kept
-returns-in_default-open_endpoint-clause-kept c = same_cells _
+returns-in_default-open_endpoint-clause-kept c = same-cells _
 
 pub returns-in_default-open_endpoint-clause-sure : goal.returns-in_default-open_endpoint-clause-sure
 returns-in_default-open_endpoint-clause-sure c = λ none. refl
@@ -99,7 +91,7 @@ pub returns-in-Some-accept_refusal-clause-still : goal.returns-in-Some-accept_re
 returns-in-Some-accept_refusal-clause-still c = λ none. refl
 
 pub returns-in-Some-accept_refusal-clause-kept : goal.returns-in-Some-accept_refusal-clause-kept
-returns-in-Some-accept_refusal-clause-kept c = same_cells _
+returns-in-Some-accept_refusal-clause-kept c = same-cells _
 
 pub returns-in-Some-accept_refusal-clause-sure : goal.returns-in-Some-accept_refusal-clause-sure
 returns-in-Some-accept_refusal-clause-sure c = λ none. refl
@@ -115,10 +107,10 @@ pub returns-in_err-acceptance-clause-still : goal.returns-in_err-acceptance-clau
 returns-in_err-acceptance-clause-still c = IfOk-from_err _ _ c.from_residual.ensures.0
 
 pub returns-in_err-acceptance-clause-kept : goal.returns-in_err-acceptance-clause-kept
-returns-in_err-acceptance-clause-kept c = same_cells _
+returns-in_err-acceptance-clause-kept c = same-cells _
 
 pub returns-in_err-acceptance-clause-err : goal.returns-in_err-acceptance-clause-err
-returns-in_err-acceptance-clause-err c = on_any_err _ refl
+returns-in_err-acceptance-clause-err c = on-any-err _ refl
 
 pub link-requires-clause-own : goal.link-requires-clause-own
 link-requires-clause-own c = c.requires.fit.places
@@ -136,10 +128,52 @@ pub returns-in_err-link-clause-kept : goal.returns-in_err-link-clause-kept
 returns-in_err-link-clause-kept c = c.in_err-link.ensures.kept
 
 pub returns-in_err-link-clause-err : goal.returns-in_err-link-clause-err
-returns-in_err-link-clause-err c = on_any_err _ c.in_err-link.ensures.err
+returns-in_err-link-clause-err c = on-any-err _ c.in_err-link.ensures.err
 
 pub returns-clause-kept : goal.returns-clause-kept
 returns-clause-kept c = c.in_ok-link.ensures.kept
 
 pub returns-clause-sure : goal.returns-clause-sure
 returns-clause-sure c = λ none. refl
+
+pub open_endpoint-requires : goal.open_endpoint-requires
+open_endpoint-requires c = c.requires.fit.places
+
+pub refused-requires : goal.refused-requires
+refused-requires c = c.requires.fit.places
+
+pub returns-in_default-clause-err : goal.returns-in_default-clause-err
+returns-in_default-clause-err c = tt
+
+pub open_endpoint-requires-2 : goal.open_endpoint-requires-2
+open_endpoint-requires-2 c = c.requires.fit.places
+
+pub refused-requires-in_default-open_endpoint : goal.refused-requires-in_default-open_endpoint
+refused-requires-in_default-open_endpoint c = c.requires.fit.places
+
+pub returns-in_default-open_endpoint-clause-err : goal.returns-in_default-open_endpoint-clause-err
+returns-in_default-open_endpoint-clause-err c = tt
+
+pub accept_refusal-requires-clause-listener : goal.accept_refusal-requires-clause-listener
+accept_refusal-requires-clause-listener c = open-as c.args.lent.now.providers c.args.fd.0 c.in-Some.e.now c.in-Some.ensures.open
+
+pub accept_refusal-requires-clause-responding : goal.accept_refusal-requires-clause-responding
+accept_refusal-requires-clause-responding c = open-as c.args.lent.now.providers c.args.resfd.0 c.in-Some-open_endpoint.r.now c.in-Some-open_endpoint.ensures.open
+
+pub done-requires : goal.done-requires
+done-requires c = c.requires.fit.places
+
+pub returns-in-Some-accept_refusal-clause-err : goal.returns-in-Some-accept_refusal-clause-err
+returns-in-Some-accept_refusal-clause-err c = tt
+
+pub prepare-requires-clause-listener : goal.prepare-requires-clause-listener
+prepare-requires-clause-listener c = open-as c.args.lent.now.providers c.args.fd.0 c.in-Some.e.now c.in-Some.ensures.open
+
+pub prepare-requires-clause-responding : goal.prepare-requires-clause-responding
+prepare-requires-clause-responding c = open-as c.args.lent.now.providers c.args.resfd.0 c.in-Some-open_endpoint.r.now c.in-Some-open_endpoint.ensures.open
+
+pub done-requires-2 : goal.done-requires-2
+done-requires-2 c = own-kept c.args.lent.now c.link.new.lent c.in_ok-link.ensures.kept c.requires.fit.places
+
+pub returns-clause-err : goal.returns-clause-err
+returns-clause-err c = tt

@@ -2,7 +2,6 @@ use Rattle.std.proofs.Common.{List, [], ◌∷◌, ◌++◌}
 use Rattle.xti_model.specs.Calls.Listen.{taken_out}
 use Rattle.xti_model.specs.World.{Change, at_endpoint}
 use Rattle.xti_end.specs.Frames.{confirmation_in}
-use Rattle.xti_lent.specs.Answers.{Changed}
 use Rattle.xti_lent.proofs.Sequences.{changed-then, same-then}
 use Rattle.xti_switch.specs.Accepts.{giving_if, responding_to, accepted_by}
 use Rattle.xti_switch.proofs.accept.link.Goals as goal
