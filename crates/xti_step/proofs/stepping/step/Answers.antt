@@ -1,4 +1,14 @@
-use Rattle.std.proofs.Common.{◌∙◌, ℕ, inr, length, refl, sym, ap, subst}
+use Rattle.std.proofs.Common.{◌≡◌, ◌∙◌, ℕ, List, Result, Ok, Err, inl, inr, length, append-nil, refl, sym, ap, subst}
+use Rattle.std.specs.Result.{OnErr}
+use Rattle.std.proofs.lemmas.Result.{IfOk-from_err}
+use Rattle.xti_model.specs.declared.profile.Providers.{Providers}
+use Rattle.xti_gather.specs.Cells.{IsWhole}
+use Rattle.xti_gather.specs.Orders.{AreCells}
+use Rattle.xti_hall.specs.Words.{setting_of}
+use Rattle.xti_hall_rule.specs.declared.setting.Setting.{Setting}
+use Rattle.xti_step.specs.Steps.{IsReady, Later}
+use Rattle.xti_model.specs.declared.call.Call.{Call}
+use Rattle.xti_hall.specs.Pens.{PenView}
 use Rattle.xti_base.specs.declared.kinds.State.{State}
 use Rattle.xti_model.specs.declared.entry.Applied.{Applied}
 use Rattle.xti_model.specs.declared.entry.Outcome.{Outcome}
@@ -115,3 +125,177 @@ pub returns-in-Ok-Step-clause-at : goal.returns-in-Ok-Step-clause-at
 returns-in-Ok-Step-clause-at g c =
     let all = ap (λ (z : SeatView). bare z.view) c.wake.ensures ∙ (c.leave_all.ensures.rest ∙ ap bare c.write-rings.ensures.view) in
     made-at c.in-Ok.ensures.ready c.wake.new.seat.view _ c.at-at.result all c.at-at.ensures c.in-Ok.ensures.pen.3
+
+-- where a result is an error, what holds of errors does
+on-any-err : {T E P : Type 0} (r : Result T E) → P → OnErr r P
+on-any-err (Ok x) p = tt
+on-any-err (Err x) p = p
+
+not-later : (v : View) → Later v v
+not-later v = record { setting = refl; number = refl; next = refl; seen = (_, append-nil v.seen) }
+
+-- a seat that is ready has its setting still
+ready-setting : {v v' : View} {l : Lending} {c : Call} {p : PenView} → IsReady v v' l c p → v'.setting ≡ v.setting
+ready-setting r = ap (λ (z : View). z.setting) r.pen ∙ ap (λ (z : View). z.setting) r.rest
+
+whole-still : (s : Setting) (p q : Providers) → q ≡ p → IsWhole s p → IsWhole s q
+whole-still s p q e h = subst (IsWhole s) (sym e) h
+
+cells-still : (p q : Providers) (ns : List ℕ) → q ≡ p → AreCells p ns → AreCells q ns
+cells-still p q ns e h = subst (λ (x : Providers). AreCells x ns) (sym e) h
+
+pub returns-in_err-copies-clause-hall : goal.returns-in_err-copies-clause-hall
+returns-in_err-copies-clause-hall g c = (refl, refl)
+
+pub returns-in_err-copies-clause-idle : goal.returns-in_err-copies-clause-idle
+returns-in_err-copies-clause-idle g c = c.requires.idle
+
+pub returns-in_err-copies-clause-empty : goal.returns-in_err-copies-clause-empty
+returns-in_err-copies-clause-empty g c = (c.requires.empty, refl)
+
+pub returns-in_err-copies-clause-first : goal.returns-in_err-copies-clause-first
+returns-in_err-copies-clause-first g c = c.requires.first
+
+pub returns-in_err-copies-clause-later : goal.returns-in_err-copies-clause-later
+returns-in_err-copies-clause-later g c = not-later c.args.seat.now.view
+
+pub returns-in_err-copies-clause-ok : goal.returns-in_err-copies-clause-ok
+returns-in_err-copies-clause-ok g c = IfOk-from_err _ _ c.from_residual.ensures.0
+
+pub returns-in_err-copies-clause-free : goal.returns-in_err-copies-clause-free
+returns-in_err-copies-clause-free g c = IfOk-from_err _ _ c.from_residual.ensures.0
+
+pub returns-in_err-copies-clause-at : goal.returns-in_err-copies-clause-at
+returns-in_err-copies-clause-at g c = IfOk-from_err _ _ c.from_residual.ensures.0
+
+pub returns-in_err-copies-clause-err : goal.returns-in_err-copies-clause-err
+returns-in_err-copies-clause-err g c = on-any-err _ refl
+
+pub returns-in_err-copies-clause-mark : goal.returns-in_err-copies-clause-mark
+returns-in_err-copies-clause-mark g c = on-any-err _ (inl refl)
+
+pub returns-in-Err-clause-hall : goal.returns-in-Err-clause-hall
+returns-in-Err-clause-hall g c = c.begin.ensures.hall
+
+pub returns-in-Err-clause-idle : goal.returns-in-Err-clause-idle
+returns-in-Err-clause-idle g c = c.in-Err.ensures.idle.0
+
+pub returns-in-Err-clause-empty : goal.returns-in-Err-clause-empty
+returns-in-Err-clause-empty g c = (c.in-Err.ensures.idle.1, c.begin.ensures.providers)
+
+pub returns-in-Err-clause-first : goal.returns-in-Err-clause-first
+returns-in-Err-clause-first g c = cells-still c.args.lent.now.providers c.begin.new.lent.providers c.begin.new.first c.begin.ensures.providers c.begin.ensures.first
+
+pub returns-in-Err-clause-later : goal.returns-in-Err-clause-later
+returns-in-Err-clause-later g c = c.in-Err.ensures.later
+
+pub returns-in-Err-clause-standing : goal.returns-in-Err-clause-standing
+returns-in-Err-clause-standing g c = c.begin.ensures.standing
+
+pub returns-in-Err-clause-ok : goal.returns-in-Err-clause-ok
+returns-in-Err-clause-ok g c = tt
+
+pub returns-in-Err-clause-free : goal.returns-in-Err-clause-free
+returns-in-Err-clause-free g c = tt
+
+pub returns-in-Err-clause-at : goal.returns-in-Err-clause-at
+returns-in-Err-clause-at g c = tt
+
+pub returns-in-Err-clause-err : goal.returns-in-Err-clause-err
+returns-in-Err-clause-err g c = c.in-Err.ensures.err
+
+pub returns-in-Err-clause-mark : goal.returns-in-Err-clause-mark
+returns-in-Err-clause-mark g c = c.in-Err.ensures.mark
+
+pub give_up-requires-clause-hall : goal.give_up-requires-clause-hall
+give_up-requires-clause-hall g c = ((c.begin.ensures.hall.0 ∙ c.requires.hall.0.0, ready-setting c.in-Ok.ensures.ready ∙ c.requires.hall.0.1), whole-still (setting_of c.args.hall.now) c.args.lent.now.providers c.apply.new.lent.providers (c.apply.ensures.kept.providers ∙ c.begin.ensures.providers) c.requires.hall.1)
+
+pub give_up-requires-clause-holds : goal.give_up-requires-clause-holds
+give_up-requires-clause-holds g c = c.in-Ok.ensures.ready.holds
+
+pub give_up-requires-clause-pen : goal.give_up-requires-clause-pen
+give_up-requires-clause-pen g c = c.in-Ok.ensures.pen
+
+pub give_up-requires-in-Ok-Blocked-clause-hall : goal.give_up-requires-in-Ok-Blocked-clause-hall
+give_up-requires-in-Ok-Blocked-clause-hall g c = ((c.begin.ensures.hall.0 ∙ c.requires.hall.0.0, ready-setting c.in-Ok.ensures.ready ∙ c.requires.hall.0.1), whole-still (setting_of c.args.hall.now) c.args.lent.now.providers c.apply.new.lent.providers (c.apply.ensures.kept.providers ∙ c.begin.ensures.providers) c.requires.hall.1)
+
+pub give_up-requires-in-Ok-Blocked-clause-holds : goal.give_up-requires-in-Ok-Blocked-clause-holds
+give_up-requires-in-Ok-Blocked-clause-holds g c = c.in-Ok.ensures.ready.holds
+
+pub give_up-requires-in-Ok-Blocked-clause-pen : goal.give_up-requires-in-Ok-Blocked-clause-pen
+give_up-requires-in-Ok-Blocked-clause-pen g c = c.in-Ok.ensures.pen
+
+pub write-rings-requires-clause-hall : goal.write-rings-requires-clause-hall
+write-rings-requires-clause-hall g c = (c.begin.ensures.hall.0 ∙ c.requires.hall.0.0, ready-setting c.in-Ok.ensures.ready ∙ c.requires.hall.0.1)
+
+pub write-rings-requires-clause-holds : goal.write-rings-requires-clause-holds
+write-rings-requires-clause-holds g c = c.in-Ok.ensures.ready.holds
+
+pub write-rings-requires-clause-pen : goal.write-rings-requires-clause-pen
+write-rings-requires-clause-pen g c = c.in-Ok.ensures.pen
+
+pub write-rings-requires-clause-copies : goal.write-rings-requires-clause-copies
+write-rings-requires-clause-copies g c = c.in_ok-copies.ensures
+
+pub leave_all-requires-clause-hall : goal.leave_all-requires-clause-hall
+leave_all-requires-clause-hall g c =
+    ((c.write-rings.ensures.hall.0 ∙ (c.begin.ensures.hall.0 ∙ c.requires.hall.0.0), ap (λ (z : View). z.setting) c.write-rings.ensures.view ∙ (ready-setting c.in-Ok.ensures.ready ∙ c.requires.hall.0.1)), whole-still (setting_of c.args.hall.now) c.args.lent.now.providers c.apply.new.lent.providers (c.apply.ensures.kept.providers ∙ c.begin.ensures.providers) c.requires.hall.1)
+
+pub wake-requires : goal.wake-requires
+wake-requires g c = record {
+  hall = (c.leave_all.ensures.hall.0 ∙ (c.write-rings.ensures.hall.0 ∙ (c.begin.ensures.hall.0 ∙ c.requires.hall.0.0)), ap (λ (z : View). z.setting) c.leave_all.ensures.rest ∙ (ap (λ (z : View). z.setting) c.write-rings.ensures.view ∙ (ready-setting c.in-Ok.ensures.ready ∙ c.requires.hall.0.1)));
+}
+
+pub returns-in-Err-apply-clause-hall : goal.returns-in-Err-apply-clause-hall
+returns-in-Err-apply-clause-hall g c = (c.give_up.ensures.hall.0 ∙ c.begin.ensures.hall.0, c.give_up.ensures.hall.1 ∙ c.begin.ensures.hall.1)
+
+pub returns-in-Err-apply-clause-empty : goal.returns-in-Err-apply-clause-empty
+returns-in-Err-apply-clause-empty g c = (c.give_up.ensures.empty.0, (c.give_up.ensures.empty.1 ∙ (c.in-Err-apply.ensures.kept.providers ∙ c.begin.ensures.providers)))
+
+pub returns-in-Err-apply-clause-first : goal.returns-in-Err-apply-clause-first
+returns-in-Err-apply-clause-first g c = cells-still c.args.lent.now.providers c.give_up.new.lent.providers c.begin.new.first (c.give_up.ensures.empty.1 ∙ (c.in-Err-apply.ensures.kept.providers ∙ c.begin.ensures.providers)) c.begin.ensures.first
+
+pub returns-in-Err-apply-clause-ok : goal.returns-in-Err-apply-clause-ok
+returns-in-Err-apply-clause-ok g c = tt
+
+pub returns-in-Err-apply-clause-free : goal.returns-in-Err-apply-clause-free
+returns-in-Err-apply-clause-free g c = tt
+
+pub returns-in-Err-apply-clause-at : goal.returns-in-Err-apply-clause-at
+returns-in-Err-apply-clause-at g c = tt
+
+pub returns-in-Ok-Blocked-clause-hall : goal.returns-in-Ok-Blocked-clause-hall
+returns-in-Ok-Blocked-clause-hall g c = (c.give_up-in-Ok-Blocked.ensures.hall.0 ∙ c.begin.ensures.hall.0, c.give_up-in-Ok-Blocked.ensures.hall.1 ∙ c.begin.ensures.hall.1)
+
+pub returns-in-Ok-Blocked-clause-empty : goal.returns-in-Ok-Blocked-clause-empty
+returns-in-Ok-Blocked-clause-empty g c = (c.give_up-in-Ok-Blocked.ensures.empty.0, (c.give_up-in-Ok-Blocked.ensures.empty.1 ∙ (c.in-Ok-Blocked.ensures.kept.providers ∙ c.begin.ensures.providers)))
+
+pub returns-in-Ok-Blocked-clause-first : goal.returns-in-Ok-Blocked-clause-first
+returns-in-Ok-Blocked-clause-first g c = cells-still c.args.lent.now.providers c.give_up-in-Ok-Blocked.new.lent.providers c.begin.new.first (c.give_up-in-Ok-Blocked.ensures.empty.1 ∙ (c.in-Ok-Blocked.ensures.kept.providers ∙ c.begin.ensures.providers)) c.begin.ensures.first
+
+pub returns-in-Ok-Blocked-clause-err : goal.returns-in-Ok-Blocked-clause-err
+returns-in-Ok-Blocked-clause-err g c = tt
+
+pub returns-in-Ok-Blocked-clause-mark : goal.returns-in-Ok-Blocked-clause-mark
+returns-in-Ok-Blocked-clause-mark g c = tt
+
+pub returns-in-Ok-Step-clause-hall : goal.returns-in-Ok-Step-clause-hall
+returns-in-Ok-Step-clause-hall g c = (ap (λ (z : SeatView). z.hall) c.wake.ensures ∙ (c.leave_all.ensures.hall.0 ∙ (c.write-rings.ensures.hall.0 ∙ c.begin.ensures.hall.0)), ap (λ (z : SeatView). z.id) c.wake.ensures ∙ (c.leave_all.ensures.hall.1 ∙ (c.write-rings.ensures.hall.1 ∙ c.begin.ensures.hall.1)))
+
+pub returns-in-Ok-Step-clause-empty : goal.returns-in-Ok-Step-clause-empty
+returns-in-Ok-Step-clause-empty g c =
+    let setting = ap (λ (z : View). z.setting) c.leave_all.ensures.rest ∙ (ap (λ (z : View). z.setting) c.write-rings.ensures.view ∙ ready-setting c.in-Ok.ensures.ready) in
+    let providers = c.leave_all.ensures.lends.providers ∙ (ap (λ (z : Setting). z.providers) setting ∙ ap (λ (z : Setting). z.providers) (c.requires.hall.0.1 ∙ c.requires.hall.1)) in
+    (c.leave_all.ensures.empty, providers)
+
+pub returns-in-Ok-Step-clause-first : goal.returns-in-Ok-Step-clause-first
+returns-in-Ok-Step-clause-first g c =
+    let setting = ap (λ (z : View). z.setting) c.leave_all.ensures.rest ∙ (ap (λ (z : View). z.setting) c.write-rings.ensures.view ∙ ready-setting c.in-Ok.ensures.ready) in
+    let providers = c.leave_all.ensures.lends.providers ∙ (ap (λ (z : Setting). z.providers) setting ∙ ap (λ (z : Setting). z.providers) (c.requires.hall.0.1 ∙ c.requires.hall.1)) in
+    cells-still c.args.lent.now.providers c.leave_all.new.lent.providers c.begin.new.first providers c.begin.ensures.first
+
+pub returns-in-Ok-Step-clause-err : goal.returns-in-Ok-Step-clause-err
+returns-in-Ok-Step-clause-err g c = tt
+
+pub returns-in-Ok-Step-clause-mark : goal.returns-in-Ok-Step-clause-mark
+returns-in-Ok-Step-clause-mark g c = tt
