@@ -1,4 +1,4 @@
-use Rattle.std.proofs.Common.{◌≡◌, ℕ, ◌<◌, Bool, true, false, List, [], ◌∷◌, drop, length, Option, None, Some, sym, ap, refl, ◌∙◌, arith}
+use Rattle.std.proofs.Common.{◌≡◌, ℕ, ◌<◌, true, false, List, [], ◌∷◌, drop, length, Option, None, Some, sym, ap, refl, ◌∙◌, arith}
 use Rattle.std.specs.Prelude.{option_map, remove}
 use Rattle.xti_base.specs.Kinds.{same_state}
 use Rattle.xti_base.specs.declared.kinds.State.{State}

@@ -1,4 +1,4 @@
-use Rattle.std.proofs.Common.{◌≡◌, ℕ, ◌+◌, ◌≤◌, Bool, true, false, ◌&&◌, List, [], ◌++◌, Some, sym, ap, refl, ◌∙◌, arith}
+use Rattle.std.proofs.Common.{◌≡◌, ℕ, ◌≤◌, Bool, true, false, List, [], ◌++◌, Some, sym, ap, refl, ◌∙◌, arith}
 use Rattle.xti_base.specs.Negotiation.{Negotiated, Settings}
 use Rattle.xti_base.specs.Options.{options_bytes}
 use Rattle.xti_opt.specs.Requests.{answered_bytes, asked_overall, asked_settings, negotiated_request}

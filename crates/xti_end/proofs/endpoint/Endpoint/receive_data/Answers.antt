@@ -1,5 +1,5 @@
 use Rattle.std.proofs.Common.{◌≡◌, ℕ, Bool, true, false, ◌&&◌, List, Option, None, Some, sym, ap, refl, ◌∙◌}
-use Rattle.std.specs.Prelude.{is_some, not, option_map}
+use Rattle.std.specs.Prelude.{not, option_map}
 use Rattle.std.proofs.lemmas.Result.{IfOk-from_err}
 use Rattle.xti_base.specs.declared.kinds.Prov.{Prov}
 use Rattle.xti_model.specs.declared.entry.Reply.TheVariants.{Got}
