@@ -1,8 +1,7 @@
-use Rattle.std.proofs.Common.{◌≡◌, ◌∙◌, true, sym, subst}
+use Rattle.std.proofs.Common.{◌≡◌, ◌∙◌, sym, subst}
 use Rattle.std.specs.Prelude.{IfOk}
-use Rattle.xti_model.specs.Plan.{first, has_effect}
 use Rattle.xti_end.specs.Held.{alone}
-use Rattle.xti_end.specs.Taken.{receiving_release_data, taken, told_release}
+use Rattle.xti_end.specs.Taken.{taken, told_release}
 use Rattle.xti_end.proofs.Rows.{refused-release-told, release-told, taken-has-effect}
 use Rattle.xti_end.proofs.endpoint.Endpoint.rcvreldata.Goals as goal
 
