@@ -59,6 +59,19 @@ within all piece buf limit l want count c p w e h = simp (length-append, length-
 closer : (all piece : List ℕ) (limit count : ℕ) → count ≤ length piece → length all ≤ limit → 0 < count → limit + 1 - length (all ++ take count piece) < limit + 1 - length all
 closer all piece limit count c h p = simp (length-append, length-take) (omega (arith, c, h, p))
 
+some-there : (all piece : List ℕ) (count : ℕ) → count ≤ length piece → 0 < count → 0 < length (all ++ take count piece)
+some-there all piece count c p = simp (length-append, length-take) (omega (arith, c, p))
+
+-- what is wanted has its place in the buffer
+want-fits : (buf : List ℕ) (limit l want : ℕ) → want ≡ min (limit - l) 16383 → length buf ≡ 16384 → want + 1 ≤ length buf
+want-fits buf limit l want w e = omega (arith, w, e)
+
+all-taken : (xs : List ℕ) (n : ℕ) → n ≤ length xs → n ≡ length (take n xs)
+all-taken xs n h = simp length-take (omega (arith, h))
+
+some-space : (buf : List ℕ) (want : ℕ) → want + 1 ≤ length buf → 0 < length (take (want + 1) buf)
+some-space buf want h = simp length-take (omega (arith, h))
+
 at-most : (n limit l : ℕ) → l ≤ limit → l ≡ n → n ≤ limit
 at-most n limit l h e = omega (arith, h, e)
 
@@ -72,16 +85,34 @@ returns-in-Ok-eq0-clause-all g c =
 pub returns-then-is_err-clause-front : goal.returns-then-is_err-clause-front
 returns-then-is_err-clause-front g c = (
   c.loop-buf.all.items ++ take c.in-Ok.count c.read.new.buf,
-  simp (length-append, length-take) (omega (arith, simp length-take at c.read.auto.buf)),
+  within c.loop-buf.all.items c.read.new.buf c.loop-buf.buf c.args.limit c.len-in-loop-buf.result c.min-want.result c.in-Ok.count c.in-Ok.ensures.bytes.0 c.read.auto.buf c.min-want.ensures
+      (c.len-in-loop-buf.ensures ∙ c.loop-buf.all.ok.0) (at-most _ _ _ c.loop-buf-test.true (c.len.ensures ∙ sym c.len-in-loop-buf.ensures)),
   Gives-then _ _ _ _ _ c.loop-buf.invariant.took c.in-Ok.ensures.bytes.1,
 )
 
 pub returns-then-is_err-clause-memory : goal.returns-then-is_err-clause-memory
 returns-then-is_err-clause-memory g c out = (
   c.loop-buf.all.items ++ take c.in-Ok.count c.read.new.buf,
-  simp (length-append, length-take) (omega (arith, c.in-Ok.count-test, c.in-Ok.ensures.bytes.0)),
+  some-there c.loop-buf.all.items c.read.new.buf c.in-Ok.count c.in-Ok.ensures.bytes.0 (above-none c.in-Ok.count c.in-Ok.count-test.1),
   Gives-then _ _ _ _ _ c.loop-buf.invariant.took c.in-Ok.ensures.bytes.1,
 )
+
+pub overflow_sub-limit : goal.overflow_sub-limit
+overflow_sub-limit g c = at-most _ _ _ c.loop-buf-test.true (c.len.ensures ∙ sym c.len-in-loop-buf.ensures)
+
+pub slice_bounds-buf-end : goal.slice_bounds-buf-end
+slice_bounds-buf-end g c = want-fits c.loop-buf.buf c.args.limit c.len-in-loop-buf.result c.min-want.result c.min-want.ensures c.min-want.array_long
+
+pub slice_bounds-piece-end : goal.slice_bounds-piece-end
+slice_bounds-piece-end g c =
+    all-taken c.loop-buf.buf (c.min-want.result + 1) (want-fits c.loop-buf.buf c.args.limit c.len-in-loop-buf.result c.min-want.result c.min-want.ensures c.min-want.array_long)
+
+pub read-requires : goal.read-requires
+read-requires g c =
+    some-space c.loop-buf.buf c.min-want.result (want-fits c.loop-buf.buf c.args.limit c.len-in-loop-buf.result c.min-want.result c.min-want.ensures c.min-want.array_long)
+
+pub slice_bounds-extend_from_slice-end : goal.slice_bounds-extend_from_slice-end
+slice_bounds-extend_from_slice-end g c = all-taken c.read.new.buf c.in-Ok.count c.in-Ok.ensures.bytes.0
 
 pub loop-buf-init : goal.loop-buf-init
 loop-buf-init g c = record {
