@@ -1,4 +1,5 @@
 pub mod Lines
+mod Marks
 pub mod FirstWord
 pub mod LineEnd
 pub mod WordLaws
