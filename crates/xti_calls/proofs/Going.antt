@@ -1,7 +1,7 @@
 -- The loop of a call: each step that is made is one more of its own, and a wait leaves them.
 use Rattle.std.proofs.Common.{◌≡◌, ℕ, List, [], ◌∷◌, ◌++◌, length, Option, Some, None, refl, sym, ap, ◌∙◌, subst, arith, append_assoc, length-append, ◌⊎◌, inl, inr, false}
 use Rattle.std.specs.List.{AllByRecursion}
-use Rattle.std.proofs.lemmas.List.{append-nil}
+use Rattle.std.proofs.lemmas.List.{append-nil, take_all}
 use mathlib.Core.List.{IsPrefix}
 use lib.ListN.{get_or}
 use Rattle.xti_base.specs.declared.kinds.State.{State}
@@ -25,9 +25,10 @@ use Rattle.xti_hall_rule.specs.declared.setting.Setting.{Setting}
 use Rattle.xti_hall_rule.specs.declared.view.Mark.{Mark}
 use Rattle.xti_hall_rule.specs.declared.view.Mark.TheVariants.{Free}
 use Rattle.xti_hall_rule.specs.declared.view.View.{View}
-use Rattle.xti_hall_rule.specs.Histories.{after}
+use Rattle.xti_hall_rule.specs.Histories.{Blocked, after}
 use Rattle.xti_hall.specs.Seats.{Looks, entry_of}
-use Rattle.xti_hall.specs.Stalls.{waits}
+use Rattle.xti_hall.specs.Stalls.{WasBlocked, waits}
+use Rattle.xti_wants.specs.declared.want.Want.{Want}
 use Rattle.xti_step.specs.Steps.{HoldsNothing, Later, MayGo, Made}
 use Rattle.xti_calls.specs.Calling.{IsMore, IsPart, AreSteps, Answered, Stopped, going_at, IsAt}
 use Rattle.xti_calls.proofs.Unfinished.{GoingHasLeft, made-call, entry-left}
@@ -156,3 +157,8 @@ pub still-blocked : (v v' : View) (c : Call) (g : Go) → Looks v v' → length 
 still-blocked v v' c g l n b =
     let same : v'.seen ≡ v.seen = same-length v.seen v'.seen l.seen n in
     subst (λ (a : Setting). step a.providers (after a v'.seen) c g ≡ None) (sym l.setting) (subst (λ (h : List Entry). step v.setting.providers (after v.setting h) c g ≡ None) (sym same) b)
+
+-- what is blocked after all that was seen was blocked after so many entries
+pub was-blocked : (v : View) (want : Want) (at : ℕ) → length v.seen ≡ at → Blocked v.setting v.seen want → WasBlocked v at want
+was-blocked v want at e b =
+    (omega (arith, e), subst (λ (h : List Entry). Blocked v.setting h want) (sym (take_all at v.seen (omega (arith, e)))) b)

@@ -1,8 +1,14 @@
 use Rattle.std.proofs.Common.{◌∙◌, ap, sym, subst}
+use Rattle.std.specs.Prelude.{is_none}
 use Rattle.xti_hall.specs.Stalls.{waits}
+use Rattle.xti_gather.specs.Cells.{IsWhole}
+use Rattle.xti_hall.specs.Words.{setting_of}
+use Rattle.xti_hall_rule.specs.Histories.{after}
+use Rattle.xti_hall_rule.specs.declared.setting.Setting.{Setting}
+use Rattle.xti_model.specs.Profile.{valid}
 use Rattle.xti_model.specs.declared.entry.Applied.{Applied}
 use Rattle.xti_step.specs.Steps.{Tells, SeenAt}
-use Rattle.xti_calls.proofs.Going.{goes-done, goes-part, goes-on, goes-stopped, later-still, looks-idle, looks-later, still-blocked, waits-no-more}
+use Rattle.xti_calls.proofs.Going.{goes-done, goes-may, goes-part, goes-on, goes-stopped, later-still, looks-idle, looks-later, still-blocked, waits-no-more, was-blocked}
 use Rattle.xti_calls.proofs.calling.go_on.Goals as goal
 
 pub returns-in-Done-clause-made : goal.returns-in-Done-clause-made
@@ -139,3 +145,43 @@ wait-requires-clause-free g c = c.step.ensures.idle.0
 
 pub wait-requires-clause-nothing : goal.wait-requires-clause-nothing
 wait-requires-clause-nothing g c = c.step.ensures.idle.1
+
+pub step-requires-clause-hall : goal.step-requires-clause-hall
+step-requires-clause-hall g c =
+    let i = c.loop.invariant in
+    λ _ _.
+    ((i.hall ∙ c.requires.hall.0.0, i.goes.later.setting ∙ c.requires.hall.0.1), subst (IsWhole (setting_of c.args.hall.now)) (sym i.providers) c.requires.hall.1)
+
+pub step-requires-clause-idle : goal.step-requires-clause-idle
+step-requires-clause-idle g c = λ _ _. c.loop.invariant.idle
+
+pub step-requires-clause-empty : goal.step-requires-clause-empty
+step-requires-clause-empty g c = λ _ _. c.loop.invariant.empty
+
+pub step-requires-clause-first : goal.step-requires-clause-first
+step-requires-clause-first g c = λ _ _. c.loop.invariant.first
+
+pub step-requires-clause-go : goal.step-requires-clause-go
+step-requires-clause-go g c = λ _ _. goes-may c.loop.invariant.goes
+
+pub unreachable-requires : goal.unreachable-requires
+unreachable-requires g c =
+    let b = c.in-Ok-Blocked-default in
+    let v = c.step.new.seat.view in
+    let w = subst (λ (a : Applied). Tells c.loop.seat.view c.args.call.now c.loop.go v a) b.field-0-0-is b.ensures.ok in
+    c.blocked_calls_have_wants.ensures.has v.setting.providers (after v.setting v.seen) c.args.call.now c.loop.go c.loop.invariant.goes.left (ap is_none w.blocked) c.in_default.ensures
+
+pub wait-requires-clause-want : goal.wait-requires-clause-want
+wait-requires-clause-want g c =
+    let b = c.in-Ok-Blocked-default in
+    let v = c.step.new.seat.view in
+    let w = subst (λ (a : Applied). Tells c.loop.seat.view c.args.call.now c.loop.go v a) b.field-0-0-is b.ensures.ok in
+    let at = subst (λ (a : Applied). SeenAt a b.at v) b.field-0-0-is b.ensures.at in
+    let ok =
+    ap (λ (a : Setting). valid a.providers) (c.step.ensures.later.setting ∙ (c.loop.invariant.goes.later.setting ∙ (c.requires.hall.0.1 ∙ c.requires.hall.1)))
+    ∙ c.requires.empty.loan.kept.valid_providers in
+    was-blocked v c.in-Some-want_of.want b.at at
+    (c.blocked_calls_have_wants.ensures.blocked v.setting.providers (after v.setting v.seen) c.args.call.now c.loop.go ok c.loop.invariant.goes.left (ap is_none w.blocked) c.in-Some-want_of.want c.in-Some-want_of.ensures)
+
+pub unreachable-requires-2 : goal.unreachable-requires-2
+unreachable-requires-2 g c = let e = c.in-None.ensures.steps in cc
