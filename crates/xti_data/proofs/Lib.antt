@@ -1,7 +1,6 @@
 pub mod Reached
 pub mod Shares
 pub mod Changes
-pub mod Returned
 pub mod Rows
 pub mod ReleaseRows
 pub mod Sizes

@@ -12,3 +12,4 @@ pub mod Opened
 pub mod Sound
 pub mod Sequences
 pub mod Joined
+pub mod Returned

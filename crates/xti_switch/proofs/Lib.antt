@@ -1,4 +1,3 @@
-pub mod Returned
 pub mod Plans
 pub mod Openings
 pub mod Touches

@@ -8,7 +8,7 @@ use Rattle.xti_lent.proofs.Written.{own-kept}
 use Rattle.xti_data.specs.Sends.{release_refusal}
 use Rattle.xti_data.proofs.Reached.{peer-named, peer-reached}
 use Rattle.xti_data.proofs.ReleaseRows.{release-effect, release-refused, release-shut, release-told}
-use Rattle.xti_data.proofs.Returned.{not-blocked, on-any-err, open-as, same-cells}
+use Rattle.xti_lent.proofs.Returned.{not-blocked, on-any-err, open-as, same-cells}
 use Rattle.xti_data.proofs.releasing.sndrel.Goals as goal
 
 pub open_endpoint-requires : goal.open_endpoint-requires

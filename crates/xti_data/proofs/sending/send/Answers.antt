@@ -15,7 +15,7 @@ use Rattle.xti_data.specs.declared.portions.Portion.{Portion}
 use Rattle.xti_data.specs.Portions.{giving, portion_of, IsWithin}
 use Rattle.xti_model.specs.History.{taken_before}
 use Rattle.xti_data.proofs.Changes.{made-after}
-use Rattle.xti_data.proofs.Returned.{not-blocked, on-any-err, open-as, same-cells}
+use Rattle.xti_lent.proofs.Returned.{not-blocked, on-any-err, open-as, same-cells}
 use Rattle.xti_lent.proofs.Written.{own-kept}
 use Rattle.std.proofs.lemmas.Result.{IfOk-from_err}
 use Rattle.xti_model.specs.declared.entry.Outcome.TheVariants.{Done}

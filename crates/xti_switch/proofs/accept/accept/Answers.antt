@@ -7,7 +7,7 @@ use Rattle.xti_lent.specs.Lending.{cells}
 use Rattle.xti_lent.proofs.Sound.{short-source}
 use Rattle.xti_switch.proofs.Accepting.{Unrefused, request-there, short-options, short-data, short-answering, accept-effect, accept-refused, accept-unopened, accept-shut, accepts-kind, accepts}
 use Rattle.xti_lent.proofs.Written.{own-kept}
-use Rattle.xti_switch.proofs.Returned.{on-any-err, open-as, same-cells}
+use Rattle.xti_lent.proofs.Returned.{on-any-err, open-as, same-cells}
 use Rattle.xti_switch.proofs.accept.accept.Goals as goal
 
 pub prepare-requires-clause-address : goal.prepare-requires-clause-address

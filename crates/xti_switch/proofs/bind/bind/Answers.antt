@@ -13,7 +13,7 @@ use Rattle.xti_base.specs.declared.errno.Errno.TheVariants.{TBADADDR, TOUTSTATE}
 use Rattle.xti_model.specs.declared.entry.Reply.TheVariants.{Refused}
 use Rattle.xti_switch.proofs.Binds.{bind-free, bind-busy, bind-effect, bind_of, bound-already, long-address}
 use Rattle.xti_switch.proofs.Plans.{in-state, not-over, refused-open, refused-shut}
-use Rattle.xti_switch.proofs.Returned.{not-blocked, on-any-err, open-as, same-cells}
+use Rattle.xti_lent.proofs.Returned.{not-blocked, on-any-err, open-as, same-cells}
 use Rattle.xti_switch.proofs.bind.bind.Goals as goal
 
 pub returns-then-is_busy-clause-step : goal.returns-then-is_busy-clause-step

@@ -9,7 +9,7 @@ use Rattle.xti_lent.proofs.Lendings.{switch-is}
 use Rattle.xti_lent.proofs.Written.{own-kept}
 use Rattle.xti_switch.proofs.Asking.{connect_of, connects, little-data, short-options}
 use Rattle.xti_switch.proofs.Plans.{effect-open, refused-open, refused-shut}
-use Rattle.xti_switch.proofs.Returned.{not-blocked, on-any-err, open-as, same-cells}
+use Rattle.xti_lent.proofs.Returned.{not-blocked, on-any-err, open-as, same-cells}
 use Rattle.xti_switch.proofs.connect.connect.Goals as goal
 
 pub returns-clause-step : goal.returns-clause-step

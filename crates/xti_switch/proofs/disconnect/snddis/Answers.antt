@@ -11,7 +11,7 @@ use Rattle.xti_switch.specs.Disconnects.{rejecting, EndsOwn}
 use Rattle.xti_switch.proofs.Disconnecting.{asked-there, changes-ending, changes-rejecting, disconnect_of, disconnects, little-data}
 use Rattle.xti_switch.proofs.Plans.{effect-open, in-state, refused-open, refused-shut}
 use Rattle.xti_switch.proofs.Reaching.{disconnect-reaches, rejection-reaches}
-use Rattle.xti_switch.proofs.Returned.{not-blocked, on-any-err, open-as, same-cells}
+use Rattle.xti_lent.proofs.Returned.{not-blocked, on-any-err, open-as, same-cells}
 use Rattle.xti_switch.proofs.disconnect.snddis.Goals as goal
 use Rattle.xti_switch.proofs.disconnect.snddis.Goals.{then-is+in_ok-reject, else-is+in_ok-end_own}
 

@@ -6,7 +6,7 @@ use Rattle.xti_end.specs.Held.{Held, parts}
 use Rattle.xti_switch.specs.Hearing.{HasRoom}
 use Rattle.xti_switch.specs.declared.notices.News.TheVariants as news
 use Rattle.xti_switch.proofs.Heard.{either-second, found-alike, given-up, listener-told, neither, not-told, open-added, open-with, peer-told, pending-dropped, rejected, told-of, unconcerned}
-use Rattle.xti_switch.proofs.Returned.{open-as}
+use Rattle.xti_lent.proofs.Returned.{open-as}
 use Rattle.xti_switch.proofs.notices.hear.Goals as goal
 
 pub is-requires : goal.is-requires

@@ -8,7 +8,7 @@ use Rattle.xti_model.specs.declared.entry.Reply.TheVariants.{Look, Refused}
 use Rattle.xti_end.specs.Held.{parts}
 use Rattle.xti_lent.specs.Lending.{cells}
 use Rattle.xti_switch.proofs.Plans.{in-state, made-open, refused-open, refused-shut}
-use Rattle.xti_switch.proofs.Returned.{not-blocked, open-as, same-cells}
+use Rattle.xti_lent.proofs.Returned.{not-blocked, open-as, same-cells}
 use Rattle.xti_switch.proofs.Unbinding.{event-told, none-told, not-idle, unbind_of}
 use Rattle.xti_switch.proofs.unbind.unbind.Goals as goal
 

@@ -13,7 +13,7 @@ use Rattle.xti_lent.specs.Lending.{cells, number_of}
 use Rattle.xti_lent.proofs.Written.{own-kept}
 use Rattle.xti_data.proofs.DatagramReached.{receiver-reached}
 use Rattle.xti_data.proofs.DatagramRows.{Unrefused, address-within, datagram-went, there, options-within, send-blocked, send-effect, send-refused, send-shut, small-data, flow-left}
-use Rattle.xti_data.proofs.Returned.{not-blocked, on-any-err, open-as, same-cells}
+use Rattle.xti_lent.proofs.Returned.{not-blocked, on-any-err, open-as, same-cells}
 use Rattle.std.proofs.lemmas.Result.{IfOk-from_err}
 use Rattle.xti_data.proofs.datagrams.sending.send.Goals as goal
 
