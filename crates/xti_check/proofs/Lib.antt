@@ -1,4 +1,5 @@
 pub mod Judged
+pub mod Sameness
 pub mod Standing
 pub mod Lines
 pub mod Numbers
