@@ -1,6 +1,6 @@
 -- What a return says of lent cells.
 use Rattle.std.proofs.Common.{◌≡◌, ℕ, Bool, true, false, ◌&&◌, Some, None, Result, Ok, Err, refl, sym, ◌∙◌}
-use Rattle.std.specs.Result.{OnErr}
+use Rattle.std.specs.Result.{IsErr, OnErr, OnOk}
 use Rattle.xti_model.specs.declared.entry.Applied.{Applied}
 use Rattle.xti_model.specs.Step.{Step}
 use Rattle.xti_model.specs.declared.profile.Providers.{Providers}
@@ -16,6 +16,11 @@ same-cells l = record { providers = refl; numbers = refl; places = refl }
 pub on-any-err : {T E P : Type 0} (r : Result T E) → P → OnErr r P
 on-any-err (Ok x) p = tt
 on-any-err (Err x) p = p
+
+-- what holds where there is no error holds of errors
+pub on-no-ok : {T E : Type 0} (r : Result T E) (P : Type 0) → IsErr r → OnOk r P
+on-no-ok (Ok x) P e = let no : false ≡ true = e in cc no
+on-no-ok (Err x) P e = tt
 
 -- a step that is made is not blocked
 pub not-blocked : (old new : Lending) (a : Applied) (s : Step) → taken a (cells new) ≡ Some s → taken a (cells new) ≡ None → new ≡ old
