@@ -10,7 +10,7 @@ use Rattle.xti_model.specs.Calls.Send as Send
 use Rattle.xti_model.specs.Links.{at_linked}
 use Rattle.xti_model.specs.World.{changed}
 use Rattle.xti_lent.specs.Lends.{IsHeld}
-use Rattle.xti_data.proofs.Returned.{on-any-err, on-no-ok, same-cells}
+use Rattle.xti_lent.proofs.Returned.{on-any-err, on-no-ok, same-cells}
 use Rattle.xti_data.proofs.sending.push.Goals as goal
 
 pub returns-then-not-portion-clause-ok : goal.returns-then-not-portion-clause-ok

@@ -1,7 +1,7 @@
 use Rattle.std.proofs.Common.{Option, IfSome, refl, subst}
 use Rattle.xti_base.specs.declared.kinds.Fd.{Fd}
 use Rattle.xti_lent.specs.Lends.{IsHeld}
-use Rattle.xti_data.proofs.Returned.{on-any-err, on-no-ok, same-cells}
+use Rattle.xti_lent.proofs.Returned.{on-any-err, on-no-ok, same-cells}
 use Rattle.xti_data.proofs.datagrams.sending.deliver.Goals as goal
 
 pub indication-requires-clause-fit : goal.indication-requires-clause-fit
