@@ -3,7 +3,6 @@ pub mod Splits
 pub mod ValueLaws
 pub mod FieldLaws
 pub mod Ended
-pub mod NextFields
 pub mod CallText
 pub mod LineLaws
 pub mod TextLines

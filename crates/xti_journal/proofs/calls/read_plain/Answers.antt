@@ -1,4 +1,4 @@
-use Rattle.std.proofs.Common.{◌≡◌, ◌∙◌, refl, sym, subst, true, List, [], ◌∷◌, Some}
+use Rattle.std.proofs.Common.{◌≡◌, ◌∙◌, refl, sym, subst, ap, drop, true, false, List, [], ◌∷◌, Some}
 use Rattle.std.specs.Option.{IfSome}
 use Rattle.xti_base.specs.declared.kinds.Fd.{Fd}
 use Rattle.xti_model.specs.declared.call.Call.{Call}
@@ -11,9 +11,11 @@ use Rattle.xti_journal.specs.FieldValue.{Value}
 use Rattle.xti_journal.specs.FieldValue.{Value as value}
 use Rattle.xti_journal.specs.Kinds.{Kind as kind}
 use Rattle.xti_journal.specs.declared.fields.Key.TheVariants as key
-use Rattle.xti_journal.specs.Unread.{Reads}
-use Rattle.xti_journal.proofs.NextFields.{never, next_is, others_next}
+use Rattle.xti_journal.specs.Unread.{NextIs, Reads}
 use Rattle.xti_journal.proofs.calls.read_plain.Goals as goal
+
+never : {P : Type 0} → false ≡ true → P
+never is = absurd (cc)
 
 -- such a call has one field
 plain_form : (verb : Verb) → is_plain verb ≡ true → form verb ≡ key.Number ∷ []
@@ -90,7 +92,7 @@ is_call {verb = verb} {fd = fd} e = subst (λ given. IfSome given (IsPlain verb 
 
 pub fd-requires : goal.fd-requires
 unfolding field
-fd-requires c = next_is kind.Number (c.requires.keys ∙ plain_form c.args.verb c.requires.family) refl
+fd-requires c = subst (NextIs kind.Number) (sym (c.requires.keys ∙ plain_form c.args.verb c.requires.family)) refl
 
 pub plain_call-requires : goal.plain_call-requires
 plain_call-requires c = c.requires.family
@@ -103,4 +105,4 @@ returns-clause-values c =
     subst (λ (values : List Value). Reads values c.args.fields.now c.fd.new.self) (sym (is_call c.plain_call.ensures).1) c.fd.ensures.value
 
 pub returns-clause-keys : goal.returns-clause-keys
-returns-clause-keys c = others_next c.fd.ensures.keys (c.requires.keys ∙ plain_form c.args.verb c.requires.family)
+returns-clause-keys c = c.fd.ensures.keys ∙ ap (drop 1) (c.requires.keys ∙ plain_form c.args.verb c.requires.family)

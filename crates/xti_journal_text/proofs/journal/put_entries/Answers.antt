@@ -1,4 +1,4 @@
-use Rattle.std.proofs.Common.{◌≡◌, ◌∙◌, sym, ap, refl, rules, ℕ, ◌+◌, ◌<◌, List, [], ◌∷◌, ◌++◌, length, get_or, drop, append_assoc}
+use Rattle.std.proofs.Common.{◌≡◌, ◌∙◌, sym, ap, refl, rules, ℕ, ◌+◌, ◌<◌, List, ◌∷◌, ◌++◌, length, get_or, drop, append_assoc}
 use Rattle.std.proofs.lemmas.List.{drop_more}
 use Rattle.xti_model.specs.declared.entry.Entry.{Entry}
 use Rattle.xti_journal_text.specs.JournalText.{entries_text, entry_text}
