@@ -1,3 +1,4 @@
+pub mod Readiness
 pub mod Unfinished
 pub mod Going
 pub mod Newcomers
