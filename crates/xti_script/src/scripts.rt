@@ -44,7 +44,8 @@ pub fn write_script(alloc: Global, s: &Script) -> Result<Octets, AllocError>
 {
     scripts_are_read_back();
     let mut out = Vec::new(alloc);
-    put_text(&mut out, first_line(s.providers.version)).and(put_text(&mut out, "\n"))?;
+    put_text(&mut out, first_line(s.providers.version))?;
+    put_text(&mut out, "\n")?;
     for line in s.lines.as_slice() {
         put_line(&mut out, line)?;
     }
