@@ -4,12 +4,13 @@ use Rattle.std.specs.Option.{MatchOption}
 use Rattle.xti_base.specs.declared.kinds.Prov.{Prov}
 use Rattle.xti_base.specs.declared.kinds.Prov.TheVariants.{Ticots, Ticotsord, Ticlts, Other}
 use Rattle.xti_model.specs.declared.call.Call.{Call}
-use Rattle.xti_model.specs.declared.call.Call.TheVariants.{TOpen, TClose, TBind, TUnbind, TConnect, TRcvConnect, TListen, TAccept, TSnd, TSndV, TRcv, TRcvV, TSndDis, TRcvDis, TSndRel, TRcvRel, TSndRelData, TRcvRelData, TSndUData, TSndVUData, TRcvUData, TRcvVUData, TRcvUDErr, TLookAt, TGetState, TSync, TGetInfo, TGetProtAddr, TOptMgmt, SetMode}
+use Rattle.xti_model.specs.declared.call.Call.TheVariants.{TOpen, TBind, TConnect, TRcvConnect, TListen, TAccept, TSnd, TSndV, TRcv, TRcvV, TSndDis, TRcvDis, TSndRelData, TRcvRelData, TSndUData, TSndVUData, TRcvUData, TRcvVUData, TRcvUDErr, TGetProtAddr, TOptMgmt, SetMode}
 use Rattle.xti_model.specs.declared.entry.Go.{Go}
 use Rattle.xti_model.specs.declared.entry.Go.TheVariants.{Begin, More}
+use Rattle.xti_model.specs.Touched.{fd_of}
 use Rattle.xti_verbs.specs.declared.verb.Verb.{Verb}
 use Rattle.xti_verbs.specs.declared.verb.Verb.TheVariants as verb
-use Rattle.xti_verbs.specs.Verbs.{verb_of}
+use Rattle.xti_verbs.specs.Verbs.{verb_at, verb_of}
 use Rattle.xti_flat.specs.declared.asked.Asked.{Asked}
 use Rattle.xti_flat.specs.declared.bytes.Bytes.{Bytes}
 
@@ -26,46 +27,10 @@ abbrev pub parts_of : List ℕ → List ℕ → List (List ℕ)
 parts_of bytes [] = []
 parts_of bytes (n ∷ ns) = take n bytes ∷ parts_of (drop n bytes) ns
 
--- the call with this number; none where no call has it
-unfoldable pub verb_at : ℕ → Option Verb
-verb_at n =
-    if n == 0 then Some verb.Open else
-    if n == 1 then Some verb.Close else
-    if n == 2 then Some verb.Bind else
-    if n == 3 then Some verb.Unbind else
-    if n == 4 then Some verb.Connect else
-    if n == 5 then Some verb.RcvConnect else
-    if n == 6 then Some verb.Listen else
-    if n == 7 then Some verb.Accept else
-    if n == 8 then Some verb.Snd else
-    if n == 9 then Some verb.SndV else
-    if n == 10 then Some verb.Rcv else
-    if n == 11 then Some verb.RcvV else
-    if n == 12 then Some verb.SndDis else
-    if n == 13 then Some verb.RcvDis else
-    if n == 14 then Some verb.SndRel else
-    if n == 15 then Some verb.RcvRel else
-    if n == 16 then Some verb.SndUData else
-    if n == 17 then Some verb.SndVUData else
-    if n == 18 then Some verb.RcvUData else
-    if n == 19 then Some verb.RcvVUData else
-    if n == 20 then Some verb.RcvUDErr else
-    if n == 21 then Some verb.Look else
-    if n == 22 then Some verb.GetState else
-    if n == 23 then Some verb.Sync else
-    if n == 24 then Some verb.GetInfo else
-    if n == 25 then Some verb.GetProtAddr else
-    if n == 26 then Some verb.OptMgmt else
-    if n == 27 then Some verb.SetMode else
-    if n == 28 then Some verb.SndRelData else
-    if n == 29 then Some verb.RcvRelData else None
-
--- where each argument of a call stands
+-- where each argument of a call stands: of a call that is not listed, its descriptor alone
 abbrev pub HasArguments : Call → Asked → Bytes → Type 0
 HasArguments (TOpen prov nonblock) a b = (prov ≡ prov_of a.fd) × (nonblock ≡ not (a.number == 0))
-HasArguments (TClose fd) a b = (fd.0 ≡ a.fd)
 HasArguments (TBind fd addr qlen amax) a b = (fd.0 ≡ a.fd) × (addr ≡ b.addr.now) × (qlen ≡ a.number) × (amax ≡ a.amax)
-HasArguments (TUnbind fd) a b = (fd.0 ≡ a.fd)
 HasArguments (TConnect fd addr opt udata amax omax umax) a b = (fd.0 ≡ a.fd) × (addr ≡ b.addr.now) × (opt ≡ b.opt.now) × (udata ≡ b.udata.now) × (amax ≡ a.amax) × (omax ≡ a.omax) × (umax ≡ a.umax)
 HasArguments (TRcvConnect fd amax omax umax) a b = (fd.0 ≡ a.fd) × (amax ≡ a.amax) × (omax ≡ a.omax) × (umax ≡ a.umax)
 HasArguments (TListen fd amax omax umax) a b = (fd.0 ≡ a.fd) × (amax ≡ a.amax) × (omax ≡ a.omax) × (umax ≡ a.umax)
@@ -76,8 +41,6 @@ HasArguments (TRcv fd max) a b = (fd.0 ≡ a.fd) × (max ≡ a.number)
 HasArguments (TRcvV fd sizes) a b = (fd.0 ≡ a.fd) × (sizes ≡ b.sizes.now)
 HasArguments (TSndDis fd seq udata) a b = (fd.0 ≡ a.fd) × (seq.0 ≡ a.seq) × (udata ≡ b.udata.now)
 HasArguments (TRcvDis fd umax) a b = (fd.0 ≡ a.fd) × (umax ≡ a.umax)
-HasArguments (TSndRel fd) a b = (fd.0 ≡ a.fd)
-HasArguments (TRcvRel fd) a b = (fd.0 ≡ a.fd)
 HasArguments (TSndRelData fd udata) a b = (fd.0 ≡ a.fd) × (udata ≡ b.udata.now)
 HasArguments (TRcvRelData fd umax) a b = (fd.0 ≡ a.fd) × (umax ≡ a.umax)
 HasArguments (TSndUData fd addr opt bytes) a b = (fd.0 ≡ a.fd) × (addr ≡ b.addr.now) × (opt ≡ b.opt.now) × (bytes ≡ b.udata.now)
@@ -85,13 +48,10 @@ HasArguments (TSndVUData fd addr opt parts) a b = (fd.0 ≡ a.fd) × (addr ≡ b
 HasArguments (TRcvUData fd max amax omax) a b = (fd.0 ≡ a.fd) × (max ≡ a.number) × (amax ≡ a.amax) × (omax ≡ a.omax)
 HasArguments (TRcvVUData fd sizes amax omax) a b = (fd.0 ≡ a.fd) × (sizes ≡ b.sizes.now) × (amax ≡ a.amax) × (omax ≡ a.omax)
 HasArguments (TRcvUDErr fd amax omax) a b = (fd.0 ≡ a.fd) × (amax ≡ a.amax) × (omax ≡ a.omax)
-HasArguments (TLookAt fd) a b = (fd.0 ≡ a.fd)
-HasArguments (TGetState fd) a b = (fd.0 ≡ a.fd)
-HasArguments (TSync fd) a b = (fd.0 ≡ a.fd)
-HasArguments (TGetInfo fd) a b = (fd.0 ≡ a.fd)
 HasArguments (TGetProtAddr fd amax pmax) a b = (fd.0 ≡ a.fd) × (amax ≡ a.amax) × (pmax ≡ a.umax)
 HasArguments (TOptMgmt fd action opt omax) a b = (fd.0 ≡ a.fd) × (action ≡ a.number) × (opt ≡ b.opt.now) × (omax ≡ a.omax)
 HasArguments (SetMode fd nonblock) a b = (fd.0 ≡ a.fd) × (nonblock ≡ not (a.number == 0))
+HasArguments other a b = fd_of other ≡ Some a.fd
 
 -- the call that these numbers and bytes ask for: its number, and where each of its arguments stands
 abbrev pub Asks : Call → Asked → Bytes → Type 0

@@ -4,7 +4,7 @@ ghost use Rattle.std.specs.Prelude.{◌≡◌, true, IfOk, IsOk};
 ghost use Rattle.xti_verbs.specs.declared.verb.Verb.TheVariants.{Connect, Accept, SndUData};
 ghost use Rattle.xti_verbs.specs.Verbs.{verb_of};
 ghost use Rattle.xti_verbs.specs.Families.{is_local, is_connecting, is_data, is_datagram};
-ghost use Rattle.xti_flat.specs.Calls.{prov_of, parts_of, verb_at, HasArguments, IsCallOf, CopiesNone, CopiesTakeNone, go_of};
+ghost use Rattle.xti_flat.specs.Calls.{prov_of, parts_of, HasArguments, IsCallOf, CopiesNone, CopiesTakeNone, go_of};
 
 use crate::asked::Asked;
 use crate::bytes::Bytes;
@@ -55,46 +55,6 @@ fn parts_of(alloc: Global, bytes: &[u8], sizes: &[u32]) -> Result<Parts, AllocEr
         rest = back;
     }
     Ok(Parts::from_vec(parts))
-}
-
-/// The call with this number; `None` where no call has it.
-#[tactic(auto, unfolding(crate::specs::Calls::verb_at))]
-fn verb_at(number: u32) -> Option<Verb>
-    ensures { result ≡ verb_at number }
-{
-    match number {
-        0 => Some(Verb::Open),
-        1 => Some(Verb::Close),
-        2 => Some(Verb::Bind),
-        3 => Some(Verb::Unbind),
-        4 => Some(Verb::Connect),
-        5 => Some(Verb::RcvConnect),
-        6 => Some(Verb::Listen),
-        7 => Some(Verb::Accept),
-        8 => Some(Verb::Snd),
-        9 => Some(Verb::SndV),
-        10 => Some(Verb::Rcv),
-        11 => Some(Verb::RcvV),
-        12 => Some(Verb::SndDis),
-        13 => Some(Verb::RcvDis),
-        14 => Some(Verb::SndRel),
-        15 => Some(Verb::RcvRel),
-        16 => Some(Verb::SndUData),
-        17 => Some(Verb::SndVUData),
-        18 => Some(Verb::RcvUData),
-        19 => Some(Verb::RcvVUData),
-        20 => Some(Verb::RcvUDErr),
-        21 => Some(Verb::Look),
-        22 => Some(Verb::GetState),
-        23 => Some(Verb::Sync),
-        24 => Some(Verb::GetInfo),
-        25 => Some(Verb::GetProtAddr),
-        26 => Some(Verb::OptMgmt),
-        27 => Some(Verb::SetMode),
-        28 => Some(Verb::SndRelData),
-        29 => Some(Verb::RcvRelData),
-        _ => None,
-    }
 }
 
 /// A call that opens an endpoint, or sets or asks what belongs to it.
@@ -317,14 +277,7 @@ fn call_with(alloc: Global, verb: Verb, asked: &Asked, bytes: &Bytes) -> Result<
         Verb::SndUData | Verb::SndVUData | Verb::RcvUData | Verb::RcvVUData | Verb::RcvUDErr => {
             datagram_call(alloc, verb, asked, bytes)
         }
-        Verb::Close
-        | Verb::Unbind
-        | Verb::SndRel
-        | Verb::RcvRel
-        | Verb::Look
-        | Verb::GetState
-        | Verb::Sync
-        | Verb::GetInfo => Ok(verb.plain_call(Fd(asked.fd))),
+        _ => Ok(verb.plain_call(Fd(asked.fd))),
     }
 }
 
@@ -333,7 +286,7 @@ pub fn call_of(alloc: Global, asked: &Asked, bytes: &Bytes) -> Result<Option<Cal
     ensures call { IfOk result (λ call. IsCallOf call asked.now bytes.now) }
     ensures sure { CopiesTakeNone asked.now bytes.now → IsOk result }
 {
-    match verb_at(asked.call) {
+    match Verb::numbered(asked.call) {
         Some(verb) => match call_with(alloc, verb, asked, bytes) {
             Ok(call) => Ok(Some(call)),
             Err(error) => Err(error),

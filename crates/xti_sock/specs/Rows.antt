@@ -5,7 +5,7 @@ use Rattle.xti_base.specs.declared.errno.Errno.TheVariants.{TFLOW, TLOOK, TPROTO
 use Rattle.xti_base.specs.declared.kinds.Fd.{Fd}
 use Rattle.xti_base.specs.declared.kinds.Prov.TheVariants.{Ticotsord}
 use Rattle.xti_sock.specs.Sights.{Sight}
-use Rattle.xti_model.specs.declared.call.Call.TheVariants.{TOpen, TClose, TBind, TConnect, TRcvConnect, TSnd, TRcv, TRcvDis, TSndRel, TRcvRel}
+use Rattle.xti_model.specs.declared.call.Call.TheVariants.{TOpen, TClose, TBind, TConnect, TRcvConnect, TSnd, TRcv, TRcvDis, TSndRel}
 use Rattle.xti_sock.specs.declared.fail.SockFail.{SockFail}
 use Rattle.xti_sock.specs.declared.fail.SockFail.TheVariants.{Reset, WouldBlock, Xti, WrongPhase, Again, Ended as EndedBy}
 use Rattle.xti_sock.specs.declared.heard.Heard.{Heard}
@@ -13,7 +13,7 @@ use Rattle.xti_sock.specs.declared.heard.Heard.TheVariants.{Done, Bound, Connect
 use Rattle.xti_sock.specs.declared.phase.Phase.{Phase}
 use Rattle.xti_sock.specs.declared.phase.Phase.TheVariants as phase
 use Rattle.xti_sock.specs.declared.sock.Sock.{Sock}
-use Rattle.xti_sock.specs.Socks.{in_phase}
+use Rattle.xti_sock.specs.Socks.{in_phase, taking_release}
 use Rattle.xti_sock.specs.declared.limits.TheConstants.{MOST_TURNS}
 use Rattle.xti_sock.specs.Scripts.{Asked, Script, gives, asks, nothing, count, octets}
 
@@ -62,13 +62,13 @@ ended_in other = other
 abbrev pub with_end : Sock → Sock
 with_end s = in_phase s (ended_in s.phase)
 
--- rcvrel, after TLOOK by T_ORDREL
+-- the release is taken, after TLOOK by T_ORDREL
 abbrev pub on_release : Script → Sock → Heard → Script
 on_release next s Done = next
 on_release next s other = stops other s
 
 abbrev pub release : Script → Sock → Script
-release next s = asks (TRcvRel s.fd) (on_release next s)
+release next s = asks (taking_release s.fd) (on_release next s)
 
 -- ---- send
 

@@ -2,6 +2,7 @@
 use Rattle.std.specs.Prelude.{◌≡◌, ◌&&◌, ◌==◌, true, false, Bool, List, Option, Some, None}
 use Rattle.std.specs.List.{list_any}
 use Rattle.xti_base.specs.declared.kinds.Fd.{Fd}
+use Rattle.xti_model.specs.declared.call.Call.{Call}
 use Rattle.xti_model.specs.declared.call.Call.TheVariants.{TRcvRel}
 use Rattle.xti_model.specs.declared.entry.Act.{Act}
 use Rattle.xti_model.specs.declared.entry.Act.TheVariants.{Begin}
@@ -34,7 +35,11 @@ spare_of other = None
 
 -- ---- releases
 
--- a rcvrel on the descriptor that begins
+-- the call that takes a release
+abbrev pub taking_release : Fd → Call
+taking_release fd = TRcvRel fd
+
+-- it begins, on the descriptor
 abbrev pub is_release : Fd → Act → Bool
 is_release fd (Begin (TRcvRel other)) = fd.0 == other.0
 is_release fd other = false
@@ -43,11 +48,11 @@ abbrev pub is_plain : Outcome → Bool
 is_plain (Done Plain) = true
 is_plain other = false
 
--- a rcvrel on the descriptor that answered Ok
+-- it began on the descriptor, and answered Ok
 abbrev pub takes_release : Fd → Entry → Bool
 takes_release fd e = is_release fd e.act && is_plain e.outcome
 
--- a rcvrel with Ok on the descriptor stands there
+-- such a call stands there
 abbrev pub was_released : Fd → List Entry → Bool
 was_released fd mine = list_any (takes_release fd) mine
 

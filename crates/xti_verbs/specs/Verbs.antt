@@ -93,6 +93,42 @@ verb_with word = verb_among word (verbs_of_length (length word))
 abbrev pub verb_in : Version → List ℕ → Option Verb
 verb_in version word = option_and_then (λ verb. if is_in_texts version verb then Some verb else None) (verb_with word)
 
+-- ---- the number of a call, by which the library for C asks for it
+
+-- the call with this number; none where no call has it
+unfoldable pub verb_at : ℕ → Option Verb
+verb_at n =
+    if n == 0 then Some Open else
+    if n == 1 then Some Close else
+    if n == 2 then Some Bind else
+    if n == 3 then Some Unbind else
+    if n == 4 then Some Connect else
+    if n == 5 then Some RcvConnect else
+    if n == 6 then Some Listen else
+    if n == 7 then Some Accept else
+    if n == 8 then Some Snd else
+    if n == 9 then Some SndV else
+    if n == 10 then Some Rcv else
+    if n == 11 then Some RcvV else
+    if n == 12 then Some SndDis else
+    if n == 13 then Some RcvDis else
+    if n == 14 then Some SndRel else
+    if n == 15 then Some RcvRel else
+    if n == 16 then Some SndUData else
+    if n == 17 then Some SndVUData else
+    if n == 18 then Some RcvUData else
+    if n == 19 then Some RcvVUData else
+    if n == 20 then Some RcvUDErr else
+    if n == 21 then Some Look else
+    if n == 22 then Some GetState else
+    if n == 23 then Some Sync else
+    if n == 24 then Some GetInfo else
+    if n == 25 then Some GetProtAddr else
+    if n == 26 then Some OptMgmt else
+    if n == 27 then Some SetMode else
+    if n == 28 then Some SndRelData else
+    if n == 29 then Some RcvRelData else None
+
 -- ---- which call it is
 
 -- which call it is

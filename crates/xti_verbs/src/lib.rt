@@ -3,7 +3,6 @@
 
 mod answer;
 mod verb;
-mod words;
 
 pub use answer::Answer;
 pub use verb::Verb;
