@@ -25,6 +25,7 @@ pub mod Histories
 pub mod FollowedScripts
 pub mod BytesAreNeeded
 pub mod Pieces
+mod OwnEntry
 mod Singles
 mod Worlds
 mod Exchanges

@@ -18,16 +18,17 @@ use Rattle.xti_model.specs.Links.{names}
 use Rattle.xti_model.specs.Touched.{fd_of}
 use Rattle.xti_model.specs.World.{World}
 use Rattle.xti_model.specs.Step.{Step, step}
-use Rattle.xti_model.specs.History.{Going, is_own, own, call_after, going_after, unfinished, unfinished_from, made_by, doing}
+use Rattle.xti_model.specs.History.{Going, is_own, going_after, unfinished, unfinished_from, made_by, doing}
 use Rattle.xti_model.specs.Streams.{Connection, made_of, is_made_by, got_by, got_made}
 use Rattle.xti_model.proofs.Outcomes.{IsPossible, Falls, step-falls}
-use Rattle.xti_model.proofs.Working.{call_from, unfinished_from-snoc, IsCallOf, call_of-from, own-more}
+use Rattle.xti_model.proofs.Working.{own-more}
 use Rattle.xti_verbs.specs.declared.answer.Answer.{Answer}
 use Rattle.xti_verbs.specs.declared.answer.Answer.TheVariants as answer
 use Rattle.xti_verbs.specs.Verbs.{row_of, verb_of, answer_of, answer_to, MayAnswer}
 use Rattle.xti_laws_streams.specs.Laws.{is_release_receipt}
 use Rattle.xti_sock.specs.Socks.{is_release, is_plain, takes_release}
 use Rattle.xti_sock.specs.Streams as socket
+use Rattle.xti_laws_streams.proofs.OwnEntry.{after-own}
 
 -- ---- the calls that receive
 
@@ -72,16 +73,6 @@ no-part : (p : Providers) (w : World) (c : Call) (g : Go) (s : Step) (n : ℕ) �
 no-part p w (call.TRcv fd max) g s n h o = absurd (omega (arith, (falls p w (call.TRcv fd max) g s n tt h o).1))
 no-part p w (call.TRcvV fd sizes) g s n h o = absurd (omega (arith, (falls p w (call.TRcvV fd sizes) g s n tt h o).1))
 no-part p w other g s n h o = refl
-
--- the call of a worker after its own entry
-after-own : (past : List Entry) (e : Entry) (g : Going) → doing past e ≡ Some g → unfinished (past ++ e ∷ []) e.worker ≡ going_after (Some g.call) e.outcome
-after-own past e g h = ap (unfinished_from None None) (own-more past e e.worker true (eq-eqb e.worker e.worker refl)) ∙ (unfinished_from-snoc None None (own past e.worker) e ∙ ap (λ c. going_after c e.outcome) (go (unfinished past e.worker) e.act (call_of-from None None (own past e.worker) tt) h))
-  where
-    go : (u : Option Going) (a : Act) → IsCallOf (call_from None (own past e.worker)) u → made_by u a ≡ Some g → call_after (call_from None (own past e.worker)) a ≡ Some g.call
-    go None (act.Begin c) k h = ap (λ z. Some z.call) (some-is _ g h)
-    go (Some u) (act.Begin c) k h = absurd (none-is g h)
-    go None act.More k h = absurd (none-is g h)
-    go (Some u) act.More k h = k ∙ ap (λ z. Some z.call) (some-is u g h)
 
 after-no_receive : (g : Going) (o : Outcome) → ((n : ℕ) → o ≡ Part n → is_receive g.call ≡ false) → IsNoReceive (going_after (Some g.call) o)
 after-no_receive g (Done r) h = tt

@@ -1,5 +1,5 @@
 -- A send that was made in part has bytes left, after any legal entries.
-use Rattle.std.proofs.Common.{ℕ, Bool, true, false, List, [], ◌∷◌, ◌++◌, ◌+◌, ◌-◌, ◌<◌, ◌≤◌, ◌≡◌, refl, sym, ap, ◌∙◌, subst, cond, eqb, ◌||◌, length, min, Option, Some, None, IfSome, arith}
+use Rattle.std.proofs.Common.{ℕ, Bool, true, false, List, [], ◌∷◌, ◌++◌, ◌+◌, ◌-◌, ◌<◌, ◌≤◌, ◌≡◌, refl, sym, subst, cond, eqb, ◌||◌, length, min, Option, Some, None, IfSome, arith}
 use Rattle.std.proofs.lemmas.Bool.{eqb-true, eq-eqb}
 use Rattle.std.specs.List.{concat}
 use Rattle.xti_model.specs.declared.call.Call.{Call}
@@ -19,12 +19,13 @@ use Rattle.xti_model.specs.Links.{linked}
 use Rattle.xti_model.specs.Arguments.{is_expedited}
 use Rattle.xti_model.specs.Sending.{room_for}
 use Rattle.xti_model.specs.Step.{Step, step, step_of, plan, send}
-use Rattle.xti_model.specs.History.{Going, is_own, own, call_after, going_after, unfinished, unfinished_from, made_by, doing}
+use Rattle.xti_model.specs.History.{Going, is_own, going_after, unfinished, unfinished_from, made_by, doing}
 use Rattle.xti_model.specs.Calls.Send as Send
 use Rattle.xti_model.proofs.Outcomes.{on_open-outcome, later_plan-outcome}
-use Rattle.xti_model.proofs.Working.{call_from, unfinished_from-snoc, IsCallOf, call_of-from, own-more}
+use Rattle.xti_model.proofs.Working.{own-more}
 use Rattle.xti_model.specs.SentBytes.{SendsBytes, BeginsBytes}
 use Rattle.xti_laws.proofs.StepWays.{not-both, some-is, none-is}
+use Rattle.xti_laws_streams.proofs.OwnEntry.{after-own}
 
 -- of a call that goes on with a step, fewer bytes were taken than it has
 abbrev pub HasBytesLeft : List ℕ → Go → Type 0
@@ -98,16 +99,6 @@ doing-goes_on past e g r b h = go (unfinished past e.worker) e.act r b h
     go (Some u) (act.Begin c) r b h = absurd (none-is g h)
     go None act.More r b h = absurd (none-is g h)
     go (Some u) act.More r b h = subst (λ z. SendsBytes z.call × SendHasBytesLeft z.call z.so_far) (some-is u g h) r
-
--- the call of a worker after its own entry
-after-own : (past : List Entry) (e : Entry) (g : Going) → doing past e ≡ Some g → unfinished (past ++ e ∷ []) e.worker ≡ going_after (Some g.call) e.outcome
-after-own past e g h = ap (unfinished_from None None) (own-more past e e.worker true (eq-eqb e.worker e.worker refl)) ∙ (unfinished_from-snoc None None (own past e.worker) e ∙ ap (λ c. going_after c e.outcome) (go (unfinished past e.worker) e.act (call_of-from None None (own past e.worker) tt) h))
-  where
-    go : (u : Option Going) (a : Act) → IsCallOf (call_from None (own past e.worker)) u → made_by u a ≡ Some g → call_after (call_from None (own past e.worker)) a ≡ Some g.call
-    go None (act.Begin c) k h = ap (λ z. Some z.call) (some-is _ g h)
-    go (Some u) (act.Begin c) k h = absurd (none-is g h)
-    go None act.More k h = absurd (none-is g h)
-    go (Some u) act.More k h = k ∙ ap (λ z. Some z.call) (some-is u g h)
 
 after-goes_on : (g : Going) (o : Outcome) → SendsBytes g.call → SendGoesOnAfter g.call o → SendGoesOn (going_after (Some g.call) o)
 after-goes_on g (Done r) b h = tt
