@@ -23,9 +23,10 @@ pub(crate) fn receive_all<R: Wait + Sync>(
     fd: Fd,
     received: &mut Vec<u8>,
 ) -> Result<(), Fail> {
+    let mut buffer = [0; 1024];
     for _ in caller.rt().forever() {
-        match caller.t_rcv(fd, 1024) {
-            Ok((bytes, _flags)) => received.extend_from_slice(bytes.as_slice())?,
+        match caller.t_rcv_into(fd, &mut buffer) {
+            Ok((count, _flags)) => received.extend_from_slice(&buffer[..count as usize])?,
             Err(Fail::Look(Event::T_ORDREL)) => return caller.t_rcvrel(fd),
             Err(fail) => return Err(fail),
         }

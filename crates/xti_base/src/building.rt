@@ -16,6 +16,20 @@ pub fn write_over<T: Drop>(place: &mut T, value: T)
     *place = value;
 }
 
+/// What was made; where it wasn't, what is owned is let go by [`let_go`], and the function ends with that error.
+#[macro_export]
+macro_rules! or_drop {
+    ($made:expr, $($owned:ident),+) => {
+        match $made {
+            Ok(made) => made,
+            Err(error) => {
+                $($crate::let_go($owned);)+
+                return Err(error);
+            }
+        }
+    };
+}
+
 /// Makes a variant of an enum out of parts that are made in this order. Where one can't be made, those before it are let go by
 /// [`let_go`], and the function ends with that error.
 ///

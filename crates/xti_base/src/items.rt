@@ -5,6 +5,7 @@ ghost use Rattle.std.specs.Option.{option_copied};
 
 use crate::octets::Octets;
 use std::alloc::{AllocError, Global};
+use std::fmt;
 use std::marker::Model;
 
 /// A list of members that answers a reference to a member.
@@ -17,6 +18,12 @@ impl<T> Model for Items<T> {
     ghost Value = { List T };
 
     ghost view = { λ o. o.members.items };
+}
+
+impl<T: fmt::Debug> fmt::Debug for Items<T> {
+    fn fmt<W: fmt::Write>(&self, f: &mut fmt::Formatter<W>) -> fmt::Result {
+        write!(f, "{:?}", self.members.as_slice())
+    }
 }
 
 impl<T: Drop> Items<T> {
@@ -92,6 +99,12 @@ impl<T> Model for Numbers<T> {
     ghost Value = { List T };
 
     ghost view = { λ o. o.members.items };
+}
+
+impl<T: fmt::Debug> fmt::Debug for Numbers<T> {
+    fn fmt<W: fmt::Write>(&self, f: &mut fmt::Formatter<W>) -> fmt::Result {
+        write!(f, "{:?}", self.members.as_slice())
+    }
 }
 
 impl<T: Copy> Numbers<T> {

@@ -4,6 +4,7 @@ ghost use Rattle.std.specs.Prelude.{◌≡◌, ◌≤◌, ◌++◌, ◌∷◌, [
 
 use smallvec::SmallVec;
 use std::alloc::{AllocError, Global};
+use std::fmt;
 use std::marker::Model;
 
 /// How many bytes a list holds in the value itself.
@@ -26,6 +27,12 @@ impl Model for Octets {
     ghost Value = { List ℕ };
 
     ghost view = { λ o. o.bytes.items };
+}
+
+impl fmt::Debug for Octets {
+    fn fmt<W: fmt::Write>(&self, f: &mut fmt::Formatter<W>) -> fmt::Result {
+        write!(f, "{:?}", self.as_slice())
+    }
 }
 
 impl Octets {

@@ -28,7 +28,7 @@ pub enum StructKind {
 }
 
 /// The buffers of a structure; one that it doesn't have is empty.
-#[derive(Drop)]
+#[derive(Debug, Drop)]
 pub struct Bufs {
     /// The address.
     pub addr: Octets,

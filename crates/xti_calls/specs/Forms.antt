@@ -1,5 +1,5 @@
 -- What a call in its typed form tells its seat.
-use Rattle.std.specs.Prelude.{◌≡◌, ℕ, Bool, List, Result, MatchResult}
+use Rattle.std.specs.Prelude.{◌≡◌, ℕ, Bool, List, Result, MatchResult, length, min}
 use Rattle.xti_base.specs.Kinds.{prov_of_name}
 use Rattle.xti_base.specs.declared.kinds.Fd.{Fd}
 use Rattle.xti_base.specs.declared.kinds.Seq.{Seq}
@@ -13,9 +13,10 @@ use Rattle.xti_calls.specs.declared.answers.Fail.{Fail}
 use Rattle.xti_calls.specs.declared.answers.Fail.TheVariants as fail
 use Rattle.xti_calls.specs.declared.answers.Max.{Max}
 use Rattle.xti_calls.specs.declared.answers.TCall.{TCall}
+use Rattle.xti_calls.specs.declared.buffers.TheConstants.{MOST_OF_STREAM}
 use Rattle.xti_calls.specs.Calling.{Answered, Halted}
 use Rattle.xti_calls.specs.Library.{IsFree, HasUnfinished}
-use Rattle.xti_calls.specs.Typed.{IsDone, IsOpened, IsConnected, IsListened, IsDatagram, IsDatagramInParts, IsDatagramError, AreAddresses, IsNegotiated}
+use Rattle.xti_calls.specs.Typed.{IsDone, IsOpened, IsGotInto, IsConnected, IsListened, IsDatagram, IsDatagramInParts, IsDatagramError, AreAddresses, IsNegotiated}
 
 -- the seat had no unfinished call, and the call was answered by this reply
 abbrev pub IsAnswered : Call → SeatView → SeatView → Reply → Type 0
@@ -61,6 +62,10 @@ Listens fd max = Makes (call.TListen fd max.addr max.opt max.udata) IsListened
 
 abbrev pub Accepts : Fd → Fd → Seq → List ℕ → List ℕ → SeatView → SeatView → Result (Unit {0}) Fail → Type 0
 Accepts fd resfd seq opt udata = Makes (call.TAccept fd resfd seq opt udata) IsDone
+
+-- bytes into a buffer of the caller's, which is the first list before the call and the second after it
+abbrev pub ReceivesInto : Fd → List ℕ → List ℕ → SeatView → SeatView → Result (ℕ × ℕ) Fail → Type 0
+ReceivesInto fd old new = Makes (call.TRcv fd (min (length old) MOST_OF_STREAM)) (IsGotInto old new)
 
 abbrev pub SendsDatagram : Fd → List ℕ → List ℕ → List ℕ → SeatView → SeatView → Result (Unit {0}) Fail → Type 0
 SendsDatagram fd addr opt bytes = Makes (call.TSndUData fd addr opt bytes) IsDone

@@ -1,5 +1,5 @@
 -- The answers of calls in their own types, and the replies that they stand for.
-use Rattle.std.specs.Prelude.{◌≡◌, ◌≤◌, ℕ, List, [], length, Option, Result, Err, MatchResult}
+use Rattle.std.specs.Prelude.{◌≡◌, ◌≤◌, ℕ, List, [], length, take, drop, Option, Result, Err, MatchResult}
 use Rattle.std.specs.List.{concat}
 use Rattle.xti_base.specs.declared.kinds.Event.{Event}
 use Rattle.xti_base.specs.declared.kinds.Fd.{Fd}
@@ -80,6 +80,11 @@ IsSent n r = r ≡ reply.Sent n
 
 abbrev pub IsGot : List ℕ × ℕ → Reply → Type 0
 IsGot (bytes, flags) r = r ≡ reply.Got bytes flags
+
+-- so many bytes of the buffer, from its first on, are those of the reply; what stands after them is as before
+abbrev pub IsGotInto : List ℕ → List ℕ → ℕ × ℕ → Reply → Type 0
+IsGotInto old new (n, flags) r =
+    (n ≤ length new) × (drop n new ≡ drop n old) × (r ≡ reply.Got (take n new) flags)
 
 -- the parts are the bytes of the reply, cut by the sizes
 abbrev pub AreGot : List ℕ → List (List ℕ) × ℕ → Reply → Type 0

@@ -1,11 +1,12 @@
 //! The answers of calls in their own types.
 
-ghost use Rattle.std.specs.Prelude.{◌≡◌, min, sum, IfOk, MatchResult};
+ghost use Rattle.std.specs.Prelude.{◌≡◌, ◌≤◌, length, min, sum, IfOk, MatchResult, OnErr};
 ghost use Rattle.xti_verbs.specs.declared.answer.Answer.TheVariants as answer;
+ghost use Rattle.xti_calls.specs.declared.buffers.TheConstants.{MOST_OF_STREAM};
 ghost use Rattle.xti_calls.specs.Typed.{MayBe, Told, IsError, SaysError, HasAtMost};
-ghost use Rattle.xti_calls.specs.Typed.{IsDone, IsOpened, IsBound, IsConnected, IsListened, IsSent, IsGot, AreGot, IsDisconnect, IsReleaseData, IsDatagram, IsDatagramInParts, IsDatagramError, IsSeen, IsState, IsInfo, AreAddresses, IsNegotiated};
+ghost use Rattle.xti_calls.specs.Typed.{IsDone, IsOpened, IsBound, IsConnected, IsListened, IsSent, IsGot, IsGotInto, AreGot, IsDisconnect, IsReleaseData, IsDatagram, IsDatagramInParts, IsDatagramError, IsSeen, IsState, IsInfo, AreAddresses, IsNegotiated};
 
-use crate::buffers::Buffers;
+use crate::buffers::{Buffers, MOST_OF_STREAM};
 use crate::calling::Halt;
 use std::alloc::{AllocError, Global};
 use std::fmt;
@@ -250,6 +251,26 @@ pub(crate) fn got(reply: Result<Reply, Fail>) -> Result<(Octets, u32), Fail>
 {
     match reply {
         Ok(Reply::Got { bytes, flags }) => Ok((bytes, flags)),
+        other => Err(failed(other)),
+    }
+}
+
+/// How many bytes of a connection stand in the caller's buffer now, from its first on, and flags.
+pub(crate) fn got_into(reply: Result<Reply, Fail>, buffer: &mut [u8]) -> Result<(u32, u32), Fail>
+    requires kind { IfOk reply (MayBe answer.Got) }
+    requires room { IfOk reply (HasAtMost (min (length buffer.old) MOST_OF_STREAM)) }
+    ensures told { Told (IsGotInto buffer.old buffer.new) reply result }
+    ensures count { IfOk result (λ r. r.0 ≤ length buffer.new) }
+    ensures err { OnErr result (buffer.new ≡ buffer.old) }
+{
+    match reply {
+        Ok(Reply::Got { bytes, flags }) => {
+            let got = bytes.as_slice();
+            buffer[..got.len()].copy_from_slice(got);
+            let count = got.len() as u32;
+            let_go(bytes);
+            Ok((count, flags))
+        }
         other => Err(failed(other)),
     }
 }

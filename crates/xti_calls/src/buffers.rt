@@ -7,7 +7,7 @@ ghost use Rattle.xti_calls.specs.Parts.{split_by, HaveRoom};
 use std::alloc::{AllocError, Global};
 use std::marker::Model;
 use xti_base::limits::MOST_SIZE;
-use xti_base::{Octets, Parts, Room, Sizes};
+use xti_base::{Octets, Parts, Room, Sizes, or_drop};
 
 /// The most bytes that one receive on a connection gives: those of the sender's buffer and of the receiver's.
 pub(crate) const MOST_OF_STREAM: usize = 2 * MOST_SIZE as usize;

@@ -14,7 +14,7 @@ use crate::library::Seat;
 use crate::shared::Xti;
 use std::alloc::{AllocError, Global};
 use std::sync::Wait;
-use xti_base::{Octets, let_go};
+use xti_base::{Octets, let_go, or_drop};
 use xti_laws::steps_answer_in_form;
 use xti_model::{Call, Reply};
 use xti_step::NoGate;

@@ -1,19 +1,6 @@
 //! The library: the calls of XTI in their own types, over a hall in which threads meet.
 #![tactic(auto)]
 
-/// What was made; where it wasn't, what is owned is let go by calls, and the function ends with that error as its own.
-macro_rules! or_drop {
-    ($made:expr, $($owned:ident),+) => {
-        match $made {
-            Ok(made) => made,
-            Err(error) => {
-                $(xti_base::let_go($owned);)+
-                return Err(From::from(error));
-            }
-        }
-    };
-}
-
 mod answers;
 mod buffers;
 mod caller;

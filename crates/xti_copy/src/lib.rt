@@ -2,19 +2,6 @@
 //! sockets of one thread, with all its entries.
 #![tactic(auto)]
 
-/// What was made; where memory ran out, what is owned is let go by calls, and the function ends.
-macro_rules! or_drop {
-    ($made:expr, $($owned:ident),+) => {
-        match $made {
-            Ok(made) => made,
-            Err(error) => {
-                $(xti_base::let_go($owned);)+
-                return Err(error);
-            }
-        }
-    };
-}
-
 mod connecting;
 mod copying;
 mod preparing;

@@ -5,6 +5,7 @@ ghost use Rattle.xti_model.specs.Robin.{act_of};
 ghost use Rattle.xti_copy.specs.Rides.{IsCopy};
 
 use std::alloc::{AllocError, Global};
+use xti_base::or_drop;
 use xti_core::Spare;
 use xti_model::{Act, Call, Entry, Go};
 

@@ -11,7 +11,7 @@ ghost use Rattle.xti_core.specs.Rooms.{datagram_lengths};
 use std::alloc::{AllocError, Global};
 use std::marker::Model;
 use xti_base::limits::{MOST_ADDRESS, MOST_CONNECT_DATA, MOST_OPTIONS, MOST_SIZE};
-use xti_base::{Octets, Room, let_go};
+use xti_base::{Octets, Room, let_go, or_drop};
 use xti_model::{Call, Outcome, Reply};
 
 /// The most bytes of an address that the provider chooses.

@@ -3,6 +3,7 @@
 ghost use Rattle.std.specs.Prelude.{◌≡◌, ◌++◌, ◌∷◌, [], OnOk, OnErr};
 
 use std::alloc::{AllocError, Global};
+use std::fmt;
 use std::marker::Model;
 use xti_base::{Octets, Parts};
 
@@ -19,6 +20,12 @@ impl Model for SendParts {
     ghost Value = { List (List ℕ) };
 
     ghost view = { λ g. g.parts };
+}
+
+impl fmt::Debug for SendParts {
+    fn fmt<W: fmt::Write>(&self, f: &mut fmt::Formatter<W>) -> fmt::Result {
+        write!(f, "{:?}", self.parts)
+    }
 }
 
 impl SendParts {

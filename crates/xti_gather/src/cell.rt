@@ -6,6 +6,7 @@ ghost use Rattle.xti_lent.specs.Lending.{cell_lent};
 ghost use Rattle.xti_core.specs.Standing.{IsLoan};
 ghost use Rattle.xti_gather.specs.Cells.{StandsFor};
 
+use std::fmt;
 use xti_end::Endpoint;
 use xti_hall_rule::Stands;
 use xti_lent::Lent;
@@ -26,6 +27,15 @@ impl Drop for Cell {
             Cell::End(_) => {}
             Cell::Switch(_) => {}
         }
+    }
+}
+
+impl fmt::Debug for Cell {
+    fn fmt<W: fmt::Write>(&self, f: &mut fmt::Formatter<W>) -> fmt::Result {
+        f.write_str(match self {
+            Cell::End(_) => "End",
+            Cell::Switch(_) => "Switch",
+        })
     }
 }
 

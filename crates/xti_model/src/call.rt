@@ -9,7 +9,7 @@ use std::alloc::AllocError;
 use xti_base::{Fd, Octets, Parts, Prov, Seq, Sizes, let_go};
 
 /// A call (XNS, one variant a function). A limit of 0 for a returned field means that the caller doesn't take it.
-#[derive(Drop)]
+#[derive(Debug, Drop)]
 pub enum Call {
     /// t_open: an endpoint of the provider, with O_NONBLOCK or without.
     TOpen {

@@ -10,7 +10,7 @@ use std::alloc::AllocError;
 use xti_base::{Errno, Event, Fd, Info, Items, Octets, Seq, State, let_go};
 
 /// What a call answers.
-#[derive(Drop)]
+#[derive(Debug, Drop)]
 pub enum Reply {
     /// Done, with nothing to tell.
     Plain,
@@ -213,7 +213,7 @@ impl Reply {
 }
 
 /// What an entry does: a call begins, or the next part of an unfinished one is made.
-#[derive(Drop)]
+#[derive(Debug, Drop)]
 pub enum Act {
     /// The call begins.
     Begin(Call),
@@ -256,7 +256,7 @@ impl Go {
 }
 
 /// What a step answers.
-#[derive(Drop)]
+#[derive(Debug, Drop)]
 pub enum Outcome {
     /// The call is done.
     Done(Reply),
@@ -277,6 +277,7 @@ impl Outcome {
 }
 
 /// A step of a history.
+#[derive(Debug)]
 pub struct Entry {
     /// The worker that made it.
     pub worker: u32,

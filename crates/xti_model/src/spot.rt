@@ -3,6 +3,7 @@
 ghost use Rattle.std.specs.Prelude.{◌≤◌};
 ghost use Rattle.xti_base.specs.declared.limits.TheConstants.{MOST_ADDRESS};
 
+use std::fmt;
 use xti_base::limits::MOST_ADDRESS;
 
 /// An address of at most `MOST_ADDRESS` bytes, held in the value itself.
@@ -11,6 +12,12 @@ pub struct Spot {
     len: u32,
     bytes: [u8; MOST_ADDRESS],
     ghost fits: { len ≤ MOST_ADDRESS },
+}
+
+impl fmt::Debug for Spot {
+    fn fmt<W: fmt::Write>(&self, f: &mut fmt::Formatter<W>) -> fmt::Result {
+        write!(f, "{:?}", self.as_slice())
+    }
 }
 
 impl Spot {

@@ -2,7 +2,7 @@ use xti_base::Fd;
 use xti_model::Spot;
 
 /// The calls that may wait. A connect waits as `RcvConnect` does, and a vector form as the plain one.
-#[derive(Clone, Copy)]
+#[derive(Clone, Copy, Debug, PartialEq, Eq)]
 pub enum WantKind {
     /// The answer to a request for a connection.
     RcvConnect,
@@ -19,7 +19,7 @@ pub enum WantKind {
 }
 
 /// The part of a call on which being blocked depends.
-#[derive(Clone, Copy)]
+#[derive(Clone, Copy, Debug)]
 pub struct Want {
     /// What the call waits for.
     pub kind: WantKind,

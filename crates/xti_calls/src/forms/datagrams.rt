@@ -10,7 +10,7 @@ use crate::caller::Caller;
 use crate::forms::{three_copies, two_copies};
 use std::alloc::{AllocError, Global};
 use std::sync::Wait;
-use xti_base::{Fd, Octets, Parts, Sizes};
+use xti_base::{Fd, Octets, Parts, Sizes, or_drop};
 use xti_data::SendParts;
 use xti_model::Call;
 

@@ -1,12 +1,12 @@
 //! Data of connections.
 
-ghost use Rattle.std.specs.Prelude.{◌≡◌};
+ghost use Rattle.std.specs.Prelude.{◌≡◌, ◌≤◌, length, IfOk, OnErr};
 ghost use Rattle.xti_model.specs.declared.call.Call.TheVariants as call;
-ghost use Rattle.xti_calls.specs.Forms.{Makes};
+ghost use Rattle.xti_calls.specs.Forms.{Makes, ReceivesInto};
 ghost use Rattle.xti_calls.specs.Typed.{AreGot, IsGot, IsSent};
 ghost use Rattle.xti_calls.specs.Library.{GoesOn};
 
-use crate::answers::{Fail, got, got_parts, sent};
+use crate::answers::{Fail, got, got_into, got_parts, sent};
 use crate::buffers::{Buffers, MOST_OF_STREAM};
 use crate::caller::Caller;
 use std::sync::Wait;
@@ -39,7 +39,7 @@ impl<'a, R: Wait + Sync> Caller<'a, R> {
     /// - TBADDATA: there are more than 65,536 bytes; or none, without T_SENDZERO; or with what was sent of the message already
     ///   more than its limit.
     /// - TLOOK with T_DISCONNECT: a disconnect waits (`t_rcvdis`).
-    /// - TLOOK with T_ORDREL: the other end has released, and all its data were received (`t_rcvrel`).
+    /// - TLOOK with T_ORDREL: the other end has released, and all its data were received; `t_look` says how it is taken.
     /// - TFLOW, with O_NONBLOCK: there is no room. T_GODATA, or T_GOEXDATA for expedited data, then tells when there is.
     pub fn t_snd(&mut self, fd: Fd, bytes: &[u8], flags: u32) -> Result<u32, Fail>
         ensures seat { GoesOn self.old self.new }
@@ -80,13 +80,34 @@ impl<'a, R: Wait + Sync> Caller<'a, R> {
     /// - TNOTSUPPORT: the provider is `ticlts`.
     /// - TOUTSTATE: the state is neither T_DATAXFER nor T_OUTREL.
     /// - TLOOK with T_DISCONNECT: a disconnect waits (`t_rcvdis`).
-    /// - TLOOK with T_ORDREL: the other end has released, and all its data were received (`t_rcvrel`).
+    /// - TLOOK with T_ORDREL: the other end has released, and all its data were received; `t_look` says how it is taken.
     /// - TNODATA, with O_NONBLOCK: no data wait that may be received.
     pub fn t_rcv(&mut self, fd: Fd, max: u32) -> Result<(Octets, u32), Fail>
         ensures seat { GoesOn self.old self.new }
         ensures made { Makes (call.TRcv fd max) IsGot self.old self.new result }
     {
         got(self.reply(Call::TRcv { fd, max }))
+    }
+
+    /// Receives bytes of a connection into the caller's own buffer, and answers how many, with flags (XNS, t_rcv).
+    ///
+    /// It is `t_rcv` with as many bytes as the buffer has, and no more than 131,072, as `max`. The bytes stand in it from
+    /// its first on; those after them are as before, and all are where it fails. Of a message of no bytes, which is an end
+    /// alone, the number is 0. No list is left to the caller. The step takes the memory that `t_rcv` takes, and it is given
+    /// back before this returns.
+    ///
+    /// # Errors
+    ///
+    /// XTI ([`Fail`]) answers those of `t_rcv`, in their order.
+    #[tactic(auto, using(crate::proofs::Replied::makes_told, crate::proofs::Replied::got_fits), unfolding(xti_verbs::specs::Verbs::row_of))]
+    pub fn t_rcv_into(&mut self, fd: Fd, buffer: &mut [u8]) -> Result<(u32, u32), Fail>
+        ensures seat { GoesOn self.old self.new }
+        ensures made { ReceivesInto fd buffer.old buffer.new self.old self.new result }
+        ensures count { IfOk result (λ r. r.0 ≤ length buffer.new) }
+        ensures err { OnErr result (buffer.new ≡ buffer.old) }
+    {
+        let max = buffer.len().min(MOST_OF_STREAM) as u32;
+        got_into(self.reply(Call::TRcv { fd, max }), buffer)
     }
 
     /// Receives bytes of a connection in parts of at most these sizes, and answers them with flags (XNS, t_rcvv).

@@ -82,11 +82,12 @@ pub(crate) enum Request {
     Listen(u32),
 }
 
-/// Calls that take what waits; of bytes, with how many the caller takes at most.
+/// Calls that take what waits; of bytes, with how many the caller takes at most, or into a buffer of four dots.
 pub(crate) enum Take {
     Disconnect,
     Release(u32),
     Bytes(u32),
+    Into,
     Datagram(u32),
     DatagramError,
 }
@@ -140,12 +141,20 @@ fn make_request<R: Wait + Sync>(
     }
 }
 
+/// Receives into a buffer of four dots, and writes down what stands in it then too.
+fn receive_into<R: Wait + Sync>(caller: &mut Caller<R>, log: &mut String, fd: Fd) {
+    let mut buffer = *b"....";
+    note_bytes(log, caller.t_rcv_into(fd, &mut buffer));
+    let _ = writeln!(log, " {:?}", buffer.as_slice());
+}
+
 /// Makes a call that takes what waits.
 fn make_take<R: Wait + Sync>(caller: &mut Caller<R>, log: &mut String, fd: Fd, call: &Take) {
     match *call {
         Take::Disconnect => note_bytes(log, caller.t_rcvdis(fd, MOST.udata)),
         Take::Release(max) => note_bytes(log, caller.t_rcvreldata(fd, max)),
         Take::Bytes(max) => note_bytes(log, caller.t_rcv(fd, max)),
+        Take::Into => receive_into(caller, log, fd),
         Take::Datagram(udata) => note(log, caller.t_rcvudata(fd, Max { udata, ..MOST })),
         Take::DatagramError => note_bytes(log, caller.t_rcvuderr(fd, MOST.addr, MOST.opt)),
     }

@@ -98,6 +98,24 @@ None
 ",
 );
 
+/// A message that is received into a buffer of four bytes: a part of it, its rest, and nothing more.
+const INTO: Part = (
+    &[
+        (CALLER, Ask::Give(Give::Bytes(b"abcdef", 0))),
+        (ANSWERER, Ask::Take(Take::Into)),
+        (ANSWERER, Ask::Take(Take::Into)),
+        (ANSWERER, Ask::Take(Take::Into)),
+    ],
+    "6
+ 4 1
+ [97, 98, 99, 100]
+ 2 0
+ [101, 102, 46, 46]
+Err(TNODATA)
+ [46, 46, 46, 46]
+",
+);
+
 /// One byte more than a release may carry.
 const TOO_LONG: &[u8] = b"01234567890123456789012345678901234567890123456789012345678901234";
 
@@ -274,7 +292,7 @@ None
 static TOPICS: [Topic; 4] = [
     (
         "messages",
-        &[OF_TICOTS, CONNECT, MESSAGES, VECTORS, DISCONNECT],
+        &[OF_TICOTS, CONNECT, MESSAGES, INTO, VECTORS, DISCONNECT],
     ),
     ("a release", &[OF_TICOTSORD, CONNECT, RELEASE]),
     (
