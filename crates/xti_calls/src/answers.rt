@@ -8,6 +8,7 @@ ghost use Rattle.xti_calls.specs.Typed.{IsDone, IsOpened, IsBound, IsConnected, 
 
 use crate::buffers::{Buffers, MOST_OF_STREAM};
 use crate::calling::Halt;
+use crate::library::Seat;
 use std::alloc::{AllocError, Global};
 use std::fmt;
 use thiserror::Error;
@@ -255,12 +256,18 @@ pub(crate) fn got(reply: Result<Reply, Fail>) -> Result<(Octets, u32), Fail>
     }
 }
 
-/// How many bytes of a connection stand in the caller's buffer now, from its first on, and flags.
-pub(crate) fn got_into(reply: Result<Reply, Fail>, buffer: &mut [u8]) -> Result<(u32, u32), Fail>
+/// How many bytes of a connection stand in the caller's buffer now, from its first on, and flags; the seat keeps the memory of the
+/// reply for the next receive.
+pub(crate) fn got_into(
+    reply: Result<Reply, Fail>,
+    buffer: &mut [u8],
+    seat: &mut Seat,
+) -> Result<(u32, u32), Fail>
     requires kind { IfOk reply (MayBe answer.Got) }
     requires room { IfOk reply (HasAtMost (min (length buffer.old) MOST_OF_STREAM)) }
     ensures told { Told (IsGotInto buffer.old buffer.new) reply result }
     ensures count { IfOk result (λ r. r.0 ≤ length buffer.new) }
+    ensures seat { seat.new ≡ seat.old }
     ensures err { OnErr result (buffer.new ≡ buffer.old) }
 {
     match reply {
@@ -268,7 +275,7 @@ pub(crate) fn got_into(reply: Result<Reply, Fail>, buffer: &mut [u8]) -> Result<
             let got = bytes.as_slice();
             buffer[..got.len()].copy_from_slice(got);
             let count = got.len() as u32;
-            let_go(bytes);
+            seat.keep_room(bytes);
             Ok((count, flags))
         }
         other => Err(failed(other)),

@@ -23,7 +23,9 @@ pub use xti_base::{
 pub use xti_data::SendParts;
 pub use xti_gather::{Cell, Glance};
 pub use xti_hall::{NoSeat, Stall};
-pub use xti_model::{Act, Call, Entries, Entry, Outcome, Profile, Providers, Reply, WrongValues};
+pub use xti_model::{
+    Act, Applied, Call, Entries, Entry, Go, Outcome, Profile, Providers, Reply, WrongValues,
+};
 pub use xti_opt::{
     T_CHECK, T_CURRENT, T_DEFAULT, T_FAILURE, T_NEGOTIATE, T_NOTSUPPORT, T_PARTSUCCESS, T_READONLY,
     T_SUCCESS,

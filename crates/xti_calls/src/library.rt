@@ -21,7 +21,7 @@ use std::alloc::{AllocError, Global};
 use std::fmt;
 use std::marker::Model;
 use std::sync::Wait;
-use xti_base::{Fd, let_go};
+use xti_base::{Fd, Octets, let_go};
 use xti_gather::{Cell, Glance, glance, nothing_lent, open_hall, survey};
 use xti_hall::{Ended as EndedHall, NoSeat, Seat as HallSeat};
 use xti_lent::Lent;
@@ -77,6 +77,20 @@ impl Seat {
         ensures standing { IsStanding self.now.view }
     {
         self.seat.unfinished()
+    }
+
+    /// Keeps the memory in which received bytes stood for those of the next receive. Takes no memory.
+    pub(crate) fn keep_room(&mut self, bytes: Octets)
+        ensures { self.new ≡ self.old }
+    {
+        // As many stand in the value itself.
+        if bytes.as_slice().len() <= 16 {
+            drop(bytes);
+            return;
+        }
+        if let Ok(room) = bytes.into_vec() {
+            self.lent.keep_room(room);
+        }
     }
 }
 

@@ -23,7 +23,7 @@ use xti_switch::switch_step;
 
 /// One step of a call that touches the cell of its descriptor alone.
 #[inline(always)]
-fn local(lent: &mut Lent, call: &Call, fd: Fd, go: Go) -> Result<Applied, AllocError>
+fn in_cell(lent: &mut Lent, call: &Call, fd: Fd, go: Go) -> Result<Applied, AllocError>
     requires at { IsAt lent.old.providers (place_of lent.old.providers fd.0) call.now go }
     requires places { AtOwnPlaces lent.old }
     requires lent { is_lent lent.old (place_of lent.old.providers fd.0) ≡ true }
@@ -34,6 +34,27 @@ fn local(lent: &mut Lent, call: &Call, fd: Fd, go: Go) -> Result<Applied, AllocE
     let p = *lent.providers();
     let e = lent.endpoint(p.place_of(fd));
     e.local(call, go, &p)
+}
+
+/// The same; the bytes of t_rcv stand in the memory that is kept for them, where that is large enough.
+#[inline(always)]
+fn local(lent: &mut Lent, call: &Call, fd: Fd, go: Go) -> Result<Applied, AllocError>
+    requires at { IsAt lent.old.providers (place_of lent.old.providers fd.0) call.now go }
+    requires places { AtOwnPlaces lent.old }
+    requires lent { is_lent lent.old (place_of lent.old.providers fd.0) ≡ true }
+    ensures step { Steps call.now go lent.old lent.new result }
+    ensures kept { SameCells lent.old lent.new }
+    ensures err { OnErr result (lent.new ≡ lent.old) }
+{
+    let has_room = match call {
+        Call::TRcv { .. } => lent.lend_room(fd),
+        _ => false,
+    };
+    let applied = in_cell(lent, call, fd, go);
+    if has_room {
+        lent.take_room(fd);
+    }
+    applied
 }
 
 /// One step of t_look.

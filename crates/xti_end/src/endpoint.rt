@@ -12,6 +12,7 @@ use crate::providers::profile;
 use std::alloc::Global;
 use std::default::MadeWith;
 use std::marker::Model;
+use std::mem;
 use xti_base::{Fd, Prov, State, write_over};
 use xti_model::Providers;
 
@@ -23,6 +24,8 @@ pub struct Endpoint {
     pub(crate) generation: u32,
     pub(crate) body: Option<Parts>,
     pub(crate) waiting: Waiting,
+    /// Memory, lent for a step, for the bytes that it receives. Contracts don't see it.
+    pub(crate) room: Vec<u8>,
 }
 
 // Written out, so that a crate that lets one go proves a call of this, and nothing of what is in it.
@@ -34,6 +37,7 @@ impl Drop for Endpoint {
             generation: _,
             body: _,
             waiting: _,
+            room: _,
         } = self;
     }
 }
@@ -83,7 +87,22 @@ impl Endpoint {
             generation: 0,
             body: None,
             waiting: Waiting::new(alloc),
+            room: Vec::new(alloc),
         }
+    }
+
+    /// Lends memory for the bytes that the next step receives; none is taken for them where this is large enough.
+    pub fn lend_room(&mut self, room: Vec<u8>)
+        ensures { self.new ≡ self.old }
+    {
+        self.room = room;
+    }
+
+    /// What is left of the memory that was lent. Takes no memory.
+    pub fn take_room(&mut self) -> Vec<u8>
+        ensures { self.new ≡ self.old }
+    {
+        mem::replace(&mut self.room, Vec::new(self.alloc))
     }
 
     /// An endpoint opens at the closed place, which may not have been closed too often. Takes no memory.

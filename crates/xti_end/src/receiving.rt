@@ -125,7 +125,7 @@ impl Endpoint {
         ensures err { OnErr result (self.new ≡ self.old) }
     {
         let begun = is_more(self.rest(), max);
-        let piece = self.waiting.datagrams.take(max)?;
+        let piece = self.waiting.datagrams.take(max, &mut self.room)?;
         self.set_begun(begun);
         Ok(Received {
             bytes: piece.bytes,

@@ -57,7 +57,7 @@ impl Endpoint {
         ensures left { OnOk result (self.new ≡ with_parts (without_normal max) self.old) }
         ensures err { OnErr result (self.new ≡ self.old) }
     {
-        self.waiting.normal.take(max)
+        self.waiting.normal.take(max, &mut self.room)
     }
 
     /// The next `max` bytes of the expedited message at the start; where memory runs out all is as before.
@@ -68,7 +68,7 @@ impl Endpoint {
         ensures left { OnOk result (self.new ≡ with_parts (without_expedited max) self.old) }
         ensures err { OnErr result (self.new ≡ self.old) }
     {
-        self.waiting.expedited.take(max)
+        self.waiting.expedited.take(max, &mut self.room)
     }
 
     /// Receives at most `max` bytes, expedited ones where there are any; where memory runs out all is as before.

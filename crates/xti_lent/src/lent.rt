@@ -29,6 +29,8 @@ pub struct Lent {
     numbers: ArrayVec<u32, MOST_PLACES>,
     endpoints: ArrayVec<Slot, MOST_PLACES>,
     registry: Option<Box<Registry>>,
+    /// Memory for the bytes of the next receive, given back by the last one. Contracts don't see it.
+    room: Option<Vec<u8>>,
 }
 
 // Written out, so that a crate that lets one go proves a call of this, and nothing of what is in it.
@@ -40,6 +42,7 @@ impl Drop for Lent {
             numbers: _,
             endpoints: _,
             registry: _,
+            room: _,
         } = self;
     }
 }
@@ -68,7 +71,38 @@ impl Lent {
             numbers: ArrayVec::new(),
             endpoints: ArrayVec::new(),
             registry: None,
+            room: None,
         }
+    }
+
+    /// Keeps memory for the bytes of the next receive, in place of what was kept.
+    pub fn keep_room(&mut self, room: Vec<u8>)
+        ensures { self.new ≡ self.old }
+    {
+        self.room = Some(room);
+    }
+
+    /// Lends the kept memory to the endpoint of the descriptor, whose cell must be lent; whether some was kept. Takes no memory.
+    pub fn lend_room(&mut self, fd: Fd) -> bool
+        requires { is_some (held_at self.old (place_of self.old.providers fd.0)) ≡ true }
+        ensures { self.new ≡ self.old }
+    {
+        let Some(room) = self.room.take() else {
+            return false;
+        };
+        let place = self.place_of(fd);
+        self.endpoint(place).lend_room(room);
+        true
+    }
+
+    /// Takes back what a step has left of the memory that the endpoint was lent. Takes no memory.
+    pub fn take_room(&mut self, fd: Fd)
+        requires { is_some (held_at self.old (place_of self.old.providers fd.0)) ≡ true }
+        ensures { self.new ≡ self.old }
+    {
+        let place = self.place_of(fd);
+        let room = self.endpoint(place).take_room();
+        self.room = Some(room);
     }
 
     /// The providers of the step.

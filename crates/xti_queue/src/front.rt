@@ -1,6 +1,6 @@
 //! Taking from the start of waiting frames.
 
-ghost use Rattle.std.specs.Prelude.{◌≡◌, ◌≤◌, ◌<◌, ◌+◌, ◌-◌, ◌++◌, [], ◌∷◌, ℕ, List, true, false, if◌then◌else◌, length, take, drop, vec_len, vec_capacity, IfOk, IfSome, IfNone, OnErr};
+ghost use Rattle.std.specs.Prelude.{◌≡◌, ◌≤◌, ◌<◌, ◌+◌, ◌-◌, ◌++◌, [], ◌∷◌, ℕ, List, true, false, if◌then◌else◌, length, take, drop, vec_len, vec_capacity, IfOk, IfSome, IfNone, IsOk, OnErr};
 ghost use Rattle.std.specs.VecDeque.{deque_len, deque_capacity};
 ghost use Rattle.tpi_grammar.specs.declared.kind.TheConstants.{MOST_DATA};
 ghost use Rattle.tpi_grammar.specs.Frame.{AreBytes};
@@ -14,8 +14,12 @@ ghost use Rattle.xti_queue.specs.Front.{symbols_in, in_line, left_of, AreLastOf,
 use crate::queue::Piece;
 use std::alloc::{AllocError, Global};
 use std::collections::VecDeque;
+use std::mem;
 use tpi_prim::{Frame, Kind};
 use xti_base::Octets;
+
+/// How many bytes an `Octets` holds in the value itself.
+const IN_VALUE: usize = 16;
 
 /// The user data of a frame after the first bytes.
 pub(crate) fn rest_of(frame: &Frame, taken: usize) -> &[u8]
@@ -147,6 +151,34 @@ fn take_run(held: &mut VecDeque<Frame>, taken: &mut usize, bytes: &mut Vec<u8>, 
     }
 }
 
+/// An empty list with room for so many bytes: the room that is kept where it is large enough, and new memory otherwise, which
+/// leaves the kept room as it is.
+fn with_room(alloc: Global, count: usize, room: &mut Vec<u8>) -> Result<Vec<u8>, AllocError>
+    ensures empty { IfOk result (λ bytes. bytes.items ≡ []) }
+    ensures room { IfOk result (λ bytes. count ≤ vec_capacity bytes) }
+    ensures sure { count ≤ vec_capacity room.old → IsOk result }
+{
+    if room.capacity() < count {
+        return Ok(Vec::with_capacity(alloc, count)?);
+    }
+    let mut bytes = mem::replace(room, Vec::new(alloc));
+    bytes.clear();
+    Ok(bytes)
+}
+
+/// A copy of bytes of one frame, in the kept room where they don't stand in the value itself.
+fn copied(alloc: Global, bytes: &[u8], room: &mut Vec<u8>) -> Result<Octets, AllocError>
+    ensures copy { IfOk result (λ o. o ≡ bytes.now) }
+    ensures sure { length bytes.now ≤ vec_capacity room.old → IsOk result }
+{
+    if room.capacity() < bytes.len() || bytes.len() <= IN_VALUE {
+        return Octets::copy_of(alloc, bytes);
+    }
+    let mut copy = with_room(alloc, bytes.len(), room)?;
+    copy.extend_from_slice(bytes).unwrap();
+    Ok(Octets::from_vec(copy))
+}
+
 /// Takes what the first frame alone gives: its next `max` bytes where it has more, and all of it where a message ends after it.
 /// `None` where the piece goes on after it, and where no frame waits; then, and where memory runs out, all is as before.
 fn take_first(
@@ -154,12 +186,15 @@ fn take_first(
     held: &mut VecDeque<Frame>,
     taken: &mut usize,
     max: usize,
+    room: &mut Vec<u8>,
 ) -> Result<Option<Piece>, AllocError>
     requires wait { AllWait held.old.items }
     requires within { IsWithin taken.old held.old.items }
     ensures piece { IfOk result (λ some. IfSome some (λ p.
         IsTakenFrom max taken.old held.old.items taken.new held.new.items p.bytes p.ended)) }
     ensures none { IfOk result (λ p. IfNone p (AsBefore held.old taken.old held.new taken.new)) }
+    ensures kept { IfOk result (λ p. IfNone p (room.new ≡ room.old)) }
+    ensures sure { max ≤ vec_capacity room.old → IsOk result }
     ensures err { OnErr result (AsBefore held.old taken.old held.new taken.new) }
     ensures capacity { deque_capacity held.new ≡ deque_capacity held.old }
 {
@@ -168,7 +203,7 @@ fn take_first(
     };
     let rest = rest_of(frame, *taken);
     if max < rest.len() {
-        let bytes = Octets::copy_of(alloc, &rest[..max])?;
+        let bytes = copied(alloc, &rest[..max], room)?;
         *taken += max;
         return Ok(Some(Piece {
             bytes,
@@ -178,7 +213,7 @@ fn take_first(
     if !ends(frame) {
         return Ok(None);
     }
-    let bytes = Octets::copy_of(alloc, rest)?;
+    let bytes = copied(alloc, rest, room)?;
     held.pop_front();
     *taken = 0;
     Ok(Some(Piece { bytes, ended: true }))
@@ -190,19 +225,21 @@ pub(crate) fn take_piece(
     held: &mut VecDeque<Frame>,
     taken: &mut usize,
     max: usize,
+    room: &mut Vec<u8>,
 ) -> Result<Piece, AllocError>
     requires wait { AllWait held.old.items }
     requires within { IsWithin taken.old held.old.items }
     ensures piece { IfOk result (λ p.
         IsTakenFrom max taken.old held.old.items taken.new held.new.items p.bytes p.ended) }
+    ensures sure { max ≤ vec_capacity room.old → IsOk result }
     ensures err { OnErr result (AsBefore held.old taken.old held.new taken.new) }
     ensures capacity { deque_capacity held.new ≡ deque_capacity held.old }
 {
-    if let Some(piece) = take_first(alloc, held, taken, max)? {
+    if let Some(piece) = take_first(alloc, held, taken, max, room)? {
         return Ok(piece);
     }
     let count = run_len(held, *taken, max);
-    let mut bytes = Vec::with_capacity(alloc, count)?;
+    let mut bytes = with_room(alloc, count, room)?;
     let ended = take_run(held, taken, &mut bytes, max);
     Ok(Piece {
         bytes: Octets::from_vec(bytes),

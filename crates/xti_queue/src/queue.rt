@@ -1,6 +1,6 @@
 //! The queue that an endpoint keeps.
 
-ghost use Rattle.std.specs.Prelude.{◌≡◌, ◌≤◌, ◌<◌, ◌+◌, ◌-◌, ◌++◌, [], ◌∷◌, ℕ, List, true, length, drop, max, slice_get, IfOk, OnOk, OnErr};
+ghost use Rattle.std.specs.Prelude.{◌≡◌, ◌≤◌, ◌<◌, ◌+◌, ◌-◌, ◌++◌, [], ◌∷◌, ℕ, List, true, length, drop, max, slice_get, vec_capacity, IfOk, IsOk, OnOk, OnErr};
 ghost use Rattle.std.specs.Option.{option_copied, option_map};
 ghost use Rattle.tpi_prim.specs.Primitive.{kind_of, user_of};
 ghost use Rattle.tpi_prim.specs.Fields.{kind_in, primitive_in};
@@ -105,8 +105,9 @@ impl ReadQueue {
 
     /// Takes the longest run of bytes at the start, at most `max`, that passes no end of a message, and the end where it comes right
     /// after the run. Of a datagram the rest stays. Where memory runs out the queue is as before. The cost is in proportion to the
-    /// bytes taken and the frames passed.
-    pub fn take(&mut self, max: usize) -> Result<Piece, AllocError>
+    /// bytes taken and the frames passed. The bytes stand in the caller's `room` where it is large enough for them, which is then
+    /// empty; no memory is taken then.
+    pub fn take(&mut self, max: usize, room: &mut Vec<u8>) -> Result<Piece, AllocError>
         ensures bytes { IfOk result (λ p. p.bytes ≡ waiting.front max (symbols self.old)) }
         ensures ended { IfOk result (λ p. p.ended ≡ waiting.ended max (symbols self.old)) }
         ensures rest { OnOk result (symbols self.new ≡ waiting.rest max (symbols self.old)) }
@@ -114,9 +115,10 @@ impl ReadQueue {
         ensures frames { OnOk result (frames self.new ≡ left_behind max (frames self.old)) }
         ensures pushed { AreLastOf self.old.pushed self.new.pushed }
         ensures spare { self.new.spare ≡ self.old.spare }
+        ensures sure { max ≤ vec_capacity room.old → IsOk result }
         ensures err { OnErr result (self.new ≡ self.old) }
     {
-        let piece = take_piece(self.alloc, &mut self.held, &mut self.taken, max)?;
+        let piece = take_piece(self.alloc, &mut self.held, &mut self.taken, max, room)?;
         self.bytes -= piece.bytes.as_slice().len();
         self.ends -= usize::from(piece.ended);
         Ok(piece)

@@ -93,8 +93,8 @@ impl<'a, R: Wait + Sync> Caller<'a, R> {
     ///
     /// It is `t_rcv` with as many bytes as the buffer has, and no more than 131,072, as `max`. The bytes stand in it from
     /// its first on; those after them are as before, and all are where it fails. Of a message of no bytes, which is an end
-    /// alone, the number is 0. No list is left to the caller. The step takes the memory that `t_rcv` takes, and it is given
-    /// back before this returns.
+    /// alone, the number is 0. No list is left to the caller. Up to 16 bytes of one send take no memory; that in which more stood
+    /// before they were copied is kept for the next such receive of the caller, which takes none where that is large enough.
     ///
     /// # Errors
     ///
@@ -107,7 +107,8 @@ impl<'a, R: Wait + Sync> Caller<'a, R> {
         ensures err { OnErr result (buffer.new ≡ buffer.old) }
     {
         let max = buffer.len().min(MOST_OF_STREAM) as u32;
-        got_into(self.reply(Call::TRcv { fd, max }), buffer)
+        let reply = self.reply(Call::TRcv { fd, max });
+        got_into(reply, buffer, &mut self.seat)
     }
 
     /// Receives bytes of a connection in parts of at most these sizes, and answers them with flags (XNS, t_rcvv).

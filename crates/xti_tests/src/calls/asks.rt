@@ -82,12 +82,12 @@ pub(crate) enum Request {
     Listen(u32),
 }
 
-/// Calls that take what waits; of bytes, with how many the caller takes at most, or into a buffer of four dots.
+/// Calls that take what waits; of bytes, with how many the caller takes at most, or how many dots the buffer has into which they come.
 pub(crate) enum Take {
     Disconnect,
     Release(u32),
     Bytes(u32),
-    Into,
+    Into(usize),
     Datagram(u32),
     DatagramError,
 }
@@ -141,11 +141,13 @@ fn make_request<R: Wait + Sync>(
     }
 }
 
-/// Receives into a buffer of four dots, and writes down what stands in it then too.
-fn receive_into<R: Wait + Sync>(caller: &mut Caller<R>, log: &mut String, fd: Fd) {
-    let mut buffer = *b"....";
-    note_bytes(log, caller.t_rcv_into(fd, &mut buffer));
-    let _ = writeln!(log, " {:?}", buffer.as_slice());
+/// Receives into a buffer of so many dots, at most 20, and writes down what stands in it then too.
+fn receive_into<R: Wait + Sync>(caller: &mut Caller<R>, log: &mut String, fd: Fd, size: usize) {
+    let mut dots = [b'.'; 20];
+    let size = size.min(dots.len());
+    let buffer = &mut dots[..size];
+    note_bytes(log, caller.t_rcv_into(fd, buffer));
+    let _ = writeln!(log, " {buffer:?}");
 }
 
 /// Makes a call that takes what waits.
@@ -154,7 +156,7 @@ fn make_take<R: Wait + Sync>(caller: &mut Caller<R>, log: &mut String, fd: Fd, c
         Take::Disconnect => note_bytes(log, caller.t_rcvdis(fd, MOST.udata)),
         Take::Release(max) => note_bytes(log, caller.t_rcvreldata(fd, max)),
         Take::Bytes(max) => note_bytes(log, caller.t_rcv(fd, max)),
-        Take::Into => receive_into(caller, log, fd),
+        Take::Into(size) => receive_into(caller, log, fd, size),
         Take::Datagram(udata) => note(log, caller.t_rcvudata(fd, Max { udata, ..MOST })),
         Take::DatagramError => note_bytes(log, caller.t_rcvuderr(fd, MOST.addr, MOST.opt)),
     }

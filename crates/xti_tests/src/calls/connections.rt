@@ -98,13 +98,20 @@ None
 ",
 );
 
-/// A message that is received into a buffer of four bytes: a part of it, its rest, and nothing more.
+/// A message that is received into a buffer of four bytes: a part of it, its rest, and nothing more. Then one of 40 bytes, of which
+/// the second half comes in the memory that the first has left.
 const INTO: Part = (
     &[
         (CALLER, Ask::Give(Give::Bytes(b"abcdef", 0))),
-        (ANSWERER, Ask::Take(Take::Into)),
-        (ANSWERER, Ask::Take(Take::Into)),
-        (ANSWERER, Ask::Take(Take::Into)),
+        (ANSWERER, Ask::Take(Take::Into(4))),
+        (ANSWERER, Ask::Take(Take::Into(4))),
+        (ANSWERER, Ask::Take(Take::Into(4))),
+        (
+            CALLER,
+            Ask::Give(Give::Bytes(b"aaaaaaaaaaaaaaaaaaaabbbbbbbbbbbbbbbbbbbb", 0)),
+        ),
+        (ANSWERER, Ask::Take(Take::Into(20))),
+        (ANSWERER, Ask::Take(Take::Into(20))),
     ],
     "6
  4 1
@@ -113,6 +120,11 @@ const INTO: Part = (
  [101, 102, 46, 46]
 Err(TNODATA)
  [46, 46, 46, 46]
+40
+ 20 1
+ [97, 97, 97, 97, 97, 97, 97, 97, 97, 97, 97, 97, 97, 97, 97, 97, 97, 97, 97, 97]
+ 20 0
+ [98, 98, 98, 98, 98, 98, 98, 98, 98, 98, 98, 98, 98, 98, 98, 98, 98, 98, 98, 98]
 ",
 );
 
