@@ -63,11 +63,11 @@ forget-both again fd f kept spare = asks-both fd spare (TRcvDis fd 0) (on_forget
     by-heard (Broken reason seq) = f _ spare
     by-heard h = stops-both h fd kept spare
 
-take-both : (next again : Next) (fd : Fd) → KeepsNext fd next → KeepsNext fd again → (kept : List Seq) (spare : Option Fd) → KeepsBoth fd spare (take next again fd kept spare)
-take-both next again fd n f kept spare = asks-both fd spare (TListen fd 0 0 0) (on_take next again fd kept spare) (λ x. refl) by-heard
+take-both : (again : Next) (fd : Fd) → KeepsNext fd again → (kept : List Seq) (spare : Option Fd) → KeepsBoth fd spare (take again fd kept spare)
+take-both again fd f kept spare = asks-both fd spare (TListen fd 0 0 0) (on_take again fd kept spare) (λ x. refl) by-heard
   where
-    by-heard : (h : Heard) → KeepsBoth fd spare (on_take next again fd kept spare h)
-    by-heard (Listened seq) = n _ spare
+    by-heard : (h : Heard) → KeepsBoth fd spare (on_take again fd kept spare h)
+    by-heard (Listened seq) = f _ spare
     by-heard Disconnect = forget-both again fd f kept spare
     by-heard h = stops-both h fd kept spare
 
@@ -76,7 +76,7 @@ accept-both again fd seq f kept resfd = asks-both fd (Some resfd) (TAccept fd re
   where
     by-heard : (h : Heard) → KeepsBoth fd (Some resfd) (on_accept again fd kept resfd h)
     by-heard Done = λ u t a k i r. rw (r.0, r.1, r.2) (record { own = λ l. i.0; spare = tt }, record { own = λ l. i.1; spare = tt })
-    by-heard Listen = take-both again again fd f f kept (Some resfd)
+    by-heard Listen = take-both again fd f kept (Some resfd)
     by-heard Disconnect = forget-both again fd f kept (Some resfd)
     by-heard h = stops-both h fd kept (Some resfd)
 
@@ -106,7 +106,7 @@ module _ (kinds : OfKinds) (nonblock : Bool) (fd : Fd) (again : Next) (f : Keeps
   turn-both kept spare = by-oldest (oldest kept)
     where
       by-oldest : (o : Option Seq) → KeepsBoth fd spare (turn_by o again nonblock fd kept spare)
-      by-oldest None = take-both (serve again nonblock fd) again fd serve-both f kept spare
+      by-oldest None = take-both (serve again nonblock fd) fd serve-both kept spare
       by-oldest (Some seq) = one-both seq kept spare
 
 turns-both : OfKinds → (n : ℕ) (nonblock : Bool) (fd : Fd) → KeepsNext fd (accept_turns n nonblock fd)

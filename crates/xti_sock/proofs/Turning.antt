@@ -1,5 +1,5 @@
 -- How the run of an accept is put together.
-use Rattle.std.proofs.Common.{◌≡◌, ◌+◌, ◌-◌, ◌<◌, ◌≤◌, ℕ, suc, Bool, List, [], Option, Some, None, Result, Err, false, refl, subst, arith}
+use Rattle.std.proofs.Common.{◌≡◌, ◌+◌, ◌-◌, ◌<◌, ◌≤◌, ℕ, suc, Bool, List, [], Option, Some, None, Result, Err, false, refl, subst, sym, arith}
 use Rattle.xti_base.specs.declared.kinds.Fd.{Fd}
 use Rattle.xti_base.specs.declared.kinds.Seq.{Seq}
 use Rattle.xti_model.specs.declared.call.Call.TheVariants.{TAccept}
@@ -11,7 +11,7 @@ use Rattle.xti_sock.specs.declared.limits.TheConstants.{MOST_TURNS}
 use Rattle.xti_sock.specs.declared.listener.Listener.{Listener}
 use Rattle.xti_sock.specs.declared.phase.Phase.TheVariants as phase
 use Rattle.xti_sock.specs.declared.sock.Sock.{Sock}
-use Rattle.xti_sock.specs.Accepting.{Next, accept, accept_at, accept_turns, forget, listener, take, turn, turn_by}
+use Rattle.xti_sock.specs.Accepting.{Next, accept, accept_at, accept_turns, forget, listener, serve, take, turn, turn_by}
 use Rattle.xti_sock.specs.Keeping.{oldest}
 use Rattle.xti_sock.specs.Scripts.{Answer, Script, Asked, Runs, is_wrong, made}
 use Rattle.xti_sock.specs.Turns.{GoesOn, Leads, left_by, sock_of}
@@ -21,13 +21,24 @@ leads-on : (x y : Next → Script) (s u t : Sight) (r : Option (Result Sock Sock
 leads-on x y s u t None l f h = (h.0, λ again v a k r. f again v a k (h.1 again v a k r))
 leads-on x y s u t (Some r) l f h = λ again. f again t (made r) (left_by r (sock_of l)) (h again)
 
+-- a turn that takes a request where none is kept
+pub turn-taken : (nonblock : Bool) (fd : Fd) (kept : List Seq) (spare : Option Fd) (s u t : Sight) (m : Listener) (r : Option (Result Sock SockFail)) (l : Listener)
+    → oldest kept ≡ None → Leads (λ again. take again fd kept spare) s None m u → m.fd ≡ fd → Leads (λ again. serve again nonblock m.fd m.kept.numbers m.spare) u r l t
+    → Leads (λ again. turn again nonblock fd kept spare) s r l t
+turn-taken nonblock fd kept spare s u t m r l e taken same h =
+    leads-on (λ again. turn again nonblock fd kept spare) (λ again. serve again nonblock m.fd m.kept.numbers m.spare) s u t r l
+    (λ again v a k z.
+    let served = subst (λ (x : Fd). Runs (serve again nonblock x m.kept.numbers m.spare) u v a k) same z in
+    subst (λ (o : Option Seq). Runs (turn_by o again nonblock fd kept spare) s v a k) (sym e) (taken.1 (serve again nonblock fd) v a k served))
+    h
+
 -- an accept before which another request must be taken
 pub accept-take : (fd resfd : Fd) (seq : Seq) (opt udata : List ℕ) (kept : List Seq) (o : Option Fd) (s u t : Sight) (r : Option (Result Sock SockFail)) (l : Listener)
-    → opt ≡ [] → udata ≡ [] → o ≡ Some resfd → Asked s (TAccept fd resfd seq opt udata) Listen u → Leads (λ again. take again again fd kept o) u r l t → Leads (λ again. accept_at again fd seq kept resfd) s r l t
+    → opt ≡ [] → udata ≡ [] → o ≡ Some resfd → Asked s (TAccept fd resfd seq opt udata) Listen u → Leads (λ again. take again fd kept o) u r l t → Leads (λ again. accept_at again fd seq kept resfd) s r l t
 accept-take fd resfd seq opt udata kept o s u t r l x y e asked h =
     let told = subst (λ (z : List ℕ). Asked s (TAccept fd resfd seq [] z) Listen u) y (subst (λ (z : List ℕ). Asked s (TAccept fd resfd seq z udata) Listen u) x asked) in
-    leads-on (λ again. accept_at again fd seq kept resfd) (λ again. take again again fd kept (Some resfd)) s u t r l (λ again v a k z. (Listen, u, told, z))
-    (subst (λ (p : Option Fd). Leads (λ again. take again again fd kept p) u r l t) e h)
+    leads-on (λ again. accept_at again fd seq kept resfd) (λ again. take again fd kept (Some resfd)) s u t r l (λ again v a k z. (Listen, u, told, z))
+    (subst (λ (p : Option Fd). Leads (λ again. take again fd kept p) u r l t) e h)
 
 -- an accept before which a request must be forgotten
 pub accept-forget : (fd resfd : Fd) (seq : Seq) (opt udata : List ℕ) (kept : List Seq) (o : Option Fd) (s u t : Sight) (r : Option (Result Sock SockFail)) (l : Listener)

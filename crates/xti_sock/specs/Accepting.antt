@@ -36,18 +36,18 @@ abbrev pub forget : Next → Fd → List Seq → Option Fd → Script
 forget again fd kept spare = asks (TRcvDis fd 0) (on_forget again fd kept spare)
 
 -- one more request is taken, and kept as the newest
-abbrev pub on_take : Next → Next → Fd → List Seq → Option Fd → Heard → Script
-on_take next again fd kept spare (Listened seq) = next (kept ++ seq ∷ []) spare
-on_take next again fd kept spare Disconnect = forget again fd kept spare
-on_take next again fd kept spare h = stops h (listener fd kept spare)
+abbrev pub on_take : Next → Fd → List Seq → Option Fd → Heard → Script
+on_take again fd kept spare (Listened seq) = again (kept ++ seq ∷ []) spare
+on_take again fd kept spare Disconnect = forget again fd kept spare
+on_take again fd kept spare h = stops h (listener fd kept spare)
 
-abbrev pub take : Next → Next → Fd → List Seq → Option Fd → Script
-take next again fd kept spare = asks (TListen fd 0 0 0) (on_take next again fd kept spare)
+abbrev pub take : Next → Fd → List Seq → Option Fd → Script
+take again fd kept spare = asks (TListen fd 0 0 0) (on_take again fd kept spare)
 
 -- the oldest is accepted at the spare descriptor
 abbrev pub on_accept : Next → Fd → List Seq → Fd → Heard → Script
 on_accept again fd kept resfd Done = gives (Ok (socket (open_sock resfd))) (listener fd (drop 1 kept) None)
-on_accept again fd kept resfd Listen = take again again fd kept (Some resfd)
+on_accept again fd kept resfd Listen = take again fd kept (Some resfd)
 on_accept again fd kept resfd Disconnect = forget again fd kept (Some resfd)
 on_accept again fd kept resfd h = stops h (listener fd kept (Some resfd))
 
@@ -73,7 +73,7 @@ serve again nonblock fd kept spare = serve_oldest (oldest kept) again nonblock f
 
 -- it listens where it keeps no number
 abbrev pub turn_by : Option Seq → Next → Bool → Fd → List Seq → Option Fd → Script
-turn_by None again nonblock fd kept spare = take (serve again nonblock fd) again fd kept spare
+turn_by None again nonblock fd kept spare = take (serve again nonblock fd) fd kept spare
 turn_by (Some seq) again nonblock fd kept spare = serve_one again nonblock fd seq kept spare
 
 abbrev pub turn : Next → Bool → Fd → List Seq → Option Fd → Script

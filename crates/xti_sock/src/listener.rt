@@ -61,7 +61,7 @@ impl Listener {
         requires free { (C.sight io.old).free ≡ true }
         requires room { 1 ≤ self.old.kept.spare }
         ensures made { Leads
-            (λ again. take again again self.old.fd self.old.kept.numbers self.old.spare)
+            (λ again. take again self.old.fd self.old.kept.numbers self.old.spare)
             (C.sight io.old) result self.new (C.sight io.new) }
         ensures room { Uses 1 self.old self.new }
     {
@@ -189,38 +189,6 @@ impl Listener {
         }
     }
 
-    // Takes a request, and accepts it.
-    fn take_and_serve<C: Caller, R: Wait + Sync>(
-        &mut self,
-        io: &mut C,
-        rt: &R,
-        alloc: Global,
-        nonblock: bool,
-    ) -> Option<Result<Sock, SockFail>>
-        requires free { (C.sight io.old).free ≡ true }
-        requires room { 2 ≤ self.old.kept.spare }
-        ensures made { Leads
-            (λ again. take (serve again nonblock self.old.fd) again
-            self.old.fd self.old.kept.numbers self.old.spare)
-            (C.sight io.old) result self.new (C.sight io.new) }
-        ensures room { Uses 2 self.old self.new }
-    {
-        let made = Call::TListen {
-            fd: self.fd,
-            amax: 0,
-            omax: 0,
-            umax: 0,
-        };
-        match ask(io, rt, alloc, made) {
-            Heard::Listened(seq) => {
-                self.kept.push(seq);
-                self.serve(io, rt, alloc, nonblock)
-            }
-            Heard::Disconnect => self.forget(io, rt, alloc),
-            heard => Some(Err(fail_of(heard))),
-        }
-    }
-
     // One turn of an accept, which ends it but where a request was taken or taken back.
     fn turn<C: Caller, R: Wait + Sync>(
         &mut self,
@@ -238,7 +206,10 @@ impl Listener {
     {
         match self.kept.oldest() {
             Some(seq) => self.serve_one(io, rt, alloc, nonblock, seq),
-            None => self.take_and_serve(io, rt, alloc, nonblock),
+            None => match self.take(io, rt, alloc) {
+                None => self.serve(io, rt, alloc, nonblock),
+                ended => ended,
+            },
         }
     }
 

@@ -4,10 +4,10 @@ ghost use Rattle.std.specs.Prelude.{◌≡◌, ◌≤◌, ◌++◌, ℕ, List, [
 ghost use Rattle.xti_model.specs.declared.call.Call.TheVariants.{TSnd};
 ghost use Rattle.xti_sock.specs.declared.limits.TheConstants.{MOST_TURNS};
 ghost use Rattle.xti_sock.specs.Accepting.{open_sock};
-ghost use Rattle.xti_sock.specs.Rows.{fail_of, is_dead, recv, recv_turns, reset, send, send_again};
+ghost use Rattle.xti_sock.specs.Rows.{fail_of, is_dead, on_send_again, recv, recv_turns, reset, send};
 ghost use Rattle.xti_sock.specs.Rows.{send_made, sock_after, with_end};
 ghost use Rattle.xti_sock.specs.Socks.{in_phase, was_released, IsInStep};
-ghost use Rattle.xti_sock.specs.Scripts.{Makes, Runs, counted, octets, received};
+ghost use Rattle.xti_sock.specs.Scripts.{IsFreeAfter, Makes, Runs, counted, octets, received};
 ghost use Rattle.xti_sock.specs.Streams.{IsStreamOf, bytes_in, input};
 ghost use Rattle.xti_sock.specs.Steps.{Receives, Releases};
 
@@ -238,30 +238,30 @@ impl Sock {
             (C.sight io.old) (C.sight io.new) (counted result) self.new }
     {
         match ask_once(io, rt, alloc, made) {
-            Heard::Sent(n) => Ok(n),
-            Heard::Disconnect => Err(self.reset(io, rt, alloc)),
             Heard::Release => match self.release(io, rt, alloc) {
-                None => self.send_again(io, rt, alloc, made),
+                None => {
+                    let heard = ask_once(io, rt, alloc, made);
+                    self.sent(io, rt, alloc, heard)
+                }
                 Some(fail) => Err(fail),
             },
-            heard => Err(self.stop(heard)),
+            heard => self.sent(io, rt, alloc, heard),
         }
     }
 
-    // The same call once more, after a release.
-    fn send_again<C: Caller, R: Wait + Sync>(
+    // What was heard ends the send.
+    fn sent<C: Caller, R: Wait + Sync>(
         &mut self,
         io: &mut C,
         rt: &R,
         alloc: Global,
-        made: &Call,
+        heard: Heard,
     ) -> Result<u32, SockFail>
-        requires free { (C.sight io.old).free ≡ true }
-        ensures made { (bytes : List ℕ) → made.now ≡ TSnd self.old.fd bytes 0
-            → Runs (send_again bytes self.old)
+        requires free { IsFreeAfter heard (C.sight io.old) }
+        ensures made { Runs (on_send_again self.old heard)
             (C.sight io.old) (C.sight io.new) (counted result) self.new }
     {
-        match ask_once(io, rt, alloc, made) {
+        match heard {
             Heard::Sent(n) => Ok(n),
             Heard::Disconnect => Err(self.reset(io, rt, alloc)),
             heard => Err(self.stop(heard)),
