@@ -2,6 +2,7 @@ mod Following
 mod Rows
 mod Calls
 mod Pieces
+mod Taking
 mod InStep
 mod Steps
 mod Riding

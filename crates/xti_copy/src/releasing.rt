@@ -2,8 +2,7 @@
 
 ghost use Rattle.std.specs.Prelude.{◌≡◌, ◌++◌, OnOk};
 ghost use Rattle.xti_laws_streams.specs.Copying.{ending};
-ghost use Rattle.xti_copy.specs.Ends.{AreInStep, closing, connected, half_released, released};
-ghost use Rattle.xti_copy.specs.Ends.{releasing_back, releasing_first};
+ghost use Rattle.xti_copy.specs.Ends.{AreInStep, HasReleased, MayRelease, closing, connected, released};
 ghost use Rattle.xti_copy.specs.Going.{Comes, IsAt};
 
 use crate::Rider;
@@ -13,45 +12,23 @@ use std::alloc::{AllocError, Global};
 use std::sync::Wait;
 use xti_base::let_go;
 use xti_laws_streams::PIECE;
+use xti_sock::Sock;
 
-/// The client releases the connection, and the receiver takes that.
-fn release_first<R: Wait + Sync>(
-    ends: &mut Ends,
+/// One end releases the connection, and the other takes that.
+fn release_one<R: Wait + Sync>(
+    one: &mut Sock,
+    other: &mut Sock,
     io: &mut Rider,
     rt: &R,
     alloc: Global,
 ) -> Result<(), AllocError>
-    requires ends { ends.old ≡ connected }
-    requires step { AreInStep connected io.old.entries }
+    requires may { MayRelease one.old other.old io.old.entries }
     requires at { IsAt io.old.entries io.old }
-    requires comes { Comes io.old.entries releasing_first }
-    ensures ends { OnOk result (ends.new ≡ half_released) }
-    ensures step { OnOk result (AreInStep half_released io.new.entries) }
-    ensures at { OnOk result (IsAt (io.old.entries ++ releasing_first) io.new) }
+    ensures has { OnOk result
+        (HasReleased one.old other.old one.new other.new io.old.entries io.new) }
 {
-    made(ends.client.shutdown(io, rt, alloc))?;
-    let none = made(ends.receiver.recv(io, rt, alloc, PIECE as u32))?;
-    let_go(none);
-    Ok(())
-}
-
-/// The receiver releases it too, and the client takes that.
-fn release_back<R: Wait + Sync>(
-    ends: &mut Ends,
-    io: &mut Rider,
-    rt: &R,
-    alloc: Global,
-) -> Result<(), AllocError>
-    requires ends { ends.old ≡ half_released }
-    requires step { AreInStep half_released io.old.entries }
-    requires at { IsAt io.old.entries io.old }
-    requires comes { Comes io.old.entries releasing_back }
-    ensures ends { OnOk result (ends.new ≡ released) }
-    ensures step { OnOk result (AreInStep released io.new.entries) }
-    ensures at { OnOk result (IsAt (io.old.entries ++ releasing_back) io.new) }
-{
-    made(ends.receiver.shutdown(io, rt, alloc))?;
-    let none = made(ends.client.recv(io, rt, alloc, PIECE as u32))?;
+    made(one.shutdown(io, rt, alloc))?;
+    let none = made(other.recv(io, rt, alloc, PIECE as u32))?;
     let_go(none);
     Ok(())
 }
@@ -88,7 +65,7 @@ pub(crate) fn release<R: Wait + Sync>(
     requires comes { Comes io.old.entries ending }
     ensures at { OnOk result (IsAt (io.old.entries ++ ending) io.new) }
 {
-    release_first(ends, io, rt, alloc)?;
-    release_back(ends, io, rt, alloc)?;
+    release_one(&mut ends.client, &mut ends.receiver, io, rt, alloc)?;
+    release_one(&mut ends.receiver, &mut ends.client, io, rt, alloc)?;
     close(ends, io, rt, alloc)
 }

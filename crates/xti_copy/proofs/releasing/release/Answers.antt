@@ -1,9 +1,10 @@
-use Rattle.std.proofs.Common.{◌++◌}
-use Rattle.xti_copy.specs.Ends.{closing, releasing_back, releasing_first}
-use Rattle.xti_copy.proofs.Pieces.{comes-own}
-use Rattle.xti_copy.proofs.Rows.{first-comes, then-comes}
+use Rattle.xti_copy.proofs.Taking.{may-first, may-back}
 use Rattle.xti_copy.proofs.releasing.release.Goals as goal
 
-pub release_back-requires-clause-comes : goal.release_back-requires-clause-comes
-release_back-requires-clause-comes g c κs within =
-    comes-own (c.args.io.now.entries ++ releasing_first) releasing_back c.release_first.new.io c.in_ok-release_first.ensures.at (first-comes (c.args.io.now.entries ++ releasing_first) releasing_back closing (then-comes c.args.io.now.entries releasing_first (releasing_back ++ closing) c.requires.comes))
+pub release_one-requires-clause-may : goal.release_one-requires-clause-may
+release_one-requires-clause-may g c κs within =
+    may-first c.args.ends.now c.args.io.now.entries c.requires.ends c.requires.step c.requires.comes
+
+pub release_one-requires-2-clause-may : goal.release_one-requires-2-clause-may
+release_one-requires-2-clause-may g c κs within =
+    may-back c.args.ends.now c.release_one.new.one c.release_one.new.other c.args.io.now.entries c.release_one.new.io c.requires.ends c.in_ok-release_one.ensures.has c.requires.comes
