@@ -8,7 +8,7 @@ use xti_words::number_in;
 
 /// A truth value, 1 or 0.
 #[tactic(auto, unfolding(crate::specs::Values::truth_in))]
-pub(crate) fn truth_in(word: &[u8]) -> Option<bool>
+pub fn truth_in(word: &[u8]) -> Option<bool>
     ensures { result ≡ truth_in word.now }
 {
     if word == b"1".as_slice() {
@@ -22,7 +22,7 @@ pub(crate) fn truth_in(word: &[u8]) -> Option<bool>
 
 /// A limit: a number, -1 for none, -2 for what isn't offered.
 #[tactic(auto, unfolding(crate::specs::Values::limit_in))]
-pub(crate) fn limit_in(word: &[u8]) -> Option<Limit>
+pub fn limit_in(word: &[u8]) -> Option<Limit>
     ensures { result ≡ limit_in word.now }
 {
     if word == b"-1".as_slice() {
@@ -36,7 +36,7 @@ pub(crate) fn limit_in(word: &[u8]) -> Option<Limit>
 
 /// The service type with this number.
 #[tactic(auto, unfolding(crate::specs::Values::service_in))]
-pub(crate) fn service_in(word: &[u8]) -> Option<ServType>
+pub fn service_in(word: &[u8]) -> Option<ServType>
     ensures { result ≡ service_in word.now }
 {
     if word == b"1".as_slice() {
@@ -84,7 +84,7 @@ fn state_among(word: &[u8], states: &[State]) -> Option<State>
 }
 
 /// The state with this name.
-pub(crate) fn state_in(word: &[u8]) -> Option<State>
+pub fn state_in(word: &[u8]) -> Option<State>
     ensures { result ≡ state_in word.now }
 {
     state_among(word, states())
@@ -125,7 +125,7 @@ fn event_among(word: &[u8], events: &[Event]) -> Option<Event>
 }
 
 /// The event with this name.
-pub(crate) fn event_in(word: &[u8]) -> Option<Event>
+pub fn event_in(word: &[u8]) -> Option<Event>
     ensures { result ≡ event_in word.now }
 {
     event_among(word, events())
@@ -133,7 +133,7 @@ pub(crate) fn event_in(word: &[u8]) -> Option<Event>
 
 /// The event with this name, or `None` for 0.
 #[tactic(auto, unfolding(crate::specs::Values::event_or_none_in))]
-pub(crate) fn event_or_none_in(word: &[u8]) -> Option<Option<Event>>
+pub fn event_or_none_in(word: &[u8]) -> Option<Option<Event>>
     ensures { result ≡ event_or_none_in word.now }
 {
     if word == b"0".as_slice() {
@@ -195,7 +195,7 @@ fn errno_among(word: &[u8], errnos: &[Errno]) -> Option<Errno>
 }
 
 /// The error with this name that stands alone: neither TLOOK nor TBUFOVFLW.
-pub(crate) fn errno_in(word: &[u8]) -> Option<Errno>
+pub fn errno_in(word: &[u8]) -> Option<Errno>
     ensures { result ≡ errno_in word.now }
 {
     errno_among(word, errnos())

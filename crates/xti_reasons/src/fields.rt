@@ -30,11 +30,8 @@ pub(crate) struct CallAt<'a> {
 /// What the texts have in the field.
 fn value_of(form: Form, key: Key) -> Value {
     let (in_scripts, in_journals) = match key {
-        Key::NewEndpoint => (Value::NewEndpoint, Value::Absent),
-        Key::Endpoint => (Value::Endpoint, Value::Number),
-        Key::NewSequence => (Value::NewSequence, Value::Absent),
-        Key::Sequence => (Value::Sequence, Value::Number),
-        Key::SequenceOrNone => (Value::SequenceOrNone, Value::Number),
+        Key::NewEndpoint | Key::NewSequence => (Value::Name(key), Value::Absent),
+        Key::Endpoint | Key::Sequence | Key::SequenceOrNone => (Value::Name(key), Value::Number),
         Key::Provider => (Value::Provider, Value::Provider),
         Key::Mode | Key::ModeOrBlock => (Value::Mode, Value::Mode),
         Key::Action => (Value::Action, Value::Number),

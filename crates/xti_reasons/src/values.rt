@@ -3,20 +3,18 @@
 use crate::bounded::Reason;
 use crate::places::{NOWHERE, Spot};
 use std::alloc::Global;
-use xti_base::{Errno, Event, State};
 use xti_gbn::MOST_BODY;
+use xti_journal::{errno_in, event_in, event_or_none_in, limit_in, service_in, state_in, truth_in};
+use xti_script_reader::Key;
 use xti_words::{
     MOST_PIECES, Words, action_in, bytes_in, is_name, mode_in, number_in, options_in, provider_in,
 };
 
-/// What a word stands for. The first thirteen are those of scripts.
+/// What a word stands for. The first nine are those of scripts.
 #[derive(Clone, Copy)]
 pub(crate) enum Value {
-    NewEndpoint,
-    Endpoint,
-    NewSequence,
-    Sequence,
-    SequenceOrNone,
+    /// The name in the field with this key, which is of an endpoint or of a sequence number.
+    Name(Key),
     Provider,
     Mode,
     Action,
@@ -45,97 +43,16 @@ pub(crate) enum Value {
     Absent,
 }
 
-static STATES: [State; 8] = [
-    State::T_UNINIT,
-    State::T_UNBND,
-    State::T_IDLE,
-    State::T_OUTCON,
-    State::T_INCON,
-    State::T_DATAXFER,
-    State::T_OUTREL,
-    State::T_INREL,
-];
-
-static EVENTS: [Event; 9] = [
-    Event::T_LISTEN,
-    Event::T_CONNECT,
-    Event::T_DATA,
-    Event::T_EXDATA,
-    Event::T_DISCONNECT,
-    Event::T_UDERR,
-    Event::T_ORDREL,
-    Event::T_GODATA,
-    Event::T_GOEXDATA,
-];
-
-/// The errors that stand alone: all but TLOOK and TBUFOVFLW.
-static ERRNOS: [Errno; 27] = [
-    Errno::TBADADDR,
-    Errno::TBADOPT,
-    Errno::TACCES,
-    Errno::TBADF,
-    Errno::TNOADDR,
-    Errno::TOUTSTATE,
-    Errno::TBADSEQ,
-    Errno::TSYSERR,
-    Errno::TBADDATA,
-    Errno::TFLOW,
-    Errno::TNODATA,
-    Errno::TNODIS,
-    Errno::TNOUDERR,
-    Errno::TBADFLAG,
-    Errno::TNOREL,
-    Errno::TNOTSUPPORT,
-    Errno::TSTATECHNG,
-    Errno::TNOSTRUCTYPE,
-    Errno::TBADNAME,
-    Errno::TBADQLEN,
-    Errno::TADDRBUSY,
-    Errno::TINDOUT,
-    Errno::TPROVMISMATCH,
-    Errno::TRESQLEN,
-    Errno::TRESADDR,
-    Errno::TQFULL,
-    Errno::TPROTO,
-];
-
 /// Whether the byte ends a piece of a word.
 fn ends_piece(c: &u8) -> bool {
     *c == b','
 }
 
-fn is_state(text: &[u8]) -> bool {
-    for state in &STATES {
-        if text == state.name().as_bytes() {
-            return true;
-        }
-    }
-    false
-}
-
-fn is_event(text: &[u8]) -> bool {
-    for event in &EVENTS {
-        if text == event.name().as_bytes() {
-            return true;
-        }
-    }
-    false
-}
-
-fn is_errno(text: &[u8]) -> bool {
-    for errno in &ERRNOS {
-        if text == errno.name().as_bytes() {
-            return true;
-        }
-    }
-    false
-}
-
 /// What is expected of a name of an endpoint or of a sequence number, or of `-` for none.
-fn wanted_name(spot: &Spot, value: Value, text: &[u8]) -> Option<&'static str> {
-    let is_new = matches!(value, Value::NewEndpoint | Value::NewSequence);
-    let is_defined = match value {
-        Value::NewEndpoint | Value::Endpoint => spot.defines(b"open", false, text),
+fn wanted_name(spot: &Spot, key: Key, text: &[u8]) -> Option<&'static str> {
+    let is_new = matches!(key, Key::NewEndpoint | Key::NewSequence);
+    let is_defined = match key {
+        Key::NewEndpoint | Key::Endpoint => spot.defines(b"open", false, text),
         _ => spot.defines(b"listen", true, text),
     };
     if is_new && !is_name(text) {
@@ -144,10 +61,10 @@ fn wanted_name(spot: &Spot, value: Value, text: &[u8]) -> Option<&'static str> {
     if is_defined != is_new {
         return None;
     }
-    match value {
-        Value::NewEndpoint | Value::NewSequence => Some("a name that no line above defines"),
-        Value::Endpoint => Some("an endpoint that this worker or worker 0 opens above"),
-        Value::Sequence => Some("a request for which this worker or worker 0 listens above"),
+    match key {
+        Key::NewEndpoint | Key::NewSequence => Some("a name that no line above defines"),
+        Key::Endpoint => Some("an endpoint that this worker or worker 0 opens above"),
+        Key::Sequence => Some("a request for which this worker or worker 0 listens above"),
         _ if text == b"-".as_slice() => None,
         _ => Some("- or a request for which this worker or worker 0 listens above"),
     }
@@ -155,7 +72,6 @@ fn wanted_name(spot: &Spot, value: Value, text: &[u8]) -> Option<&'static str> {
 
 /// What is expected of a word of its own.
 fn wanted_word(value: Value, text: &[u8]) -> Option<&'static str> {
-    let number = number_in(text);
     let (is_right, wanted) = match value {
         Value::Provider => (
             provider_in(text).is_some(),
@@ -166,21 +82,18 @@ fn wanted_word(value: Value, text: &[u8]) -> Option<&'static str> {
             action_in(text).is_some(),
             "negotiate, check, default, current or a number",
         ),
-        Value::Truth => (matches!(number, Some(0 | 1)), "0 or 1"),
-        Value::Limit => (
-            number.is_some() || text == b"-1".as_slice() || text == b"-2".as_slice(),
-            "a number of 32 bits, -1 or -2",
-        ),
-        Value::Service => (matches!(number, Some(1 | 2 | 3)), "1, 2 or 3"),
-        Value::State => (is_state(text), "the name of a state"),
-        Value::Event => (is_event(text), "the name of an event"),
+        Value::Truth => (truth_in(text).is_some(), "0 or 1"),
+        Value::Limit => (limit_in(text).is_some(), "a number of 32 bits, -1 or -2"),
+        Value::Service => (service_in(text).is_some(), "1, 2 or 3"),
+        Value::State => (state_in(text).is_some(), "the name of a state"),
+        Value::Event => (event_in(text).is_some(), "the name of an event"),
         Value::EventOrNone => (
-            number == Some(0) || is_event(text),
+            event_or_none_in(text).is_some(),
             "the name of an event, or 0",
         ),
-        Value::Errno => (is_errno(text), "the name of an error"),
+        Value::Errno => (errno_in(text).is_some(), "the name of an error"),
         _ => (
-            number.is_some(),
+            number_in(text).is_some(),
             "a number of 32 bits without sign and leading zeros",
         ),
     };
@@ -268,11 +181,7 @@ pub(crate) fn wanted(
     reason: &mut Reason,
 ) -> Option<&'static str> {
     match value {
-        Value::NewEndpoint
-        | Value::Endpoint
-        | Value::NewSequence
-        | Value::Sequence
-        | Value::SequenceOrNone => wanted_name(spot, value, text),
+        Value::Name(key) => wanted_name(spot, key, text),
         Value::Bytes | Value::Options | Value::Octets | Value::Body => {
             wanted_bytes(alloc, value, text, reason)
         }
