@@ -1,7 +1,6 @@
 -- What the touched cells show is what the whole world shows.
-use Rattle.std.proofs.Common.{◌≡◌, ℕ, true, List, Option, Some, None, refl, sym, ap, ◌∙◌, subst}
-use Rattle.std.specs.Prelude.{is_some, option_map}
-use Rattle.std.specs.List.{AllByRecursion}
+use Rattle.std.proofs.Common.{◌≡◌, ℕ, List, Option, Some, None, refl, sym, ap, ◌∙◌}
+use Rattle.std.specs.Prelude.{option_map}
 use Rattle.xti_base.specs.declared.kinds.Event.{Event}
 use Rattle.xti_base.specs.declared.kinds.Fd.{Fd}
 use Rattle.xti_model.specs.declared.call.Call.TheVariants.{TLookAt}
@@ -15,25 +14,19 @@ use Rattle.xti_model.specs.Calls.Show.{look_in}
 use Rattle.xti_model.specs.Endpoint.{Endpoint}
 use Rattle.xti_model.specs.Events.{around}
 use Rattle.xti_model.specs.Plan.{Plan, if_open}
-use Rattle.xti_model.specs.Profile.{valid}
 use Rattle.xti_model.specs.Step.{plan}
 use Rattle.xti_model.specs.Touched.{named, touched}
 use Rattle.xti_model.specs.World.{World, Cell, endpoint, only}
 use Rattle.xti_laws.specs.Laws.{Within}
 use Rattle.xti_laws.proofs.Local.{plan-local}
 use Rattle.xti_laws.proofs.Only.{endpoint-only}
-use Rattle.xti_laws.proofs.Touched.{within-named}
-use Rattle.xti_laws.proofs.TouchedAgain.{named-some}
-use Rattle.xti_laws.specs.Invariant.{SoundWorld}
-use Rattle.xti_laws.proofs.SoundSteps.{after-sound}
-use Rattle.xti_lent.specs.Lending.{Lending, cell_lent, cells, cells_by}
+use Rattle.xti_lent.specs.Lending.{Lending, cell_lent, cells}
 use Rattle.xti_lent.specs.Fit.{AllLent}
 use Rattle.xti_core.specs.Looks.{shown_by, sight_in}
-use Rattle.xti_core.proofs.SomeCells.{Sub, there_and, there-among, there-only, those-within}
 use Rattle.xti_hall_rule.specs.declared.view.View.{View}
 use Rattle.xti_hall_rule.specs.Histories.{part, after}
 use Rattle.xti_gather.specs.Lends.{Lends}
-use Rattle.xti_gather.proofs.Wholes.{kept, whole-world, Of, sub-of}
+use Rattle.xti_gather.proofs.Looked.{read-whole}
 
 -- the event that a plan tells
 event_of : Outcome → Option Event
@@ -58,42 +51,7 @@ sight-only p t w fd h = ap (option_map (shown_by p (only t w) fd.0)) same ∙ go
         ap (λ (o : Option Endpoint). if_open fd.0 o (λ e. look_in fd.0 e (around p (only t w) fd.0 e))) (sym (same ∙ i)) ∙ (plans ∙ ap (λ (o : Option Endpoint). if_open fd.0 o (λ e. look_in fd.0 e (around p w fd.0 e))) i) in
         ap (λ (z : Plan). Some (e.state, event_of z.outcome)) one
 
--- some cells of a world, among them all that a look touches there
-sight-some : (p : Providers) (lt at : ℕ → Option Cell) (fd : Fd) → Sub lt at → AllByRecursion (λ n. is_some (lt n) ≡ true) (touched p (cells_by p lt) (TLookAt fd)) → sight_in p (cells_by p lt) fd.0 ≡ sight_in p (cells_by p at) fd.0
-sight-some p lt at fd sub all = ap (λ (w : World). sight_in p w fd.0) (sym these) ∙ sight-only p t W fd within
-  where
-    ns : List ℕ
-    ns = touched p (cells_by p lt) (TLookAt fd)
-
-    t : List ℕ
-    t = there_and p lt ns
-
-    W : World
-    W = cells_by p at
-
-    these : only t W ≡ cells_by p lt
-    these = there-only p lt at t sub (λ n l. there-among p lt ns n all l)
-
-    enough : Within t (touched p (only t W) (TLookAt fd))
-    enough = rw these (those-within p lt ns)
-
-    there : Within t (named p (only t W) (TLookAt fd))
-    there = within-named p t (only t W) (TLookAt fd) enough
-
-    within : Within t (named p W (TLookAt fd))
-    within = subst (Within t) (named-some p t W (TLookAt fd) there) there
-
 -- the lent cells have all that a look touches, and are as after this history: they show what the whole world shows
 pub sight-whole : (v : View) (l : Lending) (fd : Fd) (h : List Entry) → Lends v l → AllLent l (touched l.providers (cells l) (TLookAt fd)) → ((n : ℕ) (m : Cell) → cell_lent l n ≡ Some m → m ≡ part n (after v.setting h))
     → sight_in l.providers (cells l) fd.0 ≡ sight_in v.setting.providers (after v.setting h) fd.0
-sight-whole v l fd h lends all parts =
-    sight-some l.providers (cell_lent l) (kept W) fd of.sub all ∙ (ap (λ (w : World). sight_in l.providers w fd.0) (whole-world l.providers W sound) ∙ ap (λ (p : Providers). sight_in p W fd.0) lends.providers)
-  where
-    W : World
-    W = after v.setting h
-
-    sound : SoundWorld l.providers W
-    sound = subst (λ (p : Providers). SoundWorld p W) (sym lends.providers) (after-sound v.setting.providers h (ap valid (sym lends.providers) ∙ lends.loan.kept.valid_providers))
-
-    of : Of l W
-    of = sub-of l W lends.loan sound parts
+sight-whole v l fd h lends all parts = read-whole (λ (p : Providers) (w : World). sight_in p w fd.0) v l fd h (λ p t w k. sight-only p t w fd k) lends all parts

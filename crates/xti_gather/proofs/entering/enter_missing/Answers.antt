@@ -1,36 +1,29 @@
-use Rattle.std.proofs.Common.{◌≡◌, ◌∙◌, ◌<◌, ◌+◌, true, refl, sym, ap, subst, arith}
+use Rattle.std.proofs.Common.{◌≡◌, ◌<◌, ◌+◌, true, sym, subst, arith}
 use Rattle.xti_model.specs.declared.profile.Providers.{Providers}
 use Rattle.xti_model.specs.World.{places}
 use Rattle.xti_lent.specs.Lending.{is_lent}
 use Rattle.xti_lent.proofs.Named.{all-among}
-use Rattle.xti_hall_rule.specs.declared.view.View.{View}
 use Rattle.xti_gather.proofs.Numbers.{all-get, among-get, get-within}
 use Rattle.xti_gather.proofs.Orders.{so-far-none, so-far-one, so-far-below}
-use Rattle.xti_gather.proofs.Holdings.{same-providers, still-of}
+use Rattle.xti_gather.proofs.Staying.{stays-first, stays-on, still-free, still-in, still-providers}
 use Rattle.xti_gather.proofs.entering.enter_missing.Goals as goal
 
 pub loop-place-init : goal.loop-place-init
-loop-place-init g c = record { hall = refl; id = refl; rest = refl; lends = c.requires.lends; so_far = so-far-none c.args.lent.now c.args.cells.now c.requires.order }
+loop-place-init g c = record { stays = stays-first c.args.seat.now c.args.lent.now c.requires.lends; so_far = so-far-none c.args.lent.now c.args.cells.now c.requires.order }
 
 pub unreachable-requires : goal.unreachable-requires
 unreachable-requires g c = get-within c.args.cells.now c.loop-place.place (let l = c.loop-place-test.true in let m = c.len-place-end.ensures.len in omega (arith, l, m)) (sym c.in_default.ensures)
 
 pub enter-requires-clause-hall : goal.enter-requires-clause-hall
-enter-requires-clause-hall g c =
-    let inv = c.loop-place.invariant in
-    still-of c.args.hall.now c.args.seat.now c.loop-place.seat c.args.lent.now.providers c.loop-place.lent.providers c.requires.hall inv.hall inv.rest
-    (same-providers c.args.seat.now.view c.loop-place.seat.view c.args.lent.now c.loop-place.lent c.requires.lends inv.lends inv.rest)
+enter-requires-clause-hall g c = still-in c.args.hall.now c.args.seat.now c.loop-place.seat c.args.lent.now c.loop-place.lent c.requires.hall c.requires.lends c.loop-place.invariant.stays
 
 pub enter-requires-clause-free : goal.enter-requires-clause-free
-enter-requires-clause-free g c = ap (λ (z : View). z.journal) c.loop-place.invariant.rest ∙ c.requires.free
-
-pub enter-requires-clause-lends : goal.enter-requires-clause-lends
-enter-requires-clause-lends g c = c.loop-place.invariant.lends
+enter-requires-clause-free g c = still-free c.args.seat.now c.loop-place.seat c.loop-place.lent c.requires.free c.loop-place.invariant.stays
 
 pub enter-requires-clause-cell : goal.enter-requires-clause-cell
 enter-requires-clause-cell g c =
     let inv = c.loop-place.invariant in
-    let p = same-providers c.args.seat.now.view c.loop-place.seat.view c.args.lent.now c.loop-place.lent c.requires.lends inv.lends inv.rest in
+    let p = still-providers c.args.seat.now c.loop-place.seat c.args.lent.now c.loop-place.lent c.requires.lends inv.stays in
     let lt = all-among (λ n. n < places c.args.lent.now.providers + 1) c.args.cells.now c.in-Some.cell c.requires.cells (among-get c.args.cells.now c.loop-place.place c.in-Some.cell (sym c.in-Some.ensures)) in
     subst (λ (q : Providers). c.in-Some.cell < places q + 1) (sym p) lt
 
@@ -42,10 +35,7 @@ loop-place-preserved g c =
     let inv = c.loop-place.invariant in
     let t = c.enter.ensures in
     record {
-      hall = t.hall.0 ∙ inv.hall;
-      id = t.hall.1 ∙ inv.id;
-      rest = t.rest ∙ inv.rest;
-      lends = t.lends;
+      stays = stays-on c.args.seat.now c.loop-place.seat c.enter.new.seat c.loop-place.lent c.enter.new.lent inv.stays t.hall t.rest t.lends;
       so_far = so-far-one c.loop-place.lent c.enter.new.lent c.args.cells.now c.loop-place.place c.in-Some.cell c.len-place-end.ensures.rising inv.so_far (sym c.in-Some.ensures) t.here t.others;
     }
 

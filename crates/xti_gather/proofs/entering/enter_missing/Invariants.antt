@@ -1,14 +1,9 @@
-use Rattle.std.proofs.Common.{◌≡◌}
-use Rattle.xti_hall.specs.Seats.{bare}
-use Rattle.xti_gather.specs.Lends.{Lends}
 use Rattle.xti_gather.proofs.Orders.{SoFar}
+use Rattle.xti_gather.proofs.Staying.{Stays}
 use Rattle.xti_gather.proofs.entering.enter_missing.Given as goal
 
 abbrev pub invariant-loop-place : goal.invariant-loop-place
 invariant-loop-place g l = record {
-  hall : l.seat.hall ≡ l.initial.seat.hall;
-  id : l.seat.id ≡ l.initial.seat.id;
-  rest : bare l.seat.view ≡ bare l.initial.seat.view;
-  lends : Lends l.seat.view l.lent;
+  stays : Stays l.initial.seat l.seat l.lent;
   so_far : SoFar l.lent l.cells l.place;
 }

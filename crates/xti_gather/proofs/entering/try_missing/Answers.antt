@@ -4,9 +4,8 @@ use Rattle.xti_model.specs.declared.profile.Providers.{Providers}
 use Rattle.xti_model.specs.World.{is_among, places}
 use Rattle.xti_lent.specs.Lending.{Lending, cell_lent, is_lent}
 use Rattle.xti_lent.proofs.Named.{all-among}
-use Rattle.xti_hall_rule.specs.declared.view.View.{View}
 use Rattle.xti_gather.proofs.Numbers.{all-get, among-get, cases, get-within, not-both, one-get}
-use Rattle.xti_gather.proofs.Holdings.{same-providers, still-of}
+use Rattle.xti_gather.proofs.Staying.{stays-first, stays-on, still-free, still-in, still-providers}
 use Rattle.xti_gather.proofs.entering.try_missing.Goals as goal
 
 -- beside these cells nothing changes where one of them is tried
@@ -25,10 +24,7 @@ tried-here false A C B m e = absurd (cc)
 
 pub loop-place-init : goal.loop-place-init
 loop-place-init c = record {
-  hall = refl;
-  id = refl;
-  rest = refl;
-  lends = c.requires.lends;
+  stays = stays-first c.args.seat.now c.args.lent.now c.requires.lends;
   before = λ k n lt e. absurd (omega (arith, lt));
   others = λ n e. refl;
 }
@@ -37,21 +33,15 @@ pub unreachable-requires : goal.unreachable-requires
 unreachable-requires c = get-within c.args.cells.now c.loop-place.place (let l = c.loop-place-test.true in let m = c.len-place-end.ensures.len in omega (arith, l, m)) (sym c.in_default.ensures)
 
 pub try_enter-requires-clause-hall : goal.try_enter-requires-clause-hall
-try_enter-requires-clause-hall c =
-    let inv = c.loop-place.invariant in
-    still-of c.args.hall.now c.args.seat.now c.loop-place.seat c.args.lent.now.providers c.loop-place.lent.providers c.requires.hall inv.hall inv.rest
-    (same-providers c.args.seat.now.view c.loop-place.seat.view c.args.lent.now c.loop-place.lent c.requires.lends inv.lends inv.rest)
+try_enter-requires-clause-hall c = still-in c.args.hall.now c.args.seat.now c.loop-place.seat c.args.lent.now c.loop-place.lent c.requires.hall c.requires.lends c.loop-place.invariant.stays
 
 pub try_enter-requires-clause-free : goal.try_enter-requires-clause-free
-try_enter-requires-clause-free c = ap (λ (z : View). z.journal) c.loop-place.invariant.rest ∙ c.requires.free
-
-pub try_enter-requires-clause-lends : goal.try_enter-requires-clause-lends
-try_enter-requires-clause-lends c = c.loop-place.invariant.lends
+try_enter-requires-clause-free c = still-free c.args.seat.now c.loop-place.seat c.loop-place.lent c.requires.free c.loop-place.invariant.stays
 
 pub try_enter-requires-clause-cell : goal.try_enter-requires-clause-cell
 try_enter-requires-clause-cell c =
     let inv = c.loop-place.invariant in
-    let p = same-providers c.args.seat.now.view c.loop-place.seat.view c.args.lent.now c.loop-place.lent c.requires.lends inv.lends inv.rest in
+    let p = still-providers c.args.seat.now c.loop-place.seat c.args.lent.now c.loop-place.lent c.requires.lends inv.stays in
     let lt = all-among (λ n. n < places c.args.lent.now.providers + 1) c.args.cells.now c.in-Some.cell c.requires.cells (among-get c.args.cells.now c.loop-place.place c.in-Some.cell (sym c.in-Some.ensures)) in
     subst (λ (q : Providers). c.in-Some.cell < places q + 1) (sym p) lt
 
@@ -60,10 +50,7 @@ loop-place-preserved c =
     let inv = c.loop-place.invariant in
     let t = c.try_enter.ensures in
     record {
-      hall = t.hall.0 ∙ inv.hall;
-      id = t.hall.1 ∙ inv.id;
-      rest = t.rest ∙ inv.rest;
-      lends = t.lends;
+      stays = stays-on c.args.seat.now c.loop-place.seat c.try_enter.new.seat c.loop-place.lent c.try_enter.new.lent inv.stays t.hall t.rest t.lends;
       before = up-to c.loop-place.lent c.try_enter.new.lent c.args.cells.now c.loop-place.place c.in-Some.cell (sym c.in-Some.ensures) t.others (tried-here c.try_enter.result _ _ _ t.tried c.if-not-try_enter.false) inv.before;
       others = λ n i. beside c.loop-place.lent c.try_enter.new.lent c.args.cells.now c.loop-place.place c.in-Some.cell (sym c.in-Some.ensures) t.others n i ∙ inv.others n i;
     }

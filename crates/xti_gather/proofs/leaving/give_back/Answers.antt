@@ -3,31 +3,26 @@ use Rattle.xti_model.specs.World.{is_among}
 use Rattle.xti_lent.specs.Lending.{cell_lent, is_lent}
 use Rattle.xti_gather.proofs.Numbers.{not-both, is-not}
 use Rattle.xti_gather.proofs.Orders.{fewer-lent}
-use Rattle.xti_gather.proofs.Holdings.{same-providers, still-of}
+use Rattle.xti_gather.proofs.Holdings.{same-providers}
+use Rattle.xti_gather.proofs.Staying.{stays-on, still-in}
 use Rattle.xti_gather.proofs.leaving.give_back.Goals as goal
 
 pub leave-requires-clause-hall : goal.leave-requires-clause-hall
-leave-requires-clause-hall c =
-    let inv = c.loop-cell.invariant in
-    still-of c.args.hall.now c.args.seat.now c.loop-cell.seat c.args.lent.now.providers c.loop-cell.lent.providers c.requires.hall inv.hall inv.rest
-    (same-providers c.args.seat.now.view c.loop-cell.seat.view c.args.lent.now c.loop-cell.lent c.requires.lends inv.lends inv.rest)
+leave-requires-clause-hall c = still-in c.args.hall.now c.args.seat.now c.loop-cell.seat c.args.lent.now c.loop-cell.lent c.requires.hall c.requires.lends c.loop-cell.invariant.stays
 
 pub loop-cell-smaller : goal.loop-cell-smaller
 loop-cell-smaller c =
     let inv = c.loop-cell.invariant in
     let t = c.leave.ensures in
-    fewer-lent c.loop-cell.lent c.leave.new.lent c.in-Some.cell inv.lends.loan (same-providers c.loop-cell.seat.view c.leave.new.seat.view c.loop-cell.lent c.leave.new.lent inv.lends t.lends t.rest) c.in-Some.ensures.0 t.gone t.others
+    fewer-lent c.loop-cell.lent c.leave.new.lent c.in-Some.cell inv.stays.lends.loan (same-providers c.loop-cell.seat.view c.leave.new.seat.view c.loop-cell.lent c.leave.new.lent inv.stays.lends t.lends t.rest) c.in-Some.ensures.0 t.gone t.others
 
 pub loop-cell-preserved : goal.loop-cell-preserved
 loop-cell-preserved c =
     let inv = c.loop-cell.invariant in
     let t = c.leave.ensures in
     record {
-      hall = t.hall.0 ∙ inv.hall;
-      id = t.hall.1 ∙ inv.id;
-      rest = t.rest ∙ inv.rest;
+      stays = stays-on c.args.seat.now c.loop-cell.seat c.leave.new.seat c.loop-cell.lent c.leave.new.lent inv.stays t.hall t.rest t.lends;
       refused = t.refused ∙ inv.refused;
-      lends = t.lends;
       kept = λ n i. t.others n (λ s. not-both (is_among c.args.cells.now n) i (subst (λ z. is_among c.args.cells.now z ≡ false) (sym s) c.in-Some.ensures.1)) ∙ inv.kept n i;
     }
 

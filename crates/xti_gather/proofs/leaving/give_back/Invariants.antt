@@ -1,18 +1,14 @@
 use Rattle.std.proofs.Common.{◌≡◌, ℕ, true}
 use Rattle.xti_model.specs.World.{is_among}
 use Rattle.xti_lent.specs.Lending.{cell_lent}
-use Rattle.xti_hall.specs.Seats.{bare}
-use Rattle.xti_gather.specs.Lends.{Lends}
 use Rattle.xti_gather.proofs.Orders.{count_lent}
+use Rattle.xti_gather.proofs.Staying.{Stays}
 use Rattle.xti_gather.proofs.leaving.give_back.Given as goal
 
 abbrev pub invariant-loop-cell : goal.invariant-loop-cell
 invariant-loop-cell l = record {
-  hall : l.seat.hall ≡ l.initial.seat.hall;
-  id : l.seat.id ≡ l.initial.seat.id;
-  rest : bare l.seat.view ≡ bare l.initial.seat.view;
+  stays : Stays l.initial.seat l.seat l.lent;
   refused : l.seat.view.refused ≡ l.initial.seat.view.refused;
-  lends : Lends l.seat.view l.lent;
   kept : (n : ℕ) → is_among l.cells n ≡ true → cell_lent l.lent n ≡ cell_lent l.initial.lent n;
 }
 

@@ -1,37 +1,27 @@
 use Rattle.std.proofs.Common.{◌∙◌, refl, sym, ap, arith}
 use Rattle.xti_model.specs.World.{places}
-use Rattle.xti_hall_rule.specs.declared.view.View.{View}
-use Rattle.xti_gather.proofs.Holdings.{same-providers, still-of}
 use Rattle.xti_gather.proofs.Marks.{entered-none, entered-below, entered-one, entered-past}
+use Rattle.xti_gather.proofs.Staying.{stays-first, stays-on, still-free, still-in, still-providers}
 use Rattle.xti_gather.proofs.glancing.entering.enter_marked.Goals as goal
 use Rattle.xti_gather.proofs.glancing.entering.enter_marked.Goals.{then-is_marked, else-is_marked}
 
 pub loop-cell-init : goal.loop-cell-init
 loop-cell-init g c = record {
-  hall = refl;
-  id = refl;
-  rest = refl;
+  stays = stays-first c.args.seat.now c.args.lent.now c.requires.lends;
   refused = refl;
-  lends = c.requires.lends;
   so_far = entered-none c.args.lent.now c.args.marks.now c.requires.order;
 }
 
 pub enter-requires-clause-hall : goal.enter-requires-clause-hall
-enter-requires-clause-hall g c =
-    let inv = c.loop-cell.invariant in
-    still-of c.args.hall.now c.args.seat.now c.loop-cell.seat c.args.lent.now.providers c.loop-cell.lent.providers c.requires.hall inv.hall inv.rest
-    (same-providers c.args.seat.now.view c.loop-cell.seat.view c.args.lent.now c.loop-cell.lent c.requires.lends inv.lends inv.rest)
+enter-requires-clause-hall g c = still-in c.args.hall.now c.args.seat.now c.loop-cell.seat c.args.lent.now c.loop-cell.lent c.requires.hall c.requires.lends c.loop-cell.invariant.stays
 
 pub enter-requires-clause-free : goal.enter-requires-clause-free
-enter-requires-clause-free g c = ap (λ (z : View). z.journal) c.loop-cell.invariant.rest ∙ c.requires.free
-
-pub enter-requires-clause-lends : goal.enter-requires-clause-lends
-enter-requires-clause-lends g c = c.loop-cell.invariant.lends
+enter-requires-clause-free g c = still-free c.args.seat.now c.loop-cell.seat c.loop-cell.lent c.requires.free c.loop-cell.invariant.stays
 
 pub enter-requires-clause-cell : goal.enter-requires-clause-cell
 enter-requires-clause-cell g c =
     let inv = c.loop-cell.invariant in
-    let p = same-providers c.args.seat.now.view c.loop-cell.seat.view c.args.lent.now c.loop-cell.lent c.requires.lends inv.lends inv.rest in
+    let p = still-providers c.args.seat.now c.loop-cell.seat c.args.lent.now c.loop-cell.lent c.requires.lends inv.stays in
     let q = ap places p in
     let r = ap places c.providers.ensures.providers in
     let lt = c.loop-cell-test.true in
@@ -47,20 +37,14 @@ loop-cell-preserved g c =
       | then-is_marked w ↦
           let t = w.enter.ensures in
           rw (w.seat-is, w.lent-is) (record {
-            hall = t.hall.0 ∙ inv.hall;
-            id = t.hall.1 ∙ inv.id;
-            rest = t.rest ∙ inv.rest;
+            stays = stays-on c.args.seat.now c.loop-cell.seat w.enter.new.seat c.loop-cell.lent w.enter.new.lent inv.stays t.hall t.rest t.lends;
             refused = t.refused ∙ inv.refused;
-            lends = t.lends;
             so_far = entered-one c.loop-cell.lent w.enter.new.lent c.args.marks.now c.loop-cell.cell inv.so_far t.here t.others;
           })
       | else-is_marked w ↦
           rw (w.seat-is, w.lent-is) (record {
-            hall = inv.hall;
-            id = inv.id;
-            rest = inv.rest;
+            stays = inv.stays;
             refused = inv.refused;
-            lends = inv.lends;
             so_far = entered-past c.loop-cell.lent c.args.marks.now c.loop-cell.cell inv.so_far (sym c.is_marked.ensures ∙ w.if-is_marked.false);
           })
     ]

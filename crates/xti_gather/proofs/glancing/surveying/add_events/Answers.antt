@@ -26,9 +26,6 @@ loop-fd-init c = record { so_far = sym (append-nil c.args.found.now.items); many
 pub bounds-fds-fd-index : goal.bounds-fds-fd-index
 bounds-fds-fd-index c = c.loop-fd-test.true
 
-pub events_of-requires : goal.events_of-requires
-events_of-requires c = c.requires.places
-
 pub push_reserved-requires : goal.push_reserved-requires
 push_reserved-requires c = room-left _ _ _ _ c.loop-fd.fd-index (length c.args.fds.now) c.loop-fd.invariant.many c.loop-fd.invariant.room c.requires.room c.loop-fd-test.true
 

@@ -1,6 +1,4 @@
-use Rattle.std.proofs.Common.{◌≡◌, ◌≤◌, ◌<◌, ◌+◌, ◌++◌, ◌∙◌, ℕ, List, Option, Result, Ok, Err, append-nil, length, map, refl, sym, ap, arith}
-use Rattle.std.specs.Result.{OnErr}
-use Rattle.std.proofs.lemmas.Result.{IfOk-from_err}
+use Rattle.std.proofs.Common.{◌≡◌, ◌≤◌, ◌<◌, ◌+◌, ◌++◌, ◌∙◌, ℕ, List, Option, append-nil, length, map, refl, sym, ap, arith}
 use Rattle.xti_base.specs.declared.kinds.Fd.{Fd}
 use Rattle.xti_core.specs.Looks.{events_among}
 use Rattle.xti_hall_rule.specs.declared.setting.Setting.{Setting}
@@ -8,7 +6,8 @@ use Rattle.xti_hall_rule.specs.declared.view.View.{View}
 use Rattle.xti_gather.proofs.Holdings.{nothing_lends, same-providers, still-of}
 use Rattle.xti_model.specs.World.{places}
 use Rattle.xti_gather.specs.Glances.{IsSameLater}
-use Rattle.xti_gather.proofs.SurveyEnds.{lends-still, found-then, same-later}
+use Rattle.xti_gather.proofs.Ends.{later-same, lends-still}
+use Rattle.xti_gather.proofs.SurveyEnds.{found-then}
 use Rattle.xti_gather.proofs.glancing.surveying.survey.Goals as goal
 
 pub leave_all-requires-clause-lends : goal.leave_all-requires-clause-lends
@@ -42,19 +41,14 @@ leave_all-requires-clause-hall g c =
 pub returns-clause-same : goal.returns-clause-same
 returns-clause-same g c =
     let l = c.length.ensures.seen in
-    same-later c.args.seat.now.view c.enter_looks.new.seat.view c.length.new.seat.view c.leave_all.new.seat.view l.0 c.length.result c.enter_looks.ensures.rest l.1 l.2 c.leave_all.ensures.rest
+    later-same c.args.seat.now.view c.enter_looks.new.seat.view c.length.new.seat.view c.leave_all.new.seat.view l.0 c.length.result c.enter_looks.ensures.rest l.1 l.2 c.leave_all.ensures.rest
 
 pub returns-clause-empty : goal.returns-clause-empty
 returns-clause-empty g c =
     let p = ap (λ (s : Setting). s.providers) (sym c.requires.hall.1 ∙ sym c.requires.hall.0.1) in
     let l = c.length.ensures.seen in
-    let same = same-later c.args.seat.now.view c.enter_looks.new.seat.view c.length.new.seat.view c.leave_all.new.seat.view l.0 c.length.result c.enter_looks.ensures.rest l.1 l.2 c.leave_all.ensures.rest in
+    let same = later-same c.args.seat.now.view c.enter_looks.new.seat.view c.length.new.seat.view c.leave_all.new.seat.view l.0 c.length.result c.enter_looks.ensures.rest l.1 l.2 c.leave_all.ensures.rest in
     (c.leave_all.ensures.empty, c.leave_all.ensures.lends.providers ∙ (ap (λ (s : Setting). s.providers) same.setting ∙ sym p))
-
--- where a result is an error, what holds of errors does
-on-any-err : {T E P : Type 0} (r : Result T E) → P → OnErr r P
-on-any-err (Ok x) p = tt
-on-any-err (Err x) p = p
 
 wide : (n : ℕ) → n < 4294967296 → n < 18446744073709551616
 wide n h = omega arith
@@ -71,44 +65,14 @@ room-for len n capacity e h = omega arith
 pub returns-in_err-found-clause-hall : goal.returns-in_err-found-clause-hall
 returns-in_err-found-clause-hall g c = (refl, refl)
 
-pub returns-in_err-found-clause-none : goal.returns-in_err-found-clause-none
-returns-in_err-found-clause-none g c = c.requires.none
-
 pub returns-in_err-found-clause-empty : goal.returns-in_err-found-clause-empty
 returns-in_err-found-clause-empty g c = (c.requires.empty, refl)
-
-pub returns-in_err-found-clause-refused : goal.returns-in_err-found-clause-refused
-returns-in_err-found-clause-refused g c = refl
-
-pub returns-in_err-found-clause-found : goal.returns-in_err-found-clause-found
-returns-in_err-found-clause-found g c = IfOk-from_err _ _ c.from_residual.ensures.0
-
-pub returns-in_err-found-clause-err : goal.returns-in_err-found-clause-err
-returns-in_err-found-clause-err g c = on-any-err _ refl
 
 pub returns-in_err-marks-clause-hall : goal.returns-in_err-marks-clause-hall
 returns-in_err-marks-clause-hall g c = (refl, refl)
 
-pub returns-in_err-marks-clause-none : goal.returns-in_err-marks-clause-none
-returns-in_err-marks-clause-none g c = c.requires.none
-
 pub returns-in_err-marks-clause-empty : goal.returns-in_err-marks-clause-empty
 returns-in_err-marks-clause-empty g c = (c.requires.empty, refl)
-
-pub returns-in_err-marks-clause-refused : goal.returns-in_err-marks-clause-refused
-returns-in_err-marks-clause-refused g c = refl
-
-pub returns-in_err-marks-clause-found : goal.returns-in_err-marks-clause-found
-returns-in_err-marks-clause-found g c = IfOk-from_err _ _ c.from_residual-in_err-marks.ensures.0
-
-pub returns-in_err-marks-clause-err : goal.returns-in_err-marks-clause-err
-returns-in_err-marks-clause-err g c = on-any-err _ refl
-
-pub enter_looks-requires-clause-hall : goal.enter_looks-requires-clause-hall
-enter_looks-requires-clause-hall g c = c.requires.hall
-
-pub enter_looks-requires-clause-free : goal.enter_looks-requires-clause-free
-enter_looks-requires-clause-free g c = c.requires.free
 
 pub length-requires : goal.length-requires
 length-requires g c =
@@ -135,9 +99,6 @@ returns-clause-none g c = c.leave_all.ensures.none
 
 pub returns-clause-refused : goal.returns-clause-refused
 returns-clause-refused g c = c.leave_all.ensures.refused ∙ (ap (λ (v : View). v.refused) c.length.ensures.seen.1 ∙ c.enter_looks.ensures.refused)
-
-pub returns-clause-err : goal.returns-clause-err
-returns-clause-err g c = tt
 
 pub overflow_cast-places : goal.overflow_cast-places
 overflow_cast-places g c = record { fits = wide c.places.result c.places.type_inv }
