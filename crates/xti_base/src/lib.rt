@@ -19,7 +19,7 @@ pub use errno::Errno;
 pub use items::{Calls, Items, Numbers, Parts, Sizes};
 pub use kinds::{Event, Fd, Prov, Seq, ServType, State};
 pub use limit::{Info, Limit, T_ORDRELDATA, T_SENDZERO};
-pub use octets::Octets;
+pub use octets::{BYTES_IN_VALUE, Octets};
 pub use options::{Opt, is_option_list, size_of_front};
 pub use room::Room;
 pub use structures::{AllocFail, Bufs, StructKind, t_alloc};

@@ -7,12 +7,12 @@ use std::alloc::{AllocError, Global};
 use std::fmt;
 use std::marker::Model;
 
-/// How many bytes a list holds in the value itself.
-const INLINE: usize = 16;
+/// How many bytes a list of bytes holds in the value itself, for which it takes no memory.
+pub const BYTES_IN_VALUE: usize = 16;
 
 /// A list of bytes: an address, options or data (XNS, netbuf). Up to 16 bytes stand in the value itself and take no memory.
 pub struct Octets {
-    bytes: SmallVec<u8, INLINE>,
+    bytes: SmallVec<u8, BYTES_IN_VALUE>,
 }
 
 // Written out, so that a crate that lets one go proves a call of this, and nothing of what is in it.

@@ -113,6 +113,14 @@ impl<'a, R> Caller<'a, R> {
         self.seat.unfinished()
     }
 
+    /// Takes memory for receives of up to `count` bytes by `t_rcv_into`, which then takes none for their bytes, unless as much is
+    /// kept. Without it the first receive of a size takes it. Where memory runs out all is as before.
+    pub fn reserve(&mut self, count: usize) -> Result<(), AllocError>
+        ensures { self.new ≡ self.old }
+    {
+        self.seat.reserve(self.alloc, count)
+    }
+
     /// No call of the seat is unfinished; else the error that every call in its typed form answers.
     pub(crate) fn ready(&self) -> Result<(), Fail>
         ensures { MatchResult result

@@ -21,7 +21,7 @@ use std::alloc::{AllocError, Global};
 use std::fmt;
 use std::marker::Model;
 use std::sync::Wait;
-use xti_base::{Fd, Octets, let_go};
+use xti_base::{BYTES_IN_VALUE, Fd, Octets, let_go};
 use xti_gather::{Cell, Glance, glance, nothing_lent, open_hall, survey};
 use xti_hall::{Ended as EndedHall, NoSeat, Seat as HallSeat};
 use xti_lent::Lent;
@@ -79,12 +79,20 @@ impl Seat {
         self.seat.unfinished()
     }
 
+    /// Takes memory for the bytes of receives, of up to so many at a time, unless as much is kept.
+    pub(crate) fn reserve(&mut self, alloc: Global, count: usize) -> Result<(), AllocError>
+        ensures { self.new ≡ self.old }
+    {
+        self.lent.keep_room(Vec::with_capacity(alloc, count)?);
+        Ok(())
+    }
+
     /// Keeps the memory in which received bytes stood for those of the next receive. Takes no memory.
     pub(crate) fn keep_room(&mut self, bytes: Octets)
         ensures { self.new ≡ self.old }
     {
         // As many stand in the value itself.
-        if bytes.as_slice().len() <= 16 {
+        if bytes.as_slice().len() <= BYTES_IN_VALUE {
             drop(bytes);
             return;
         }

@@ -12,6 +12,7 @@ use Rattle.xti_model.specs.declared.entry.Outcome.TheVariants.{Done}
 use Rattle.xti_model.specs.declared.entry.Reply.{Reply}
 use Rattle.xti_model.specs.declared.entry.Reply.TheVariants.{RelData}
 use Rattle.xti_model.specs.Events.{some_wait}
+use Rattle.xti_model.specs.Touched.{fd_of}
 use Rattle.xti_model.specs.World.{World, place_of, at_endpoint}
 use Rattle.xti_model.specs.Endpoint.{Endpoint, Confirmation}
 use Rattle.xti_model.specs.Plan.{Plan, Field, answers, field, first, has_effect, is_too_long, overflows, plan_of, trimmed, Refusal}
@@ -38,26 +39,27 @@ answered reply = option_map (λ r. answers r) reply
 abbrev pub Replies : Providers → ℕ → Reply → Held → Applied → Type 0
 Replies p fd reply h a = taken a (alone h) ≡ Some (made p fd (Done reply) (alone h))
 
--- the step is one of a call that touches one cell, and this is the cell; of t_connect only a later step is
+-- the endpoint of the descriptor has this place
+abbrev pub LiesAt : Providers → ℕ → Option ℕ → Type 0
+LiesAt p place None = ⊥
+LiesAt p place (Some fd) = place_of p fd ≡ place
+
+-- the step is one of a call that touches its own endpoint alone, which has this place; of t_connect only a later step is
 abbrev pub IsAt : Providers → ℕ → Call → Go → Type 0
-IsAt p place (call.TListen fd amax omax umax) go = place_of p fd.0 ≡ place
-IsAt p place (call.TRcvConnect fd amax omax umax) go = place_of p fd.0 ≡ place
-IsAt p place (call.TRcv fd max) go = place_of p fd.0 ≡ place
-IsAt p place (call.TRcvV fd sizes) go = place_of p fd.0 ≡ place
-IsAt p place (call.TRcvDis fd umax) go = place_of p fd.0 ≡ place
-IsAt p place (call.TRcvRel fd) go = place_of p fd.0 ≡ place
-IsAt p place (call.TRcvRelData fd umax) go = place_of p fd.0 ≡ place
-IsAt p place (call.TRcvUData fd max amax omax) go = place_of p fd.0 ≡ place
-IsAt p place (call.TRcvVUData fd sizes amax omax) go = place_of p fd.0 ≡ place
-IsAt p place (call.TRcvUDErr fd amax omax) go = place_of p fd.0 ≡ place
-IsAt p place (call.TGetState fd) go = place_of p fd.0 ≡ place
-IsAt p place (call.TSync fd) go = place_of p fd.0 ≡ place
-IsAt p place (call.TGetInfo fd) go = place_of p fd.0 ≡ place
-IsAt p place (call.TGetProtAddr fd amax pmax) go = place_of p fd.0 ≡ place
-IsAt p place (call.TOptMgmt fd action opt omax) go = place_of p fd.0 ≡ place
-IsAt p place (call.SetMode fd nonblock) go = place_of p fd.0 ≡ place
-IsAt p place (call.TConnect fd addr opt udata amax omax umax) (go.More n) = place_of p fd.0 ≡ place
-IsAt p place _ _ = ⊥
+IsAt p place (call.TClose fd) go = ⊥
+IsAt p place (call.TBind fd addr qlen amax) go = ⊥
+IsAt p place (call.TUnbind fd) go = ⊥
+IsAt p place (call.TConnect fd addr opt udata amax omax umax) go.Begin = ⊥
+IsAt p place (call.TAccept fd resfd seq opt udata) go = ⊥
+IsAt p place (call.TSnd fd bytes flags) go = ⊥
+IsAt p place (call.TSndV fd parts flags) go = ⊥
+IsAt p place (call.TSndDis fd seq udata) go = ⊥
+IsAt p place (call.TSndRel fd) go = ⊥
+IsAt p place (call.TSndRelData fd udata) go = ⊥
+IsAt p place (call.TSndUData fd addr opt bytes) go = ⊥
+IsAt p place (call.TSndVUData fd addr opt parts) go = ⊥
+IsAt p place (call.TLookAt fd) go = ⊥
+IsAt p place c go = LiesAt p place (fd_of c)
 
 -- the first datagram of the endpoint is there: it is received in so many sizes, or lost where a field is too long
 abbrev pub receive_step : Providers → World → ℕ → ℕ → ℕ → ℕ → ℕ → Endpoint → Option Step

@@ -18,6 +18,7 @@ use Rattle.xti_model.specs.declared.entry.Reply.TheVariants.{Plain, Opened, Boun
 use Rattle.xti_model.specs.declared.script.Journal.{Journal}
 use Rattle.xti_model.specs.History.{is_own}
 use Rattle.xti_model.specs.Profile.{usual}
+use Rattle.xti_sock.specs.Socks.{taking_release}
 use Rattle.xti_laws_streams.specs.declared.copies.TheConstants.{PIECE}
 
 -- ---- the pieces
@@ -78,10 +79,10 @@ abbrev pub ending_calls : List Call
 ending_calls =
     call.TSndRel client ∷
     call.TRcv receiver PIECE ∷
-    call.TRcvRel receiver ∷
+    taking_release receiver ∷
     call.TSndRel receiver ∷
     call.TRcv client PIECE ∷
-    call.TRcvRel client ∷
+    taking_release client ∷
     call.TClose receiver ∷
     call.TClose client ∷
     call.TClose listener ∷
@@ -123,10 +124,10 @@ abbrev pub ending : List Entry
 ending =
     answered (call.TSndRel client) Plain T_OUTREL ∷
     answered (call.TRcv receiver PIECE) (Look T_ORDREL) T_DATAXFER ∷
-    answered (call.TRcvRel receiver) Plain T_INREL ∷
+    answered (taking_release receiver) Plain T_INREL ∷
     answered (call.TSndRel receiver) Plain T_IDLE ∷
     answered (call.TRcv client PIECE) (Look T_ORDREL) T_OUTREL ∷
-    answered (call.TRcvRel client) Plain T_IDLE ∷
+    answered (taking_release client) Plain T_IDLE ∷
     answered (call.TClose receiver) Plain T_UNINIT ∷
     answered (call.TClose client) Plain T_UNINIT ∷
     answered (call.TClose listener) Plain T_UNINIT ∷

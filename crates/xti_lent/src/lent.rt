@@ -75,11 +75,14 @@ impl Lent {
         }
     }
 
-    /// Keeps memory for the bytes of the next receive, in place of what was kept.
+    /// Keeps memory for the bytes of the next receives: of this and what was kept the larger.
     pub fn keep_room(&mut self, room: Vec<u8>)
         ensures { self.new ≡ self.old }
     {
-        self.room = Some(room);
+        match &self.room {
+            Some(kept) if kept.capacity() >= room.capacity() => {}
+            _ => self.room = Some(room),
+        }
     }
 
     /// Lends the kept memory to the endpoint of the descriptor, whose cell must be lent; whether some was kept. Takes no memory.

@@ -326,7 +326,7 @@ impl Entry {
 pub type Entries = Items<Entry>;
 
 /// What applying a step gives.
-#[derive(Drop)]
+#[derive(Debug, Drop)]
 pub enum Applied {
     /// The step was made.
     Step { outcome: Outcome, after: State },

@@ -16,10 +16,7 @@ use std::alloc::{AllocError, Global};
 use std::collections::VecDeque;
 use std::mem;
 use tpi_prim::{Frame, Kind};
-use xti_base::Octets;
-
-/// How many bytes an `Octets` holds in the value itself.
-const IN_VALUE: usize = 16;
+use xti_base::{BYTES_IN_VALUE, Octets};
 
 /// The user data of a frame after the first bytes.
 pub(crate) fn rest_of(frame: &Frame, taken: usize) -> &[u8]
@@ -171,7 +168,7 @@ fn copied(alloc: Global, bytes: &[u8], room: &mut Vec<u8>) -> Result<Octets, All
     ensures copy { IfOk result (λ o. o ≡ bytes.now) }
     ensures sure { length bytes.now ≤ vec_capacity room.old → IsOk result }
 {
-    if room.capacity() < bytes.len() || bytes.len() <= IN_VALUE {
+    if room.capacity() < bytes.len() || bytes.len() <= BYTES_IN_VALUE {
         return Octets::copy_of(alloc, bytes);
     }
     let mut copy = with_room(alloc, bytes.len(), room)?;
@@ -219,6 +216,18 @@ fn take_first(
     Ok(Some(Piece { bytes, ended: true }))
 }
 
+/// The list of these bytes. So few as stand in the value itself are copied there, and their memory is kept in the room.
+fn listed(alloc: Global, bytes: Vec<u8>, room: &mut Vec<u8>) -> Octets
+    ensures { result ≡ bytes.items }
+{
+    if bytes.len() > BYTES_IN_VALUE {
+        return Octets::from_vec(bytes);
+    }
+    let few = Octets::copy_of(alloc, bytes.as_slice()).unwrap();
+    *room = bytes;
+    few
+}
+
 /// Takes from the frames at the start until an end, `max` bytes, or the end of the queue; where memory runs out all is as before.
 pub(crate) fn take_piece(
     alloc: Global,
@@ -242,7 +251,7 @@ pub(crate) fn take_piece(
     let mut bytes = with_room(alloc, count, room)?;
     let ended = take_run(held, taken, &mut bytes, max);
     Ok(Piece {
-        bytes: Octets::from_vec(bytes),
+        bytes: listed(alloc, bytes, room),
         ended,
     })
 }
