@@ -116,7 +116,7 @@ impl<'a, R> Caller<'a, R> {
     /// Takes memory for receives of up to `count` bytes by `t_rcv_into`, which then takes none for their bytes, unless as much is
     /// kept. Without it the first receive of a size takes it. Where memory runs out all is as before.
     pub fn reserve(&mut self, count: usize) -> Result<(), AllocError>
-        ensures { self.new ≡ self.old }
+        ensures same { self.new ≡ self.old }
     {
         self.seat.reserve(self.alloc, count)
     }

@@ -82,12 +82,14 @@ pub(crate) enum Request {
     Listen(u32),
 }
 
-/// Calls that take what waits; of bytes, with how many the caller takes at most, or how many dots the buffer has into which they come.
+/// Calls that take what waits; of bytes, with how many the caller takes at most, or how many dots the buffer has into which they come,
+/// or for how many the caller takes memory before they do.
 pub(crate) enum Take {
     Disconnect,
     Release(u32),
     Bytes(u32),
     Into(usize),
+    Reserve(usize),
     Datagram(u32),
     DatagramError,
 }
@@ -150,6 +152,12 @@ fn receive_into<R: Wait + Sync>(caller: &mut Caller<R>, log: &mut String, fd: Fd
     let _ = writeln!(log, " {buffer:?}");
 }
 
+/// Takes memory for receives of so many bytes.
+fn reserve<R: Wait + Sync>(caller: &mut Caller<R>, count: usize) -> Result<(), CallFail> {
+    caller.reserve(count)?;
+    Ok(())
+}
+
 /// Makes a call that takes what waits.
 fn make_take<R: Wait + Sync>(caller: &mut Caller<R>, log: &mut String, fd: Fd, call: &Take) {
     match *call {
@@ -157,6 +165,7 @@ fn make_take<R: Wait + Sync>(caller: &mut Caller<R>, log: &mut String, fd: Fd, c
         Take::Release(max) => note_bytes(log, caller.t_rcvreldata(fd, max)),
         Take::Bytes(max) => note_bytes(log, caller.t_rcv(fd, max)),
         Take::Into(size) => receive_into(caller, log, fd, size),
+        Take::Reserve(count) => note(log, reserve(caller, count)),
         Take::Datagram(udata) => note(log, caller.t_rcvudata(fd, Max { udata, ..MOST })),
         Take::DatagramError => note_bytes(log, caller.t_rcvuderr(fd, MOST.addr, MOST.opt)),
     }

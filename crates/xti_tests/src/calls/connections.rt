@@ -99,7 +99,7 @@ None
 );
 
 /// A message that is received into a buffer of four bytes: a part of it, its rest, and nothing more. Then one of 40 bytes, of which
-/// the second half comes in the memory that the first has left.
+/// the second half comes in the memory that the first has left, and 20 more in memory that was taken before.
 const INTO: Part = (
     &[
         (CALLER, Ask::Give(Give::Bytes(b"abcdef", 0))),
@@ -111,6 +111,9 @@ const INTO: Part = (
             Ask::Give(Give::Bytes(b"aaaaaaaaaaaaaaaaaaaabbbbbbbbbbbbbbbbbbbb", 0)),
         ),
         (ANSWERER, Ask::Take(Take::Into(20))),
+        (ANSWERER, Ask::Take(Take::Into(20))),
+        (ANSWERER, Ask::Take(Take::Reserve(30))),
+        (CALLER, Ask::Give(Give::Bytes(b"ccccccccccdddddddddd", 0))),
         (ANSWERER, Ask::Take(Take::Into(20))),
     ],
     "6
@@ -125,6 +128,10 @@ Err(TNODATA)
  [97, 97, 97, 97, 97, 97, 97, 97, 97, 97, 97, 97, 97, 97, 97, 97, 97, 97, 97, 97]
  20 0
  [98, 98, 98, 98, 98, 98, 98, 98, 98, 98, 98, 98, 98, 98, 98, 98, 98, 98, 98, 98]
+()
+20
+ 20 0
+ [99, 99, 99, 99, 99, 99, 99, 99, 99, 99, 100, 100, 100, 100, 100, 100, 100, 100, 100, 100]
 ",
 );
 

@@ -9,6 +9,7 @@ use bytes::Bytes;
 use std::alloc::Global;
 use tpi_prim::primitive::Prim;
 use tpi_prim::{Frame, Kind, encode};
+use xti_base::BYTES_IN_VALUE;
 use xti_queue::{Piece, ReadQueue};
 
 /// What is done with the queue, or asked and answered.
@@ -87,7 +88,7 @@ fn push(alloc: Global, queue: &mut ReadQueue, prim: Prim) -> bool {
     }
 }
 
-/// Whether the queue gives just this, in the room that it is handed where that serves.
+/// Whether the queue gives just this, in the room that it is handed where it doesn't stand in the value itself.
 fn gives(alloc: Global, queue: &mut ReadQueue, max: usize, wanted: &[u8], closes: bool) -> bool {
     let Ok(mut room) = Vec::with_capacity(alloc, 32) else {
         return false;
@@ -102,7 +103,7 @@ fn gives(alloc: Global, queue: &mut ReadQueue, max: usize, wanted: &[u8], closes
     };
     let is_used = room.capacity() == 0;
     drop(room);
-    is_given && (is_used || wanted.len() <= 16)
+    is_given && is_used == (wanted.len() > BYTES_IN_VALUE)
 }
 
 /// Whether the step is done, or answered so.
